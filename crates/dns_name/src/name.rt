@@ -1,0 +1,180 @@
+//! Names, as their octets.
+
+ghost use Rattle.std.specs.Prelude.{◌≡◌, ◌≤◌, ◌+◌, ◌∷◌, ◌++◌, [], length, map, OnOk, OnErr, IfErr, IsTrue, ◌↔◌, IfOk, MatchResult, Some, None};
+ghost use Rattle.dns_name.specs.Labels.{IsLabel, IsName, IsSame, IsUnder, size_of, label_octets, labels_of, IsLaidOut, lowered, parent_of};
+ghost use Rattle.dns_name.specs.Faults.{Gives, label_fault, named, pushed};
+
+use crate::fault::NameFault;
+use crate::key::{NameKey, key_of};
+use crate::labels::{Labels, labels_in, split_label};
+use std::alloc::{AllocError, Allocator, Global};
+use std::marker::Model;
+
+/// A name: each label behind its length, without the zero octet at the end.
+#[derive(Drop)]
+pub struct Name<A: Allocator = Global> {
+    octets: Vec<u8, A>,
+}
+
+impl<A: Allocator> Model for Name<A> {
+    ghost use Rattle.std.specs.Prelude.{List, ℕ};
+    ghost use Rattle.dns_name.specs.Labels.{labels_of, IsLaidOut};
+
+    ghost Value = { List (List ℕ) };
+
+    ghost view = { λ n. labels_of n.octets.items };
+
+    ghost invariant = { λ n. IsLaidOut n.octets.items };
+}
+
+impl<A: Allocator> Name<A> {
+    /// The root.
+    pub fn root(alloc: A) -> Name<A>
+        ensures { result ≡ [] }
+    {
+        Name {
+            octets: Vec::new(alloc),
+        }
+    }
+
+    /// The labels from left to right.
+    pub fn labels(&self) -> Labels<'_>
+        ensures { result ≡ self.now }
+    {
+        labels_in(&self.octets)
+    }
+
+    /// The labels, each behind its length, without the zero octet at the end.
+    pub fn octets(&self) -> &[u8]
+        ensures laid { IsLaidOut result.now }
+        ensures labels { labels_of result.now ≡ self.now }
+    {
+        &self.octets
+    }
+
+    /// Equal labels, letter case aside.
+    pub fn same(&self, other: &Name<A>) -> bool
+        ensures { IsTrue result ↔ IsSame self.now other.now }
+    {
+        self.octets.eq_ignore_ascii_case(&other.octets)
+    }
+}
+
+/// Puts a label and its length behind the octets, or nothing.
+fn put_label<A: Allocator>(octets: &mut Vec<u8, A>, label: &[u8]) -> Result<(), AllocError>
+    requires { length label.now ≤ 63 }
+    ensures ok { OnOk result (octets.new.items ≡ octets.old.items ++ label_octets label.now) }
+    ensures err { OnErr result (octets.new.items ≡ octets.old.items) }
+{
+    let mut buffer = [0u8; 64];
+    buffer[0] = label.len() as u8;
+    buffer[1..label.len() + 1].copy_from_slice(label);
+    octets.extend_from_slice(&buffer[..label.len() + 1])
+}
+
+/// The first fault of a label, from the left.
+fn check_labels<A: Allocator>(labels: &[Vec<u8, A>]) -> Result<(), NameFault>
+    ensures { MatchResult result (λ _. label_fault (map (λ v. v.items) labels.now) ≡ None) (λ e. label_fault (map (λ v. v.items) labels.now) ≡ Some e) }
+{
+    for label in labels {
+        if label.is_empty() {
+            return Err(NameFault::EmptyLabel);
+        }
+        if label.len() > 63 {
+            return Err(NameFault::LabelLong);
+        }
+    }
+    Ok(())
+}
+
+impl<A: Allocator> Name<A> {
+    /// Puts a label behind the others. An `Err` changes nothing.
+    #[tactic(auto, unfolding(crate::specs::Faults::pushed))]
+    pub fn push(&mut self, label: &[u8]) -> Result<(), NameFault>
+        requires { IsLabel label.now }
+        ensures given { Gives (λ _. self.new) result (pushed self.old label.now) }
+        ensures err { OnErr result (self.new ≡ self.old) }
+    {
+        if self.octets.len() + label.len() > 253 {
+            return Err(NameFault::NameLong);
+        }
+        put_label(&mut self.octets, label)?;
+        Ok(())
+    }
+
+    /// Puts a label behind the others, where it fits. An `Err` changes nothing.
+    pub fn append(&mut self, label: &[u8]) -> Result<(), AllocError>
+        requires is_label { IsLabel label.now }
+        requires room { size_of self.old + length label.now + 1 ≤ 255 }
+        ensures ok { OnOk result (self.new ≡ self.old ++ label.now ∷ []) }
+        ensures err { OnErr result (self.new ≡ self.old) }
+    {
+        put_label(&mut self.octets, label)?;
+        Ok(())
+    }
+
+    /// The name of these labels.
+    pub fn from_labels(alloc: A, labels: &[Vec<u8, A>]) -> Result<Name<A>, NameFault>
+        ensures { Gives (λ n. n) result (named (map (λ v. v.items) labels.now)) }
+    {
+        check_labels(labels)?;
+        let mut name = Name::root(alloc);
+        for label in labels {
+            name.push(label)?;
+        }
+        Ok(name)
+    }
+}
+
+/// The last labels of the one are those of the other, letter case aside.
+fn ends_in(octets: &[u8], suffix: &[u8]) -> bool
+    requires whole { IsLaidOut octets.now }
+    requires suffix_whole { IsLaidOut suffix.now }
+    ensures { IsTrue result ↔ IsUnder (labels_of octets.now) (labels_of suffix.now) }
+{
+    let mut rest = octets;
+    while rest.len() > suffix.len() {
+        match split_label(rest) {
+            None => return false,
+            Some((_, after)) => rest = after,
+        }
+    }
+    rest.eq_ignore_ascii_case(suffix)
+}
+
+impl<A: Allocator> Name<A> {
+    /// The last labels of this name are those of the other, letter case aside.
+    pub fn is_under(&self, suffix: &Name<A>) -> bool
+        ensures { IsTrue result ↔ IsUnder self.now suffix.now }
+    {
+        ends_in(&self.octets, &suffix.octets)
+    }
+
+    /// Equal exactly where names are the same.
+    pub fn key(&self) -> NameKey
+        ensures { result ≡ lowered self.now }
+    {
+        key_of(&self.octets)
+    }
+
+    /// The name without its first label.
+    pub fn parent(&self, alloc: A) -> Result<Option<Name<A>>, AllocError>
+        ensures { IfOk result (λ p. p ≡ parent_of self.now) }
+    {
+        match split_label(&self.octets) {
+            None => Ok(None),
+            Some((_, rest)) => {
+                let octets = Vec::from_slice(alloc, rest)?;
+                Ok(Some(Name { octets }))
+            }
+        }
+    }
+
+    pub fn copy(&self, alloc: A) -> Result<Name<A>, AllocError>
+        ensures { IfOk result (λ n. n ≡ self.now) }
+    {
+        Ok(Name {
+            octets: Vec::from_slice(alloc, &self.octets)?,
+        })
+    }
+}
