@@ -1,0 +1,124 @@
+//! An allocator for tests: it grants as many growths as it was told, and then refuses each one.
+#![tactic(auto)]
+
+use std::alloc::{AllocError, Allocator};
+use std::cell::Cell;
+
+/// Ample memory: with this count no growth is refused, however many come.
+const AMPLE: u64 = u64::MAX;
+
+/// A handle on the memory of `inner` that can be told to run out of it.
+///
+/// A test makes one, sets its state up with ample memory, calls `allow` with 0, 1, 2, .. before the step that it
+/// tests, and looks at what the step does where its first, second, third, .. growth is refused. Collections take it by
+/// reference, as `&Refusing<Global>`, so that the test still has it in hand.
+///
+/// A growth is one call of `allocate`; a collection that moves its items to a larger block asks once for it. Giving
+/// memory back is never refused, and gives no growth back.
+#[derive(Drop)]
+pub struct Refusing<B: Allocator> {
+    // The order of the two fields counts: the proofs below `proofs/RefusingAllocator` name their places.
+    inner: B,
+    left: Cell<u64>,
+}
+
+impl<B: Allocator> Refusing<B> {
+    /// A handle on `inner` with ample memory.
+    pub fn new(inner: B) -> Refusing<B> {
+        Refusing {
+            inner,
+            left: Cell::new(AMPLE),
+        }
+    }
+
+    /// From now on `count` more growths are granted, and each one after them is refused. At `u64::MAX` none is.
+    pub fn allow(&self, count: u64) {
+        self.left.set(count);
+    }
+}
+
+/// Whether the next growth is refused. It counts the growth where it is not.
+fn is_spent(left: &Cell<u64>) -> bool {
+    match left.get() {
+        0 => true,
+        AMPLE => false,
+        count => {
+            left.set(count - 1);
+            false
+        }
+    }
+}
+
+unsafe impl<B: Allocator> Allocator for Refusing<B> {
+    // A block is the inner allocator's own, so the right to free it is too.
+    ghost dealloc_token = { λ heap layout block. B.dealloc_token heap.inner layout block };
+
+    fn allocate(&self, size: usize, align: usize) -> Result<*mut u8, AllocError> {
+        if is_spent(&self.left) {
+            return Err(AllocError);
+        }
+        self.inner.allocate(size, align)
+    }
+
+    unsafe fn deallocate(&self, ptr: *mut u8, size: usize, align: usize) {
+        self.inner.deallocate(ptr, size, align);
+    }
+}
+
+#[cfg(test)]
+mod tests {
+    use super::*;
+    use std::alloc::Global;
+    use std::test::Fail;
+
+    /// Three blocks of one octet each: how many of them were granted.
+    fn blocks(heap: &Refusing<Global>) -> u8 {
+        let first = Box::new(heap, 1u8);
+        let second = Box::new(heap, 2u8);
+        let third = Box::new(heap, 3u8);
+        u8::from(first.is_ok()) + u8::from(second.is_ok()) + u8::from(third.is_ok())
+    }
+
+    #[test]
+    fn each_growth_after_the_count_is_refused(rt: HostRuntime) {
+        let heap = Refusing::new(rt.alloc());
+        assert_eq!(rt; blocks(&heap), 3, "ample from the start");
+        for (count, granted) in [(0, 0), (1, 1), (2, 2), (3, 3), (u64::MAX, 3)] {
+            heap.allow(count);
+            assert_eq!(rt; blocks(&heap), granted, "of three, with {count} allowed");
+            assert_eq!(rt;
+                Box::new(&heap, 4u8).is_ok(),
+                count == u64::MAX,
+                "a fourth, with {count} allowed"
+            );
+        }
+        heap.allow(4);
+        assert_eq!(rt; blocks(&heap), 3, "three of four");
+        assert_eq!(rt; blocks(&heap), 1, "one of four is left");
+        heap.allow(u64::MAX);
+        for _again in 0..100u8 {
+            assert_eq!(rt; blocks(&heap), 3, "ample again");
+        }
+    }
+
+    #[test]
+    fn what_was_held_outlives_a_refusal(rt: HostRuntime) -> Result<(), Fail> {
+        let heap = Refusing::new(rt.alloc());
+        let mut octets = Vec::new(&heap);
+        octets.push(7u8)?;
+        let room = octets.capacity();
+        heap.allow(0);
+        let mut refused = 0u8;
+        for octet in 0..100u8 {
+            if octets.push(octet).is_err() {
+                refused = refused.saturating_add(1);
+            }
+        }
+        assert_eq!(rt; octets.len(), room, "what had room was taken");
+        assert!(rt; refused > 0);
+        heap.allow(1);
+        assert!(rt; octets.push(8).is_ok(), "one growth is one call");
+        assert_eq!(rt; octets.first(), Some(&7));
+        Ok(())
+    }
+}
