@@ -1,15 +1,14 @@
 -- When labels are a name.
-use Rattle.std.proofs.Common.{◌≡◌, ℕ, zero, suc, ◌+◌, ◌<◌, ◌≤◌, Bool, true, false, cond, List, [], ◌∷◌, ◌++◌, length, take, drop, get_or, map, Option, Some, None, Result, Ok, Err, eqb, ltb, refl, sym, ap, subst, ◌∙◌, append_assoc, arith, inl, inr}
-use Rattle.std.specs.Prelude.{IfOk}
-use Rattle.std.proofs.lemmas.Bool.{lt-ltb, le-ltb, ltb-false, ltb-true, eqb-false, cases_lt}
-use Rattle.std.specs.List.{AllByRecursion}
+use Rattle.std.proofs.Common.{◌≡◌, ℕ, ◌+◌, ◌<◌, ◌≤◌, List, [], ◌∷◌, ◌++◌, length, take, drop, get_or, map, Option, Some, None, Result, Ok, Err, refl, sym, ap, ◌∙◌, append_assoc, arith, inl, inr}
+use Rattle.std.proofs.lemmas.Bool.{lt-ltb, le-ltb, cases_lt}
 use Rattle.dns_name.specs.declared.fault.NameFault.{NameFault}
 use Rattle.dns_name.specs.declared.fault.NameFault.TheVariants.{EmptyLabel, LabelLong, NameLong, BadCharacter, Memory}
-use Rattle.dns_name.specs.Labels.{size_of, IsLabel, IsName, IsLaidOut, labels_of, label_octets}
-use Rattle.dns_name.specs.Faults.{label_fault, named, pushed, Fails, Gives}
+use Rattle.dns_name.specs.Labels.{size_of, IsLabel, labels_of}
+use Rattle.dns_name.specs.Faults.{label_fault, fault_or, first_fault, judged, pushed, Fails}
+use Rattle.dns_name.specs.Text.{written_label_fault}
 use Rattle.std.proofs.Common.{Vec}
-use Rattle.std.proofs.lemmas.List.{take_more, map-append, take-map}
-use Rattle.dns_name.proofs.LabelLaws.{Grows, grows, too_long}
+use Rattle.std.proofs.lemmas.List.{take_more, map-append, take-append-drop}
+use Rattle.dns_name.proofs.LabelLaws.{Grows, size_of-append, size_of-push, size_of-some}
 
 pub pushed_long : (labels : List (List ℕ)) (label : List ℕ) → 255 < size_of (labels ++ label ∷ []) → pushed labels label ≡ Err NameLong
 unfolding pushed
@@ -22,41 +21,44 @@ pushed_fits labels label le = rw (le-ltb 255 (size_of (labels ++ label ∷ [])) 
 pub pushes : (old new label : List ℕ) → Grows old new label → pushed (labels_of old) label ≡ Ok (labels_of new)
 pushes old new label g = pushed_fits (labels_of old) label g.size ∙ ap Ok (sym g.labels)
 
--- ---- a loop over labels, each a vector
+-- ---- a loop over labels, after none of them had a fault
 
-abbrev pub items_of : {Z : Type 0} → List (Vec ℕ Z) → List (List ℕ)
-items_of vs = map (λ v. v.items) vs
+abbrev pub FaultOf : Type 0
+FaultOf = List ℕ → Option NameFault
 
-label_first : (l : List ℕ) (ls : List (List ℕ)) → label_fault (l ∷ ls) ≡ None → IsLabel l × (label_fault ls ≡ None)
-label_first [] ls none = absurd cc
-label_first (x ∷ xs) ls none =
+both_none : (here next : Option NameFault) → fault_or here next ≡ None → (here ≡ None) × (next ≡ None)
+both_none None next none = (refl, none)
+both_none (Some e) next none = absurd cc
+
+-- a label among those that have no fault has none
+pub none_at : (fault_of : FaultOf) (front : List (List ℕ)) (label : List ℕ) (rest : List (List ℕ)) → first_fault fault_of (front ++ label ∷ rest) ≡ None → fault_of label ≡ None
+none_at fault_of [] label rest none = (both_none (fault_of label) (first_fault fault_of rest) none).0
+none_at fault_of (l ∷ ls) label rest none = none_at fault_of ls label rest (both_none (fault_of l) (first_fault fault_of (ls ++ label ∷ rest)) none).1
+
+pub is_label : (label : List ℕ) → label_fault label ≡ None → IsLabel label
+is_label [] none = absurd cc
+is_label (x ∷ xs) none =
     elim (cases_lt 63 (length (x ∷ xs))) [
       | inl lt ↦ absurd (grind (arith, none, lt))
-      | inr le ↦ (record { some = omega arith; short = le }, grind (arith, none, le))
+      | inr le ↦ record { some = omega arith; short = le }
     ]
 
-pub label_at : {Z : Type 0} → (vs : List (Vec ℕ Z)) (i : ℕ) (v : Vec ℕ Z) → label_fault (items_of vs) ≡ None → i < length vs → v ≡ get_or vs i v → IsLabel v.items
-label_at [] i v none lt is = absurd (omega arith)
-label_at (w ∷ ws) zero v none lt is = rw is (label_first w.items (items_of ws) none).0
-label_at (w ∷ ws) (suc i) v none lt is = label_at ws i v (label_first w.items (items_of ws) none).1 (omega arith) is
+pub is_written_label : (label : List ℕ) → written_label_fault label ≡ None → IsLabel label
+is_written_label [] none = absurd cc
+is_written_label (x ∷ xs) none =
+    elim (cases_lt 63 (length (x ∷ xs))) [
+      | inl lt ↦ absurd (grind (arith, none, lt))
+      | inr le ↦ record { some = omega arith; short = le }
+    ]
 
-size_of-take : (n : ℕ) (labels : List (List ℕ)) → size_of (take n labels) ≤ size_of labels
-size_of-take zero [] = omega arith
-size_of-take zero (l ∷ ls) = omega (arith, size_of-take zero ls)
-size_of-take (suc n) [] = omega arith
-size_of-take (suc n) (l ∷ ls) = omega (arith, size_of-take n ls)
+judged_long : (fault_of : FaultOf) (labels : List (List ℕ)) → first_fault fault_of labels ≡ None → 255 < size_of labels → judged fault_of labels ≡ Err NameLong
+judged_long fault_of labels none lt = rw (none, lt-ltb 255 (size_of labels) lt) refl
 
-pub items_more : {Z : Type 0} → (vs : List (Vec ℕ Z)) (i : ℕ) (v : Vec ℕ Z) → i < length vs → v ≡ get_or vs i v → items_of (take i vs) ++ v.items ∷ [] ≡ items_of (take (i + 1) vs)
-items_more vs i v lt is = rw (take_more vs i v lt, ← is, map-append) refl
+pub judged_fits : (fault_of : FaultOf) (labels : List (List ℕ)) → first_fault fault_of labels ≡ None → size_of labels ≤ 255 → judged fault_of labels ≡ Ok labels
+judged_fits fault_of labels none le = rw (none, le-ltb 255 (size_of labels) le) refl
 
-named_long : (labels : List (List ℕ)) → label_fault labels ≡ None → 255 < size_of labels → named labels ≡ Err NameLong
-named_long labels none lt = rw (none, lt-ltb 255 (size_of labels) lt) refl
-
-pub named_fits : (labels : List (List ℕ)) → label_fault labels ≡ None → size_of labels ≤ 255 → named labels ≡ Ok labels
-named_fits labels none le = rw (none, le-ltb 255 (size_of labels) le) refl
-
-pub named_fault : (labels : List (List ℕ)) (e : NameFault) → label_fault labels ≡ Some e → named labels ≡ Err e
-named_fault labels e is = rw is refl
+pub judged_fault : (fault_of : FaultOf) (labels : List (List ℕ)) (e : NameFault) → first_fault fault_of labels ≡ Some e → judged fault_of labels ≡ Err e
+judged_fault fault_of labels e is = rw is refl
 
 abbrev bad : NameFault → Result (List (List ℕ)) NameFault
 bad e = Err e
@@ -69,21 +71,20 @@ pushed_refuses labels label e is =
       | inr le ↦ absurd (let h : Ok (labels ++ label ∷ []) ≡ bad e = sym (pushed_fits labels label le) ∙ is in cc)
     ]
 
-refused : {Z : Type 0} → (vs : List (Vec ℕ Z)) (i : ℕ) (v : Vec ℕ Z) (e : NameFault) → label_fault (items_of vs) ≡ None → i < length vs → v ≡ get_or vs i v
-    → pushed (items_of (take i vs)) v.items ≡ bad e → named (items_of vs) ≡ bad e
-refused {Z = Z} vs i v e none lt is fails =
-    let p = pushed_refuses (items_of (take i vs)) v.items e fails in
-    let long : 255 < size_of (items_of (take (i + 1) vs)) = rw (← items_more vs i v lt is) p.1 in
-    let whole : size_of (take (i + 1) (items_of vs)) ≤ size_of (items_of vs) = size_of-take (i + 1) (items_of vs) in
-    rw p.0 (named_long (items_of vs) none (omega (arith, ap size_of (take-map (λ (w : Vec ℕ Z). w.items) (i + 1) vs))))
+refused : (fault_of : FaultOf) (labels front : List (List ℕ)) (label : List ℕ) (rest : List (List ℕ)) (e : NameFault) → labels ≡ front ++ label ∷ rest → first_fault fault_of labels ≡ None
+    → pushed front label ≡ bad e → judged fault_of labels ≡ bad e
+refused fault_of labels front label rest e parts none fails =
+    let p = pushed_refuses front label e fails in
+    rw p.0 (judged_long fault_of labels none (omega (arith, p.1, ap size_of parts, size_of-append front (label ∷ rest), size_of-push front label, size_of-some rest)))
 
-pub refuses : {Z : Type 0} → (vs : List (Vec ℕ Z)) (i : ℕ) (v : Vec ℕ Z) (e : NameFault) → label_fault (items_of vs) ≡ None → i < length vs → v ≡ get_or vs i v
-    → Fails e (pushed (items_of (take i vs)) v.items) → Fails e (named (items_of vs))
-refuses vs i v EmptyLabel none lt is fails = refused vs i v EmptyLabel none lt is fails
-refuses vs i v LabelLong none lt is fails = refused vs i v LabelLong none lt is fails
-refuses vs i v NameLong none lt is fails = refused vs i v NameLong none lt is fails
-refuses vs i v BadCharacter none lt is fails = refused vs i v BadCharacter none lt is fails
-refuses vs i v Memory none lt is fails = tt
+-- where a label can't be put behind those before it, the labels are no name
+pub refuses : (fault_of : FaultOf) (labels front : List (List ℕ)) (label : List ℕ) (rest : List (List ℕ)) (e : NameFault) → labels ≡ front ++ label ∷ rest → first_fault fault_of labels ≡ None
+    → Fails e (pushed front label) → Fails e (judged fault_of labels)
+refuses fault_of labels front label rest EmptyLabel parts none fails = refused fault_of labels front label rest EmptyLabel parts none fails
+refuses fault_of labels front label rest LabelLong parts none fails = refused fault_of labels front label rest LabelLong parts none fails
+refuses fault_of labels front label rest NameLong parts none fails = refused fault_of labels front label rest NameLong parts none fails
+refuses fault_of labels front label rest BadCharacter parts none fails = refused fault_of labels front label rest BadCharacter parts none fails
+refuses fault_of labels front label rest Memory parts none fails = tt
 
 -- what pushed gives is short
 pub pushed_gives : (labels new : List (List ℕ)) (label : List ℕ) → pushed labels label ≡ Ok new → (new ≡ labels ++ label ∷ []) × (size_of new ≤ 255)
@@ -95,3 +96,21 @@ pushed_gives labels new label is =
           let same : new ≡ labels ++ label ∷ [] = cc in
           (same, rw same le)
     ]
+
+-- ---- labels in vectors
+
+abbrev pub items_of : {Z : Type 0} → List (Vec ℕ Z) → List (List ℕ)
+items_of vs = map (λ v. v.items) vs
+
+parts_at : {Z : Type 0} → (vs : List (Vec ℕ Z)) (i : ℕ) (v : Vec ℕ Z) → i < length vs → vs ≡ take i vs ++ get_or vs i v ∷ drop (i + 1) vs
+parts_at {Z = Z} vs i v lt =
+    sym (take-append-drop (i + 1) vs) ∙ ap (λ (front : List (Vec ℕ Z)). front ++ drop (i + 1) vs) (take_more vs i v lt) ∙ append_assoc (take i vs) (get_or vs i v ∷ []) (drop (i + 1) vs)
+
+-- the labels before a place, the one there, and those behind it
+pub items_split : {Z : Type 0} → (vs : List (Vec ℕ Z)) (i : ℕ) (v : Vec ℕ Z) → i < length vs → v ≡ get_or vs i v → items_of vs ≡ items_of (take i vs) ++ v.items ∷ items_of (drop (i + 1) vs)
+items_split {Z = Z} vs i v lt is =
+    let same : v.items ≡ (get_or vs i v).items = ap (λ (w : Vec ℕ Z). w.items) is in
+    rw same (ap items_of (parts_at vs i v lt) ∙ map-append (λ (w : Vec ℕ Z). w.items) (take i vs) (get_or vs i v ∷ drop (i + 1) vs))
+
+pub items_more : {Z : Type 0} → (vs : List (Vec ℕ Z)) (i : ℕ) (v : Vec ℕ Z) → i < length vs → v ≡ get_or vs i v → items_of (take i vs) ++ v.items ∷ [] ≡ items_of (take (i + 1) vs)
+items_more vs i v lt is = rw (take_more vs i v lt, ← is, map-append) refl

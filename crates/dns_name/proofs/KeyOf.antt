@@ -1,28 +1,33 @@
 -- The key of a name.
-use Rattle.std.proofs.Common.{◌≡◌, ℕ, zero, suc, ◌+◌, ◌-◌, ◌<◌, ◌≤◌, List, [], ◌∷◌, ◌++◌, length, take, drop, map, replicate, get_or, set, refl, sym, ap, subst, ◌∙◌, append_assoc, arith}
+use Rattle.std.proofs.Common.{◌≡◌, ℕ, suc, ◌+◌, ◌-◌, ◌<◌, ◌≤◌, List, [], ◌∷◌, ◌++◌, length, take, map, replicate, get_or, set, refl, sym, ap, subst, ◌∙◌, append_assoc, arith}
 use Rattle.std.specs.List.{AllByRecursion}
+use Rattle.std.proofs.Common.{Bool, true, false, ◌&&◌, eqb}
+use Rattle.std.specs.Bool.{Decides}
+use Rattle.std.specs.Cmp.Lexicographic.{pointwise}
+use Rattle.std.proofs.lemmas.Bool.Decides.{Decides-eqb}
+use Rattle.std.proofs.lemmas.Slice.Eq.{slice_eq-Decides}
 use Rattle.std.specs.Char.{to_ascii_lowercase}
-use Rattle.std.proofs.lemmas.List.{take_at, drop_at, length-append, length-take, length-drop, length-map, map-append, take_all, length-replicate, take_more, set_at}
-use Rattle.dns_name.specs.Labels.{octets_of, size_of, IsLabel, IsName, lowered, IsSame, labels_of, IsLaidOut}
-use Rattle.dns_name.specs.Key.{padded, IsKey}
+use Rattle.std.proofs.lemmas.List.{take_at, length-take, length-map, map-append, take_more, set_at}
+use Rattle.dns_name.specs.Labels.{octets_of, IsLabel, IsName, lowered, labels_of, IsLaidOut}
+use Rattle.dns_name.specs.Key.{padded, IsKey, key_octets, key_len}
 use Rattle.dns_name.proofs.LabelLaws.{size_of-is, size_of-lowered, labels_of-octets_of, map-octets_of, laid_out, laid_short}
 
 each-lowered : (labels : List (List ℕ)) → AllByRecursion IsLabel labels → AllByRecursion IsLabel (lowered labels)
 each-lowered [] each = tt
 each-lowered (l ∷ ls) each = (record { some = omega (arith, each.0.some, length-map l to_ascii_lowercase); short = omega (arith, each.0.short, length-map l to_ascii_lowercase) }, each-lowered ls each.1)
 
-name-lowered : (labels : List (List ℕ)) → IsName labels → IsName (lowered labels)
+pub name-lowered : (labels : List (List ℕ)) → IsName labels → IsName (lowered labels)
 name-lowered labels name = record { each = each-lowered labels name.each; short = omega (arith, name.short, size_of-lowered labels) }
 
 lower_twice : (n : ℕ) → to_ascii_lowercase (to_ascii_lowercase n) ≡ to_ascii_lowercase n
 lower_twice n = grind arith
 
-lowered_twice : (xs : List ℕ) → map to_ascii_lowercase (map to_ascii_lowercase xs) ≡ map to_ascii_lowercase xs
+pub lowered_twice : (xs : List ℕ) → map to_ascii_lowercase (map to_ascii_lowercase xs) ≡ map to_ascii_lowercase xs
 lowered_twice [] = refl
 lowered_twice (x ∷ xs) = rw (lower_twice x, lowered_twice xs) refl
 
 -- the octets of a name in lower case
-lower_octets : (octets : List ℕ) → IsLaidOut octets → map to_ascii_lowercase octets ≡ octets_of (lowered (labels_of octets))
+pub lower_octets : (octets : List ℕ) → IsLaidOut octets → map to_ascii_lowercase octets ≡ octets_of (lowered (labels_of octets))
 lower_octets octets laid = ap (map to_ascii_lowercase) (sym laid.whole) ∙ map-octets_of (labels_of octets) laid.name.each
 
 front_is : (octets : List ℕ) → take (length octets + 1 - 1) (padded (map to_ascii_lowercase octets)) ≡ map to_ascii_lowercase octets
@@ -49,3 +54,38 @@ lower_more octets i lt le =
     let one : 255 - i ≡ suc (255 - (i + 1)) = omega arith in
     let front : length (map to_ascii_lowercase (take i octets)) ≡ i = omega (arith, length-map (take i octets) to_ascii_lowercase, length-take i octets) in
     rw (one, take_more octets i 0 lt, map-append) (set_at (map to_ascii_lowercase (take i octets)) 0 (replicate (255 - (i + 1)) 0) (to_ascii_lowercase (get_or octets i 0)) i front ∙ sym (append_assoc (map to_ascii_lowercase (take i octets)) (to_ascii_lowercase (get_or octets i 0) ∷ []) (replicate (255 - (i + 1)) 0)))
+
+-- a key's labels are in lower case
+pub key_lower : (octets : List ℕ) (len : ℕ) → IsKey octets len → lowered (labels_of (take (len - 1) octets)) ≡ labels_of (take (len - 1) octets)
+key_lower octets len key =
+    let name : List ℕ = take (len - 1) octets in
+    sym (labels_of-octets_of (lowered (labels_of name))) ∙ ap labels_of (sym (lower_octets name key.laid) ∙ key.lower)
+
+cons-tails : (x y : List ℕ) (xs ys : List (List ℕ)) → x ∷ xs ≡ y ∷ ys → xs ≡ ys
+cons-tails x y xs ys e = cc
+
+-- the labels behind the first one are in lower case too
+pub lowered_tail : (label : List ℕ) (labels : List (List ℕ)) → lowered (label ∷ labels) ≡ label ∷ labels → lowered labels ≡ labels
+lowered_tail label labels e = cons-tails (map to_ascii_lowercase label) label (lowered labels) labels e
+
+-- equal keys are keys of equal labels
+key_same : (a b : List (List ℕ)) → key_octets a ≡ key_octets b → key_len a ≡ key_len b → a ≡ b
+unfolding key_octets key_len
+key_same a b octets len =
+    let size : length (octets_of a) ≡ length (octets_of b) = omega (arith, size_of-is a, size_of-is b, len) in
+    let front : (c : List (List ℕ)) → take (length (octets_of c)) (padded (octets_of c)) ≡ octets_of c = λ c. take_at (octets_of c) (replicate (255 - length (octets_of c)) 0) (length (octets_of c)) refl in
+    let text : octets_of a ≡ octets_of b = sym (front a) ∙ ap (take (length (octets_of a))) octets ∙ ap (λ (n : ℕ). take n (padded (octets_of b))) size ∙ front b in
+    sym (labels_of-octets_of a) ∙ ap labels_of text ∙ labels_of-octets_of b
+
+and_both : (x y : Bool) → (x && y) ≡ true → (x ≡ true) × (y ≡ true)
+and_both true y e = (refl, e)
+and_both false y e = absurd cc
+
+-- what `==` on keys says: for crates that look keys up in a map or sort by them
+pub key_decides : (a b : List (List ℕ)) → Decides (pointwise eqb (key_octets a) (key_octets b) && eqb (key_len a) (key_len b)) (a ≡ b)
+key_decides a b =
+    let octets = slice_eq-Decides Decides-eqb (key_octets a) (key_octets b) (pointwise eqb (key_octets a) (key_octets b)) refl in
+    let len = Decides-eqb (key_len a) (key_len b) in (
+      λ e. let both = and_both (pointwise eqb (key_octets a) (key_octets b)) (eqb (key_len a) (key_len b)) e in key_same a b (octets.0 both.0) (len.0 both.1),
+      λ e. rw (octets.1 (ap key_octets e), len.1 (ap key_len e)) refl,
+    )

@@ -1,14 +1,18 @@
 //! Names as keys of fixed size.
 
 ghost use Rattle.std.specs.Prelude.{◌≡◌, ◌≤◌, length, map};
-ghost use Rattle.dns_name.specs.Key.{padded};
 ghost use Rattle.std.specs.Char.{to_ascii_lowercase};
+ghost use Rattle.dns_name.specs.Key.{padded};
 ghost use Rattle.dns_name.specs.Labels.{labels_of, IsLaidOut, lowered, parent_of};
 
+use crate::labels::split_label;
+use std::hash::{Hash, Hasher};
 use std::marker::Model;
 
-/// The octets of a name in lower case, with zeros behind them. Keys are equal exactly where names are the same.
-#[derive(Clone, Copy, PartialEq, Eq, PartialOrd, Ord, Hash)]
+/// A name for comparing and hashing: its octets as they stand in a message (RFC 1035 3.1), the zero octet at their end
+/// counted, with ASCII letters in lower case, then zeros up to 255 octets. It is seen as its labels in lower case, so
+/// keys are equal exactly where their names are the same.
+#[derive(Clone, Copy, PartialEq, Eq, PartialOrd, Ord)]
 #[tactic(auto, using(crate::specs::KeyLaws::padded_back, crate::specs::KeyLaws::size_back))]
 pub struct NameKey {
     octets: [u8; 255],
@@ -32,6 +36,43 @@ impl Model for NameKey {
     ghost use Rattle.std.proofs.Common.{◌≡◌, ap};
 
     ghost inverse_ok = { λ k h. Prim.rw (padded_back k.octets k.len h, size_back k.octets k.len h) (λ _. k) };
+}
+
+// The octets of the name alone are hashed, and none of the zeros behind its end.
+impl Hash for NameKey {
+    ghost use Rattle.std.specs.Prelude.{take, ◌∷◌, []};
+    ghost use Rattle.std.specs.Cmp.Rules.{hashing};
+    ghost use Rattle.std.proofs.Common.{rules};
+    ghost use Rattle.dns_name.specs.Key.{key_octets, key_len};
+
+    ghost hash_input = { λ k. take (key_len k) (key_octets k) ∷ [] };
+
+    ghost respects_eq = { Prim.search (hashing, rules) };
+
+    fn hash<H: Hasher>(&self, state: &mut H) {
+        let len = usize::from(self.len);
+        state.write(&self.octets[..len]);
+    }
+}
+
+impl NameKey {
+    /// The key of the name without its first label; `None` for the root. It takes no memory.
+    #[tactic(auto, using(crate::proofs::KeyOf::lowered_tail))]
+    pub fn parent(&self) -> Option<NameKey>
+        ensures { result ≡ parent_of self.now }
+    {
+        let (_, rest) = split_label(self.name_octets())?;
+        Some(key_of(rest))
+    }
+
+    /// The octets of the name, without the zero octet at their end.
+    fn name_octets(&self) -> &[u8]
+        ensures laid { IsLaidOut result.now }
+        ensures labels { labels_of result.now ≡ self.now }
+        ensures lower { lowered self.now ≡ self.now }
+    {
+        &self.octets[..usize::from(self.len) - 1]
+    }
 }
 
 fn lower_with_zeros(octets: &[u8]) -> [u8; 255]

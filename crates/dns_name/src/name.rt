@@ -1,8 +1,8 @@
-//! Names, as their octets.
+//! Names: what they are made of, and how they compare.
 
 ghost use Rattle.std.specs.Prelude.{◌≡◌, ◌≤◌, ◌+◌, ◌∷◌, ◌++◌, [], length, map, OnOk, OnErr, IfErr, IsTrue, ◌↔◌, IfOk, MatchResult, Some, None};
 ghost use Rattle.dns_name.specs.Labels.{IsLabel, IsName, IsSame, IsUnder, size_of, label_octets, labels_of, IsLaidOut, lowered, parent_of};
-ghost use Rattle.dns_name.specs.Faults.{Gives, label_fault, named, pushed};
+ghost use Rattle.dns_name.specs.Faults.{Gives, first_fault, label_fault, named, pushed};
 
 use crate::fault::NameFault;
 use crate::key::{NameKey, key_of};
@@ -10,7 +10,8 @@ use crate::labels::{Labels, labels_in, split_label};
 use std::alloc::{AllocError, Allocator, Global};
 use std::marker::Model;
 
-/// A name: each label behind its length, without the zero octet at the end.
+/// A domain name (RFC 1035 2.3.4, 3.1): labels of 1 to 63 octets, at most 255 octets in all where each label is counted
+/// with its length octet, and the zero octet at the end too. Contracts see it as the list of its labels.
 #[derive(Drop)]
 pub struct Name<A: Allocator = Global> {
     octets: Vec<u8, A>,
@@ -28,7 +29,7 @@ impl<A: Allocator> Model for Name<A> {
 }
 
 impl<A: Allocator> Name<A> {
-    /// The root.
+    /// The root, which has no label. It takes no memory.
     pub fn root(alloc: A) -> Name<A>
         ensures { result ≡ [] }
     {
@@ -37,14 +38,17 @@ impl<A: Allocator> Name<A> {
         }
     }
 
-    /// The labels from left to right.
+    /// The labels from left to right, at most 127. It takes no memory.
     pub fn labels(&self) -> Labels<'_>
-        ensures { result ≡ self.now }
+        ensures labels { result ≡ self.now }
+        ensures name { IsName self.now }
+        ensures few { length self.now ≤ 127 }
     {
         labels_in(&self.octets)
     }
 
-    /// The labels, each behind its length, without the zero octet at the end.
+    /// The name as it stands in a message (RFC 1035 3.1), without the zero octet at its end: each label behind its length.
+    /// `split_label` takes the first label off. It takes no memory.
     pub fn octets(&self) -> &[u8]
         ensures laid { IsLaidOut result.now }
         ensures labels { labels_of result.now ≡ self.now }
@@ -52,7 +56,7 @@ impl<A: Allocator> Name<A> {
         &self.octets
     }
 
-    /// Equal labels, letter case aside.
+    /// Whether the names have equal labels, ASCII letter case aside (RFC 1035 2.3.3). It takes no memory.
     pub fn same(&self, other: &Name<A>) -> bool
         ensures { IsTrue result ↔ IsSame self.now other.now }
     {
@@ -74,7 +78,7 @@ fn put_label<A: Allocator>(octets: &mut Vec<u8, A>, label: &[u8]) -> Result<(), 
 
 /// The first fault of a label, from the left.
 fn check_labels<A: Allocator>(labels: &[Vec<u8, A>]) -> Result<(), NameFault>
-    ensures { MatchResult result (λ _. label_fault (map (λ v. v.items) labels.now) ≡ None) (λ e. label_fault (map (λ v. v.items) labels.now) ≡ Some e) }
+    ensures { MatchResult result (λ _. first_fault label_fault (map (λ v. v.items) labels.now) ≡ None) (λ e. first_fault label_fault (map (λ v. v.items) labels.now) ≡ Some e) }
 {
     for label in labels {
         if label.is_empty() {
@@ -88,9 +92,9 @@ fn check_labels<A: Allocator>(labels: &[Vec<u8, A>]) -> Result<(), NameFault>
 }
 
 impl<A: Allocator> Name<A> {
-    /// Puts a label behind the others. An `Err` changes nothing.
+    /// Puts a label last. `NameLong` where the name would have more than 255 octets; an `Err` changes nothing.
     #[tactic(auto, unfolding(crate::specs::Faults::pushed))]
-    pub fn push(&mut self, label: &[u8]) -> Result<(), NameFault>
+    pub(crate) fn push(&mut self, label: &[u8]) -> Result<(), NameFault>
         requires { IsLabel label.now }
         ensures given { Gives (λ _. self.new) result (pushed self.old label.now) }
         ensures err { OnErr result (self.new ≡ self.old) }
@@ -102,7 +106,7 @@ impl<A: Allocator> Name<A> {
         Ok(())
     }
 
-    /// Puts a label behind the others, where it fits. An `Err` changes nothing.
+    /// Puts a label last; the caller knows that it fits. An `Err` changes nothing.
     pub fn append(&mut self, label: &[u8]) -> Result<(), AllocError>
         requires is_label { IsLabel label.now }
         requires room { size_of self.old + length label.now + 1 ≤ 255 }
@@ -113,7 +117,10 @@ impl<A: Allocator> Name<A> {
         Ok(())
     }
 
-    /// The name of these labels.
+    /// The name of these labels, from left to right.
+    ///
+    /// The fault is the first `EmptyLabel` or `LabelLong` from the left, else `NameLong`. `Memory` comes where a growth was
+    /// refused.
     pub fn from_labels(alloc: A, labels: &[Vec<u8, A>]) -> Result<Name<A>, NameFault>
         ensures { Gives (λ n. n) result (named (map (λ v. v.items) labels.now)) }
     {
@@ -126,7 +133,7 @@ impl<A: Allocator> Name<A> {
     }
 }
 
-/// The last labels of the one are those of the other, letter case aside.
+/// Whether the last labels of the one are those of the other, letter case aside.
 fn ends_in(octets: &[u8], suffix: &[u8]) -> bool
     requires whole { IsLaidOut octets.now }
     requires suffix_whole { IsLaidOut suffix.now }
@@ -143,21 +150,22 @@ fn ends_in(octets: &[u8], suffix: &[u8]) -> bool
 }
 
 impl<A: Allocator> Name<A> {
-    /// The last labels of this name are those of the other, letter case aside.
+    /// Whether the last labels of this name are those of `suffix`, ASCII letter case aside; so each name is under itself
+    /// and under the root. The octets are compared once. It takes no memory.
     pub fn is_under(&self, suffix: &Name<A>) -> bool
         ensures { IsTrue result ↔ IsUnder self.now suffix.now }
     {
         ends_in(&self.octets, &suffix.octets)
     }
 
-    /// Equal exactly where names are the same.
+    /// The key of this name: keys are equal exactly where names are the same. It takes no memory.
     pub fn key(&self) -> NameKey
         ensures { result ≡ lowered self.now }
     {
         key_of(&self.octets)
     }
 
-    /// The name without its first label.
+    /// The name without its first label; `None` for the root. `Err` where memory ran out.
     pub fn parent(&self, alloc: A) -> Result<Option<Name<A>>, AllocError>
         ensures { IfOk result (λ p. p ≡ parent_of self.now) }
     {
@@ -170,6 +178,7 @@ impl<A: Allocator> Name<A> {
         }
     }
 
+    /// The same labels, letter case included. `Err` where memory ran out.
     pub fn copy(&self, alloc: A) -> Result<Name<A>, AllocError>
         ensures { IfOk result (λ n. n ≡ self.now) }
     {

@@ -1,4 +1,3 @@
-use Rattle.std.proofs.Common.{arith, ◌≡◌, ◌∙◌}
 use Rattle.dns_name.proofs.LabelLaws.{grows_within}
 use Rattle.dns_name.proofs.name.Name.append.Goals as goal
 

@@ -1,0 +1,118 @@
+-- When names are the same, when one is under another, and when their keys are equal.
+use Rattle.std.proofs.Common.{◌≡◌, ℕ, ◌+◌, ◌-◌, ◌≤◌, List, [], ◌∷◌, length, take, drop, map, refl, sym, ap, ◌∙◌, arith}
+use Rattle.std.specs.Char.{to_ascii_lowercase}
+use Rattle.std.proofs.lemmas.List.{drop_at, drop-map, length-map, length-append, drop-drop, drop_all, take-append-drop}
+use Rattle.dns_name.specs.Labels.{octets_of, size_of, IsName, IsSame, IsUnder, lowered, labels_of, IsLaidOut}
+use Rattle.dns_name.proofs.LabelLaws.{labels_of-octets_of, laid_out, same_under, size_of-lowered}
+use Rattle.dns_name.proofs.KeyOf.{lowered_twice, name-lowered}
+
+-- ---- sameness is an equivalence
+
+pub same_refl : (a : List (List ℕ)) → IsSame a a
+same_refl a = refl
+
+pub same_sym : (a b : List (List ℕ)) → IsSame a b → IsSame b a
+same_sym a b same = sym same
+
+pub same_trans : (a b c : List (List ℕ)) → IsSame a b → IsSame b c → IsSame a c
+same_trans a b c first second = first ∙ second
+
+pub same_count : (a b : List (List ℕ)) → IsSame a b → length a ≡ length b
+same_count a b same = omega (arith, ap length same, length-map a (map to_ascii_lowercase), length-map b (map to_ascii_lowercase))
+
+-- the last labels of names that are the same are the same
+pub same_drop : (k : ℕ) (a b : List (List ℕ)) → IsSame a b → IsSame (drop k a) (drop k b)
+same_drop k a b same = sym (drop-map (map to_ascii_lowercase) k a) ∙ ap (drop k) same ∙ drop-map (map to_ascii_lowercase) k b
+
+-- ---- a name is under s where its last labels, as many as s has, are those of s
+
+pub record EndsIn (n s : List (List ℕ)) : Type 0 where
+  pub fewer : length s ≤ length n
+  pub last : IsSame (drop (length n - length s) n) s
+
+pub under_ends : (n s : List (List ℕ)) → IsUnder n s → EndsIn n s
+under_ends n s (front, back, parts, same) =
+    let whole : length n ≡ length front + length back = ap length parts ∙ length-append front back in
+    let cut : length n - length s ≡ length front = omega (arith, whole, same_count back s same) in
+    record {
+      fewer = omega (arith, whole, same_count back s same);
+      last = rw cut (rw parts (rw (drop_at front back (length front) refl) same));
+    }
+
+pub ends_under : (n s : List (List ℕ)) → EndsIn n s → IsUnder n s
+ends_under n s ends =
+    (take (length n - length s) n, drop (length n - length s) n, sym (take-append-drop (length n - length s) n), ends.last)
+
+-- ---- what being under another name keeps
+
+pub under_refl : (n : List (List ℕ)) → IsUnder n n
+under_refl n = same_under n n refl
+
+pub under_root : (n : List (List ℕ)) → IsUnder n []
+under_root n = ends_under n [] (record { fewer = omega arith; last = ap lowered (drop_all (length n - 0) n (omega arith)) })
+
+-- a name that is the same as one under s is under s, also where s is spelled otherwise
+pub under_same_names : (n m s t : List (List ℕ)) → IsSame n m → IsSame s t → IsUnder n s → IsUnder m t
+under_same_names n m s t nm st under =
+    let ends = under_ends n s under in
+    let cut : length m - length t ≡ length n - length s = omega (arith, same_count n m nm, same_count s t st) in
+    ends_under m t (record {
+      fewer = omega (arith, ends.fewer, same_count n m nm, same_count s t st);
+      last = rw cut (sym (same_drop (length n - length s) n m nm) ∙ ends.last ∙ st);
+    })
+
+pub under_trans : (a b c : List (List ℕ)) → IsUnder a b → IsUnder b c → IsUnder a c
+under_trans a b c ab bc =
+    let first = under_ends a b ab in
+    let second = under_ends b c bc in
+    let k : ℕ = length b - length c in
+    let cut : length a - length c ≡ (length a - length b) + k = omega (arith, first.fewer, second.fewer) in
+    let last : IsSame (drop k (drop (length a - length b) a)) (drop k b) = same_drop k (drop (length a - length b) a) b first.last in
+    ends_under a c (record {
+      fewer = omega (arith, first.fewer, second.fewer);
+      last = rw cut (rw drop-drop at last ∙ second.last);
+    })
+
+-- of suffixes with equally many labels there is one alone
+pub under_count : (n s t : List (List ℕ)) → IsUnder n s → IsUnder n t → length s ≡ length t → IsSame s t
+under_count n s t ns nt count =
+    let a = under_ends n s ns in
+    let b = under_ends n t nt in
+    let cut : length n - length s ≡ length n - length t = omega (arith, count) in
+    sym a.last ∙ rw cut b.last
+
+-- a suffix of a name that is not shorter than another suffix is under it
+pub under_longer : (n s t : List (List ℕ)) → IsUnder n s → IsUnder n t → length t ≤ length s → IsUnder s t
+under_longer n s t ns nt le =
+    let a = under_ends n s ns in
+    let b = under_ends n t nt in
+    let k : ℕ = length s - length t in
+    let cut : (length n - length s) + k ≡ length n - length t = omega (arith, a.fewer, b.fewer, le) in
+    let inner : IsSame (drop k (drop (length n - length s) n)) (drop k s) = same_drop k (drop (length n - length s) n) s a.last in
+    ends_under s t (record { fewer = le; last = sym (rw (drop-drop, cut) at inner) ∙ b.last })
+
+-- ---- names and their octets
+
+pub octets_laid : (labels : List (List ℕ)) → IsName labels → IsLaidOut (octets_of labels)
+octets_laid labels name = laid_out labels name
+
+pub labels_octets : (labels : List (List ℕ)) → labels_of (octets_of labels) ≡ labels
+labels_octets labels = labels_of-octets_of labels
+
+-- names that are the same have octets of one length
+pub same_size : (a b : List (List ℕ)) → IsSame a b → size_of a ≡ size_of b
+same_size a b same = sym (size_of-lowered a) ∙ ap size_of same ∙ size_of-lowered b
+
+-- ---- keys
+
+-- the key of a key's labels is itself
+pub lowered_again : (labels : List (List ℕ)) → lowered (lowered labels) ≡ lowered labels
+lowered_again [] = refl
+lowered_again (l ∷ ls) = rw (lowered_twice l, lowered_again ls) refl
+
+-- a name and its key's labels are the same name
+pub same_lowered : (labels : List (List ℕ)) → IsSame (lowered labels) labels
+same_lowered labels = lowered_again labels
+
+pub name_lowered : (labels : List (List ℕ)) → IsName labels → IsName (lowered labels)
+name_lowered labels name = name-lowered labels name

@@ -1,0 +1,7 @@
+use Rattle.std.proofs.Common.{◌≡◌, ◌≤◌, ◌++◌}
+use Rattle.dns_name.specs.Labels.{size_of}
+use Rattle.dns_name.specs.Text.{parts_of}
+use Rattle.dns_name.proofs.text.name_of_parts.Given as goal
+
+abbrev pub invariant-loop-label : goal.invariant-loop-label
+invariant-loop-label g l = (parts_of l.text ≡ l.name ++ l.label-iterator) × (size_of l.name ≤ 255)
