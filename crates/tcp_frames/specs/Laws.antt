@@ -1,0 +1,31 @@
+-- What the frames of a stream are good for, as statements.
+use Rattle.std.specs.Prelude.{◌≡◌, ℕ, ◌<◌, List, ◌++◌}
+use Rattle.std.specs.List.{flat_map, AllByRecursion}
+use Rattle.tcp_frames.specs.Frames.{framed, frames_of, unfinished_of, IsCut, IsUnfinished, Leads}
+use Rattle.tcp_frames.specs.Runs.{Call, Runs, fed_in, taken_in}
+
+-- What was taken, each message with its length, followed by what is left, is what was there and what was fed.
+abbrev pub NothingIsLost : Type 0
+NothingIsLost =
+    (before : List ℕ) (calls : List Call) (after : List ℕ) → Runs before calls after
+    → before ++ fed_in calls ≡ flat_map framed (taken_in calls) ++ after
+
+-- What was taken, followed by the frames that are left, are the frames of what was there and what was fed.
+pub record KeepsFrames (before : List ℕ) (calls : List Call) (after : List ℕ) : Type 0 where
+  pub frames : frames_of (before ++ fed_in calls) ≡ taken_in calls ++ frames_of after
+  pub unfinished : unfinished_of (before ++ fed_in calls) ≡ unfinished_of after
+
+abbrev pub CutDoesNotMatter : Type 0
+CutDoesNotMatter = (before : List ℕ) (calls : List Call) (after : List ℕ) → Runs before calls after → KeepsFrames before calls after
+
+abbrev pub FramesAreUnique : Type 0
+FramesAreUnique =
+    (stream : List ℕ) (messages others : List (List ℕ)) (rest left : List ℕ)
+    → IsCut messages rest stream → IsCut others left stream → (messages ≡ others) × (rest ≡ left)
+
+abbrev pub FramesAreFound : Type 0
+FramesAreFound = (stream : List ℕ) → AllByRecursion (λ octet. octet < 256) stream → IsCut (frames_of stream) (unfinished_of stream) stream
+
+-- An unfinished stream begins with no frame.
+abbrev pub UnfinishedHasNoFrame : Type 0
+UnfinishedHasNoFrame = (stream : List ℕ) → IsUnfinished stream → (message rest : List ℕ) → ¬ (Leads message rest stream)

@@ -1,0 +1,31 @@
+//! What the definitions of a stream's frames are good for.
+
+ghost use Rattle.tcp_frames.specs.Laws.{CutDoesNotMatter, FramesAreFound, FramesAreUnique, NothingIsLost, UnfinishedHasNoFrame};
+
+/// Over any run of feeds and takes, refused ones too: what was taken, each message with its length, followed by what
+/// is left, is what was there followed by what was fed.
+pub fn nothing_is_lost()
+    ensures { NothingIsLost }
+{}
+
+/// However a stream was cut into pieces, and whenever takes came between them: what was taken, followed by the frames
+/// that are left, are the frames of all that was fed.
+pub fn cut_does_not_matter()
+    ensures { CutDoesNotMatter }
+{}
+
+/// A stream is the frames of some messages and an unfinished rest in one way at most.
+pub fn frames_are_unique()
+    ensures { FramesAreUnique }
+{}
+
+/// A stream of octets is the frames of some messages and an unfinished rest in one way at least: `frames_of` and
+/// `unfinished_of` give it.
+pub fn frames_are_found()
+    ensures { FramesAreFound }
+{}
+
+/// An unfinished stream begins with no whole frame.
+pub fn unfinished_has_no_frame()
+    ensures { UnfinishedHasNoFrame }
+{}

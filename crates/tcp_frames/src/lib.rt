@@ -1,0 +1,20 @@
+//! DNS messages over TCP: each goes behind its length in two octets, the high one first (RFC 1035 4.2.2, RFC 7766 8).
+//!
+//! `frame` makes the octets of one message for the stream. A `FrameReader` takes the octets of a stream in pieces as
+//! they come, cut anywhere, and gives the messages back whole and in order.
+#![tactic(auto)]
+
+mod fault;
+mod laws;
+mod reading;
+#[cfg(test)]
+mod tests;
+mod writing;
+
+pub use fault::FrameFault;
+pub use laws::{
+    cut_does_not_matter, frames_are_found, frames_are_unique, nothing_is_lost,
+    unfinished_has_no_frame,
+};
+pub use reading::FrameReader;
+pub use writing::frame;
