@@ -3,9 +3,10 @@ use Rattle.std.proofs.Common.{◌≡◌, ℕ, ◌+◌, ◌<◌, ◌≤◌, List,
 use Rattle.std.proofs.lemmas.Bool.{lt-ltb, le-ltb, cases_lt}
 use Rattle.dns_name.specs.declared.fault.NameFault.{NameFault}
 use Rattle.dns_name.specs.declared.fault.NameFault.TheVariants.{EmptyLabel, LabelLong, NameLong, BadCharacter, Memory}
-use Rattle.dns_name.specs.Labels.{size_of, IsLabel, labels_of}
-use Rattle.dns_name.specs.Faults.{label_fault, fault_or, first_fault, judged, pushed, Fails}
-use Rattle.dns_name.specs.Text.{written_label_fault}
+use Rattle.std.specs.List.{AllByRecursion}
+use Rattle.dns_name.specs.Labels.{size_of, IsLabel, IsName, labels_of}
+use Rattle.dns_name.specs.Faults.{label_fault, fault_or, first_fault, sized, judged, named, pushed, Fails}
+use Rattle.dns_name.specs.Text.{written_label_fault, labels_in, name_in}
 use Rattle.std.proofs.Common.{Vec}
 use Rattle.std.proofs.lemmas.List.{take_more, map-append, take-append-drop}
 use Rattle.dns_name.proofs.LabelLaws.{Grows, size_of-append, size_of-push, size_of-some}
@@ -96,6 +97,36 @@ pushed_gives labels new label is =
           let same : new ≡ labels ++ label ∷ [] = cc in
           (same, rw same le)
     ]
+
+-- ---- what is no fault is a name
+
+each_label : (fault_of : FaultOf) → ((label : List ℕ) → fault_of label ≡ None → IsLabel label) → (labels : List (List ℕ)) → first_fault fault_of labels ≡ None → AllByRecursion IsLabel labels
+each_label fault_of told [] none = tt
+each_label fault_of told (l ∷ ls) none =
+    let first = both_none (fault_of l) (first_fault fault_of ls) none in
+    (told l first.0, each_label fault_of told ls first.1)
+
+sized_name : (fault : Option NameFault) (labels name : List (List ℕ)) → sized fault labels ≡ Ok name → (fault ≡ None) × (name ≡ labels) × (size_of labels ≤ 255)
+sized_name (Some e) labels name is = absurd (let no : bad e ≡ Ok name = is in cc)
+sized_name None labels name is =
+    elim (cases_lt 255 (size_of labels)) [
+      | inl lt ↦ absurd (let no : bad NameLong ≡ Ok name = rw (lt-ltb 255 (size_of labels) lt) at is in cc)
+      | inr le ↦
+          let fits : Ok labels ≡ Ok name = rw (le-ltb 255 (size_of labels) le) at is in
+          let one : name ≡ labels = cc in
+          (refl, one, le)
+    ]
+
+judged_name : (fault_of : FaultOf) → ((label : List ℕ) → fault_of label ≡ None → IsLabel label) → (labels name : List (List ℕ)) → judged fault_of labels ≡ Ok name → IsName name
+judged_name fault_of told labels name is =
+    let parts = sized_name (first_fault fault_of labels) labels name is in
+    rw parts.1 (record { each = each_label fault_of told labels parts.0; short = parts.2 })
+
+pub named_name : (labels name : List (List ℕ)) → named labels ≡ Ok name → IsName name
+named_name labels name is = judged_name label_fault is_label labels name is
+
+pub name_in_name : (text : List ℕ) (name : List (List ℕ)) → name_in text ≡ Ok name → IsName name
+name_in_name text name is = judged_name written_label_fault is_written_label (labels_in text) name is
 
 -- ---- labels in vectors
 

@@ -1,9 +1,15 @@
 -- When names are the same, when one is under another, and when their keys are equal.
-use Rattle.std.proofs.Common.{◌≡◌, ℕ, ◌+◌, ◌-◌, ◌≤◌, List, [], ◌∷◌, length, take, drop, map, refl, sym, ap, ◌∙◌, arith}
+use Rattle.std.proofs.Common.{◌<◌, ◌≡◌, ℕ, ◌+◌, ◌-◌, ◌≤◌, List, [], ◌∷◌, length, take, drop, map, refl, sym, ap, ◌∙◌, arith}
+use Rattle.std.proofs.Common.{Bool, true, false, ◌&&◌, nat_eq, nat_le, le-leb}
+use Rattle.std.specs.Bool.{Decides}
+use Rattle.std.specs.Cmp.Lexicographic.{pointwise}
+use Rattle.std.proofs.lemmas.Bool.{leb-true}
+use Rattle.std.proofs.lemmas.Bool.Decides.{Decides-eqb}
+use Rattle.std.proofs.lemmas.Slice.Eq.{slice_eq-Decides}
 use Rattle.std.specs.Char.{to_ascii_lowercase}
 use Rattle.std.proofs.lemmas.List.{drop_at, drop-map, length-map, length-append, drop-drop, drop_all, take-append-drop}
-use Rattle.dns_name.specs.Labels.{octets_of, size_of, IsName, IsSame, IsUnder, lowered, labels_of, IsLaidOut}
-use Rattle.dns_name.proofs.LabelLaws.{labels_of-octets_of, laid_out, same_under, size_of-lowered}
+use Rattle.dns_name.specs.Labels.{octets_of, size_of, IsName, IsSame, IsUnder, same, is_under, lowered, labels_of, IsLaidOut}
+use Rattle.dns_name.proofs.LabelLaws.{labels_of-octets_of, laid_out, same_under, size_of-lowered, size_of-append, size_of-some}
 use Rattle.dns_name.proofs.KeyOf.{lowered_twice, name-lowered}
 
 -- ---- sameness is an equivalence
@@ -19,6 +25,10 @@ same_trans a b c first second = first ∙ second
 
 pub same_count : (a b : List (List ℕ)) → IsSame a b → length a ≡ length b
 same_count a b same = omega (arith, ap length same, length-map a (map to_ascii_lowercase), length-map b (map to_ascii_lowercase))
+
+-- names that are the same have octets of one length
+pub same_size : (a b : List (List ℕ)) → IsSame a b → size_of a ≡ size_of b
+same_size a b same = sym (size_of-lowered a) ∙ ap size_of same ∙ size_of-lowered b
 
 -- the last labels of names that are the same are the same
 pub same_drop : (k : ℕ) (a b : List (List ℕ)) → IsSame a b → IsSame (drop k a) (drop k b)
@@ -91,6 +101,41 @@ under_longer n s t ns nt le =
     let inner : IsSame (drop k (drop (length n - length s) n)) (drop k s) = same_drop k (drop (length n - length s) n) s a.last in
     ends_under s t (record { fewer = le; last = sym (rw (drop-drop, cut) at inner) ∙ b.last })
 
+-- of two suffixes of one name the one with more labels is the longer one
+pub more_labels : (n s t : List (List ℕ)) → IsUnder n s → IsUnder n t → length t < length s → size_of t < size_of s
+more_labels n s t ns nt lt = longer s t (under_longer n s t ns nt (omega arith)) lt
+  where
+    longer : (s t : List (List ℕ)) → IsUnder s t → length t < length s → size_of t < size_of s
+    longer s t ([], back, parts, same) lt = absurd (omega (arith, ap length parts, same_count back t same))
+    longer s t ((l ∷ front), back, parts, same) lt = omega (arith, ap size_of parts, size_of-append (l ∷ front) back, size_of-some front, same_size back t same)
+
+-- ---- the tests
+
+pub same_decides : (a b : List (List ℕ)) → Decides (same a b) (IsSame a b)
+same_decides a b = slice_eq-Decides (λ x y. slice_eq-Decides Decides-eqb x y (pointwise nat_eq x y) refl) (lowered a) (lowered b) (same a b) refl
+
+both : (x y : Bool) → (x && y) ≡ true → (x ≡ true) × (y ≡ true)
+both true y e = (refl, e)
+both false y e = absurd cc
+
+pub is_under_decides : (n s : List (List ℕ)) → Decides (is_under n s) (IsUnder n s)
+is_under_decides n s =
+    let last = same_decides (drop (length n - length s) n) s in (
+      λ e.
+          let parts = both (nat_le (length s) (length n)) (same (drop (length n - length s) n) s) e in
+          ends_under n s (record { fewer = leb-true (length s) (length n) parts.0; last = last.0 parts.1 }),
+      λ under.
+          let ends = under_ends n s under in
+          rw (le-leb (length s) (length n) ends.fewer, last.1 ends.last) refl,
+    )
+
+-- what a call told of P, where a test decides P
+pub told : {P : Type 0} (answer test : Bool) → (answer ≡ true → P) × (P → answer ≡ true) → Decides test P → answer ≡ test
+told true true answered decided = refl
+told false false answered decided = refl
+told true false answered decided = absurd (let no : false ≡ true = decided.1 (answered.0 refl) in cc)
+told false true answered decided = absurd (let no : false ≡ true = answered.1 (decided.0 refl) in cc)
+
 -- ---- names and their octets
 
 pub octets_laid : (labels : List (List ℕ)) → IsName labels → IsLaidOut (octets_of labels)
@@ -98,10 +143,6 @@ octets_laid labels name = laid_out labels name
 
 pub labels_octets : (labels : List (List ℕ)) → labels_of (octets_of labels) ≡ labels
 labels_octets labels = labels_of-octets_of labels
-
--- names that are the same have octets of one length
-pub same_size : (a b : List (List ℕ)) → IsSame a b → size_of a ≡ size_of b
-same_size a b same = sym (size_of-lowered a) ∙ ap size_of same ∙ size_of-lowered b
 
 -- ---- keys
 

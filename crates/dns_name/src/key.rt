@@ -1,11 +1,13 @@
 //! Names as keys of fixed size.
 
-ghost use Rattle.std.specs.Prelude.{◌≡◌, ◌≤◌, length, map};
+ghost use Rattle.std.specs.Prelude.{◌≡◌, ◌≤◌, ◌↔◌, IsTrue, length, map};
 ghost use Rattle.std.specs.Char.{to_ascii_lowercase};
 ghost use Rattle.dns_name.specs.Key.{padded};
-ghost use Rattle.dns_name.specs.Labels.{labels_of, IsLaidOut, lowered, parent_of};
+ghost use Rattle.dns_name.specs.Labels.{labels_of, IsLaidOut, IsUnder, lowered, parent_of};
 
 use crate::labels::split_label;
+use crate::name::{Name, ends_in};
+use std::alloc::Allocator;
 use std::hash::{Hash, Hasher};
 use std::marker::Model;
 
@@ -63,6 +65,13 @@ impl NameKey {
     {
         let (_, rest) = split_label(self.name_octets())?;
         Some(key_of(rest))
+    }
+
+    /// Whether the last labels of this key's name are those of `suffix`, as `Name::is_under`. It takes no memory.
+    pub fn is_under<A: Allocator>(&self, suffix: &Name<A>) -> bool
+        ensures { IsTrue result ↔ IsUnder self.now suffix.now }
+    {
+        ends_in(self.name_octets(), suffix.octets())
     }
 
     /// The octets of the name, without the zero octet at their end.

@@ -52,6 +52,7 @@ impl<A: Allocator> Name<A> {
     pub fn octets(&self) -> &[u8]
         ensures laid { IsLaidOut result.now }
         ensures labels { labels_of result.now ≡ self.now }
+        ensures size { length result.now + 1 ≡ size_of self.now }
     {
         &self.octets
     }
@@ -134,7 +135,7 @@ impl<A: Allocator> Name<A> {
 }
 
 /// Whether the last labels of the one are those of the other, letter case aside.
-fn ends_in(octets: &[u8], suffix: &[u8]) -> bool
+pub(crate) fn ends_in(octets: &[u8], suffix: &[u8]) -> bool
     requires whole { IsLaidOut octets.now }
     requires suffix_whole { IsLaidOut suffix.now }
     ensures { IsTrue result ↔ IsUnder (labels_of octets.now) (labels_of suffix.now) }

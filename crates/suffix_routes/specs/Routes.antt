@@ -1,0 +1,34 @@
+-- The route of a name.
+use Rattle.std.specs.Prelude.{◌≡◌, ℕ, ◌≤◌, List, [], ◌∷◌, length, slice_get, position, Option, Some, None}
+use Rattle.dns_name.specs.Labels.{IsUnder, same}
+use Rattle.suffix_routes.specs.Values.{Route}
+
+-- the route at this place has a suffix that the name is under, and no suffix that the name is under has more labels
+pub record IsRouteOf (routes : List Route) (name : List (List ℕ)) (place : ℕ) : Type 0 where
+  pub route : Route
+  pub there : slice_get routes place ≡ Some route
+  pub under : IsUnder name route.suffix
+  pub most : (k : ℕ) (other : Route) → slice_get routes k ≡ Some other → IsUnder name other.suffix → length other.suffix ≤ length route.suffix
+
+-- the name is under no suffix
+abbrev pub HasNoRoute : List Route → List (List ℕ) → Type 0
+HasNoRoute routes name = (k : ℕ) (other : Route) → slice_get routes k ≡ Some other → IsUnder name other.suffix → ⊥
+
+-- the configured suffix with the most labels that the name is under, or none
+abbrev pub IsAnswer : List Route → List (List ℕ) → Option ℕ → Type 0
+IsAnswer routes name (Some place) = IsRouteOf routes name place
+IsAnswer routes name None = HasNoRoute routes name
+
+-- the place of the route that has this very suffix
+abbrev pub route_at : List Route → List (List ℕ) → Option ℕ
+route_at routes name = position (λ r. same name r.suffix) routes
+
+abbrev pub place_or : Option ℕ → Option ℕ → Option ℕ
+place_or (Some place) next = Some place
+place_or None next = next
+
+-- The same answer, computed: the route of the name itself where it is a suffix, else that of the name without its
+-- first label.
+unfoldable pub route_of : List Route → List (List ℕ) → Option ℕ
+route_of routes [] = route_at routes []
+route_of routes (label ∷ labels) = place_or (route_at routes (label ∷ labels)) (route_of routes labels)

@@ -1,0 +1,58 @@
+-- What a configuration is: plain values, and what holds of each that was accepted.
+use Rattle.std.specs.Prelude.{◌≡◌, ℕ, ◌<◌, ◌≤◌, List, [], ◌∷◌, length}
+use Rattle.std.specs.List.{AllByRecursion}
+use Rattle.dns_name.specs.Labels.{IsName, IsSame}
+use Rattle.suffix_routes.specs.declared.peer.Peer.{Peer}
+use Rattle.suffix_routes.specs.declared.limits.Limits.{Limits}
+
+pub record Route : Type 0 where
+  pub suffix : List (List ℕ)
+  pub servers : List Peer
+
+pub record Config : Type 0 where
+  pub listen : Peer
+  pub limits : Limits
+  pub routes : List Route
+
+-- from the lowest value to the highest, both counted
+abbrev pub IsWithin : ℕ → ℕ → ℕ → Type 0
+IsWithin low high n = (low ≤ n) × (n ≤ high)
+
+pub record AreLimits (limits : Limits) : Type 0 where
+  pub questions : IsWithin 1 4096 limits.questions
+  pub inquiries : IsWithin 1 1024 limits.inquiries
+  pub cache : IsWithin 1 65536 limits.cache
+  pub tries : IsWithin 1 16 limits.tries
+  pub ask_ms : IsWithin 100 10000 limits.ask_ms
+  pub deadline_ms : IsWithin 500 30000 limits.deadline_ms
+
+-- the limits of a configuration that names none
+abbrev pub default_limits : Limits
+default_limits = record {
+  questions = 1024;
+  inquiries = 256;
+  cache = 4096;
+  tries = 4;
+  ask_ms = 1500;
+  deadline_ms = 8000;
+}
+
+-- a suffix that is a name, and 1 to 8 servers
+pub record IsRoute (route : Route) : Type 0 where
+  pub suffix : IsName route.suffix
+  pub servers : IsWithin 1 8 (length route.servers)
+
+-- no suffix of the routes is this name
+abbrev pub HasNoSuffix : List (List ℕ) → List Route → Type 0
+HasNoSuffix suffix routes = AllByRecursion (λ r. IsSame suffix r.suffix → ⊥) routes
+
+-- no two suffixes are the same name
+abbrev pub AllDiffer : List Route → Type 0
+AllDiffer [] = Unit {0}
+AllDiffer (r ∷ rs) = HasNoSuffix r.suffix rs × AllDiffer rs
+
+pub record IsConfig (config : Config) : Type 0 where
+  pub limits : AreLimits config.limits
+  pub count : IsWithin 1 64 (length config.routes)
+  pub each : AllByRecursion IsRoute config.routes
+  pub differ : AllDiffer config.routes

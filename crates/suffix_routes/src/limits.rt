@@ -1,0 +1,37 @@
+//! The limits of a forwarder.
+
+ghost use Rattle.std.specs.Prelude.{◌≡◌};
+ghost use Rattle.suffix_routes.specs.Values.{default_limits};
+
+/// The limits of a forwarder. In an accepted configuration each is in its range.
+#[derive(Clone, Copy, Debug, PartialEq, Eq)]
+pub struct Limits {
+    /// How many questions may wait, 1 to 4,096.
+    pub questions: usize,
+    /// How many inquiries may be open, 1 to 1,024.
+    pub inquiries: usize,
+    /// How many entries the cache has room for, 1 to 65,536.
+    pub cache: usize,
+    /// How many asks one inquiry may make, 1 to 16.
+    pub tries: u8,
+    /// How many milliseconds an ask is live, 100 to 10,000.
+    pub ask_ms: u64,
+    /// How many milliseconds a question may wait, 500 to 30,000.
+    pub deadline_ms: u64,
+}
+
+impl Limits {
+    /// The limits of a configuration that names none.
+    pub fn defaults() -> Limits
+        ensures { result ≡ default_limits }
+    {
+        Limits {
+            questions: 1024,
+            inquiries: 256,
+            cache: 4096,
+            tries: 4,
+            ask_ms: 1500,
+            deadline_ms: 8000,
+        }
+    }
+}
