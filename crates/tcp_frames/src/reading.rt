@@ -13,7 +13,7 @@ use std::marker::Model;
 pub struct FrameReader<A: Allocator = Global> {
     /// What came since the rest was moved to the front last.
     octets: Vec<u8, A>,
-    /// How many of them were taken already: less than half, so that the room is used again.
+    /// How many of them were taken already: at most half, so that the room is used again.
     taken: usize,
     alloc: A,
 }

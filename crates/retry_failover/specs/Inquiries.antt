@@ -1,0 +1,37 @@
+-- Inquiries: a first ask, and a failure of each ask while another follows.
+use Rattle.std.specs.Prelude.{ℕ, ◌+◌, Bool, true, false, List, [], ◌∷◌, Option, Some, None}
+use Rattle.retry_failover.specs.declared.Plan.{Plan}
+use Rattle.retry_failover.specs.declared.Failure.{Failure}
+use Rattle.retry_failover.specs.declared.Failure.TheVariants.{Truncated}
+use Rattle.retry_failover.specs.declared.Next.{Next}
+use Rattle.retry_failover.specs.declared.Next.TheVariants.{AskUdp, AskTcp, GiveUp}
+use Rattle.retry_failover.specs.Table.{after_failure}
+
+-- which server is asked, and whether over TCP
+pub record Ask : Type 0 where
+  pub server : ℕ
+  pub tcp : Bool
+
+-- the first ask of an inquiry: by UDP, to the server that the group prefers
+abbrev pub begun : ℕ → ℕ → ℕ → Plan
+begun servers tries preferred = record { servers = servers; tries = tries; used = 1; server = preferred; tcp = false }
+
+-- the ask that is made next: it uses one try
+abbrev pub made : Plan → Next → Option Plan
+made plan (AskUdp server) = Some (record plan { used = plan.used + 1; server = server; tcp = false })
+made plan (AskTcp server) = Some (record plan { used = plan.used + 1; server = server; tcp = true })
+made plan GiveUp = None
+
+abbrev pub ask_of : Plan → Ask
+ask_of plan = record { server = plan.server; tcp = plan.tcp }
+
+-- this ask and those that follow it where the asks fail so, one after the other; failures after the last ask are none of its
+abbrev pub asks_from : Plan → List Failure → List Ask
+asks_from plan [] = ask_of plan ∷ []
+asks_from plan (failure ∷ failures) =
+    ask_of plan ∷ (elim (made plan (after_failure plan failure)) [ None ↦ [] | Some later ↦ asks_from later failures ])
+
+-- a reply was truncated that came by UDP; the first argument says whether the ask went over TCP
+abbrev pub is_cut : Bool → Failure → Bool
+is_cut false Truncated = true
+is_cut tcp failure = false

@@ -1,0 +1,3 @@
+pub mod Table
+pub mod Inquiries
+pub mod Laws

@@ -1,0 +1,74 @@
+//! What follows an ask that failed: another ask of the same group of servers, or none.
+//!
+//! A question goes to one server at a time. The first ask goes by UDP to the server that the group prefers. A reply
+//! with TC set is asked for again over TCP, at the same server (RFC 2181 9, RFC 7766 5); after any other failure the
+//! next server of the group is asked by UDP, round from the last to the first. Each ask uses up one try.
+#![tactic(auto)]
+
+ghost use Rattle.std.specs.Prelude.{◌≡◌, ◌<◌};
+ghost use Rattle.retry_failover.specs.Table.{after_failure};
+
+mod laws;
+#[cfg(test)]
+mod tests;
+
+pub use laws::{asks_are_counted, asks_take_turns, every_server_is_asked};
+
+/// An ask that is under way, and what may follow it.
+#[derive(Clone, Copy, Debug, PartialEq, Eq)]
+pub struct Plan {
+    /// How many servers the group has.
+    pub servers: u8,
+    /// How many asks one question may cost.
+    pub tries: u8,
+    /// How many it has cost, this ask included.
+    pub used: u8,
+    /// The asked server, by its place in the group from 0.
+    pub server: u8,
+    /// Whether this ask went over TCP.
+    pub tcp: bool,
+}
+
+/// How an ask failed.
+#[derive(Clone, Copy, Debug, PartialEq, Eq)]
+pub enum Failure {
+    /// No reply came in time.
+    TimedOut,
+    /// Its path failed: a port or a connection.
+    Broken,
+    /// The reply has TC set: it is cut (RFC 1035 4.1.1).
+    Truncated,
+    /// The reply cannot be read whole.
+    Malformed,
+    /// The reply's RCODE is neither 0 nor 3.
+    Rcode,
+    /// The reply is whole, but neither answers nor denies: a referral, for one.
+    Lame,
+}
+
+/// What follows a failure. A server is its place in the group, from 0.
+#[derive(Clone, Copy, Debug, PartialEq, Eq)]
+pub enum Next {
+    /// Ask this server by UDP.
+    AskUdp(u8),
+    /// Ask this server over TCP.
+    AskTcp(u8),
+    /// Ask no more.
+    GiveUp,
+}
+
+/// What follows the failure of an ask: nothing where all tries are used; else, after a truncated reply over UDP, the
+/// same server over TCP; else the next server of the group by UDP, the first after the last. It takes no memory. The
+/// caller sees to it that the asked server is one of the group.
+pub fn after(plan: &Plan, failure: Failure) -> Next
+    requires { plan.now.server < plan.now.servers }
+    ensures { result ≡ after_failure plan.now failure }
+{
+    if plan.used == plan.tries {
+        return Next::GiveUp;
+    }
+    if failure == Failure::Truncated && !plan.tcp {
+        return Next::AskTcp(plan.server);
+    }
+    Next::AskUdp((plan.server + 1) % plan.servers)
+}
