@@ -1,0 +1,10 @@
+pub mod NameLaws
+pub mod Loops
+pub mod DataLaws
+pub mod RecordLaws
+pub mod Counting
+pub mod MessageLaws
+pub mod SpellLaws
+pub mod WholeLaws
+pub mod ShapeLaws
+pub mod SpanLaws

@@ -1,0 +1,10 @@
+pub mod Values
+pub mod Shapes
+pub mod Reading
+pub mod Numbers
+pub mod Names
+pub mod Data
+pub mod Header
+pub mod Records
+pub mod Messages
+pub mod Spans

@@ -1,0 +1,188 @@
+//! The header, questions and records, at a place of a message.
+
+ghost use Rattle.std.specs.Prelude.{◌≡◌, IfSome};
+ghost use Rattle.dns_message.specs.Reading.{Gives, behind};
+ghost use Rattle.dns_message.specs.Header.{FitsBits, header_of};
+ghost use Rattle.dns_message.specs.Records.{octets_end, question_at, record_at, counted};
+
+use crate::fault::Fault;
+use crate::header::Header;
+use crate::message::{Question, Rdata, Record};
+use crate::reading::data::{read_data, skip_data};
+use crate::reading::names::{read_name, skip_name};
+use crate::reading::numbers::{number16, number32};
+use crate::reading::walk::Bound;
+use plain_list::PlainList;
+use std::alloc::Allocator;
+
+impl Header {
+    /// The header that the octets begin with: RFC 1035 4.1.1. `None` where there are less than 12.
+    #[tactic(auto, unfolding(crate::specs::Header::header_of))]
+    pub fn read(bytes: &[u8]) -> Option<Header>
+        ensures exact { result ≡ header_of bytes.now }
+        ensures fits { IfSome result FitsBits }
+    {
+        if bytes.len() < 12 {
+            return None;
+        }
+        let (flags, more) = (bytes[2], bytes[3]);
+        Some(Header {
+            id: number16(bytes, 0),
+            qr: flags / 128 % 2 >= 1,
+            opcode: flags / 8 % 16,
+            aa: flags / 4 % 2 >= 1,
+            tc: flags / 2 % 2 >= 1,
+            rd: flags / 1 % 2 >= 1,
+            ra: more / 128 % 2 >= 1,
+            z: more / 16 % 8,
+            rcode: more % 16,
+            counts: [
+                number16(bytes, 4),
+                number16(bytes, 6),
+                number16(bytes, 8),
+                number16(bytes, 10),
+            ],
+        })
+    }
+}
+
+/// The place behind so many octets.
+#[tactic(auto, unfolding(crate::specs::Records::octets_end))]
+pub(crate) fn skip_octets(bytes: &[u8], offset: usize, count: usize) -> Result<usize, Fault>
+    ensures { result ≡ octets_end bytes.now offset count }
+{
+    if offset > bytes.len() || bytes.len() - offset < count {
+        return Err(Fault::Short);
+    }
+    Ok(offset + count)
+}
+
+/// The question at a place, and the place behind it.
+#[tactic(auto, unfolding(crate::specs::Records::question_at, crate::specs::Records::octets_end))]
+pub(crate) fn read_question<A: Allocator>(
+    alloc: A,
+    bytes: &[u8],
+    offset: usize,
+) -> Result<(Question<A>, usize), Fault>
+    ensures { Gives (λ x. x) result (question_at bytes.now offset) }
+{
+    let (name, after) = read_name(alloc, bytes, offset)?;
+    let end = skip_octets(bytes, after, 4)?;
+    let kind = number16(bytes, after);
+    let class = number16(bytes, after + 2);
+    Ok((Question { name, kind, class }, end))
+}
+
+/// The place behind the question at a place.
+#[tactic(auto, using(crate::proofs::RecordLaws::question_behind))]
+pub(crate) fn skip_question(bytes: &[u8], offset: usize) -> Result<usize, Fault>
+    ensures { result ≡ behind (question_at bytes.now offset) }
+{
+    let after = skip_name(bytes, Bound::whole(bytes), offset)?;
+    skip_octets(bytes, after, 4)
+}
+
+/// The record at a place, and the place behind it.
+#[tactic(auto, unfolding(crate::specs::Records::record_at, crate::specs::Records::octets_end))]
+pub(crate) fn read_record<A: Allocator + Copy>(
+    alloc: A,
+    bytes: &[u8],
+    offset: usize,
+) -> Result<(Record<A>, usize), Fault>
+    ensures { Gives (λ x. x) result (record_at bytes.now offset) }
+{
+    let (owner, after) = read_name(alloc, bytes, offset)?;
+    let fixed = skip_octets(bytes, after, 10)?;
+    let kind = number16(bytes, after);
+    let class = number16(bytes, after + 2);
+    let ttl = number32(bytes, after + 4);
+    let len = number16(bytes, after + 8) as usize;
+    let (octets, end) = read_data(alloc, bytes, kind, fixed, len)?;
+    let rdata = Rdata::new(octets);
+    Ok((
+        Record {
+            owner,
+            kind,
+            class,
+            ttl,
+            rdata,
+        },
+        end,
+    ))
+}
+
+/// The place behind the record at a place.
+#[tactic(auto, unfolding(crate::specs::Records::octets_end), using(crate::proofs::RecordLaws::record_behind))]
+pub(crate) fn skip_record(bytes: &[u8], offset: usize) -> Result<usize, Fault>
+    ensures { result ≡ behind (record_at bytes.now offset) }
+{
+    let after = skip_name(bytes, Bound::whole(bytes), offset)?;
+    let fixed = skip_octets(bytes, after, 10)?;
+    let kind = number16(bytes, after);
+    let len = number16(bytes, after + 8) as usize;
+    skip_data(bytes, kind, fixed, len)
+}
+
+/// So many questions from a place on, and the place behind them.
+#[tactic(auto, using(crate::proofs::Counting::read_more, crate::proofs::Counting::read_done, crate::proofs::Counting::after_none))]
+pub(crate) fn read_questions<A: Allocator + Copy>(
+    alloc: A,
+    bytes: &[u8],
+    offset: usize,
+    count: u16,
+) -> Result<(PlainList<Question<A>, A>, usize), Fault>
+    ensures { Gives (λ x. x) result (counted (question_at bytes.now) count offset) }
+{
+    let mut questions = PlainList::new(alloc);
+    let mut at = offset;
+    for _ in 0..count {
+        let (question, after) = read_question(alloc, bytes, at)?;
+        questions.push(question)?;
+        at = after;
+    }
+    Ok((questions, at))
+}
+
+/// So many records from a place on, and the place behind them.
+#[tactic(auto, using(crate::proofs::Counting::read_more, crate::proofs::Counting::read_done, crate::proofs::Counting::after_none))]
+pub(crate) fn read_records<A: Allocator + Copy>(
+    alloc: A,
+    bytes: &[u8],
+    offset: usize,
+    count: u16,
+) -> Result<(PlainList<Record<A>, A>, usize), Fault>
+    ensures { Gives (λ x. x) result (counted (record_at bytes.now) count offset) }
+{
+    let mut records = PlainList::new(alloc);
+    let mut at = offset;
+    for _ in 0..count {
+        let (record, after) = read_record(alloc, bytes, at)?;
+        records.push(record)?;
+        at = after;
+    }
+    Ok((records, at))
+}
+
+/// The place behind so many questions.
+#[tactic(auto, using(crate::proofs::Counting::skip_more, crate::proofs::Counting::skip_fault, crate::proofs::Counting::skip_done))]
+pub(crate) fn skip_questions(bytes: &[u8], offset: usize, count: u16) -> Result<usize, Fault>
+    ensures { result ≡ behind (counted (question_at bytes.now) count offset) }
+{
+    let mut at = offset;
+    for _ in 0..count {
+        at = skip_question(bytes, at)?;
+    }
+    Ok(at)
+}
+
+/// The place behind so many records.
+#[tactic(auto, using(crate::proofs::Counting::skip_more, crate::proofs::Counting::skip_fault, crate::proofs::Counting::skip_done))]
+pub(crate) fn skip_records(bytes: &[u8], offset: usize, count: u16) -> Result<usize, Fault>
+    ensures { result ≡ behind (counted (record_at bytes.now) count offset) }
+{
+    let mut at = offset;
+    for _ in 0..count {
+        at = skip_record(bytes, at)?;
+    }
+    Ok(at)
+}
