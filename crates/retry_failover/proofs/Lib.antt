@@ -1,1 +1,1 @@
-mod InquiryLaws
+pub mod InquiryLaws

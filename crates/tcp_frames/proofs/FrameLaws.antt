@@ -1,12 +1,13 @@
 -- The frames of a stream, as they are read: what `frames_of` and `unfinished_of` are where a frame leads, and where none does.
-use Rattle.std.proofs.Common.{◌≡◌, ℕ, zero, suc, ◌+◌, ◌*◌, ◌/◌, ◌%◌, ◌<◌, ◌≤◌, true, List, [], ◌∷◌, ◌++◌, length, take, drop, refl, sym, ap, ◌∙◌, append_assoc, inl, inr, arith}
+use Rattle.std.proofs.Common.{◌≡◌, ℕ, zero, suc, ◌+◌, ◌*◌, ◌/◌, ◌%◌, ◌<◌, ◌≤◌, Bool, true, List, [], ◌∷◌, ◌++◌, length, take, drop, refl, sym, ap, ◌∙◌, append_assoc, inl, inr, arith}
 use Rattle.std.specs.Prelude.{nat_le, if◌then◌else◌}
 use Rattle.std.specs.List.{flat_map, AllByRecursion}
-use Rattle.std.proofs.lemmas.List.{take_at, drop_at, length-append, length-take, length-drop, take-append-drop}
+use Rattle.std.proofs.lemmas.List.{take_at, drop_at, length-append, length-take, length-drop, take-append-drop, take-append-le, drop-append-le}
 use Rattle.std.proofs.Math.Seq.{drop-append-add}
 use Rattle.std.proofs.lemmas.Bool.{le-leb, lt-leb}
 use Rattle.std.proofs.lemmas.Bool.Decides.{leb_tells}
 use Rattle.tcp_frames.specs.Frames.{framed, Leads, IsUnfinished, frames_within, frames_of, unfinished_of, IsCut}
+use Rattle.tcp_frames.specs.Laws.{Continues}
 
 -- ---- no more calls than octets are wanted
 
@@ -141,3 +142,63 @@ cut_within (suc most) (high ∷ low ∷ more) short each =
 
 pub cut_found : (stream : List ℕ) → AllByRecursion (λ octet. octet < 256) stream → IsCut (frames_of stream) (unfinished_of stream) stream
 cut_found stream each = cut_within (length stream) stream (omega arith) each
+
+-- ---- a further piece
+
+record Whole (high low : ℕ) (more : List ℕ) : Type 0 where
+  frames : frames_of (high ∷ low ∷ more) ≡ take (256 * high + low) more ∷ frames_of (drop (256 * high + low) more)
+  unfinished : unfinished_of (high ∷ low ∷ more) ≡ unfinished_of (drop (256 * high + low) more)
+
+whole_first : (high low : ℕ) (more : List ℕ) → 256 * high + low ≤ length more → Whole high low more
+unfolding unfinished_of
+whole_first high low more le =
+    let size : ℕ = 256 * high + low in
+    let first : List ℕ = framed (take size more) in
+    let later : List ℕ = flat_map framed (frames_of (drop size more)) in
+    let frames : frames_of (high ∷ low ∷ more) ≡ take size more ∷ frames_of (drop size more) =
+    frames_of-two high low more
+    ∙ ap (λ (b : Bool). if b then take size more ∷ frames_of (drop size more) else []) (le-leb size (length more) le) in
+    record {
+      frames = frames;
+      unfinished =
+          ap (λ (messages : List (List ℕ)). drop (length (flat_map framed messages)) (high ∷ low ∷ more)) frames
+          ∙ ap (λ (n : ℕ). drop n (high ∷ low ∷ more)) (length-append first later)
+          ∙ ap (λ (octets : List ℕ). drop (length first + length later) (high ∷ low ∷ octets)) (sym (take-append-drop size more))
+          ∙ drop-append-add (high ∷ low ∷ take size more) (drop size more) (length later);
+    }
+
+continue_unfinished : (before piece : List ℕ) → IsUnfinished before → Continues before piece
+continue_unfinished before piece u = record {
+  frames = sym (ap (λ (messages : List (List ℕ)). messages ++ frames_of (unfinished_of before ++ piece)) (frames_of-unfinished before u)
+      ∙ ap (λ (octets : List ℕ). frames_of (octets ++ piece)) (unfinished_of-unfinished before u));
+  unfinished = sym (ap (λ (octets : List ℕ). unfinished_of (octets ++ piece)) (unfinished_of-unfinished before u));
+}
+
+continue_within : (most : ℕ) (before piece : List ℕ) → length before ≤ most → Continues before piece
+continue_within zero [] piece short = continue_unfinished [] piece tt
+continue_within zero (x ∷ xs) piece short = absurd (omega arith)
+continue_within (suc most) [] piece short = continue_unfinished [] piece tt
+continue_within (suc most) (x ∷ []) piece short = continue_unfinished (x ∷ []) piece tt
+continue_within (suc most) (high ∷ low ∷ more) piece short =
+    let size : ℕ = 256 * high + low in
+    elim (leb_tells size (length more)) [
+      | inl le ↦
+          let here = whole_first high low more le.1 in
+          let longer = whole_first high low (more ++ piece) (omega (arith, length-append more piece, le.1)) in
+          let later = continue_within most (drop size more) piece (omega (arith, length-drop size more)) in
+          let behind : drop size (more ++ piece) ≡ drop size more ++ piece = drop-append-le size more piece le.1 in
+          record {
+            frames = longer.frames
+                ∙ ap (λ (message : List ℕ). message ∷ frames_of (drop size (more ++ piece))) (take-append-le size more piece le.1)
+                ∙ ap (λ (octets : List ℕ). take size more ∷ frames_of octets) behind
+                ∙ ap (λ (messages : List (List ℕ)). take size more ∷ messages) later.frames
+                ∙ sym (ap (λ (messages : List (List ℕ)). messages ++ frames_of (unfinished_of (high ∷ low ∷ more) ++ piece)) here.frames
+                ∙ ap (λ (octets : List ℕ). take size more ∷ (frames_of (drop size more) ++ frames_of (octets ++ piece))) here.unfinished);
+            unfinished = longer.unfinished ∙ ap unfinished_of behind ∙ later.unfinished
+                ∙ sym (ap (λ (octets : List ℕ). unfinished_of (octets ++ piece)) here.unfinished);
+          }
+      | inr cut ↦ continue_unfinished (high ∷ low ∷ more) piece cut.1
+    ]
+
+pub continues : (before piece : List ℕ) → Continues before piece
+continues before piece = continue_within (length before) before piece (omega arith)

@@ -1,2 +1,2 @@
 pub mod FrameLaws
-mod RunLaws
+pub mod RunLaws

@@ -3,10 +3,10 @@ use Rattle.std.proofs.Common.{◌≡◌, ℕ, List, [], ◌∷◌, ◌++◌, sym
 use Rattle.std.specs.Prelude.{Some, None, Ok, Err}
 use Rattle.std.specs.List.{flat_map}
 use Rattle.std.proofs.lemmas.List.{append-nil}
-use Rattle.tcp_frames.specs.Frames.{framed, frames_of, unfinished_of}
+use Rattle.tcp_frames.specs.Frames.{framed, frames_of, unfinished_of, IsUnfinished}
 use Rattle.tcp_frames.specs.Runs.{Call, fed, took, Runs, fed_in, taken_in}
 use Rattle.tcp_frames.specs.Laws.{KeepsFrames}
-use Rattle.tcp_frames.proofs.FrameLaws.{frames_of-leads, unfinished_of-leads, leads-append}
+use Rattle.tcp_frames.proofs.FrameLaws.{frames_of-leads, frames_of-unfinished, unfinished_of-leads, unfinished_of-unfinished, leads-append}
 
 pub octets_kept : (before : List ℕ) (calls : List Call) (after : List ℕ) → Runs before calls after
     → before ++ fed_in calls ≡ flat_map framed (taken_in calls) ++ after
@@ -52,3 +52,11 @@ frames_kept before (took (Err e) ∷ calls) after run =
     let same : before ++ fed_in calls ≡ run.0 ++ fed_in calls = ap (λ (octets : List ℕ). octets ++ fed_in calls) (sym run.1.0.0) in
     let later = frames_kept run.0 calls after run.1.1 in
     record { frames = ap frames_of same ∙ later.frames; unfinished = ap unfinished_of same ∙ later.unfinished }
+
+pub all_taken : (calls : List Call) (after : List ℕ) → Runs [] calls after → IsUnfinished after
+    → (taken_in calls ≡ frames_of (fed_in calls)) × (after ≡ unfinished_of (fed_in calls))
+all_taken calls after run unfinished =
+    let kept = frames_kept [] calls after run in (
+      sym (kept.frames ∙ ap (λ (messages : List (List ℕ)). taken_in calls ++ messages) (frames_of-unfinished after unfinished) ∙ append-nil (taken_in calls)),
+      sym (kept.unfinished ∙ unfinished_of-unfinished after unfinished),
+    )

@@ -1,5 +1,5 @@
 -- What the frames of a stream are good for, as statements.
-use Rattle.std.specs.Prelude.{◌≡◌, ℕ, ◌<◌, List, ◌++◌}
+use Rattle.std.specs.Prelude.{◌≡◌, ℕ, ◌<◌, List, [], ◌++◌}
 use Rattle.std.specs.List.{flat_map, AllByRecursion}
 use Rattle.tcp_frames.specs.Frames.{framed, frames_of, unfinished_of, IsCut, IsUnfinished, Leads}
 use Rattle.tcp_frames.specs.Runs.{Call, Runs, fed_in, taken_in}
@@ -18,6 +18,12 @@ pub record KeepsFrames (before : List ℕ) (calls : List Call) (after : List ℕ
 abbrev pub CutDoesNotMatter : Type 0
 CutDoesNotMatter = (before : List ℕ) (calls : List Call) (after : List ℕ) → Runs before calls after → KeepsFrames before calls after
 
+-- Where nothing whole is left of all that was fed to a new reader, its frames have been taken, and what is left follows them.
+abbrev pub AllFramesAreTaken : Type 0
+AllFramesAreTaken =
+    (calls : List Call) (after : List ℕ) → Runs [] calls after → IsUnfinished after
+    → (taken_in calls ≡ frames_of (fed_in calls)) × (after ≡ unfinished_of (fed_in calls))
+
 abbrev pub FramesAreUnique : Type 0
 FramesAreUnique =
     (stream : List ℕ) (messages others : List (List ℕ)) (rest left : List ℕ)
@@ -29,3 +35,11 @@ FramesAreFound = (stream : List ℕ) → AllByRecursion (λ octet. octet < 256) 
 -- An unfinished stream begins with no frame.
 abbrev pub UnfinishedHasNoFrame : Type 0
 UnfinishedHasNoFrame = (stream : List ℕ) → IsUnfinished stream → (message rest : List ℕ) → ¬ (Leads message rest stream)
+
+-- With a further piece the frames go on behind those that were there: they begin with what was unfinished.
+pub record Continues (before piece : List ℕ) : Type 0 where
+  pub frames : frames_of (before ++ piece) ≡ frames_of before ++ frames_of (unfinished_of before ++ piece)
+  pub unfinished : unfinished_of (before ++ piece) ≡ unfinished_of (unfinished_of before ++ piece)
+
+abbrev pub PiecesContinue : Type 0
+PiecesContinue = (before piece : List ℕ) → Continues before piece

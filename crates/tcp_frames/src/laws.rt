@@ -1,6 +1,6 @@
 //! What the definitions of a stream's frames are good for.
 
-ghost use Rattle.tcp_frames.specs.Laws.{CutDoesNotMatter, FramesAreFound, FramesAreUnique, NothingIsLost, UnfinishedHasNoFrame};
+ghost use Rattle.tcp_frames.specs.Laws.{AllFramesAreTaken, CutDoesNotMatter, FramesAreFound, FramesAreUnique, NothingIsLost, PiecesContinue, UnfinishedHasNoFrame};
 
 /// Over any run of feeds and takes, refused ones too: what was taken, each message with its length, followed by what
 /// is left, is what was there followed by what was fed.
@@ -12,6 +12,12 @@ pub fn nothing_is_lost()
 /// that are left, are the frames of all that was fed.
 pub fn cut_does_not_matter()
     ensures { CutDoesNotMatter }
+{}
+
+/// Once no whole frame is left of what a new reader was fed, what was taken are the frames of all that it was fed, in
+/// order, and what is left is what follows them.
+pub fn all_frames_are_taken()
+    ensures { AllFramesAreTaken }
 {}
 
 /// A stream is the frames of some messages and an unfinished rest in one way at most.
@@ -28,4 +34,10 @@ pub fn frames_are_found()
 /// An unfinished stream begins with no whole frame.
 pub fn unfinished_has_no_frame()
     ensures { UnfinishedHasNoFrame }
+{}
+
+/// With a further piece the frames of a stream go on behind those that were there: the new ones are those of the
+/// unfinished rest and the piece.
+pub fn pieces_continue()
+    ensures { PiecesContinue }
 {}

@@ -13,8 +13,8 @@ mod writing;
 
 pub use fault::FrameFault;
 pub use laws::{
-    cut_does_not_matter, frames_are_found, frames_are_unique, nothing_is_lost,
-    unfinished_has_no_frame,
+    all_frames_are_taken, cut_does_not_matter, frames_are_found, frames_are_unique,
+    nothing_is_lost, pieces_continue, unfinished_has_no_frame,
 };
 pub use reading::FrameReader;
 pub use writing::frame;
