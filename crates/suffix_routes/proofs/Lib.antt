@@ -1,1 +1,3 @@
 pub mod RouteLaws
+pub mod ReadLaws
+pub mod ReadRoutes

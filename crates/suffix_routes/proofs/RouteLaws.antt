@@ -83,7 +83,7 @@ own_route routes name place is =
     }
 
 -- no suffix is the name itself
-no_own : (routes : List Route) (name : Name) → route_at routes name ≡ None → (k : ℕ) (other : Route) → slice_get routes k ≡ Some other → IsSame name other.suffix → ⊥
+pub no_own : (routes : List Route) (name : Name) → route_at routes name ≡ None → (k : ℕ) (other : Route) → slice_get routes k ≡ Some other → IsSame name other.suffix → ⊥
 no_own routes name is k other there one =
     let fails = position_none (λ r. same name r.suffix) routes is k other there in
     let no : false ≡ true = sym fails ∙ (same_decides name other.suffix).1 one in

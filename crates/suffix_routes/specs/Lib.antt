@@ -1,2 +1,5 @@
 pub mod Values
 pub mod Routes
+pub mod Peers
+pub mod Places
+pub mod Reading

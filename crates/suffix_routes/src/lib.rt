@@ -2,11 +2,18 @@
 #![tactic(auto)]
 
 mod config;
+mod fault;
 mod limits;
 mod peer;
+mod place;
+mod read;
+mod read_route;
 mod route;
+mod table;
 
 pub use config::Config;
+pub use fault::ConfigFault;
 pub use limits::Limits;
 pub use peer::Peer;
+pub use place::{Limit, Place};
 pub use route::{Route, RouteId};

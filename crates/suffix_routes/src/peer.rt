@@ -1,5 +1,10 @@
 //! Peers: servers and clients by their address.
 
+ghost use Rattle.std.specs.Prelude.{◌≡◌, ◌≤◌, ◌==◌, true, IfSome, option_map, position};
+ghost use Rattle.std.specs.Char.{is_ascii_digit};
+ghost use Rattle.std.specs.List.{list_all};
+ghost use Rattle.suffix_routes.specs.Peers.{cut, is_decimal, decimal_value, up_to, number_in, peer_of};
+
 use std::fmt;
 
 /// An IPv4 address and a port.
@@ -9,6 +14,92 @@ pub struct Peer {
     pub ip: [u8; 4],
     /// The UDP or TCP port.
     pub port: u16,
+}
+
+impl Peer {
+    /// The peer that a text writes: four decimal numbers from 0 to 255 with dots between, a colon, and a port from 1 to
+    /// 65535, where no number has a leading zero but `0` itself. `None` for any other text. It takes no memory.
+    #[tactic(auto, unfolding(crate::specs::Peers::peer_of))]
+    pub fn from_text(text: &str) -> Option<Peer>
+        ensures { result ≡ peer_of text.now }
+    {
+        let (first, rest) = cut(text.as_bytes(), b'.')?;
+        let (second, rest) = cut(rest, b'.')?;
+        let (third, rest) = cut(rest, b'.')?;
+        let (fourth, port) = cut(rest, b':')?;
+        let ip = [octet(first)?, octet(second)?, octet(third)?, octet(fourth)?];
+        let port = number(port, 1, 65_535)? as u16;
+        Some(Peer { ip, port })
+    }
+}
+
+/// What stands before the first separator, and what behind it.
+fn cut(text: &[u8], separator: u8) -> Option<(&[u8], &[u8])>
+    ensures { option_map (λ x. (x.0.now, x.1.now)) result ≡ cut separator text.now }
+{
+    let at = first_place(text, separator)?;
+    Some((&text[..at], &text[at + 1..]))
+}
+
+/// The place of the first separator.
+fn first_place(text: &[u8], separator: u8) -> Option<usize>
+    ensures { result ≡ position (λ c. c == separator) text.now }
+{
+    text.iter().position(|octet| *octet == separator)
+}
+
+/// An octet of an address.
+fn octet(text: &[u8]) -> Option<u8>
+    ensures { result ≡ number_in 0 255 text.now }
+{
+    Some(number(text, 0, 255)? as u8)
+}
+
+/// The decimal number, where it has no leading zero and is from `low` to `high`.
+#[tactic(auto, unfolding(crate::specs::Peers::number_in))]
+fn number(text: &[u8], low: u32, high: u32) -> Option<u32>
+    requires { high ≤ 65535 }
+    ensures value { result ≡ number_in low high text.now }
+    ensures range { IfSome result (λ n. n ≤ high) }
+{
+    if !is_decimal(text) {
+        return None;
+    }
+    let value = value_up_to(text, high)?;
+    if value < low { None } else { Some(value) }
+}
+
+/// Whether the text has digits alone, and at least one, and no leading zero.
+fn is_decimal(text: &[u8]) -> bool
+    ensures { result ≡ is_decimal text.now }
+{
+    if text.is_empty() || (text.len() > 1 && text[0] == b'0') {
+        return false;
+    }
+    has_digits(text)
+}
+
+/// Whether the text has digits alone.
+fn has_digits(text: &[u8]) -> bool
+    ensures { result ≡ list_all is_ascii_digit text.now }
+{
+    text.iter().all(|octet| octet.is_ascii_digit())
+}
+
+/// The value of the digits, where it is at most `high`.
+fn value_up_to(digits: &[u8], high: u32) -> Option<u32>
+    requires digits { list_all is_ascii_digit digits.now ≡ true }
+    requires small { high ≤ 65535 }
+    ensures { result ≡ up_to high (decimal_value digits.now) }
+{
+    let mut value = 0u32;
+    for digit in digits {
+        value = 10 * value + u32::from(*digit - b'0');
+        if value > high {
+            return None;
+        }
+    }
+    Some(value)
 }
 
 /// The form `a.b.c.d:port`, all numbers in decimal.

@@ -1,0 +1,51 @@
+-- Numbers in text, and the keys of a table.
+use Rattle.std.proofs.Common.{◌≡◌, ℕ, ◌+◌, ◌-◌, ◌*◌, ◌<◌, ◌≤◌, Bool, true, false, ◌&&◌, nat_le, List, [], ◌∷◌, ◌++◌, length, get_or, take, drop, map, Option, Some, None, String, Global, string_bytes, refl, sym, ap, ◌∙◌, arith}
+use Rattle.std.specs.Prelude.{fold}
+use Rattle.std.specs.List.{list_all}
+use Rattle.std.proofs.lemmas.Bool.{lt-leb}
+use Rattle.std.proofs.lemmas.List.{take-append-drop, take_more}
+use Rattle.toml.specs.Data.{Data, Members}
+use Rattle.toml.specs.View.{members_of, items_of}
+use Rattle.suffix_routes.specs.Peers.{decimal_value, up_to}
+use Rattle.suffix_routes.specs.Reading.{keys_of, list_of}
+
+abbrev more_digits : ℕ → ℕ → ℕ
+more_digits n c = 10 * n + (c - 48)
+
+-- more digits make no smaller number
+fold_grows : (n : ℕ) (digits : List ℕ) → n ≤ fold more_digits n digits
+fold_grows n [] = omega arith
+fold_grows n (c ∷ cs) = omega (arith, fold_grows (10 * n + (c - 48)) cs)
+
+fold-append : (n : ℕ) (front back : List ℕ) → fold more_digits n (front ++ back) ≡ fold more_digits (fold more_digits n front) back
+fold-append n [] back = refl
+fold-append n (c ∷ cs) back = fold-append (10 * n + (c - 48)) cs back
+
+pub value_grows : (i : ℕ) (digits : List ℕ) → decimal_value (take i digits) ≤ decimal_value digits
+value_grows i digits =
+    let whole : fold more_digits 0 digits ≡ fold more_digits (fold more_digits 0 (take i digits)) (drop i digits) = ap (fold more_digits 0) (sym (take-append-drop i digits)) ∙ fold-append 0 (take i digits) (drop i digits) in
+    omega (arith, whole, fold_grows (fold more_digits 0 (take i digits)) (drop i digits))
+
+pub too_great : (i high : ℕ) (digits : List ℕ) → high < decimal_value (take i digits) → up_to high (decimal_value digits) ≡ None
+too_great i high digits lt = let great : high < decimal_value digits = omega (arith, value_grows i digits) in rw (lt-leb (decimal_value digits) high great) refl
+
+-- the keys of a map are those of its members
+pub keys-members : (known : List ℕ → Bool) (es : List (String Global × Data)) → list_all known (keys_of (members_of es)) ≡ list_all (λ k. known (string_bytes k)) (map (λ (e : String Global × Data). e.0) es)
+keys-members known [] = refl
+keys-members known (e ∷ es) = ap (λ (b : Bool). known (string_bytes e.0) && b) (keys-members known es)
+
+first-of-viewed : {V : Type 0} (view : V → Data) (es : List (String Global × V)) → map (λ (e : String Global × Data). e.0) (map (λ (e : String Global × V). (e.0, view e.1)) es) ≡ map (λ (e : String Global × V). e.0) es
+first-of-viewed view [] = refl
+first-of-viewed view (e ∷ es) = ap (λ (ks : List (String Global)). e.0 ∷ ks) (first-of-viewed view es)
+
+pub keys-viewed : {V : Type 0} (view : V → Data) (known : List ℕ → Bool) (es : List (String Global × V))
+    → list_all known (keys_of (members_of (map (λ (e : String Global × V). (e.0, view e.1)) es))) ≡ list_all (λ k. known (string_bytes k)) (map (λ (e : String Global × V). e.0) es)
+keys-viewed {V = V} view known es = keys-members known (map (λ (e : String Global × V). (e.0, view e.1)) es) ∙ ap (list_all (λ k. known (string_bytes k))) (first-of-viewed view es)
+
+-- the items of an array as a list
+pub list-of-items : (ds : List Data) → list_of (items_of ds) ≡ ds
+list-of-items [] = refl
+list-of-items (d ∷ ds) = ap (λ (rest : List Data). d ∷ rest) (list-of-items ds)
+
+pub value_more : (i : ℕ) (digits : List ℕ) → i < length digits → decimal_value (take (i + 1) digits) ≡ 10 * decimal_value (take i digits) + (get_or digits i 0 - 48)
+value_more i digits lt = ap (fold more_digits 0) (take_more digits i 0 lt) ∙ fold-append 0 (take i digits) (get_or digits i 0 ∷ [])

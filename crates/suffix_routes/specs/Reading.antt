@@ -1,0 +1,234 @@
+-- The configuration that a table of TOML holds, else the first fault in order.
+use Rattle.std.specs.Prelude.{◌≡◌, ℕ, ℤ, pos, int_le, unsigned_abs, Bool, ◌==◌, nat_lt, ◌&&◌, if◌then◌else◌, List, [], ◌∷◌, ◌++◌, length, codes, option_map, Option, Some, None, Result, Ok, Err}
+use Rattle.std.specs.Ordering.{int_eq}
+use Rattle.std.specs.List.{list_all}
+use Rattle.toml.specs.Data.{Data, Items, no_items, item, Members, no_members, member, get_member, as_str, as_integer, as_array, as_table}
+use Rattle.toml.specs.Parse.{parse_document}
+use Rattle.dns_name.specs.Text.{name_in}
+use Rattle.dns_name.specs.declared.fault.NameFault.{NameFault}
+use Rattle.suffix_routes.specs.declared.peer.Peer.{Peer}
+use Rattle.suffix_routes.specs.declared.limits.Limits.{Limits}
+use Rattle.suffix_routes.specs.declared.place.Limit.{Limit}
+use Rattle.suffix_routes.specs.declared.place.Limit.TheVariants as limit
+use Rattle.suffix_routes.specs.declared.place.Place.{Place}
+use Rattle.suffix_routes.specs.declared.place.Place.TheVariants as place
+use Rattle.suffix_routes.specs.declared.fault.ConfigFault.{ConfigFault}
+use Rattle.suffix_routes.specs.declared.fault.ConfigFault.TheVariants.{Toml, Version, MissingKey, WrongKind, BadName, BadPeer, Range, TooManyServers, TwiceSuffix, TooManyRoutes, NoServers, UnknownKey, Memory}
+use Rattle.suffix_routes.specs.Values.{Route, Config, default_limits}
+use Rattle.suffix_routes.specs.Places.{limit_key, lowest, highest, default_of, knows}
+use Rattle.suffix_routes.specs.Peers.{peer_of}
+use Rattle.suffix_routes.specs.Routes.{route_at}
+
+-- the first fault, or what comes next of what is there
+infixl 10 ◌>>=◌
+abbrev pub ◌>>=◌ : {A B : Type 0} → Result A ConfigFault → (A → Result B ConfigFault) → Result B ConfigFault
+(Ok x) >>= f = f x
+(Err e) >>= f = Err e
+
+-- What a call answered, seen by view, is the answer; of a call that ran out of memory nothing is said.
+abbrev pub Fails : {Y : Type 0} → ConfigFault → Result Y ConfigFault → Type 0
+Fails Memory answer = Unit {0}
+Fails fault answer = answer ≡ Err fault
+
+abbrev pub Gives : {X Y : Type 0} → (X → Y) → Result X ConfigFault → Result Y ConfigFault → Type 0
+Gives view (Ok x) answer = answer ≡ Ok (view x)
+Gives view (Err fault) answer = Fails fault answer
+
+-- What a call answered, seen by view, is the answer; such a call takes no memory.
+abbrev pub Shows : {X Y : Type 0} → (X → Y) → Result X ConfigFault → Result Y ConfigFault → Type 0
+Shows view (Ok x) answer = answer ≡ Ok (view x)
+Shows view (Err fault) answer = answer ≡ Err fault
+
+-- what is there, else the fault
+abbrev pub ok_or : {X : Type 0} → Option X → ConfigFault → Result X ConfigFault
+ok_or (Some x) fault = Ok x
+ok_or None fault = Err fault
+
+-- a test, else the fault
+abbrev pub unless : Bool → ConfigFault → Result (Unit {0}) ConfigFault
+unless test fault = if test then Ok tt else Err fault
+
+-- ---- parts of a table
+
+abbrev pub keys_of : Members → List (List ℕ)
+keys_of no_members = []
+keys_of (member k d ms) = k ∷ keys_of ms
+
+abbrev pub list_of : Items → List Data
+list_of no_items = []
+list_of (item d ds) = d ∷ list_of ds
+
+-- no key but those that the table at this place may have
+unfoldable pub known_keys : Place → Members → Result (Unit {0}) ConfigFault
+known_keys place ms = unless (list_all (knows place) (keys_of ms)) (UnknownKey place)
+
+-- the value at a key that has to be there
+abbrev pub required : Place → List ℕ → Members → Result Data ConfigFault
+required place key ms = ok_or (get_member key ms) (MissingKey place)
+
+-- ---- what stands at one place
+
+abbrev pub text_in : Place → Data → Result (List ℕ) ConfigFault
+text_in place d = ok_or (as_str d) (WrongKind place)
+
+abbrev pub integer_in : Place → Data → Result ℤ ConfigFault
+integer_in place d = ok_or (as_integer d) (WrongKind place)
+
+abbrev pub array_in : Place → Data → Result (List Data) ConfigFault
+array_in place d = ok_or (option_map list_of (as_array d)) (WrongKind place)
+
+abbrev pub table_in : Place → Data → Result Members ConfigFault
+table_in place d = ok_or (as_table d) (WrongKind place)
+
+-- a peer
+unfoldable pub peer_in : Place → Data → Result Peer ConfigFault
+peer_in place d =
+    text_in place d >>= λ text.
+    ok_or (peer_of text) (BadPeer place)
+
+-- a limit: its default where the key is absent, else an integer in its range
+abbrev pub in_range : Limit → ℤ → Result ℕ ConfigFault
+in_range limit z =
+    if int_le (pos (lowest limit)) z && int_le z (pos (highest limit)) then Ok (unsigned_abs z) else Err (Range limit z)
+
+abbrev pub limit_of : Limit → Option Data → Result ℕ ConfigFault
+limit_of limit None = Ok (default_of limit)
+limit_of limit (Some d) = integer_in (place.Limit limit) d >>= in_range limit
+
+unfoldable pub limit_in : Limit → Members → Result ℕ ConfigFault
+limit_in limit ms = limit_of limit (get_member (limit_key limit) ms)
+
+-- ---- the keys of the document
+
+-- there, an integer, and 1
+unfoldable pub version_in : Members → Result (Unit {0}) ConfigFault
+version_in ms =
+    required place.Version (codes "version") ms >>= λ d.
+    integer_in place.Version d >>= λ z.
+    unless (int_eq z (pos 1)) (Version z)
+
+-- 127.0.0.1:53
+abbrev pub default_listen : Peer
+default_listen = record { ip = 127 ∷ 0 ∷ 0 ∷ 1 ∷ []; port = 53 }
+
+abbrev pub listen_of : Option Data → Result Peer ConfigFault
+listen_of None = Ok default_listen
+listen_of (Some d) = peer_in place.Listen d
+
+unfoldable pub listen_in : Members → Result Peer ConfigFault
+listen_in ms = listen_of (get_member (codes "listen") ms)
+
+-- the limits in their order
+unfoldable pub all_limits_in : Members → Result Limits ConfigFault
+all_limits_in ms =
+    known_keys place.Limits ms >>= λ _.
+    limit_in limit.Questions ms >>= λ questions.
+    limit_in limit.Inquiries ms >>= λ inquiries.
+    limit_in limit.Cache ms >>= λ cache.
+    limit_in limit.Tries ms >>= λ tries.
+    limit_in limit.AskMs ms >>= λ ask_ms.
+    limit_in limit.DeadlineMs ms >>= λ deadline_ms.
+    Ok (record {
+      questions = questions;
+      inquiries = inquiries;
+      cache = cache;
+      tries = tries;
+      ask_ms = ask_ms;
+      deadline_ms = deadline_ms;
+    })
+
+abbrev pub limits_of : Option Data → Result Limits ConfigFault
+limits_of None = Ok default_limits
+limits_of (Some d) = table_in place.Limits d >>= all_limits_in
+
+unfoldable pub limits_in : Members → Result Limits ConfigFault
+limits_in ms = limits_of (get_member (codes "limits") ms)
+
+-- ---- a route
+
+-- the name that a text writes, for the route at this place
+abbrev pub suffix_name : ℕ → Result (List (List ℕ)) NameFault → Result (List (List ℕ)) ConfigFault
+suffix_name place (Ok name) = Ok name
+suffix_name place (Err why) = Err (BadName place why)
+
+-- a suffix that no earlier route has
+abbrev pub new_suffix : ℕ → List (List ℕ) → Option ℕ → Result (List (List ℕ)) ConfigFault
+new_suffix place suffix None = Ok suffix
+new_suffix place suffix (Some earlier) = Err (TwiceSuffix place earlier)
+
+unfoldable pub suffix_in : List Route → Members → Result (List (List ℕ)) ConfigFault
+suffix_in earlier ms =
+    required (place.Suffix (length earlier)) (codes "suffix") ms >>= λ d.
+    text_in (place.Suffix (length earlier)) d >>= λ text.
+    suffix_name (length earlier) (name_in text) >>= λ suffix.
+    new_suffix (length earlier) suffix (route_at earlier suffix)
+
+-- the servers, each behind those before it
+abbrev pub servers_after : ℕ → List Peer → List Data → Result (List Peer) ConfigFault
+servers_after route earlier [] = Ok earlier
+servers_after route earlier (d ∷ ds) = peer_in (place.Server route (length earlier)) d >>= λ peer. servers_after route (earlier ++ peer ∷ []) ds
+
+-- 1 to 8 of them
+abbrev pub counted_servers : ℕ → List Data → Result (List Peer) ConfigFault
+counted_servers route ds =
+    if length ds == 0 then Err (NoServers route)
+    else (if nat_lt 8 (length ds) then Err (TooManyServers route (length ds)) else servers_after route [] ds)
+
+unfoldable pub servers_in : ℕ → Members → Result (List Peer) ConfigFault
+servers_in route ms =
+    required (place.Servers route) (codes "servers") ms >>= λ d.
+    array_in (place.Servers route) d >>= λ items.
+    counted_servers route items
+
+-- a route behind the earlier ones
+unfoldable pub route_in : List Route → Data → Result Route ConfigFault
+route_in earlier d =
+    table_in (place.Route (length earlier)) d >>= λ ms.
+    known_keys (place.Route (length earlier)) ms >>= λ _.
+    suffix_in earlier ms >>= λ suffix.
+    servers_in (length earlier) ms >>= λ servers.
+    Ok (record { suffix = suffix; servers = servers })
+
+-- ---- the routes
+
+abbrev pub routes_after : List Route → List Data → Result (List Route) ConfigFault
+routes_after earlier [] = Ok earlier
+routes_after earlier (d ∷ ds) = route_in earlier d >>= λ route. routes_after (earlier ++ route ∷ []) ds
+
+-- 1 to 64 of them
+abbrev pub counted_routes : List Data → Result (List Route) ConfigFault
+counted_routes ds =
+    if length ds == 0 then Err (MissingKey place.Routes)
+    else (if nat_lt 64 (length ds) then Err (TooManyRoutes (length ds)) else routes_after [] ds)
+
+unfoldable pub routes_in : Members → Result (List Route) ConfigFault
+routes_in ms =
+    required place.Routes (codes "route") ms >>= λ d.
+    array_in place.Routes d >>= λ items.
+    counted_routes items
+
+-- ---- the whole
+
+unfoldable pub config_in : Members → Result Config ConfigFault
+config_in ms =
+    version_in ms >>= λ _.
+    known_keys place.Document ms >>= λ _.
+    listen_in ms >>= λ listen.
+    limits_in ms >>= λ limits.
+    routes_in ms >>= λ routes.
+    Ok (record { listen = listen; limits = limits; routes = routes })
+
+-- the fault of a text that is no TOML
+abbrev pub IsNoToml : Result Config ConfigFault → Type 0
+IsNoToml (Err (Toml at)) = Unit {0}
+IsNoToml (Err Memory) = Unit {0}
+IsNoToml _ = ⊥
+
+-- what is told of a document, where it could be read
+abbrev pub IsTold : Option Members → Result Config ConfigFault → Type 0
+IsTold None answer = IsNoToml answer
+IsTold (Some ms) answer = Gives (λ c. c) answer (config_in ms)
+
+-- what was read in a text: its configuration, else its first fault
+abbrev pub IsReadIn : List ℕ → Result Config ConfigFault → Type 0
+IsReadIn text answer = IsTold (parse_document text) answer

@@ -1,0 +1,86 @@
+//! Why a text is no configuration.
+
+ghost use Rattle.std.specs.Prelude.{◌≡◌};
+ghost use Rattle.suffix_routes.specs.Places.{number_of};
+ghost use Rattle.suffix_routes.specs.declared.fault.ConfigFault.TheVariants.{Memory};
+
+use crate::place::{Limit, Place};
+use dns_name::NameFault;
+use std::alloc::AllocError;
+use thiserror::Error;
+
+/// Why a text is no configuration: the first fault in the order of `Config::read`, or that memory ran out. Places are
+/// shown with routes and servers counted from 1.
+#[derive(Clone, Copy, Debug, PartialEq, Eq, Error)]
+pub enum ConfigFault {
+    /// The text is no TOML; the octet at which its reader stopped.
+    #[error("the text is no TOML: see octet {0}")]
+    Toml(usize),
+    /// `version` is this number.
+    #[error("`version` is {0}, and has to be 1")]
+    Version(i64),
+    /// Nothing stands at this place, or no route in the array of routes.
+    #[error("{0} is missing")]
+    MissingKey(Place),
+    /// What stands at this place is of another kind.
+    #[error("{} has to be {}", .0, .0.kind())]
+    WrongKind(Place),
+    /// The suffix of this route is no name.
+    #[error("{} is no name: {}", Place::Suffix(*.0), .1)]
+    BadName(usize, NameFault),
+    /// What stands at this place is no peer.
+    #[error("{0} has to be four numbers from 0 to 255 with dots between, a colon, and a port from 1 to 65535")]
+    BadPeer(Place),
+    /// A limit has this value, which is out of its range.
+    #[error("{} is {}, and has to be {} to {}", Place::Limit(*.0), .1, .0.lowest(), .0.highest())]
+    Range(Limit, i64),
+    /// The route at this place has so many servers, which are more than 8.
+    #[error("{} are {}, and have to be 1 to 8", Place::Servers(*.0), .1)]
+    TooManyServers(usize, usize),
+    /// The route at this place has the suffix of an earlier one.
+    #[error("{} is that of {} too", Place::Suffix(*.0), Place::Route(*.1))]
+    TwiceSuffix(usize, usize),
+    /// There are so many routes, which are more than 64.
+    #[error("there are {0} routes, and have to be 1 to 64")]
+    TooManyRoutes(usize),
+    /// The route at this place has no servers.
+    #[error("{} is empty, and has to have 1 to 8", Place::Servers(*.0))]
+    NoServers(usize),
+    /// The table at this place has a key that is not known.
+    #[error("{} has a key that is none of {}", .0, .0.keys())]
+    UnknownKey(Place),
+    /// Memory ran out.
+    #[error("memory ran out")]
+    Memory,
+}
+
+impl ConfigFault {
+    /// The number by which programs tell the fault: 1 no TOML, 2 version, 3 missing key, 4 wrong kind, 5 bad name, 6 bad
+    /// peer, 7 out of range, 8 suffix twice, 9 too many routes, 10 no servers, 11 unknown key, 12 memory.
+    pub fn number(&self) -> u8
+        ensures { result ≡ number_of self.now }
+    {
+        match self {
+            ConfigFault::Toml(_) => 1,
+            ConfigFault::Version(_) => 2,
+            ConfigFault::MissingKey(_) => 3,
+            ConfigFault::WrongKind(_) => 4,
+            ConfigFault::BadName(_, _) => 5,
+            ConfigFault::BadPeer(_) => 6,
+            ConfigFault::Range(_, _) | ConfigFault::TooManyServers(_, _) => 7,
+            ConfigFault::TwiceSuffix(_, _) => 8,
+            ConfigFault::TooManyRoutes(_) => 9,
+            ConfigFault::NoServers(_) => 10,
+            ConfigFault::UnknownKey(_) => 11,
+            ConfigFault::Memory => 12,
+        }
+    }
+}
+
+impl From<AllocError> for ConfigFault {
+    ghost from_gives = { λ _ e. e ≡ Memory };
+
+    fn from(_e: AllocError) -> ConfigFault {
+        ConfigFault::Memory
+    }
+}

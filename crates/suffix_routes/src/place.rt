@@ -1,0 +1,172 @@
+//! Places in a configuration, and the limits by their keys.
+
+ghost use Rattle.std.specs.Prelude.{◌≡◌, pos};
+ghost use Rattle.suffix_routes.specs.Places.{limit_key, lowest, highest, default_of, knows};
+
+use std::fmt;
+
+/// A limit, by its key in the table `limits`.
+#[derive(Clone, Copy, Debug, PartialEq, Eq)]
+pub enum Limit {
+    /// `questions`
+    Questions,
+    /// `inquiries`
+    Inquiries,
+    /// `cache`
+    Cache,
+    /// `tries`
+    Tries,
+    /// `ask_ms`
+    AskMs,
+    /// `deadline_ms`
+    DeadlineMs,
+}
+
+impl Limit {
+    /// The key in the table `limits`.
+    pub fn key(self) -> &'static str
+        ensures { result.now ≡ limit_key self }
+    {
+        match self {
+            Limit::Questions => "questions",
+            Limit::Inquiries => "inquiries",
+            Limit::Cache => "cache",
+            Limit::Tries => "tries",
+            Limit::AskMs => "ask_ms",
+            Limit::DeadlineMs => "deadline_ms",
+        }
+    }
+
+    /// The lowest value that is allowed.
+    pub fn lowest(self) -> i64
+        ensures { result ≡ pos (lowest self) }
+    {
+        match self {
+            Limit::Questions | Limit::Inquiries | Limit::Cache | Limit::Tries => 1,
+            Limit::AskMs => 100,
+            Limit::DeadlineMs => 500,
+        }
+    }
+
+    /// The highest value that is allowed.
+    pub fn highest(self) -> i64
+        ensures { result ≡ pos (highest self) }
+    {
+        match self {
+            Limit::Questions => 4096,
+            Limit::Inquiries => 1024,
+            Limit::Cache => 65_536,
+            Limit::Tries => 16,
+            Limit::AskMs => 10_000,
+            Limit::DeadlineMs => 30_000,
+        }
+    }
+
+    /// The value where the key is absent.
+    pub fn default_value(self) -> u64
+        ensures { result ≡ default_of self }
+    {
+        match self {
+            Limit::Questions => 1024,
+            Limit::Inquiries => 256,
+            Limit::Cache => 4096,
+            Limit::Tries => 4,
+            Limit::AskMs => 1500,
+            Limit::DeadlineMs => 8000,
+        }
+    }
+}
+
+/// A place in a configuration. Routes and servers are counted from 0 here, and from 1 where a place is shown.
+#[derive(Clone, Copy, Debug, PartialEq, Eq)]
+pub enum Place {
+    /// The whole document.
+    Document,
+    /// The key `version`.
+    Version,
+    /// The key `listen`.
+    Listen,
+    /// The table `limits`.
+    Limits,
+    /// A key of `limits`.
+    Limit(Limit),
+    /// The array `route`.
+    Routes,
+    /// A table of the array `route`.
+    Route(usize),
+    /// The key `suffix` of a route.
+    Suffix(usize),
+    /// The array `servers` of a route.
+    Servers(usize),
+    /// A server of a route: the route's place, then the server's.
+    Server(usize, usize),
+}
+
+impl Place {
+    /// What has to stand at this place.
+    pub fn kind(&self) -> &'static str {
+        match self {
+            Place::Document | Place::Limits | Place::Route(_) => "a table",
+            Place::Version | Place::Limit(_) => "an integer",
+            Place::Listen | Place::Suffix(_) | Place::Server(_, _) => "a string",
+            Place::Routes => "an array of tables",
+            Place::Servers(_) => "an array of strings",
+        }
+    }
+
+    /// The keys that a table at this place may have.
+    pub fn keys(&self) -> &'static str {
+        match self {
+            Place::Document => "`version`, `listen`, `limits`, `route`",
+            Place::Limits => "`questions`, `inquiries`, `cache`, `tries`, `ask_ms`, `deadline_ms`",
+            Place::Route(_) => "`suffix`, `servers`",
+            _ => "none",
+        }
+    }
+
+    /// Whether a table at this place may have the key.
+    pub(crate) fn knows(&self, key: &str) -> bool
+        ensures { result ≡ knows self.now key.now }
+    {
+        match self {
+            Place::Document => key == "version"
+                || key == "listen"
+                || key == "limits"
+                || key == "route",
+            Place::Limits => is_limit_key(key),
+            Place::Route(_) => key == "suffix" || key == "servers",
+            _ => false,
+        }
+    }
+}
+
+fn is_limit_key(key: &str) -> bool
+    ensures { result ≡ knows Place.Limits key.now }
+{
+    key == "questions"
+        || key == "inquiries"
+        || key == "cache"
+        || key == "tries"
+        || key == "ask_ms"
+        || key == "deadline_ms"
+}
+
+impl fmt::Display for Place {
+    fn fmt<W: fmt::Write>(&self, f: &mut fmt::Formatter<W>) -> fmt::Result {
+        match self {
+            Place::Document => write!(f, "the document"),
+            Place::Version => write!(f, "`version`"),
+            Place::Listen => write!(f, "`listen`"),
+            Place::Limits => write!(f, "`limits`"),
+            Place::Limit(limit) => write!(f, "`{}` in `limits`", limit.key()),
+            Place::Routes => write!(f, "`route`"),
+            Place::Route(route) => write!(f, "route {}", route.saturating_add(1)),
+            Place::Suffix(route) => write!(f, "`suffix` of route {}", route.saturating_add(1)),
+            Place::Servers(route) => write!(f, "`servers` of route {}", route.saturating_add(1)),
+            Place::Server(route, server) => {
+                let (server, route) = (server.saturating_add(1), route.saturating_add(1));
+                write!(f, "server {server} of route {route}")
+            }
+        }
+    }
+}

@@ -1,0 +1,119 @@
+//! A configuration, read from text.
+
+ghost use Rattle.std.specs.Prelude.{◌≡◌, IfOk};
+ghost use Rattle.suffix_routes.specs.Values.{AreLimits};
+ghost use Rattle.toml.specs.View.{table_view};
+ghost use Rattle.suffix_routes.specs.Reading.{Gives, IsReadIn, version_in, listen_in, limits_in, all_limits_in, config_in};
+
+use crate::config::Config;
+use crate::fault::ConfigFault;
+use crate::limits::Limits;
+use crate::peer::Peer;
+use crate::place::{Limit, Place};
+use crate::read_route::read_routes;
+use crate::table::{check_keys, find, integer_at, limit_at, peer_at, require, table_at};
+use std::alloc::{Allocator, Global};
+use toml::Table;
+
+impl<A: Allocator + Copy> Config<A> {
+    /// The configuration that a TOML text holds.
+    ///
+    /// `version` has to be 1. `listen` is the peer at which clients are served, `127.0.0.1:53` where it is absent. The
+    /// table `limits` may have the keys of `Limits`; one that is absent has its default. `route` is an array of 1 to 64
+    /// tables with a `suffix`, read by `Name::from_text`, and 1 to 8 `servers`, read by `Peer::from_text`.
+    ///
+    /// The fault is the first in this order: a text that is no TOML; `version`; a key of the document that is not known;
+    /// `listen`; `limits`, first its unknown keys and then each limit; `route` and the count of routes; each route in
+    /// turn: its kind, its unknown keys, its suffix, its servers and their count, each server. `Memory` comes where a
+    /// growth was refused, `heap` being used for the table that is read and `alloc` for the configuration.
+    pub fn read(heap: Global, alloc: A, text: &str) -> Result<Config<A>, ConfigFault>
+        ensures { IsReadIn text.now result }
+    {
+        match toml::table_from_str(heap, text) {
+            Ok(table) => Config::from_table(alloc, &table),
+            Err(error) => match error.span() {
+                Some(span) => Err(ConfigFault::Toml(span.start)),
+                None => Err(ConfigFault::Memory),
+            },
+        }
+    }
+
+    /// The configuration that a table holds.
+    #[tactic(auto, unfolding(crate::specs::Reading::config_in))]
+    pub(crate) fn from_table(alloc: A, table: &Table) -> Result<Config<A>, ConfigFault>
+        ensures { Gives (λ c. c) result (config_in (table_view table.now)) }
+    {
+        check_version(table)?;
+        check_keys(table, Place::Document)?;
+        let listen = read_listen(table)?;
+        let limits = read_limits(table)?;
+        let routes = read_routes(alloc, table)?;
+        Ok(Config {
+            listen,
+            limits,
+            routes,
+        })
+    }
+}
+
+/// The version has to be 1.
+#[tactic(auto, unfolding(crate::specs::Reading::version_in))]
+fn check_version(table: &Table) -> Result<(), ConfigFault>
+    ensures { result ≡ version_in (table_view table.now) }
+{
+    let version = integer_at(require(table, "version", Place::Version)?, Place::Version)?;
+    if version == 1 {
+        Ok(())
+    } else {
+        Err(ConfigFault::Version(version))
+    }
+}
+
+/// Where clients are served.
+#[tactic(auto, unfolding(crate::specs::Reading::listen_in))]
+fn read_listen(table: &Table) -> Result<Peer, ConfigFault>
+    ensures { result ≡ listen_in (table_view table.now) }
+{
+    match find(table, "listen") {
+        None => Ok(Peer {
+            ip: [127, 0, 0, 1],
+            port: 53,
+        }),
+        Some(value) => peer_at(value, Place::Listen),
+    }
+}
+
+/// The limits, those of a configuration that names none where there is no table of them.
+#[tactic(auto, unfolding(crate::specs::Reading::limits_in))]
+fn read_limits(table: &Table) -> Result<Limits, ConfigFault>
+    ensures given { result ≡ limits_in (table_view table.now) }
+    ensures accepted { IfOk result AreLimits }
+{
+    match find(table, "limits") {
+        None => Ok(Limits::defaults()),
+        Some(value) => read_all_limits(table_at(value, Place::Limits)?),
+    }
+}
+
+/// Each limit in its order.
+#[tactic(auto, unfolding(crate::specs::Reading::all_limits_in))]
+fn read_all_limits(table: &Table) -> Result<Limits, ConfigFault>
+    ensures given { result ≡ all_limits_in (table_view table.now) }
+    ensures accepted { IfOk result AreLimits }
+{
+    check_keys(table, Place::Limits)?;
+    let questions = limit_at(table, Limit::Questions)?;
+    let inquiries = limit_at(table, Limit::Inquiries)?;
+    let cache = limit_at(table, Limit::Cache)?;
+    let tries = limit_at(table, Limit::Tries)?;
+    let ask_ms = limit_at(table, Limit::AskMs)?;
+    let deadline_ms = limit_at(table, Limit::DeadlineMs)?;
+    Ok(Limits {
+        questions: questions as usize,
+        inquiries: inquiries as usize,
+        cache: cache as usize,
+        tries: tries as u8,
+        ask_ms,
+        deadline_ms,
+    })
+}

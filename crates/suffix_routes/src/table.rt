@@ -1,0 +1,126 @@
+//! What stands at a place of a TOML table.
+
+ghost use Rattle.std.specs.Prelude.{◌≡◌, ◌≤◌, IfOk, map, option_map, string_bytes};
+ghost use Rattle.std.specs.BTreeMap.{keys};
+ghost use Rattle.std.specs.List.{list_all};
+ghost use Rattle.toml.specs.Data.{get_member};
+ghost use Rattle.toml.specs.View.{view, table_view};
+ghost use Rattle.suffix_routes.specs.Places.{knows, limit_key, lowest, highest};
+ghost use Rattle.suffix_routes.specs.Reading.{Shows, known_keys, required, peer_in, limit_in, in_range, text_in, array_in, table_in, integer_in};
+
+use crate::fault::ConfigFault;
+use crate::peer::Peer;
+use crate::place::{Limit, Place};
+use toml::{Table, Value};
+
+/// The value at a key.
+pub(crate) fn find<'a>(table: &'a Table, key: &str) -> Option<&'a Value>
+    ensures { option_map (λ v. view v.now) result ≡ get_member key.now (table_view table.now) }
+{
+    table.get(key)
+}
+
+/// The value at a key that has to be there.
+pub(crate) fn require<'a>(
+    table: &'a Table,
+    key: &str,
+    place: Place,
+) -> Result<&'a Value, ConfigFault>
+    ensures { Shows (λ v. view v.now) result (required place key.now (table_view table.now)) }
+{
+    match find(table, key) {
+        Some(value) => Ok(value),
+        None => Err(ConfigFault::MissingKey(place)),
+    }
+}
+
+/// No key but those that a table at this place may have.
+pub(crate) fn check_keys(table: &Table, place: Place) -> Result<(), ConfigFault>
+    ensures { result ≡ known_keys place (table_view table.now) }
+{
+    if has_known_keys(table, place) {
+        Ok(())
+    } else {
+        Err(ConfigFault::UnknownKey(place))
+    }
+}
+
+fn has_known_keys(table: &Table, place: Place) -> bool
+    ensures { result ≡ list_all (λ k. knows place (string_bytes k)) (keys table.now) }
+{
+    table.keys().all(|key| place.knows(key.as_str()))
+}
+
+/// A string.
+pub(crate) fn text_at<'a>(value: &'a Value, place: Place) -> Result<&'a str, ConfigFault>
+    ensures { Shows (λ s. s.now) result (text_in place (view value.now)) }
+{
+    match value.as_str() {
+        Some(text) => Ok(text),
+        None => Err(ConfigFault::WrongKind(place)),
+    }
+}
+
+/// An array.
+pub(crate) fn array_at<'a>(value: &'a Value, place: Place) -> Result<&'a [Value], ConfigFault>
+    ensures { Shows (λ vs. map view vs.now) result (array_in place (view value.now)) }
+{
+    match value.as_array() {
+        Some(array) => Ok(array.as_slice()),
+        None => Err(ConfigFault::WrongKind(place)),
+    }
+}
+
+/// A table.
+pub(crate) fn table_at<'a>(value: &'a Value, place: Place) -> Result<&'a Table, ConfigFault>
+    ensures { Shows (λ t. table_view t.now) result (table_in place (view value.now)) }
+{
+    match value.as_table() {
+        Some(table) => Ok(table),
+        None => Err(ConfigFault::WrongKind(place)),
+    }
+}
+
+/// An integer.
+pub(crate) fn integer_at(value: &Value, place: Place) -> Result<i64, ConfigFault>
+    ensures { result ≡ integer_in place (view value.now) }
+{
+    match value.as_integer() {
+        Some(integer) => Ok(integer),
+        None => Err(ConfigFault::WrongKind(place)),
+    }
+}
+
+/// A peer.
+#[tactic(auto, unfolding(crate::specs::Reading::peer_in))]
+pub(crate) fn peer_at(value: &Value, place: Place) -> Result<Peer, ConfigFault>
+    ensures { result ≡ peer_in place (view value.now) }
+{
+    match Peer::from_text(text_at(value, place)?) {
+        Some(peer) => Ok(peer),
+        None => Err(ConfigFault::BadPeer(place)),
+    }
+}
+
+/// A limit: its default where its key is absent, else an integer in its range.
+#[tactic(auto, unfolding(crate::specs::Reading::limit_in))]
+pub(crate) fn limit_at(table: &Table, limit: Limit) -> Result<u64, ConfigFault>
+    ensures value { result ≡ limit_in limit (table_view table.now) }
+    ensures range { IfOk result (λ n. (lowest limit ≤ n) × (n ≤ highest limit)) }
+{
+    match find(table, limit.key()) {
+        None => Ok(limit.default_value()),
+        Some(value) => in_range(limit, integer_at(value, Place::Limit(limit))?),
+    }
+}
+
+fn in_range(limit: Limit, value: i64) -> Result<u64, ConfigFault>
+    ensures value { result ≡ in_range limit value }
+    ensures range { IfOk result (λ n. (lowest limit ≤ n) × (n ≤ highest limit)) }
+{
+    if limit.lowest() <= value && value <= limit.highest() {
+        Ok(value.unsigned_abs())
+    } else {
+        Err(ConfigFault::Range(limit, value))
+    }
+}
