@@ -1,4 +1,5 @@
 pub mod NameLaws
+pub mod ShortcutLaws
 pub mod Loops
 pub mod DataLaws
 pub mod RecordLaws
@@ -8,3 +9,10 @@ pub mod SpellLaws
 pub mod WholeLaws
 pub mod ShapeLaws
 pub mod SpanLaws
+pub mod WriterLaws
+pub mod WriterFields
+pub mod WriterRecords
+pub mod WriterMessages
+pub mod RoundTrip
+pub mod RoundTripData
+pub mod RoundTripMessage

@@ -3,8 +3,13 @@ pub mod Shapes
 pub mod Reading
 pub mod Numbers
 pub mod Names
+pub mod Shortcuts
 pub mod Data
 pub mod Header
 pub mod Records
 pub mod Messages
 pub mod Spans
+pub mod Fields
+pub mod Writing
+pub mod Writer
+pub mod Written

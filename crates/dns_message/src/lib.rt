@@ -8,6 +8,7 @@ mod message;
 mod reading;
 mod shape;
 mod view;
+mod writing;
 
 pub use fault::Fault;
 pub use header::Header;
@@ -17,3 +18,4 @@ pub use laws::{
 pub use message::{Message, Question, Rdata, Record};
 pub use reading::spans::{Records, Span};
 pub use view::MessageRef;
+pub use writing::{what_is_written_is_spelled, write};

@@ -2,6 +2,7 @@
 
 ghost use Rattle.std.specs.Prelude.{◌≡◌, ◌↔◌, ◌≤◌, IsTrue, IsOk, Ok, Err, length, MatchResult, IfOk};
 ghost use Rattle.dns_message.specs.Reading.{Gives, behind};
+ghost use Rattle.dns_message.specs.Shortcuts.{AreShortcuts};
 ghost use Rattle.dns_message.specs.Messages.{IsWhole, HasShapes, first_question, message_at, message_of, QuestionIs, IsViewed};
 ghost use Rattle.dns_message.specs.Spans.{spans_of};
 ghost use Rattle.dns_message.specs.declared.fault.Fault.TheVariants.{Memory};
@@ -31,7 +32,7 @@ fn check_first_question(bytes: &[u8]) -> Result<(), Fault>
     if number16(bytes, 4) == 0 {
         return Err(Fault::NoQuestion);
     }
-    skip_question(bytes, 12)?;
+    skip_question(bytes, &mut [], 12)?;
     Ok(())
 }
 
@@ -44,7 +45,7 @@ fn first_question_is<A: Allocator>(bytes: &[u8], question: &Question<A>) -> bool
     if !name_is(bytes, 12, &question.name) {
         return false;
     }
-    let Ok(after) = skip_name(bytes, Bound::whole(bytes), 12) else {
+    let Ok(after) = skip_name(bytes, &mut [], Bound::whole(bytes), 12) else {
         return false;
     };
     let Ok(end) = skip_octets(bytes, after, 4) else {
@@ -53,30 +54,64 @@ fn first_question_is<A: Allocator>(bytes: &[u8], question: &Question<A>) -> bool
     number16(bytes, after) == question.kind && number16(bytes, end - 2) == question.class
 }
 
-/// The place behind the last counted record.
+/// A message of at most so many octets is read without remembering where its pointers lead.
+const SMALL: usize = 1024;
+
+/// How many places a pointer can lead to: its offset has 14 bits.
+const PLACES: usize = 16384;
+
+/// The place behind the last counted record, where pointers lead remembered in `ends`.
 #[tactic(auto, using(crate::proofs::MessageLaws::message_behind))]
+fn skip_sections(bytes: &[u8], ends: &mut [u16]) -> Result<usize, Fault>
+    requires header { 12 ≤ length bytes.now }
+    requires known { AreShortcuts bytes.now ends.old }
+    ensures { result ≡ behind (message_at bytes.now) }
+{
+    let at = skip_questions(bytes, ends, 12, number16(bytes, 4))?;
+    let at = skip_records(bytes, ends, at, number16(bytes, 6))?;
+    let at = skip_records(bytes, ends, at, number16(bytes, 8))?;
+    skip_records(bytes, ends, at, number16(bytes, 10))
+}
+
+/// `skip_sections` of a message that may have long chains of pointers.
+#[tactic(auto, using(crate::proofs::ShortcutLaws::none_known))]
+fn skip_large_message(bytes: &[u8]) -> Result<usize, Fault>
+    requires { 12 ≤ length bytes.now }
+    ensures { result ≡ behind (message_at bytes.now) }
+{
+    let mut ends = [0u16; PLACES];
+    skip_sections(bytes, &mut ends)
+}
+
+/// The place behind the last counted record.
+#[tactic(auto, using(crate::proofs::ShortcutLaws::none_kept))]
 fn skip_message(bytes: &[u8]) -> Result<usize, Fault>
     requires { 12 ≤ length bytes.now }
     ensures { result ≡ behind (message_at bytes.now) }
 {
-    let at = skip_questions(bytes, 12, number16(bytes, 4))?;
-    let at = skip_records(bytes, at, number16(bytes, 6))?;
-    let at = skip_records(bytes, at, number16(bytes, 8))?;
-    skip_records(bytes, at, number16(bytes, 10))
+    if bytes.len() > SMALL {
+        return skip_large_message(bytes);
+    }
+    skip_sections(bytes, &mut [])
 }
 
-/// The message that the octets spell.
+/// The message that the octets spell, where pointers lead remembered in `ends`.
 #[tactic(auto, unfolding(crate::specs::Messages::message_at))]
-fn read_message<A: Allocator + Copy>(alloc: A, bytes: &[u8]) -> Result<Message<A>, Fault>
+fn read_sections<A: Allocator + Copy>(
+    alloc: A,
+    bytes: &[u8],
+    ends: &mut [u16],
+) -> Result<Message<A>, Fault>
+    requires { AreShortcuts bytes.now ends.old }
     ensures { Gives (λ m. m) result (message_of bytes.now) }
 {
     let Some(header) = Header::read(bytes) else {
         return Err(Fault::Short);
     };
-    let (questions, at) = read_questions(alloc, bytes, 12, header.counts[0])?;
-    let (answers, at) = read_records(alloc, bytes, at, header.counts[1])?;
-    let (authority, at) = read_records(alloc, bytes, at, header.counts[2])?;
-    let (additional, _) = read_records(alloc, bytes, at, header.counts[3])?;
+    let (questions, at) = read_questions(alloc, bytes, ends, 12, header.counts[0])?;
+    let (answers, at) = read_records(alloc, bytes, ends, at, header.counts[1])?;
+    let (authority, at) = read_records(alloc, bytes, ends, at, header.counts[2])?;
+    let (additional, _) = read_records(alloc, bytes, ends, at, header.counts[3])?;
     Ok(Message {
         header,
         questions,
@@ -84,6 +119,26 @@ fn read_message<A: Allocator + Copy>(alloc: A, bytes: &[u8]) -> Result<Message<A
         authority,
         additional,
     })
+}
+
+/// `read_sections` of a message that may have long chains of pointers.
+#[tactic(auto, using(crate::proofs::ShortcutLaws::none_known))]
+fn read_large_message<A: Allocator + Copy>(alloc: A, bytes: &[u8]) -> Result<Message<A>, Fault>
+    ensures { Gives (λ m. m) result (message_of bytes.now) }
+{
+    let mut ends = [0u16; PLACES];
+    read_sections(alloc, bytes, &mut ends)
+}
+
+/// The message that the octets spell.
+#[tactic(auto, using(crate::proofs::ShortcutLaws::none_kept))]
+fn read_message<A: Allocator + Copy>(alloc: A, bytes: &[u8]) -> Result<Message<A>, Fault>
+    ensures { Gives (λ m. m) result (message_of bytes.now) }
+{
+    if bytes.len() > SMALL {
+        return read_large_message(alloc, bytes);
+    }
+    read_sections(alloc, bytes, &mut [])
 }
 
 /// A message whose header and first question can be read.
@@ -126,7 +181,7 @@ impl<'a> MessageRef<'a> {
     pub fn question<A: Allocator>(&self, alloc: A) -> Result<Question<A>, Fault>
         ensures { MatchResult result (λ question. first_question self.now ≡ Ok question) (λ fault. fault ≡ Memory) }
     {
-        let (question, _) = read_question(alloc, self.bytes, 12)?;
+        let (question, _) = read_question(alloc, self.bytes, &mut [], 12)?;
         Ok(question)
     }
 

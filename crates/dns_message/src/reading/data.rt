@@ -2,6 +2,7 @@
 
 ghost use Rattle.std.specs.Prelude.{◌≡◌, ◌≤◌, ◌+◌, length};
 ghost use Rattle.dns_message.specs.Reading.{Gives, behind};
+ghost use Rattle.dns_message.specs.Shortcuts.{AreShortcuts};
 ghost use Rattle.dns_message.specs.Names.{name_within, inside};
 ghost use Rattle.dns_message.specs.Data.{octets_within, written_out, prefixed, part_at, parts_at, data_at};
 
@@ -27,15 +28,18 @@ fn skip_octets(bytes: &[u8], stop: usize, offset: usize, count: usize) -> Result
 fn expand_name<A: Allocator>(
     octets: &mut Vec<u8, A>,
     bytes: &[u8],
+    ends: &mut [u16],
     stop: usize,
     offset: usize,
 ) -> Result<usize, Fault>
-    requires { stop ≤ length bytes.now }
-    ensures { Gives (λ e. (octets.new.items, e)) result (prefixed octets.old.items (written_out (name_within bytes.now (inside stop) offset))) }
+    requires inside { stop ≤ length bytes.now }
+    requires known { AreShortcuts bytes.now ends.old }
+    ensures exact { Gives (λ e. (octets.new.items, e)) result (prefixed octets.old.items (written_out (name_within bytes.now (inside stop) offset))) }
+    ensures known { AreShortcuts bytes.now ends.new }
 {
     let mut walk = Walk::new(bytes, Bound::data(stop), offset);
     loop {
-        match next_label(bytes, walk)? {
+        match next_label(bytes, ends, walk)? {
             Next::End(end) => {
                 octets.push(0)?;
                 return Ok(end);
@@ -71,15 +75,18 @@ fn read_octets<A: Allocator>(
 fn read_part<A: Allocator>(
     octets: &mut Vec<u8, A>,
     bytes: &[u8],
+    ends: &mut [u16],
     stop: usize,
     part: Part,
     offset: usize,
 ) -> Result<usize, Fault>
-    requires { stop ≤ length bytes.now }
-    ensures { Gives (λ e. (octets.new.items, e)) result (prefixed octets.old.items (part_at part bytes.now stop offset)) }
+    requires inside { stop ≤ length bytes.now }
+    requires known { AreShortcuts bytes.now ends.old }
+    ensures exact { Gives (λ e. (octets.new.items, e)) result (prefixed octets.old.items (part_at part bytes.now stop offset)) }
+    ensures known { AreShortcuts bytes.now ends.new }
 {
     match part {
-        Part::Name => expand_name(octets, bytes, stop, offset),
+        Part::Name => expand_name(octets, bytes, ends, stop, offset),
         Part::Number16 => read_octets(octets, bytes, stop, offset, 2),
         Part::Number32 => read_octets(octets, bytes, stop, offset, 4),
         Part::Text => {
@@ -93,12 +100,20 @@ fn read_part<A: Allocator>(
 
 /// The place behind a part of the data.
 #[tactic(auto, unfolding(crate::specs::Data::text_within))]
-fn skip_part(bytes: &[u8], stop: usize, part: Part, offset: usize) -> Result<usize, Fault>
-    requires { stop ≤ length bytes.now }
-    ensures { result ≡ behind (part_at part bytes.now stop offset) }
+fn skip_part(
+    bytes: &[u8],
+    ends: &mut [u16],
+    stop: usize,
+    part: Part,
+    offset: usize,
+) -> Result<usize, Fault>
+    requires inside { stop ≤ length bytes.now }
+    requires known { AreShortcuts bytes.now ends.old }
+    ensures exact { result ≡ behind (part_at part bytes.now stop offset) }
+    ensures known { AreShortcuts bytes.now ends.new }
 {
     match part {
-        Part::Name => skip_name(bytes, Bound::data(stop), offset),
+        Part::Name => skip_name(bytes, ends, Bound::data(stop), offset),
         Part::Number16 => skip_octets(bytes, stop, offset, 2),
         Part::Number32 => skip_octets(bytes, stop, offset, 4),
         Part::Text => {
@@ -115,17 +130,20 @@ fn skip_part(bytes: &[u8], stop: usize, part: Part, offset: usize) -> Result<usi
 fn read_parts<A: Allocator>(
     alloc: A,
     bytes: &[u8],
+    ends: &mut [u16],
     stop: usize,
     parts: &[Part],
     offset: usize,
 ) -> Result<(Vec<u8, A>, usize), Fault>
-    requires { stop ≤ length bytes.now }
-    ensures { Gives (λ x. (x.0.items, x.1)) result (parts_at parts.now bytes.now stop offset) }
+    requires inside { stop ≤ length bytes.now }
+    requires known { AreShortcuts bytes.now ends.old }
+    ensures exact { Gives (λ x. (x.0.items, x.1)) result (parts_at parts.now bytes.now stop offset) }
+    ensures known { AreShortcuts bytes.now ends.new }
 {
     let mut octets = Vec::new(alloc);
     let mut at = offset;
     for part in parts {
-        at = read_part(&mut octets, bytes, stop, *part, at)?;
+        at = read_part(&mut octets, bytes, ends, stop, *part, at)?;
     }
     if at != stop {
         return Err(Fault::Rdata);
@@ -135,13 +153,21 @@ fn read_parts<A: Allocator>(
 
 /// The place behind the parts from a place on. They must end at `stop`.
 #[tactic(auto, using(crate::proofs::DataLaws::skip_more, crate::proofs::DataLaws::skip_fault, crate::proofs::DataLaws::skip_done, crate::proofs::DataLaws::skip_short))]
-fn skip_parts(bytes: &[u8], stop: usize, parts: &[Part], offset: usize) -> Result<usize, Fault>
-    requires { stop ≤ length bytes.now }
-    ensures { result ≡ behind (parts_at parts.now bytes.now stop offset) }
+fn skip_parts(
+    bytes: &[u8],
+    ends: &mut [u16],
+    stop: usize,
+    parts: &[Part],
+    offset: usize,
+) -> Result<usize, Fault>
+    requires inside { stop ≤ length bytes.now }
+    requires known { AreShortcuts bytes.now ends.old }
+    ensures exact { result ≡ behind (parts_at parts.now bytes.now stop offset) }
+    ensures known { AreShortcuts bytes.now ends.new }
 {
     let mut at = offset;
     for part in parts {
-        at = skip_part(bytes, stop, *part, at)?;
+        at = skip_part(bytes, ends, stop, *part, at)?;
     }
     if stop != at {
         return Err(Fault::Rdata);
@@ -154,12 +180,15 @@ fn skip_parts(bytes: &[u8], stop: usize, parts: &[Part], offset: usize) -> Resul
 pub(crate) fn read_data<A: Allocator>(
     alloc: A,
     bytes: &[u8],
+    ends: &mut [u16],
     kind: u16,
     offset: usize,
     len: usize,
 ) -> Result<(Vec<u8, A>, usize), Fault>
-    requires { offset ≤ length bytes.now }
-    ensures { Gives (λ x. (x.0.items, x.1)) result (data_at kind bytes.now offset len) }
+    requires inside { offset ≤ length bytes.now }
+    requires known { AreShortcuts bytes.now ends.old }
+    ensures exact { Gives (λ x. (x.0.items, x.1)) result (data_at kind bytes.now offset len) }
+    ensures known { AreShortcuts bytes.now ends.new }
 {
     if bytes.len() - offset < len {
         return Err(Fault::Short);
@@ -169,21 +198,29 @@ pub(crate) fn read_data<A: Allocator>(
             Vec::from_slice(alloc, part(bytes, offset, len))?,
             offset + len,
         )),
-        Some(shape) => read_parts(alloc, bytes, offset + len, shape.parts, offset),
+        Some(shape) => read_parts(alloc, bytes, ends, offset + len, shape.parts, offset),
     }
 }
 
 /// The place behind the data of so many octets of a record of this type.
 #[tactic(auto, unfolding(crate::specs::Data::data_at))]
-pub(crate) fn skip_data(bytes: &[u8], kind: u16, offset: usize, len: usize) -> Result<usize, Fault>
-    requires { offset ≤ length bytes.now }
-    ensures { result ≡ behind (data_at kind bytes.now offset len) }
+pub(crate) fn skip_data(
+    bytes: &[u8],
+    ends: &mut [u16],
+    kind: u16,
+    offset: usize,
+    len: usize,
+) -> Result<usize, Fault>
+    requires inside { offset ≤ length bytes.now }
+    requires known { AreShortcuts bytes.now ends.old }
+    ensures exact { result ≡ behind (data_at kind bytes.now offset len) }
+    ensures known { AreShortcuts bytes.now ends.new }
 {
     if bytes.len() - offset < len {
         return Err(Fault::Short);
     }
     match shape_of(kind) {
         None => Ok(offset + len),
-        Some(shape) => skip_parts(bytes, offset + len, shape.parts, offset),
+        Some(shape) => skip_parts(bytes, ends, offset + len, shape.parts, offset),
     }
 }

@@ -3,6 +3,7 @@
 ghost use Rattle.std.specs.Prelude.{◌≡◌, ◌↔◌, ◌≤◌, IsTrue, IfOk, length};
 ghost use Rattle.dns_message.specs.Data.{name_of_rdata};
 ghost use Rattle.dns_message.specs.Reading.{Gives, behind};
+ghost use Rattle.dns_message.specs.Shortcuts.{AreShortcuts};
 ghost use Rattle.dns_message.specs.Names.{name_at, name_within, NameIs};
 
 use crate::fault::Fault;
@@ -14,14 +15,17 @@ use std::alloc::{AllocError, Allocator};
 pub(crate) fn read_name<A: Allocator>(
     alloc: A,
     bytes: &[u8],
+    ends: &mut [u16],
     offset: usize,
 ) -> Result<(Name<A>, usize), Fault>
-    ensures { Gives (λ x. x) result (name_at bytes.now offset) }
+    requires { AreShortcuts bytes.now ends.old }
+    ensures exact { Gives (λ x. x) result (name_at bytes.now offset) }
+    ensures known { AreShortcuts bytes.now ends.new }
 {
     let mut name = Name::root(alloc);
     let mut walk = Walk::new(bytes, Bound::whole(bytes), offset);
     loop {
-        match next_label(bytes, walk)? {
+        match next_label(bytes, ends, walk)? {
             Next::End(end) => return Ok((name, end)),
             Next::Label(label, after) => {
                 name.append(label)?;
@@ -32,13 +36,20 @@ pub(crate) fn read_name<A: Allocator>(
 }
 
 /// The place behind the name at a place, in a run that must end before a bound.
-pub(crate) fn skip_name(bytes: &[u8], bound: Bound, offset: usize) -> Result<usize, Fault>
-    requires { bound.stop ≤ length bytes.now }
-    ensures { result ≡ behind (name_within bytes.now bound offset) }
+pub(crate) fn skip_name(
+    bytes: &[u8],
+    ends: &mut [u16],
+    bound: Bound,
+    offset: usize,
+) -> Result<usize, Fault>
+    requires inside { bound.stop ≤ length bytes.now }
+    requires known { AreShortcuts bytes.now ends.old }
+    ensures exact { result ≡ behind (name_within bytes.now bound offset) }
+    ensures known { AreShortcuts bytes.now ends.new }
 {
     let mut walk = Walk::new(bytes, bound, offset);
     loop {
-        match next_label(bytes, walk)? {
+        match next_label(bytes, ends, walk)? {
             Next::End(end) => return Ok(end),
             Next::Label(_, after) => walk = after,
         }
@@ -52,7 +63,7 @@ pub(crate) fn name_is<A: Allocator>(bytes: &[u8], offset: usize, name: &Name<A>)
     let mut walk = Walk::new(bytes, Bound::whole(bytes), offset);
     let mut labels = name.labels();
     loop {
-        match next_label(bytes, walk) {
+        match next_label(bytes, &mut [], walk) {
             Err(_) => return false,
             Ok(Next::End(_)) => return labels.next().is_none(),
             Ok(Next::Label(label, after)) => match labels.next() {
@@ -76,8 +87,8 @@ pub(crate) fn read_only_name<A: Allocator>(
 ) -> Result<Option<Name<A>>, AllocError>
     ensures { IfOk result (λ name. name ≡ name_of_rdata octets.now) }
 {
-    match skip_name(octets, Bound::whole(octets), 0) {
-        Ok(end) if end == octets.len() => match read_name(alloc, octets, 0) {
+    match skip_name(octets, &mut [], Bound::whole(octets), 0) {
+        Ok(end) if end == octets.len() => match read_name(alloc, octets, &mut [], 0) {
             Ok((name, _)) => Ok(Some(name)),
             Err(_) => Err(AllocError),
         },

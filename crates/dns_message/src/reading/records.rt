@@ -2,6 +2,7 @@
 
 ghost use Rattle.std.specs.Prelude.{◌≡◌, IfSome};
 ghost use Rattle.dns_message.specs.Reading.{Gives, behind};
+ghost use Rattle.dns_message.specs.Shortcuts.{AreShortcuts};
 ghost use Rattle.dns_message.specs.Header.{FitsBits, header_of};
 ghost use Rattle.dns_message.specs.Records.{octets_end, question_at, record_at, counted};
 
@@ -62,11 +63,14 @@ pub(crate) fn skip_octets(bytes: &[u8], offset: usize, count: usize) -> Result<u
 pub(crate) fn read_question<A: Allocator>(
     alloc: A,
     bytes: &[u8],
+    ends: &mut [u16],
     offset: usize,
 ) -> Result<(Question<A>, usize), Fault>
-    ensures { Gives (λ x. x) result (question_at bytes.now offset) }
+    requires { AreShortcuts bytes.now ends.old }
+    ensures exact { Gives (λ x. x) result (question_at bytes.now offset) }
+    ensures known { AreShortcuts bytes.now ends.new }
 {
-    let (name, after) = read_name(alloc, bytes, offset)?;
+    let (name, after) = read_name(alloc, bytes, ends, offset)?;
     let end = skip_octets(bytes, after, 4)?;
     let kind = number16(bytes, after);
     let class = number16(bytes, after + 2);
@@ -75,10 +79,12 @@ pub(crate) fn read_question<A: Allocator>(
 
 /// The place behind the question at a place.
 #[tactic(auto, using(crate::proofs::RecordLaws::question_behind))]
-pub(crate) fn skip_question(bytes: &[u8], offset: usize) -> Result<usize, Fault>
-    ensures { result ≡ behind (question_at bytes.now offset) }
+pub(crate) fn skip_question(bytes: &[u8], ends: &mut [u16], offset: usize) -> Result<usize, Fault>
+    requires { AreShortcuts bytes.now ends.old }
+    ensures exact { result ≡ behind (question_at bytes.now offset) }
+    ensures known { AreShortcuts bytes.now ends.new }
 {
-    let after = skip_name(bytes, Bound::whole(bytes), offset)?;
+    let after = skip_name(bytes, ends, Bound::whole(bytes), offset)?;
     skip_octets(bytes, after, 4)
 }
 
@@ -87,17 +93,20 @@ pub(crate) fn skip_question(bytes: &[u8], offset: usize) -> Result<usize, Fault>
 pub(crate) fn read_record<A: Allocator + Copy>(
     alloc: A,
     bytes: &[u8],
+    ends: &mut [u16],
     offset: usize,
 ) -> Result<(Record<A>, usize), Fault>
-    ensures { Gives (λ x. x) result (record_at bytes.now offset) }
+    requires { AreShortcuts bytes.now ends.old }
+    ensures exact { Gives (λ x. x) result (record_at bytes.now offset) }
+    ensures known { AreShortcuts bytes.now ends.new }
 {
-    let (owner, after) = read_name(alloc, bytes, offset)?;
+    let (owner, after) = read_name(alloc, bytes, ends, offset)?;
     let fixed = skip_octets(bytes, after, 10)?;
     let kind = number16(bytes, after);
     let class = number16(bytes, after + 2);
     let ttl = number32(bytes, after + 4);
     let len = number16(bytes, after + 8) as usize;
-    let (octets, end) = read_data(alloc, bytes, kind, fixed, len)?;
+    let (octets, end) = read_data(alloc, bytes, ends, kind, fixed, len)?;
     let rdata = Rdata::new(octets);
     Ok((
         Record {
@@ -113,14 +122,16 @@ pub(crate) fn read_record<A: Allocator + Copy>(
 
 /// The place behind the record at a place.
 #[tactic(auto, unfolding(crate::specs::Records::octets_end), using(crate::proofs::RecordLaws::record_behind))]
-pub(crate) fn skip_record(bytes: &[u8], offset: usize) -> Result<usize, Fault>
-    ensures { result ≡ behind (record_at bytes.now offset) }
+pub(crate) fn skip_record(bytes: &[u8], ends: &mut [u16], offset: usize) -> Result<usize, Fault>
+    requires { AreShortcuts bytes.now ends.old }
+    ensures exact { result ≡ behind (record_at bytes.now offset) }
+    ensures known { AreShortcuts bytes.now ends.new }
 {
-    let after = skip_name(bytes, Bound::whole(bytes), offset)?;
+    let after = skip_name(bytes, ends, Bound::whole(bytes), offset)?;
     let fixed = skip_octets(bytes, after, 10)?;
     let kind = number16(bytes, after);
     let len = number16(bytes, after + 8) as usize;
-    skip_data(bytes, kind, fixed, len)
+    skip_data(bytes, ends, kind, fixed, len)
 }
 
 /// So many questions from a place on, and the place behind them.
@@ -128,15 +139,18 @@ pub(crate) fn skip_record(bytes: &[u8], offset: usize) -> Result<usize, Fault>
 pub(crate) fn read_questions<A: Allocator + Copy>(
     alloc: A,
     bytes: &[u8],
+    ends: &mut [u16],
     offset: usize,
     count: u16,
 ) -> Result<(PlainList<Question<A>, A>, usize), Fault>
-    ensures { Gives (λ x. x) result (counted (question_at bytes.now) count offset) }
+    requires { AreShortcuts bytes.now ends.old }
+    ensures exact { Gives (λ x. x) result (counted (question_at bytes.now) count offset) }
+    ensures known { AreShortcuts bytes.now ends.new }
 {
     let mut questions = PlainList::new(alloc);
     let mut at = offset;
     for _ in 0..count {
-        let (question, after) = read_question(alloc, bytes, at)?;
+        let (question, after) = read_question(alloc, bytes, ends, at)?;
         questions.push(question)?;
         at = after;
     }
@@ -148,15 +162,18 @@ pub(crate) fn read_questions<A: Allocator + Copy>(
 pub(crate) fn read_records<A: Allocator + Copy>(
     alloc: A,
     bytes: &[u8],
+    ends: &mut [u16],
     offset: usize,
     count: u16,
 ) -> Result<(PlainList<Record<A>, A>, usize), Fault>
-    ensures { Gives (λ x. x) result (counted (record_at bytes.now) count offset) }
+    requires { AreShortcuts bytes.now ends.old }
+    ensures exact { Gives (λ x. x) result (counted (record_at bytes.now) count offset) }
+    ensures known { AreShortcuts bytes.now ends.new }
 {
     let mut records = PlainList::new(alloc);
     let mut at = offset;
     for _ in 0..count {
-        let (record, after) = read_record(alloc, bytes, at)?;
+        let (record, after) = read_record(alloc, bytes, ends, at)?;
         records.push(record)?;
         at = after;
     }
@@ -165,24 +182,38 @@ pub(crate) fn read_records<A: Allocator + Copy>(
 
 /// The place behind so many questions.
 #[tactic(auto, using(crate::proofs::Counting::skip_more, crate::proofs::Counting::skip_fault, crate::proofs::Counting::skip_done))]
-pub(crate) fn skip_questions(bytes: &[u8], offset: usize, count: u16) -> Result<usize, Fault>
-    ensures { result ≡ behind (counted (question_at bytes.now) count offset) }
+pub(crate) fn skip_questions(
+    bytes: &[u8],
+    ends: &mut [u16],
+    offset: usize,
+    count: u16,
+) -> Result<usize, Fault>
+    requires { AreShortcuts bytes.now ends.old }
+    ensures exact { result ≡ behind (counted (question_at bytes.now) count offset) }
+    ensures known { AreShortcuts bytes.now ends.new }
 {
     let mut at = offset;
     for _ in 0..count {
-        at = skip_question(bytes, at)?;
+        at = skip_question(bytes, ends, at)?;
     }
     Ok(at)
 }
 
 /// The place behind so many records.
 #[tactic(auto, using(crate::proofs::Counting::skip_more, crate::proofs::Counting::skip_fault, crate::proofs::Counting::skip_done))]
-pub(crate) fn skip_records(bytes: &[u8], offset: usize, count: u16) -> Result<usize, Fault>
-    ensures { result ≡ behind (counted (record_at bytes.now) count offset) }
+pub(crate) fn skip_records(
+    bytes: &[u8],
+    ends: &mut [u16],
+    offset: usize,
+    count: u16,
+) -> Result<usize, Fault>
+    requires { AreShortcuts bytes.now ends.old }
+    ensures exact { result ≡ behind (counted (record_at bytes.now) count offset) }
+    ensures known { AreShortcuts bytes.now ends.new }
 {
     let mut at = offset;
     for _ in 0..count {
-        at = skip_record(bytes, at)?;
+        at = skip_record(bytes, ends, at)?;
     }
     Ok(at)
 }

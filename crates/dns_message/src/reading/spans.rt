@@ -100,7 +100,7 @@ impl<'a> Iterator for Records<'a> {
     fn next(&mut self) -> Option<Span> {
         let (section, left) = next_section(self.left)?;
         let start = self.offset;
-        match skip_record(self.bytes, start) {
+        match skip_record(self.bytes, &mut [], start) {
             Ok(end) => {
                 self.offset = end;
                 self.left = left;
@@ -128,7 +128,7 @@ pub(crate) fn records_in<'a>(bytes: &'a [u8]) -> Records<'a>
     requires { 12 ≤ length bytes.now }
     ensures { result ≡ spans_of bytes.now }
 {
-    match skip_questions(bytes, 12, number16(bytes, 4)) {
+    match skip_questions(bytes, &mut [], 12, number16(bytes, 4)) {
         Ok(offset) => Records {
             bytes,
             offset,

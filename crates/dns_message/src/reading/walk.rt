@@ -1,9 +1,11 @@
 //! One name in a message, label by label.
 
 ghost use Rattle.std.specs.Prelude.{◌≡◌, ◌≤◌, ◌+◌, length, take, drop, IfOk};
+ghost use Rattle.dns_message.specs.Shortcuts.{AreShortcuts};
 ghost use Rattle.dns_message.specs.Names.{whole, inside, step, Stays, Resumes, resume, name_within};
 
 use crate::fault::Fault;
+use crate::reading::shortcuts::resolve;
 
 /// Where a run of labels must end, and what is said of an octet that it needs beyond.
 #[derive(Clone, Copy)]
@@ -135,11 +137,17 @@ fn step_at(bytes: &[u8], walk: Walk) -> Result<Step, Fault>
     }
 }
 
-/// The next label of a name, pointers followed.
-pub(crate) fn next_label<'a>(bytes: &'a [u8], walk: Walk) -> Result<Next<'a>, Fault>
+/// The next label of a name, pointers followed; where they lead is remembered in `ends`.
+pub(crate) fn next_label<'a>(
+    bytes: &'a [u8],
+    ends: &mut [u16],
+    walk: Walk,
+) -> Result<Next<'a>, Fault>
     requires used { walk.used ≤ 254 }
     requires stop { walk.bound.stop ≤ length bytes.now }
-    ensures { Resumes bytes.now walk result }
+    requires known { AreShortcuts bytes.now ends.old }
+    ensures resumes { Resumes bytes.now walk result }
+    ensures known { AreShortcuts bytes.now ends.new }
 {
     let mut walk = walk;
     loop {
@@ -155,9 +163,10 @@ pub(crate) fn next_label<'a>(bytes: &'a [u8], walk: Walk) -> Result<Next<'a>, Fa
                 return Ok(Next::Label(label, after));
             }
             Step::Pointer(target) => {
+                let start = resolve(bytes, ends, target);
                 walk = Walk {
-                    offset: target,
-                    run: target,
+                    offset: start,
+                    run: start,
                     used: walk.used,
                     bound: Bound::whole(bytes),
                     end: Some(walk.end.unwrap_or(walk.offset + 2)),

@@ -1,4 +1,5 @@
 use Rattle.std.proofs.Common.{◌≡◌, ◌≤◌, length}
+use Rattle.dns_message.specs.Shortcuts.{AreShortcuts}
 use Rattle.dns_message.specs.Names.{resume, name_within, inside, steps_left}
 use Rattle.dns_message.specs.Data.{written_out, prefixed}
 use Rattle.dns_message.proofs.reading.data.expand_name.Given as goal
@@ -8,6 +9,7 @@ invariant-loop-end g l = record {
   read : prefixed l.octets.items (written_out (resume l.bytes l.walk)) ≡ prefixed l.initial.octets.items (written_out (name_within l.bytes (inside l.stop) l.offset));
   room : l.walk.used ≤ 254;
   stop : l.walk.bound.stop ≤ length l.bytes;
+  known : AreShortcuts l.bytes l.ends;
 }
 
 abbrev pub decreases-loop-end : goal.decreases-loop-end

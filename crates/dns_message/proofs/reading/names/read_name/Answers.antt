@@ -8,11 +8,11 @@ loop-name-init g c =
     let start = rw c.whole.ensures at c.new-walk.ensures.start in
     let bound = rw c.whole.ensures at c.new-walk.ensures.bound in
     rw c.root-name.ensures
-    (record { read = front_none _ ∙ start; used = omega arith; room = omega arith; stop = rw bound (omega arith) })
+    (record { read = front_none _ ∙ start; used = omega arith; room = omega arith; stop = rw bound (omega arith); known = c.requires })
 
 pub loop-name-preserved : goal.loop-name-preserved
 loop-name-preserved g c =
-    let a = rw c.in-Label.is at c.in_ok-end.ensures in
+    let a = rw c.in-Label.is at c.in_ok-end.ensures.resumes in
     let now = c.loop-name.invariant in
     rw c.in_ok-append-in-Label.ensures.ok
     (record {
@@ -20,4 +20,5 @@ loop-name-preserved g c =
       used = omega (arith, size_of-push c.loop-name.name c.in-Label.label.now, now.used, a.used);
       room = a.room;
       stop = a.stop;
+      known = c.in_ok-end.ensures.known;
     })

@@ -1,5 +1,6 @@
 use Rattle.std.proofs.Common.{◌≡◌, ◌≤◌, ◌+◌, length}
 use Rattle.dns_name.specs.Labels.{size_of}
+use Rattle.dns_message.specs.Shortcuts.{AreShortcuts}
 use Rattle.dns_message.specs.Names.{resume, name_at, steps_left}
 use Rattle.dns_message.proofs.Loops.{with_front}
 use Rattle.dns_message.proofs.reading.names.read_name.Given as goal
@@ -10,6 +11,7 @@ invariant-loop-name g l = record {
   used : size_of l.name ≡ l.walk.used + 1;
   room : l.walk.used ≤ 254;
   stop : l.walk.bound.stop ≤ length l.bytes;
+  known : AreShortcuts l.bytes l.ends;
 }
 
 abbrev pub decreases-loop-name : goal.decreases-loop-name

@@ -1,4 +1,5 @@
 use Rattle.std.proofs.Common.{◌≡◌, ◌≤◌, length}
+use Rattle.dns_message.specs.Shortcuts.{AreShortcuts}
 use Rattle.dns_message.specs.Names.{resume, name_within, steps_left}
 use Rattle.dns_message.specs.Reading.{behind}
 use Rattle.dns_message.proofs.reading.names.skip_name.Given as goal
@@ -8,6 +9,7 @@ invariant-loop-end l = record {
   read : behind (resume l.bytes l.walk) ≡ behind (name_within l.bytes l.fn.bound l.offset);
   room : l.walk.used ≤ 254;
   stop : l.walk.bound.stop ≤ length l.bytes;
+  known : AreShortcuts l.bytes l.ends;
 }
 
 abbrev pub decreases-loop-end : goal.decreases-loop-end

@@ -1,5 +1,6 @@
 use Rattle.std.proofs.Common.{◌≡◌, ◌≤◌, length}
 use Rattle.dns_message.specs.Names.{resume}
+use Rattle.dns_message.specs.Shortcuts.{AreShortcuts}
 use Rattle.dns_message.proofs.reading.walk.next_label.Given as goal
 
 abbrev pub invariant-loop-len : goal.invariant-loop-len
@@ -8,6 +9,7 @@ invariant-loop-len l = record {
   used : l.walk.used ≡ l.initial.walk.used;
   stop : l.walk.bound.stop ≤ length l.bytes;
   back : l.walk.run ≤ l.initial.walk.run;
+  known : AreShortcuts l.bytes l.ends;
 }
 
 abbrev pub decreases-loop-len : goal.decreases-loop-len

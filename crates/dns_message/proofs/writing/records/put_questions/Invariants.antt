@@ -1,0 +1,10 @@
+use Rattle.std.proofs.Common.{◌≤◌, length, drop}
+use Rattle.dns_message.specs.Writing.{each, question_text}
+use Rattle.dns_message.proofs.WriterLaws.{GoesOn}
+use Rattle.dns_message.proofs.writing.records.put_questions.Given as goal
+
+abbrev pub invariant-loop-question : goal.invariant-loop-question
+invariant-loop-question g l = record {
+  left : GoesOn l.initial.writer l.writer (each question_text (drop l.question-index l.questions)) (each question_text l.questions);
+  within : length l.writer.octets.items ≤ l.limit;
+}
