@@ -9,7 +9,7 @@ use Rattle.std.proofs.lemmas.Bool.{cases_Bool, cases_lt, lt-ltb, le-ltb}
 use Rattle.dns_name.specs.Labels.{IsUnder, IsSame, lowered, same, size_of}
 use Rattle.dns_name.proofs.NameLaws.{same_sym, same_trans, same_count, same_decides, same_lowered, lowered_again, under_ends, under_same_names, under_count, under_refl, more_labels}
 use Rattle.dns_name.proofs.LabelLaws.{size_of-some, same_under, rest_under}
-use Rattle.suffix_routes.specs.Values.{Route, HasNoSuffix, AllDiffer}
+use Rattle.suffix_routes.specs.Values.{Route, IsRoute, HasNoSuffix, AllDiffer}
 use Rattle.suffix_routes.specs.Routes.{IsRouteOf, HasNoRoute, IsAnswer, route_at, place_or, route_of}
 
 abbrev Name : Type 0
@@ -258,3 +258,24 @@ best_of_all routes name (Some place) size best = record {
   under = best.under;
   most = λ k other there under. best.most k other (slice_get_within routes k other there) there under;
 }
+
+-- names that are the same have the same route
+pub route_of-same : (routes : List Route) (n m : Name) → IsSame n m → route_of routes n ≡ route_of routes m
+route_of-same routes n m one = sym (route_of-lowered routes n) ∙ ap (route_of routes) one ∙ route_of-lowered routes m
+
+is_route_at : (routes : List Route) (name : Name) (place : ℕ) (answer : Option ℕ) → answer ≡ Some place → IsAnswer routes name answer → IsRouteOf routes name place
+is_route_at routes name place None is answer = absurd (let no : None ≡ Some place = is in cc)
+is_route_at routes name place (Some k) is answer = let one : k ≡ place = cc in subst (IsRouteOf routes name) one answer
+
+-- the route of a name is one of the routes, and its suffix is the longest that the name is under
+pub route_of-some : (routes : List Route) (name : Name) (place : ℕ) → route_of routes name ≡ Some place → IsRouteOf routes name place
+route_of-some routes name place is = is_route_at routes name place (route_of routes name) is (route_of-is routes name)
+
+pub route_of-within : (routes : List Route) (name : Name) (place : ℕ) → route_of routes name ≡ Some place → place < length routes
+route_of-within routes name place is = let r = route_of-some routes name place is in slice_get_within routes place r.route r.there
+
+-- what holds of each route holds of the one at a place
+pub route_holds : (routes : List Route) (place : ℕ) (r : Route) → AllByRecursion IsRoute routes → slice_get routes place ≡ Some r → IsRoute r
+route_holds [] place r each there = absurd (let no : None ≡ Some r = there in cc)
+route_holds (x ∷ xs) zero r each there = let one : x ≡ r = cc in subst IsRoute one each.0
+route_holds (x ∷ xs) (suc k) r each there = route_holds xs k r each.1 there
