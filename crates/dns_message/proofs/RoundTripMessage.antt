@@ -1,5 +1,5 @@
 -- What was written stands there: questions, records and whole messages.
-use Rattle.std.proofs.Common.{◌≡◌, ℕ, ◌+◌, ◌*◌, ◌/◌, ◌%◌, ◌<◌, ◌≤◌, Bool, true, false, List, [], ◌∷◌, ◌++◌, length, drop, get_or, Some, refl, sym, ap, ◌∙◌, append_assoc, arith}
+use Rattle.std.proofs.Common.{◌≡◌, ℕ, ◌+◌, ◌*◌, ◌/◌, ◌%◌, ◌<◌, ◌≤◌, Bool, true, false, List, [], ◌∷◌, ◌++◌, length, drop, get_or, Some, refl, sym, ap, subst, ◌∙◌, append_assoc, arith}
 use Rattle.std.specs.List.{AllByRecursion}
 use Rattle.std.proofs.lemmas.List.{append-nil, length-append, get_or-drop}
 use Rattle.std.proofs.lemmas.Bool.{le-ltb}
@@ -12,6 +12,8 @@ use Rattle.dns_message.specs.Header.{flag, header_in, header_of, FitsBits}
 use Rattle.dns_message.specs.Records.{QuestionAt, RecordAt, InRow}
 use Rattle.dns_message.specs.Messages.{Spells, HasShapes}
 use Rattle.dns_message.specs.Writing.{Text, Writing, as_is, after, ◌▹◌, each, octets16, octets32, name_text, question_text, head_text, record_text, data_text, with_length, bit, flags_of, header_text, message_text, written}
+use Rattle.dns_message.specs.declared.writing.writer.Writer.{Writer}
+use Rattle.dns_message.specs.Writer.{Writes, IsEmpty}
 use Rattle.dns_message.specs.Written.{IsQuestion, IsRecord, IsMessage, IsCounted}
 use Rattle.dns_message.proofs.WriterLaws.{after_both}
 use Rattle.dns_message.proofs.WriterMessages.{nothing, written_after, lists_short}
@@ -317,3 +319,10 @@ message_spelled m is counted shapes short =
       authority = ns.0;
       additional = ds.0;
     }
+
+-- what a writer holds at the end spells the message
+pub spelled_whole : {A : Type 0} (limit : ℕ) (old new : Writer A) (m : Message) → limit ≤ 65535 → IsEmpty old → Writes old new (message_text m) → length new.octets.items ≤ limit → IsMessage m → IsCounted m → HasShapes m → Spells new.octets.items m
+spelled_whole limit old new m le empty step within is counted shapes =
+    let whole : new.octets.items ≡ written m = (step nothing empty).octets ∙ written_after m in
+    let P : List ℕ → Type 0 = λ bytes. Spells bytes m in
+    subst P (sym whole) (message_spelled m is counted shapes (omega (arith, within, le, ap length whole)))

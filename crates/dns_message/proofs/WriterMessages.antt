@@ -181,3 +181,6 @@ most_counted m a b c d n ea eb ec ed en = (
   λ le. let short = leb-true n 65535 le in record { questions = omega (arith, short); answers = omega (arith, short); authority = omega (arith, short); additional = omega (arith, short) },
   λ counts. le-leb n 65535 (omega (arith, counts.questions, counts.answers, counts.authority, counts.additional)),
 )
+
+pub header_number : (m : Message) (number : ℕ) → number ≡ m.header.id → number < 65536 → m.header.id < 65536
+header_number m number is small = omega (arith, is, small)

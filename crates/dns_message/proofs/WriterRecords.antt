@@ -1,10 +1,13 @@
 -- Questions and records, written one behind another within a limit.
 use Rattle.std.proofs.Common.{◌≡◌, ℕ, ◌+◌, ◌-◌, ◌<◌, ◌≤◌, List, [], ◌∷◌, ◌++◌, length, take, drop, get_or, refl, sym, ap, subst, ◌∙◌, append_assoc, arith}
-use Rattle.std.proofs.lemmas.List.{append-nil, length-append, length-take, length-drop, take_at, drop_at, drop_more, drop_all, take_all}
+use Rattle.std.proofs.lemmas.List.{append-nil, length-append, length-take, length-drop, take_at, drop_at, drop_more, drop_all, take_all, take_more}
 use Rattle.dns_message.specs.declared.fault.Fault.{Fault}
 use Rattle.dns_message.specs.declared.fault.Fault.TheVariants.{Short, LabelForm, Pointer, NameLong, Rdata, TooLarge, Memory, NoQuestion}
 use Rattle.dns_message.specs.declared.writing.writer.Writer.{Writer}
 use Rattle.dns_message.specs.Writing.{Text, Writing, as_is, after, ◌▹◌, each, octets16, octets32, with_length, name_text, question_text, head_text, data_text}
+use Rattle.std.specs.List.{AllByRecursion}
+use Rattle.dns_name.specs.Labels.{IsName}
+use Rattle.dns_message.specs.Written.{IsQuestion, IsRecord}
 use Rattle.dns_message.specs.Values.{Question, Record}
 use Rattle.dns_message.specs.Writer.{Holds, Writes, HoldsText, Refused}
 use Rattle.dns_message.proofs.WriterLaws.{GoesOn, after_both, along, goes_on, all_done}
@@ -175,3 +178,22 @@ set_length start number xs whole inside set =
 
 pub refused_as : {A : Type 0} (limit : ℕ) (fault : Fault) (old : Writer A) (a b : Writing) → a ≡ b → Refused limit fault old a → Refused limit fault old b
 refused_as limit fault old a b same refused = let P : Writing → Type 0 = λ w. Refused limit fault old w in subst P same refused
+
+pub question_is : (q : Question) (labels name : List (List ℕ)) (kind class : ℕ) → record { name = name; kind = kind; class = class } ≡ q → labels ≡ name → IsName labels → kind < 65536 → class < 65536 → IsQuestion q
+question_is q labels name kind class is same named k c = subst IsQuestion is (record { name = subst IsName same named; kind = k; class = c })
+
+pub record_is : (r : Record) (labels owner : List (List ℕ)) (kind class ttl : ℕ) (rdata : List ℕ) → record { owner = owner; kind = kind; class = class; ttl = ttl; rdata = rdata } ≡ r → labels ≡ owner → IsName labels → kind < 65536 → class < 65536
+    → ttl < 4294967296 → IsRecord r
+record_is r labels owner kind class ttl rdata is same named k c t = subst IsRecord is (record { owner = subst IsName same named; kind = k; class = c; ttl = t })
+
+-- ---- what holds of each element
+
+all_push : {X : Type 0} (P : X → Type 0) (xs : List X) (x : X) → AllByRecursion P xs → P x → AllByRecursion P (xs ++ x ∷ [])
+all_push P [] x all one = (one, tt)
+all_push P (y ∷ ys) x all one = (all.0, all_push P ys x all.1 one)
+
+pub all_so_far : {X : Type 0} (P : X → Type 0) (xs : List X) (i : ℕ) (x : X) → i < length xs → x ≡ get_or xs i x → AllByRecursion P (take i xs) → P x → AllByRecursion P (take (i + 1) xs)
+all_so_far P xs i x lt is all one = rw (take_more xs i x lt) (rw (← is) (all_push P (take i xs) x all one))
+
+pub all_of_them : {X : Type 0} (P : X → Type 0) (xs : List X) (i : ℕ) → length xs ≤ i → AllByRecursion P (take i xs) → AllByRecursion P xs
+all_of_them P xs i le all = subst (AllByRecursion P) (take_all i xs le) all

@@ -36,10 +36,10 @@ Refused limit Memory old written = Unit {0}
 Refused limit TooLarge old written = (t : Text) → Holds old t → limit < length (after t written).octets
 Refused limit fault old written = ⊥
 
--- something is written whole within the limit, or refused
-abbrev pub Puts : {A : Type 0} → ℕ → Result (Unit {0}) Fault → Writer A → Writer A → Writing → Type 0
-Puts limit (Ok x) old new written = Writes old new written × (length new.octets.items ≤ limit)
-Puts limit (Err fault) old new written = Refused limit fault old written
+-- something of which a fact holds is written whole within the limit, or refused
+abbrev pub Puts : {A : Type 0} → ℕ → Result (Unit {0}) Fault → Writer A → Writer A → Writing → Type 0 → Type 0
+Puts limit (Ok x) old new written fact = Writes old new written × (length new.octets.items ≤ limit) × fact
+Puts limit (Err fault) old new written fact = Refused limit fault old written
 
 -- nothing was written
 abbrev pub IsEmpty : {A : Type 0} → Writer A → Type 0

@@ -1,11 +1,12 @@
 //! Writing messages as octets: RFC 1035 4.1.
 
-ghost use Rattle.std.specs.Prelude.{◌≡◌, ◌↔◌, ◌≤◌, ◌<◌, length, OnOk, IsTrue};
+ghost use Rattle.std.specs.Prelude.{◌≡◌, ◌↔◌, ◌≤◌, ◌<◌, length, OnOk, IfOk, IsTrue};
 ghost use Rattle.dns_message.specs.Reading.{Gives};
 ghost use Rattle.dns_message.specs.Header.{FitsBits};
+ghost use Rattle.dns_message.specs.Messages.{Spells, HasShapes};
 ghost use Rattle.dns_message.specs.Writing.{bit, flags_of, CanBeCounted, header_text, message_text, written_within};
 ghost use Rattle.dns_message.specs.Values as values;
-ghost use Rattle.dns_message.specs.Written.{IsMessage, IsSpelledBack};
+ghost use Rattle.dns_message.specs.Written.{IsMessage, IsCounted, IsSpelledBack};
 ghost use Rattle.dns_message.specs.Writer.{Writes, Puts, HoldsText};
 
 pub(crate) mod data;
@@ -66,7 +67,7 @@ fn put_header<'a, A: Allocator + Copy>(
 ) -> Result<(), AllocError>
     requires bits { FitsBits message.now.header }
     requires counts { CanBeCounted message.now }
-    ensures { OnOk result (Writes writer.old writer.new (header_text message.now)) }
+    ensures { OnOk result (Writes writer.old writer.new (header_text message.now) × (message.now.header.id < 65536)) }
 {
     writer.put_u16(message.header.id)?;
     writer.put_u16(flags_of(&message.header))?;
@@ -87,7 +88,7 @@ fn put_message<'a, A: Allocator + Copy>(
     requires limit { limit ≤ 65535 }
     requires bits { FitsBits message.now.header }
     requires counts { CanBeCounted message.now }
-    ensures { Puts limit result writer.old writer.new (message_text message.now) }
+    ensures { Puts limit result writer.old writer.new (message_text message.now) (IsMessage message.now) }
 {
     put_header(writer, message)?;
     writer.check(limit)?;
@@ -102,7 +103,8 @@ fn put_message<'a, A: Allocator + Copy>(
 ///
 /// In the names of questions and owners, and in the data of the types whose names may be pointers, the longest end of
 /// a name that began earlier in these octets is a pointer to where it began first (RFC 1035 4.1.4).
-/// `TooLarge` where these are more octets than `limit`; `Memory` where a growth was refused.
+/// `TooLarge` where these are more octets than `limit`; `Memory` where a growth was refused. What is written spells the
+/// message again, where its header counts the lists and its data is of its shapes.
 pub fn write<A: Allocator + Copy>(
     alloc: A,
     message: &Message<A>,
@@ -110,7 +112,8 @@ pub fn write<A: Allocator + Copy>(
 ) -> Result<Octets<A>, Fault>
     requires limit { limit ≤ 65535 }
     requires bits { FitsBits message.now.header }
-    ensures { Gives (λ octets. octets) result (written_within limit message.now) }
+    ensures given { Gives (λ octets. octets) result (written_within limit message.now) }
+    ensures spelled { IfOk result (λ octets. IsCounted message.now → HasShapes message.now → Spells octets message.now) }
 {
     if !can_be_counted(message) {
         return Err(Fault::TooLarge);

@@ -2,6 +2,8 @@
 
 ghost use Rattle.std.specs.Prelude.{◌≡◌, ◌≤◌, ◌<◌, ◌+◌, ◌++◌, [], List, length, take, drop, OnOk};
 ghost use Rattle.dns_message.specs.Writing.{octets16, with_length, each, data_text, question_text, head_text, record_text};
+ghost use Rattle.std.specs.List.{AllByRecursion};
+ghost use Rattle.dns_message.specs.Written.{IsQuestion, IsRecord};
 ghost use Rattle.dns_message.specs.Writer.{Writes, Puts, HoldsText};
 
 use crate::fault::Fault;
@@ -16,7 +18,7 @@ fn put_question<'a, A: Allocator + Copy>(
     writer: &mut Writer<'a, A>,
     question: &'a Question<A>,
 ) -> Result<(), AllocError>
-    ensures { OnOk result (Writes writer.old writer.new (question_text question.now)) }
+    ensures { OnOk result (Writes writer.old writer.new (question_text question.now) × IsQuestion question.now) }
 {
     writer.put_name(question.name.octets())?;
     writer.put_u16(question.kind)?;
@@ -31,7 +33,7 @@ pub(crate) fn put_questions<'a, A: Allocator + Copy>(
     limit: usize,
 ) -> Result<(), Fault>
     requires { length writer.old.octets.items ≤ limit }
-    ensures { Puts limit result writer.old writer.new (each question_text questions.now) }
+    ensures { Puts limit result writer.old writer.new (each question_text questions.now) (AllByRecursion IsQuestion questions.now) }
 {
     for question in questions {
         put_question(writer, question)?;
@@ -45,7 +47,7 @@ fn put_head<'a, A: Allocator + Copy>(
     writer: &mut Writer<'a, A>,
     entry: &'a Record<A>,
 ) -> Result<(), AllocError>
-    ensures { OnOk result (Writes writer.old writer.new (head_text entry.now)) }
+    ensures { OnOk result (Writes writer.old writer.new (head_text entry.now) × IsRecord entry.now) }
 {
     writer.put_name(entry.owner.octets())?;
     writer.put_u16(entry.kind)?;
@@ -71,7 +73,7 @@ fn put_with_length<'a, A: Allocator + Copy>(
 ) -> Result<(), Fault>
     requires holds { HoldsText writer.old }
     requires limit { limit ≤ 65535 }
-    ensures { Puts limit result writer.old writer.new (with_length (data_text kind rdata.now)) }
+    ensures { Puts limit result writer.old writer.new (with_length (data_text kind rdata.now)) (Unit {0}) }
 {
     let start = writer.octets.len();
     writer.put(&[0, 0])?;
@@ -90,7 +92,7 @@ fn put_record<'a, A: Allocator + Copy>(
 ) -> Result<(), Fault>
     requires holds { HoldsText writer.old }
     requires limit { limit ≤ 65535 }
-    ensures { Puts limit result writer.old writer.new (record_text entry.now) }
+    ensures { Puts limit result writer.old writer.new (record_text entry.now) (IsRecord entry.now) }
 {
     put_head(writer, entry)?;
     put_with_length(writer, entry.kind, entry.rdata.octets(), limit)?;
@@ -106,7 +108,7 @@ pub(crate) fn put_records<'a, A: Allocator + Copy>(
     requires holds { HoldsText writer.old }
     requires limit { limit ≤ 65535 }
     requires within { length writer.old.octets.items ≤ limit }
-    ensures { Puts limit result writer.old writer.new (each record_text records.now) }
+    ensures { Puts limit result writer.old writer.new (each record_text records.now) (AllByRecursion IsRecord records.now) }
 {
     for entry in records {
         put_record(writer, entry, limit)?;

@@ -1,12 +1,13 @@
 use Rattle.std.proofs.lemmas.Result.{err_from_is_err_and}
 use Rattle.std.proofs.Common.{drop}
+use Rattle.dns_message.specs.Written.{IsRecord}
 use Rattle.dns_message.specs.Writing.{each, record_text}
 use Rattle.dns_message.proofs.WriterLaws.{begins}
-use Rattle.dns_message.proofs.WriterRecords.{holds_on, element_refused, element_written, list_written}
+use Rattle.dns_message.proofs.WriterRecords.{all_so_far, all_of_them, holds_on, element_refused, element_written, list_written}
 use Rattle.dns_message.proofs.writing.records.put_records.Goals as goal
 
 pub loop-entry-init : goal.loop-entry-init
-loop-entry-init g c = record { left = begins c.args.writer.now (each record_text c.args.records.now); within = c.requires.within }
+loop-entry-init g c = record { left = begins c.args.writer.now (each record_text c.args.records.now); within = c.requires.within; all = tt }
 
 pub put_record-requires-clause-holds : goal.put_record-requires-clause-holds
 put_record-requires-clause-holds g c =
@@ -25,8 +26,9 @@ loop-entry-preserved g c = record {
       element_written c.args.writer.now c.loop-entry.writer c.put_record.new.writer record_text c.args.records.now c.loop-entry.entry-index c.entry-item.result c.loop-entry-test.true c.entry-item.is
       c.loop-entry.invariant.left c.in_ok-put_record.ensures.0;
   within = c.in_ok-put_record.ensures.1;
+  all = all_so_far IsRecord c.args.records.now c.loop-entry.entry-index c.entry-item.result c.loop-entry-test.true c.entry-item.is c.loop-entry.invariant.all c.in_ok-put_record.ensures.2;
 }
 
 pub returns : goal.returns
 returns g c =
-    (list_written c.args.writer.now c.loop-entry.writer record_text c.args.records.now c.loop-entry.entry-index c.loop-entry-test.false c.loop-entry.invariant.left, c.loop-entry.invariant.within)
+    (list_written c.args.writer.now c.loop-entry.writer record_text c.args.records.now c.loop-entry.entry-index c.loop-entry-test.false c.loop-entry.invariant.left, c.loop-entry.invariant.within, all_of_them IsRecord c.args.records.now c.loop-entry.entry-index c.loop-entry-test.false c.loop-entry.invariant.all)

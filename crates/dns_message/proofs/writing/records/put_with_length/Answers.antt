@@ -38,4 +38,5 @@ returns g c =
           (data_text c.args.kind c.args.rdata.now) c.len-start.result (c.len.result - c.len-start.result - 2) (omega (arith, c.len-start.ensures)) (omega (arith, c.len.ensures)) c.in_ok-put.ensures c.in_ok-put_data.ensures
           (items ∙ set) refl,
       rw items (omega (arith, long, c.in_ok-check.ensures)),
+      tt,
     )
