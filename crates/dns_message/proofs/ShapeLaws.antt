@@ -1,5 +1,5 @@
 -- What is read is of its shape, every name in it written out in full.
-use Rattle.std.proofs.Common.{◌≡◌, ℕ, ◌+◌, ◌<◌, ◌≤◌, Bool, true, false, cond, List, [], ◌∷◌, ◌++◌, length, take, drop, get_or, Option, Some, None, Result, Ok, Err, eqb, refl, sym, ap, ◌∙◌, append_assoc, add-one, arith}
+use Rattle.std.proofs.Common.{◌≡◌, ℕ, ◌+◌, ◌<◌, ◌≤◌, Bool, true, false, cond, List, [], ◌∷◌, ◌++◌, length, take, drop, get_or, Option, Some, None, Result, Ok, Err, eqb, refl, sym, ap, subst, ◌∙◌, append_assoc, add-one, arith}
 use Rattle.std.specs.List.{AllByRecursion}
 use Rattle.std.specs.Prelude.{IfOk}
 use Rattle.std.proofs.lemmas.List.{append-nil, length-append, length-take, length-drop, drop_more, drop_all, drop-drop, take-append-drop, get_or_at, drop_at, take_at}
@@ -8,7 +8,9 @@ use Rattle.dns_message.specs.declared.fault.Fault.{Fault}
 use Rattle.dns_message.specs.declared.shape.Part.{Part}
 use Rattle.dns_message.specs.declared.shape.Part.TheVariants.{Name, Number16, Number32, Text}
 use Rattle.dns_message.specs.Values.{Record, Message}
+use Rattle.dns_message.specs.declared.header.Header.{Header}
 use Rattle.dns_message.specs.Shapes.{Shape, shape_of}
+use Rattle.dns_message.specs.Header.{FitsBits, header_in}
 use Rattle.dns_message.specs.Reading.{Gives}
 use Rattle.dns_message.specs.Names.{NameAt, at_root, at_label, at_pointer, target, name_at}
 use Rattle.dns_message.specs.Data.{name_octets, IsPart, HasParts, no_parts, more_parts, IsOfShape, IsShaped, PartAt, PartsAt, parts_end, parts_go_on, ShapedAt, DataAt, name_if_all, name_of_rdata}
@@ -16,7 +18,7 @@ use Rattle.dns_message.specs.Records.{RecordAt, InRow}
 use Rattle.dns_message.specs.Messages.{Spells, AreShaped, HasShapes, message_of}
 use Rattle.dns_message.proofs.NameLaws.{name_sound, name_complete}
 use Rattle.dns_message.proofs.SpellLaws.{read_as}
-use Rattle.dns_message.proofs.WholeLaws.{spelled_by}
+use Rattle.dns_message.proofs.WholeLaws.{header_is, spelled_by}
 
 -- ---- names
 
@@ -82,6 +84,20 @@ read_shaped bytes message is = spelled_shapes bytes message (spelled_by bytes me
 pub given_shaped : (bytes : List ℕ) (r : Result Message Fault) → Gives (λ m. m) r (message_of bytes) → IfOk r (λ m. HasShapes m)
 given_shaped bytes (Ok m) given = read_shaped bytes m given
 given_shaped bytes (Err f) given = tt
+
+-- ---- the header
+
+fits_in : (bytes : List ℕ) → FitsBits (header_in bytes)
+fits_in bytes = record { opcode = omega arith; z = omega arith; rcode = omega arith }
+
+header_fits : (bytes : List ℕ) (message : Message) → Spells bytes message → FitsBits message.header
+header_fits bytes message s =
+    let P : Header → Type 0 = λ h. FitsBits h in
+    subst P (header_is bytes message.header s.header) (fits_in bytes)
+
+pub given_fits : (bytes : List ℕ) (r : Result Message Fault) → Gives (λ m. m) r (message_of bytes) → IfOk r (λ m. FitsBits m.header)
+given_fits bytes (Ok m) given = header_fits bytes m (spelled_by bytes m given)
+given_fits bytes (Err f) given = tt
 
 -- ---- a name in octets of its own
 

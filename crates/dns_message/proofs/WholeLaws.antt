@@ -12,7 +12,7 @@ use Rattle.dns_message.specs.Records.{QuestionAt, RecordAt, question_at, record_
 use Rattle.dns_message.specs.Messages.{Spells, FirstQuestion, IsWhole, first_question, or_short, read_of, message_at, message_of}
 use Rattle.dns_message.proofs.SpellLaws.{read_as, read_first, steps, question_sound, question_complete, record_sound, record_complete, counted_sound, counted_complete}
 
-header_is : (bytes : List ℕ) (header : Header) → header_of bytes ≡ Some header → header_in bytes ≡ header
+pub header_is : (bytes : List ℕ) (header : Header) → header_of bytes ≡ Some header → header_in bytes ≡ header
 unfolding header_of
 header_is bytes header is = by_test (ltb (length bytes) 12) is
   where

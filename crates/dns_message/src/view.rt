@@ -2,6 +2,7 @@
 
 ghost use Rattle.std.specs.Prelude.{◌≡◌, ◌↔◌, ◌≤◌, IsTrue, IsOk, Ok, Err, length, MatchResult, IfOk};
 ghost use Rattle.dns_message.specs.Reading.{Gives, behind};
+ghost use Rattle.dns_message.specs.Header.{FitsBits};
 ghost use Rattle.dns_message.specs.Shortcuts.{AreShortcuts};
 ghost use Rattle.dns_message.specs.Messages.{IsWhole, HasShapes, first_question, message_at, message_of, QuestionIs, IsViewed};
 ghost use Rattle.dns_message.specs.Spans.{spans_of};
@@ -207,6 +208,7 @@ impl<'a> MessageRef<'a> {
     pub fn read_whole<A: Allocator + Copy>(&self, alloc: A) -> Result<Message<A>, Fault>
         ensures exact { Gives (λ message. message) result (message_of self.now) }
         ensures shaped { IfOk result (λ message. HasShapes message) }
+        ensures fits { IfOk result (λ message. FitsBits message.header) }
     {
         read_message(alloc, self.bytes)
     }

@@ -7,8 +7,8 @@
 ghost use Rattle.std.specs.Prelude.{◌≡◌, ◌≤◌, ◌<◌, IfSome};
 ghost use Rattle.dns_message.specs.Shortcuts.{SameRun, IsShortcut, AreShortcuts};
 
-#[tactic(auto, using(crate::proofs::ShortcutLaws::shortcut_behind))]
 /// Where the pointer at a place leads, if one stands there that a run may begin with.
+#[tactic(auto, using(crate::proofs::ShortcutLaws::shortcut_behind))]
 fn pointer_at(bytes: &[u8], place: usize) -> Option<usize>
     ensures { IfSome result (λ target. IsShortcut bytes.now place target) }
 {

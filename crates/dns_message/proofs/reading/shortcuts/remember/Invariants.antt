@@ -1,4 +1,3 @@
-use Rattle.std.proofs.Common.{◌≤◌}
 use Rattle.dns_message.specs.Shortcuts.{SameRun, AreShortcuts}
 use Rattle.dns_message.proofs.reading.shortcuts.remember.Given as goal
 

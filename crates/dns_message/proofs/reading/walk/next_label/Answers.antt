@@ -1,10 +1,8 @@
-use Rattle.std.proofs.Common.{◌≡◌, ◌≤◌, ◌+◌, ℕ, length, take, arith, sym, ◌∙◌, Ok}
+use Rattle.std.proofs.Common.{◌+◌, arith, sym, ◌∙◌}
 use Rattle.std.proofs.lemmas.Result.{err_from_is_err_and}
-use Rattle.std.proofs.lemmas.List.{length-take, length-drop}
-use Rattle.dns_message.specs.Names.{step}
 use Rattle.dns_message.proofs.ShortcutLaws.{resume_shortcut}
 use Rattle.std.specs.Prelude.{unwrap_or}
-use Rattle.dns_message.proofs.NameLaws.{did, resume_fault, resume_end, resume_label, resume_pointer, advances}
+use Rattle.dns_message.proofs.NameLaws.{resume_fault, resume_end, resume_label, resume_pointer, advances}
 use Rattle.dns_message.proofs.reading.walk.next_label.Goals as goal
 
 pub returns-in_err-step_at-clause-resumes : goal.returns-in_err-step_at-clause-resumes
