@@ -1,0 +1,13 @@
+pub mod Fates
+pub mod Numbers
+pub mod Since
+pub mod Names
+pub mod QueryText
+pub mod Messages
+pub mod SetLaws
+pub mod Listed
+pub mod Cases
+pub mod Judging
+pub mod Deciding
+pub mod Theorem
+pub mod Runs

@@ -1,0 +1,56 @@
+-- A history explains the state of a forwarder.
+use Rattle.std.specs.Prelude.{◌≡◌, ℕ, ◌<◌, ◌≤◌, true, List, [], ◌∷◌, length, map, Some}
+use Rattle.std.specs.List.{concat}
+use Rattle.dns_message.specs.Writing.{written}
+use Rattle.suffix_routes.specs.Values.{Config}
+use Rattle.forwarder_core.specs.Values.{Step}
+use Rattle.forwarder_core.specs.Names.{route_of}
+use Rattle.dns_message.specs.Header.{header_in}
+use Rattle.forwarder_core.specs.Pieces.{Held}
+use Rattle.forwarder_core.specs.History.{InEra, moment_at, Query, listed, Reads, Sends, takes_question}
+use Rattle.forwarder_core.specs.Carried.{CarriedInEra}
+use Rattle.forwarder_core.specs.Queries.{query_message}
+use Rattle.forwarder_core.specs.Causes.{most_waiting}
+use Rattle.forwarder_core.specs.Sound.{Sound, unanswered}
+use Rattle.forwarder_core.specs.State.{OpenQuery, Waiting, State}
+
+abbrev pub Each : {X : Type 0} → (X → Type 0) → List X → Type 0
+Each P [] = Unit {0}
+Each P (x ∷ xs) = P x × Each P xs
+
+-- a listed query as its action showed it
+abbrev pub shown : OpenQuery → Query
+shown a = record { path = a.path; server = a.server; octets = written (query_message a.id a.question); moment = a.asked }
+
+-- the step with this number asked the question that waits
+pub record Waits (c : Config) (now : List Step) (x : Waiting) (i : ℕ) : Type 0 where
+  pub asked : Step
+  pub before : List Step
+  pub in_era : InEra (asked ∷ before) now
+  pub number : i ≡ length before
+  pub request : List ℕ
+  pub sent : Sends asked.handed.event x.client request
+  pub taken : takes_question asked.handed.event ≡ true
+  pub reads : Reads request x.question
+  pub header_is : x.header ≡ header_in request
+
+-- the text of a listed query reads as its question, on its route
+pub record IsReadable (c : Config) (a : OpenQuery) : Type 0 where
+  pub reads : Reads (written (query_message a.id a.question)) a.question
+  pub identifier : (header_in (written (query_message a.id a.question))).id ≡ a.id
+  pub on_route : route_of c a.question.name ≡ Some a.route
+
+pub record Explains (c : Config) (past : List Step) (w : List (List ℕ)) (s : State) : Type 0 where
+  pub sound : Sound c past w
+  pub moment : s.moment ≡ moment_at past
+  pub queries : map shown s.queries ≡ listed past
+  pub readable : Each (IsReadable c) s.queries
+  pub carried : List Held
+  pub carried_is : CarriedInEra c past carried
+  -- the waiting questions, each with the number of its step
+  pub numbers_of : List (Waiting × ℕ)
+  pub waiting : map (λ z. z.0) numbers_of ≡ s.waiting
+  pub numbers : map (λ z. z.1) numbers_of ≡ unanswered past (concat w)
+  pub waits : Each (λ z. Waits c past z.0 z.1) numbers_of
+  pub taken : Each (λ i. i < length past) (concat w)
+  pub few : length s.waiting ≤ most_waiting c

@@ -1,0 +1,16 @@
+pub mod Values
+pub mod Names
+pub mod Messages
+pub mod History
+pub mod Pieces
+pub mod Carried
+pub mod Answers
+pub mod Queries
+pub mod Causes
+pub mod Sound
+pub mod State
+pub mod Row
+pub mod Explains
+pub mod Runs
+pub mod Texts
+pub mod Next

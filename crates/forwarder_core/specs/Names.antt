@@ -1,0 +1,28 @@
+-- Names, questions and peers, compared as the forwarder compares them.
+use Rattle.std.specs.Prelude.{ℕ, Bool, true, false, ◌==◌, ◌&&◌, List, [], ◌∷◌, Option}
+use Rattle.dns_name.specs.Labels.{same}
+use Rattle.dns_message.specs.Values.{Question}
+use Rattle.suffix_routes.specs.declared.peer.Peer.{Peer}
+use Rattle.suffix_routes.specs.Values.{Config}
+use Rattle.suffix_routes.specs.Routes.{route_of as route_among}
+
+abbrev pub same_octets : List ℕ → List ℕ → Bool
+same_octets [] [] = true
+same_octets [] (y ∷ ys) = false
+same_octets (x ∷ xs) [] = false
+same_octets (x ∷ xs) (y ∷ ys) = (x == y) && same_octets xs ys
+
+-- equal labels, letter case aside (RFC 1035 2.3.3, RFC 4343)
+abbrev pub same_name : List (List ℕ) → List (List ℕ) → Bool
+same_name a b = same a b
+
+-- one name, type and class
+abbrev pub same_question : Question → Question → Bool
+same_question a b = same_name a.name b.name && (a.kind == b.kind) && (a.class == b.class)
+
+abbrev pub same_peer : Peer → Peer → Bool
+same_peer a b = same_octets a.ip b.ip && (a.port == b.port)
+
+-- the place of the route that a name is on: that of the configured suffix with the most labels which the name is under
+abbrev pub route_of : Config → List (List ℕ) → Option ℕ
+route_of config name = route_among config.routes name

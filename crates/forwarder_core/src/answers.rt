@@ -1,0 +1,283 @@
+//! The texts of replies and of queries.
+
+ghost use Rattle.std.specs.Prelude.{◌≡◌, ◌<◌, ◌≤◌, ◌∷◌, [], true, false, IfOk, if◌then◌else◌, nat_le, length};
+ghost use Rattle.dns_message.specs.Writing.{written};
+ghost use Rattle.dns_message.specs.Writing.{written_within};
+ghost use Rattle.dns_message.specs.Reading.{Gives};
+ghost use Rattle.forwarder_core.specs.Values.{action_of};
+ghost use Rattle.forwarder_core.specs.Queries.{query_message};
+ghost use Rattle.forwarder_core.specs.Sound.{error_response, rcode_of_why};
+ghost use Rattle.forwarder_core.specs.Row.{failed, gives_up, answered_over, asks_by};
+ghost use Rattle.forwarder_core.specs.Texts.{fresh_records, fresh_answer, cut_answer};
+
+use crate::sets::RecordSet;
+use crate::state::{OpenQuery, Waiting};
+use crate::values::{Action, Client, Path, Why};
+use dns_message::{Fault, Header, Message, Question, Record, write};
+use plain_list::{Octets, PlainList};
+use std::alloc::{AllocError, Allocator};
+
+/// The most octets that UDP carries (RFC 1035 4.2.1).
+const UDP_LIMIT: usize = 512;
+
+/// The most octets that TCP carries (RFC 1035 4.2.2).
+const TCP_LIMIT: usize = 65_535;
+
+/// The response code of a reply (RFC 1035 4.1.1).
+fn rcode_of(why: Why) -> u8
+    ensures code { result ≡ rcode_of_why why }
+    ensures small { result < 16 }
+{
+    match why {
+        Why::Answered => 0,
+        Why::BadFormat => 1,
+        Why::BadOpcode | Why::NotServed => 4,
+        Why::NoRoute => 5,
+        Why::QuestionsFull
+        | Why::InquiriesFull
+        | Why::NoPort
+        | Why::Exhausted
+        | Why::Deadline
+        | Why::ChainLong
+        | Why::TooLarge => 2,
+    }
+}
+
+/// The header of a reply to a request. Its counts are those of what is written under it.
+fn reply_header(request: &Header, cut: bool, rcode: u8) -> Header
+    ensures { result ≡ record { id = request.now.id; qr = true; opcode = request.now.opcode; aa = false; tc = cut; rd = request.now.rd; ra = true; z = 0; rcode = rcode; counts = 0 ∷ 0 ∷ 0 ∷ 0 ∷ [] } }
+{
+    Header {
+        id: request.id,
+        qr: true,
+        opcode: request.opcode,
+        aa: false,
+        tc: cut,
+        rd: request.rd,
+        ra: true,
+        z: 0,
+        rcode,
+        counts: [0; 4],
+    }
+}
+
+/// The text of a message, where it has at most `limit` octets.
+fn message_text<A: Allocator + Copy>(
+    alloc: A,
+    header: Header,
+    questions: PlainList<Question<A>, A>,
+    answers: PlainList<Record<A>, A>,
+    limit: usize,
+) -> Result<Octets<A>, Fault>
+    requires limit { limit ≤ 65535 }
+    requires opcode { header.opcode < 16 }
+    requires z { header.z < 8 }
+    requires rcode { header.rcode < 16 }
+    ensures { Gives (λ text. text) result (written_within limit (record { header = header; questions = questions; answers = answers; authority = []; additional = [] })) }
+{
+    let message = Message {
+        header,
+        questions,
+        answers,
+        authority: PlainList::new(alloc),
+        additional: PlainList::new(alloc),
+    };
+    write(alloc, &message, limit)
+}
+
+/// The question, copied into a list of one.
+fn one_question<A: Allocator + Copy>(
+    alloc: A,
+    question: &Question<A>,
+) -> Result<PlainList<Question<A>, A>, AllocError>
+    ensures { IfOk result (λ questions. questions ≡ question.now ∷ []) }
+{
+    let mut questions = PlainList::new(alloc);
+    let own = question.copy(alloc)?;
+    questions.push(own)?;
+    Ok(questions)
+}
+
+/// The records of a set that came at this moment.
+fn fresh_records<A: Allocator + Copy>(
+    alloc: A,
+    set: &RecordSet<A>,
+) -> Result<PlainList<Record<A>, A>, AllocError>
+    ensures { IfOk result (λ records. records ≡ fresh_records set.now) }
+{
+    let mut records = PlainList::new(alloc);
+    for row in set.rdata.as_slice() {
+        records.push(Record {
+            owner: set.owner.copy(alloc)?,
+            kind: set.kind,
+            class: set.class,
+            ttl: set.lifetime,
+            rdata: row.copy(alloc)?,
+        })?;
+    }
+    Ok(records)
+}
+
+/// The text of an error response, with these questions.
+pub(crate) fn error_text<A: Allocator + Copy>(
+    alloc: A,
+    request: &Header,
+    why: Why,
+    questions: PlainList<Question<A>, A>,
+) -> Result<Octets<A>, AllocError>
+    requires { request.now.opcode < 16 }
+    ensures { IfOk result (λ text. text ≡ written (error_response request.now why questions)) }
+{
+    let header = reply_header(request, false, rcode_of(why));
+    match message_text(alloc, header, questions, PlainList::new(alloc), TCP_LIMIT) {
+        Ok(text) => Ok(text),
+        Err(_) => Err(AllocError),
+    }
+}
+
+/// The reply to a question that fails, with the question as it came.
+pub(crate) fn failure<A: Allocator + Copy>(
+    alloc: A,
+    waiting: &Waiting<A>,
+    why: Why,
+) -> Result<Action<A>, AllocError>
+    ensures { IfOk result (λ action. action_of action ≡ gives_up why waiting.now) }
+{
+    let header = waiting.header;
+    let questions = one_question(alloc, &waiting.question)?;
+    let bytes = error_text(alloc, &header, why, questions)?;
+    Ok(Action::Reply {
+        client: waiting.client,
+        bytes,
+        why,
+    })
+}
+
+/// The reply to a message whose question was not taken, without a question.
+pub(crate) fn refusal<A: Allocator + Copy>(
+    alloc: A,
+    client: Client,
+    request: &Header,
+    why: Why,
+) -> Result<Action<A>, AllocError>
+    requires { request.now.opcode < 16 }
+    ensures { IfOk result (λ action. action_of action ≡ failed client request.now why []) }
+{
+    let bytes = error_text(alloc, request, why, PlainList::new(alloc))?;
+    Ok(Action::Reply { client, bytes, why })
+}
+
+/// The answer with a set that came at this moment, where it has at most `limit` octets.
+fn fresh_text<A: Allocator + Copy>(
+    alloc: A,
+    waiting: &Waiting<A>,
+    set: &RecordSet<A>,
+    limit: usize,
+) -> Result<Octets<A>, Fault>
+    requires { limit ≤ 65535 }
+    ensures { Gives (λ text. text) result (written_within limit (fresh_answer waiting.now set.now)) }
+{
+    let questions = one_question(alloc, &waiting.question)?;
+    let records = fresh_records(alloc, set)?;
+    let header = reply_header(&waiting.header, false, 0);
+    message_text(alloc, header, questions, records, limit)
+}
+
+/// The question alone, with TC.
+fn cut_text<A: Allocator + Copy>(alloc: A, waiting: &Waiting<A>) -> Result<Octets<A>, AllocError>
+    ensures { IfOk result (λ text. text ≡ written (cut_answer waiting.now)) }
+{
+    let questions = one_question(alloc, &waiting.question)?;
+    let header = reply_header(&waiting.header, true, 0);
+    match message_text(alloc, header, questions, PlainList::new(alloc), TCP_LIMIT) {
+        Ok(text) => Ok(text),
+        Err(_) => Err(AllocError),
+    }
+}
+
+/// The answer over UDP: what passes 512 octets is cut (RFC 1035 4.2.1).
+fn text_for_udp<A: Allocator + Copy>(
+    alloc: A,
+    waiting: &Waiting<A>,
+    set: &RecordSet<A>,
+) -> Result<Octets<A>, AllocError>
+    ensures { IfOk result (λ text. text ≡ (if nat_le (length (written (fresh_answer waiting.now set.now))) 512 then written (fresh_answer waiting.now set.now) else written (cut_answer waiting.now))) }
+{
+    match fresh_text(alloc, waiting, set, UDP_LIMIT) {
+        Ok(text) => Ok(text),
+        Err(Fault::TooLarge) => cut_text(alloc, waiting),
+        Err(_) => Err(AllocError),
+    }
+}
+
+/// The reply with a set that came at this moment: over TCP what passes 65,535 octets is a failure.
+pub(crate) fn answer<A: Allocator + Copy>(
+    alloc: A,
+    waiting: &Waiting<A>,
+    set: &RecordSet<A>,
+) -> Result<Action<A>, AllocError>
+    ensures { IfOk result (λ action. action_of action ≡ answered_over waiting.now.client waiting.now (written (fresh_answer waiting.now set.now)) (written (cut_answer waiting.now))) }
+{
+    match waiting.client {
+        Client::Udp(_) => Ok(Action::Reply {
+            client: waiting.client,
+            bytes: text_for_udp(alloc, waiting, set)?,
+            why: Why::Answered,
+        }),
+        Client::Tcp(_) => match fresh_text(alloc, waiting, set, TCP_LIMIT) {
+            Ok(bytes) => Ok(Action::Reply {
+                client: waiting.client,
+                bytes,
+                why: Why::Answered,
+            }),
+            Err(Fault::TooLarge) => failure(alloc, waiting, Why::TooLarge),
+            Err(_) => Err(AllocError),
+        },
+    }
+}
+
+/// The text of a query: RD alone, and one question (RFC 1035 4.1.1).
+fn query_text<A: Allocator + Copy>(alloc: A, query: &OpenQuery<A>) -> Result<Octets<A>, AllocError>
+    ensures { IfOk result (λ text. text ≡ written (query_message query.now.id query.now.question)) }
+{
+    let header = Header {
+        id: query.id,
+        qr: false,
+        opcode: 0,
+        aa: false,
+        tc: false,
+        rd: true,
+        ra: false,
+        z: 0,
+        rcode: 0,
+        counts: [1, 0, 0, 0],
+    };
+    let questions = one_question(alloc, &query.question)?;
+    match message_text(alloc, header, questions, PlainList::new(alloc), TCP_LIMIT) {
+        Ok(text) => Ok(text),
+        Err(_) => Err(AllocError),
+    }
+}
+
+/// The action that sends a query.
+pub(crate) fn ask<A: Allocator + Copy>(
+    alloc: A,
+    query: &OpenQuery<A>,
+) -> Result<Action<A>, AllocError>
+    ensures { IfOk result (λ action. action_of action ≡ asks_by query.now.path query.now) }
+{
+    let bytes = query_text(alloc, query)?;
+    let server = query.server;
+    match query.path {
+        Path::Udp(port) => Ok(Action::AskUdp {
+            port,
+            server,
+            bytes,
+        }),
+        Path::Tcp(conn) => Ok(Action::AskTcp {
+            conn,
+            server,
+            bytes,
+        }),
+    }
+}
