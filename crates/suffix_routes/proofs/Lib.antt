@@ -1,3 +1,4 @@
 pub mod RouteLaws
 pub mod ReadLaws
 pub mod ReadRoutes
+pub mod PeerLaws

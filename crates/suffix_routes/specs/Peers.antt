@@ -1,5 +1,5 @@
 -- A peer in text.
-use Rattle.std.specs.Prelude.{ℕ, ◌+◌, ◌-◌, ◌*◌, Bool, not, ◌&&◌, ◌==◌, nat_lt, nat_le, if◌then◌else◌, List, [], ◌∷◌, length, take, drop, slice_index, fold, position, option_map, Option, Some, None}
+use Rattle.std.specs.Prelude.{◌≡◌, ◌++◌, ℕ, ◌+◌, ◌-◌, ◌*◌, Bool, not, ◌&&◌, ◌==◌, nat_lt, nat_le, if◌then◌else◌, List, [], ◌∷◌, length, take, drop, slice_index, fold, position, option_map, Option, Some, None}
 use Rattle.std.specs.List.{list_all}
 use Rattle.std.specs.Char.{is_ascii_digit}
 use Rattle.suffix_routes.specs.declared.peer.Peer.{Peer}
@@ -42,3 +42,23 @@ peer_of text =
     number_in 0 255 fourth.0 >>? λ d.
     number_in 1 65535 fourth.1 >>? λ port.
     Some (record { ip = a ∷ b ∷ c ∷ d ∷ []; port = port })
+
+-- The same in the parts of a text: this text writes this peer.
+pub record Writes (text : List ℕ) (peer : Peer) : Type 0 where
+  pub first : List ℕ
+  pub second : List ℕ
+  pub third : List ℕ
+  pub fourth : List ℕ
+  pub last : List ℕ
+  pub parts : text ≡ first ++ (46 ∷ (second ++ (46 ∷ (third ++ (46 ∷ (fourth ++ (58 ∷ last)))))))
+  pub a : ℕ
+  pub b : ℕ
+  pub c : ℕ
+  pub d : ℕ
+  pub port : ℕ
+  pub is_a : number_in 0 255 first ≡ Some a
+  pub is_b : number_in 0 255 second ≡ Some b
+  pub is_c : number_in 0 255 third ≡ Some c
+  pub is_d : number_in 0 255 fourth ≡ Some d
+  pub is_port : number_in 1 65535 last ≡ Some port
+  pub is_peer : peer ≡ record { ip = a ∷ b ∷ c ∷ d ∷ []; port = port }

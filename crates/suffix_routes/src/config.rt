@@ -58,7 +58,7 @@ impl<A: Allocator> Config<A> {
         ensures longest { IsAnswer self.now.routes key.now result }
         ensures computed { result ≡ route_of self.now.routes key.now }
     {
-        longest(self.routes.as_slice(), key)
+        longest(self.routes(), key)
     }
 }
 
@@ -87,7 +87,7 @@ impl<A: Allocator + Copy> Config<A> {
         Ok(Config {
             listen: self.listen,
             limits: self.limits,
-            routes: copies(alloc, self.routes.as_slice())?,
+            routes: copies(alloc, self.routes())?,
         })
     }
 }

@@ -1,9 +1,9 @@
 //! Peers: servers and clients by their address.
 
-ghost use Rattle.std.specs.Prelude.{◌≡◌, ◌≤◌, ◌==◌, true, IfSome, option_map, position};
+ghost use Rattle.std.specs.Prelude.{◌≡◌, ◌≤◌, ◌==◌, true, IfSome, MatchOption, option_map, position};
 ghost use Rattle.std.specs.Char.{is_ascii_digit};
 ghost use Rattle.std.specs.List.{list_all};
-ghost use Rattle.suffix_routes.specs.Peers.{cut, is_decimal, decimal_value, up_to, number_in, peer_of};
+ghost use Rattle.suffix_routes.specs.Peers.{cut, is_decimal, decimal_value, up_to, number_in, peer_of, Writes};
 
 use std::fmt;
 
@@ -19,18 +19,27 @@ pub struct Peer {
 impl Peer {
     /// The peer that a text writes: four decimal numbers from 0 to 255 with dots between, a colon, and a port from 1 to
     /// 65535, where no number has a leading zero but `0` itself. `None` for any other text. It takes no memory.
-    #[tactic(auto, unfolding(crate::specs::Peers::peer_of))]
+    #[tactic(auto, using(crate::proofs::PeerLaws::told_peer))]
     pub fn from_text(text: &str) -> Option<Peer>
-        ensures { result ≡ peer_of text.now }
+        ensures exact { MatchOption result ((peer : Peer) → Writes text.now peer → ⊥) (λ peer. Writes text.now peer) }
+        ensures computed { result ≡ peer_of text.now }
     {
-        let (first, rest) = cut(text.as_bytes(), b'.')?;
-        let (second, rest) = cut(rest, b'.')?;
-        let (third, rest) = cut(rest, b'.')?;
-        let (fourth, port) = cut(rest, b':')?;
-        let ip = [octet(first)?, octet(second)?, octet(third)?, octet(fourth)?];
-        let port = number(port, 1, 65_535)? as u16;
-        Some(Peer { ip, port })
+        read_peer(text.as_bytes())
     }
+}
+
+/// The peer that the text writes.
+#[tactic(auto, unfolding(crate::specs::Peers::peer_of))]
+fn read_peer(text: &[u8]) -> Option<Peer>
+    ensures { result ≡ peer_of text.now }
+{
+    let (first, rest) = cut(text, b'.')?;
+    let (second, rest) = cut(rest, b'.')?;
+    let (third, rest) = cut(rest, b'.')?;
+    let (fourth, port) = cut(rest, b':')?;
+    let ip = [octet(first)?, octet(second)?, octet(third)?, octet(fourth)?];
+    let port = number(port, 1, 65_535)? as u16;
+    Some(Peer { ip, port })
 }
 
 /// What stands before the first separator, and what behind it.

@@ -1,7 +1,7 @@
 //! Configurations and peers in text, and what no contract can say: that memory is found where there is some, and what
 //! a fault says to a person.
 
-use crate::{Config, ConfigFault, Limit, Peer, Place};
+use crate::{Config, ConfigFault, Limit, Limits, Peer, Place};
 use dns_name::Name;
 use refusing_allocator::Refusing;
 use std::alloc::{AllocError, Allocator, Global};
@@ -160,65 +160,80 @@ fn peers(rt: HostRuntime) -> Result<(), Fail> {
     Ok(())
 }
 
-/// The place of the route of a name.
-fn route_of(heap: Global, config: &Config, name: &str) -> Result<Option<usize>, Fail> {
+/// The place of the route of a name in the configuration of a text.
+fn route_place(heap: Global, text: &str, name: &str) -> Result<Option<usize>, Fail> {
+    let config = Config::read(heap, heap, text)?;
     let name = Name::from_text(heap, name)?;
-    let route = config.route_of(&name);
-    if route != config.route_of_key(&name.key()) {
-        return Ok(Some(99));
-    }
-    Ok(route.map(|route| route.place))
+    Ok(config.route_of(&name).map(|route| route.place))
+}
+
+/// The same in a copy, by the key of the name.
+fn route_place_by_key(heap: Global, text: &str, name: &str) -> Result<Option<usize>, Fail> {
+    let config = Config::read(heap, heap, text)?;
+    let copy = config.copy(heap)?;
+    let name = Name::from_text(heap, name)?;
+    Ok(copy.route_of_key(&name.key()).map(|route| route.place))
 }
 
 #[test]
 fn the_longest_suffix_wins(rt: HostRuntime) -> Result<(), Fail> {
     let heap = rt.alloc();
-    let text = format!(in heap; "{ROOT}{CORP}")?;
-    let config = Config::read(heap, heap, text.as_str())?;
-    let copy = config.copy(heap)?;
-    for (name, wanted) in [
-        ("corp.example", 1),
-        ("h.CORP.example", 1),
-        ("notcorp.example", 0),
-        ("example", 0),
-        (".", 0),
+    let both = format!(in heap; "{ROOT}{CORP}")?;
+    let one = format!(in heap; "version = 1\n{CORP}")?;
+    for (text, name, wanted) in [
+        (both.as_str(), "corp.example", Some(1)),
+        (both.as_str(), "h.CORP.example", Some(1)),
+        (both.as_str(), "notcorp.example", Some(0)),
+        (both.as_str(), ".", Some(0)),
+        (one.as_str(), "h.corp.example", Some(0)),
+        (one.as_str(), "example", None),
     ] {
-        assert_eq!(rt; route_of(heap, &config, name)?, Some(wanted), "of {name}");
-        assert_eq!(rt; route_of(heap, &copy, name)?, Some(wanted), "of {name}");
+        assert_eq!(rt; route_place(heap, text, name)?, wanted, "of {name}");
+        assert_eq!(rt; route_place_by_key(heap, text, name)?, wanted, "of {name}");
     }
-    let text = format!(in heap; "version = 1\n{CORP}")?;
-    let config = Config::read(heap, heap, text.as_str())?;
-    assert_eq!(rt; route_of(heap, &config, "h.corp.example")?, Some(0));
-    assert_eq!(rt; route_of(heap, &config, "example")?, None);
     Ok(())
+}
+
+/// Where the configuration of a text listens, and its limits.
+fn listen_and_limits(heap: Global, text: &str) -> Result<(Peer, Limits), ConfigFault> {
+    let config = Config::read(heap, heap, text)?;
+    Ok((config.listen, config.limits))
+}
+
+/// The first server of the last route.
+fn last_server(heap: Global, text: &str) -> Result<Option<Peer>, ConfigFault> {
+    let config = Config::read(heap, heap, text)?;
+    Ok(match config.routes().last() {
+        Some(route) => route.servers.as_slice().first().copied(),
+        None => None,
+    })
 }
 
 #[test]
 fn what_is_read(rt: HostRuntime) -> Result<(), Fail> {
     let heap = rt.alloc();
-    let config = Config::read(heap, heap, ROOT)?;
-    assert_eq!(rt; Some(config.listen), Peer::from_text("127.0.0.1:53"));
-    assert_eq!(rt; config.limits.questions, 1024);
-    assert_eq!(rt; config.limits.inquiries, 256);
-    assert_eq!(rt; config.limits.cache, 4096);
-    assert_eq!(rt; config.limits.tries, 4);
-    assert_eq!(rt; config.limits.ask_ms, 1500);
-    assert_eq!(rt; config.limits.deadline_ms, 8000);
+    let (listen, limits) = listen_and_limits(heap, ROOT)?;
+    assert_eq!(rt; Some(listen), Peer::from_text("127.0.0.1:53"));
+    let defaults = Limits {
+        questions: 1024,
+        inquiries: 256,
+        cache: 4096,
+        tries: 4,
+        ask_ms: 1500,
+        deadline_ms: 8000,
+    };
+    assert_eq!(rt; limits, defaults);
     let text = format!(in heap;
         "listen = \"192.0.2.7:5353\"\n{ROOT}{CORP}[limits]\ntries = 2\nask_ms = 100\n"
     )?;
-    let config = Config::read(heap, heap, text.as_str())?;
-    assert_eq!(rt; Some(config.listen), Peer::from_text("192.0.2.7:5353"));
-    assert_eq!(rt; config.limits.tries, 2);
-    assert_eq!(rt; config.limits.ask_ms, 100);
-    assert_eq!(rt; config.limits.deadline_ms, 8000);
-    let routes = config.routes();
-    assert_eq!(rt; routes.len(), 2);
-    let (root, corp) = (&routes[0], &routes[1]);
-    assert_eq!(rt; root.suffix.octets(), b"".as_slice());
-    assert_eq!(rt; corp.suffix.octets(), b"\x04corp\x07example".as_slice());
+    let (listen, limits) = listen_and_limits(heap, text.as_str())?;
+    assert_eq!(rt; Some(listen), Peer::from_text("192.0.2.7:5353"));
     assert_eq!(rt;
-        corp.servers.as_slice().first().copied(),
+        (limits.tries, limits.ask_ms, limits.deadline_ms),
+        (2, 100, 8000)
+    );
+    assert_eq!(rt;
+        last_server(heap, text.as_str())?,
         Peer::from_text("192.0.2.9:53")
     );
     Ok(())

@@ -2,4 +2,5 @@ use Rattle.suffix_routes.proofs.RouteLaws.{computed}
 use Rattle.suffix_routes.proofs.config.Config.route_of_key.Goals as goal
 
 pub returns-clause-computed : goal.returns-clause-computed
-returns-clause-computed g c = rw (← c.self.view_is) (computed c.self.inside.routes c.args.key.now c.longest.result c.self.invariant.differ (rw c.as_slice.ensures at c.longest.ensures))
+returns-clause-computed g c =
+    computed c.args.self.now.routes c.args.key.now c.longest.result c.routes.ensures.accepted.differ (rw c.routes.ensures.routes at c.longest.ensures)
