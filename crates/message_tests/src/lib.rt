@@ -1,0 +1,15 @@
+//! Tests of messages from outside: octets of worked replies, faults in order, refused growths, and sweeps over right, cut
+//! and changed messages, in which the judging without memory agrees with the reading, and what is read is written and
+//! read again.
+#![tactic(auto)]
+
+#[cfg(test)]
+mod messages;
+#[cfg(test)]
+mod reading_tests;
+#[cfg(test)]
+mod shapes;
+#[cfg(test)]
+mod sweeps;
+#[cfg(test)]
+mod writing_tests;

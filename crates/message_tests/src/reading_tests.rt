@@ -1,0 +1,246 @@
+//! Messages that are read, their faults, and each growth refused in turn.
+
+use dns_message::{Fault, Header, Message, MessageRef, Question, Rdata, Span};
+use refusing_allocator::Refusing;
+use std::alloc::{Allocator, Global};
+use std::test::Fail;
+
+/// A reply: a.example, A, IN has the address 198.51.100.5 for 300 seconds.
+const REPLY: &str =
+    "0008850000010001000000000161076578616d706c650000010001c00c000100010000012c0004c6336405";
+
+/// Octets that are no message, and the first fault from the front.
+const FAULTS: [(&str, Fault); 12] = [
+    ("0008850000010001000000", Fault::Short),
+    (
+        "000885000000000100000000c00c000100010000012c0004c6336405",
+        Fault::NoQuestion,
+    ),
+    // A question's name that points to itself.
+    ("000885000001000000000000c00c00010001", Fault::Pointer),
+    // An owner that points to itself, and one that points behind itself.
+    (
+        "0008850000010001000000000161076578616d706c650000010001c01b000100010000012c0004c6336405",
+        Fault::Pointer,
+    ),
+    (
+        "0008850000010001000000000161076578616d706c650000010001c01d000100010000012c0004c6336405",
+        Fault::Pointer,
+    ),
+    (
+        "0008850000010001000000000161076578616d706c6500000100014061000100010000012c0004c6336405",
+        Fault::LabelForm,
+    ),
+    // Aliases: an octet left over, an octet too few, twice, an octet that is not there, a pointer to itself.
+    (
+        "0008850000010001000000000161076578616d706c650000010001c00c000500010000003c0003c00c00",
+        Fault::Rdata,
+    ),
+    (
+        "0008850000010001000000000161076578616d706c650000010001c00c000500010000003c0001c00c",
+        Fault::Rdata,
+    ),
+    (
+        "0008850000010001000000000161076578616d706c650000010001c00c000500010000003c0001c0",
+        Fault::Rdata,
+    ),
+    (
+        "0008850000010001000000000161076578616d706c650000010001c00c000500010000003c0002c0",
+        Fault::Short,
+    ),
+    (
+        "0008850000010001000000000161076578616d706c650000010001c00c000500010000003c0002c027",
+        Fault::Pointer,
+    ),
+    // More answers are counted than there are.
+    (
+        "000885000001ffff000000000161076578616d706c650000010001c00c000100010000012c0004c6336405",
+        Fault::Short,
+    ),
+];
+
+/// A service at a.example, its target as a pointer and written out.
+const SERVICES: [&str; 2] = [
+    "0008850000010001000000000161076578616d706c650000010001c00c002100010000012c0008000000000035c00c",
+    "0008850000010001000000000161076578616d706c650000010001c00c002100010000012c00110000000000350161076578616d706c6500",
+];
+
+fn decoded(alloc: Global, digits: &str) -> Result<Vec<u8>, Fail> {
+    Ok(hex::decode(alloc, digits)?)
+}
+
+#[test]
+fn a_header_is_read(rt: HostRuntime) -> Result<(), Fail> {
+    let octets = decoded(rt.alloc(), REPLY)?;
+    let expected = Header {
+        id: 8,
+        qr: true,
+        opcode: 0,
+        aa: true,
+        tc: false,
+        rd: true,
+        ra: false,
+        z: 0,
+        rcode: 0,
+        counts: [1, 1, 0, 0],
+    };
+    assert_eq!(rt; Header::read(&octets), Some(expected));
+    assert_eq!(rt; Header::read(b"elevenoctet".as_slice()), None);
+    Ok(())
+}
+
+#[test]
+fn the_first_question_is_read(rt: HostRuntime) -> Result<(), Fail> {
+    let octets = decoded(rt.alloc(), REPLY)?;
+    let view = MessageRef::view(&octets)?;
+    let question = view.question(rt.alloc())?;
+    assert!(rt; question.name.octets() == b"\x01a\x07example".as_slice());
+    assert_eq!(rt; (question.kind, question.class), (1, 1));
+    assert!(rt; view.question_is(&question));
+    let of_another_class = Question {
+        name: question.name,
+        kind: 1,
+        class: 3,
+    };
+    assert!(rt; !view.question_is(&of_another_class));
+    Ok(())
+}
+
+#[test]
+fn the_spans_of_the_records_are_told(rt: HostRuntime) -> Result<(), Fail> {
+    let octets = decoded(rt.alloc(), REPLY)?;
+    let view = MessageRef::view(&octets)?;
+    let span = Span {
+        start: 27,
+        end: 43,
+        section: 0,
+    };
+    let mut records = view.records();
+    assert_eq!(rt; records.next(), Some(span));
+    assert_eq!(rt; records.next(), None);
+    Ok(())
+}
+
+/// The answers are one record of a.example with this type, for 300 seconds, and with this data.
+fn has_answer<A: Allocator>(message: &Message<A>, kind: u16, octets: &[u8]) -> bool {
+    let [record] = message.answers.as_slice() else {
+        return false;
+    };
+    record.owner.octets() == b"\x01a\x07example".as_slice()
+        && record.kind == kind
+        && record.class == 1
+        && record.ttl == 300
+        && record.rdata.octets() == octets
+}
+
+#[test]
+fn a_whole_message_is_read(rt: HostRuntime) -> Result<(), Fail> {
+    let octets = decoded(rt.alloc(), REPLY)?;
+    let view = MessageRef::view(&octets)?;
+    assert!(rt; view.is_whole());
+    let message = view.read_whole(rt.alloc())?;
+    assert!(rt; has_answer(&message, 1, b"\xc63d\x05".as_slice()));
+    Ok(())
+}
+
+#[test]
+fn two_spellings_are_one_message(rt: HostRuntime) -> Result<(), Fail> {
+    for digits in &SERVICES {
+        let octets = decoded(rt.alloc(), digits)?;
+        let message = MessageRef::view(&octets)?.read_whole(rt.alloc())?;
+        assert!(rt;
+            has_answer(
+                &message,
+                33,
+                b"\x00\x00\x00\x00\x005\x01a\x07example\x00".as_slice()
+            ),
+            "{digits}"
+        );
+    }
+    Ok(())
+}
+
+/// What `view`, and then `read_whole`, refuses octets with.
+fn fault_of(alloc: Global, octets: &[u8]) -> Option<Fault> {
+    match MessageRef::view(octets) {
+        Err(fault) => Some(fault),
+        Ok(view) => view.read_whole(alloc).err(),
+    }
+}
+
+#[test]
+fn the_first_fault_is_told(rt: HostRuntime) -> Result<(), Fail> {
+    for (digits, fault) in &FAULTS {
+        let octets = decoded(rt.alloc(), digits)?;
+        assert_eq!(rt; fault_of(rt.alloc(), &octets), Some(*fault), "{digits}");
+    }
+    Ok(())
+}
+
+/// A message whose question has 127 labels of one octet, and an address with this owner.
+fn under_127_labels(alloc: Global, owner: &[u8]) -> Result<Vec<u8>, Fail> {
+    let mut octets = decoded(alloc, "000885000001000100000000")?;
+    for _ in 0..127u8 {
+        octets.extend_from_slice(b"\x01a".as_slice())?;
+    }
+    octets.extend_from_slice(b"\x00\x00\x01\x00\x01".as_slice())?;
+    octets.extend_from_slice(owner)?;
+    octets.extend_from_slice(b"\x00\x01\x00\x01\x00\x00\x01\x2c\x00\x04\xc63d\x05".as_slice())?;
+    Ok(octets)
+}
+
+#[test]
+fn a_name_has_at_most_255_octets(rt: HostRuntime) -> Result<(), Fail> {
+    let octets = under_127_labels(rt.alloc(), b"\x01a\xc0\x0c".as_slice())?;
+    assert_eq!(rt; fault_of(rt.alloc(), &octets), Some(Fault::NameLong));
+    let octets = under_127_labels(rt.alloc(), b"\x01a\xc0\x0e".as_slice())?;
+    let message = MessageRef::view(&octets)?.read_whole(rt.alloc())?;
+    for record in message.answers.as_slice() {
+        assert_eq!(rt; record.owner.labels().count(), 127);
+    }
+    Ok(())
+}
+
+#[test]
+fn data_is_a_name_or_none(rt: HostRuntime) -> Result<(), Fail> {
+    let data = Rdata::new(decoded(rt.alloc(), "0161076578616d706c6500")?);
+    let name = data.name(rt.alloc())?.ok_or("a name")?;
+    assert!(rt; name.octets() == b"\x01a\x07example".as_slice());
+    let address = Rdata::new(decoded(rt.alloc(), "c6336405")?);
+    assert!(rt; address.name(rt.alloc())?.is_none());
+    Ok(())
+}
+
+/// Every call that takes memory, over this message. `Err` where a growth was refused.
+fn every_call<A: Allocator + Copy>(alloc: A, octets: &[u8]) -> Result<(), Fault> {
+    let view = MessageRef::view(octets)?;
+    let question = view.question(alloc)?;
+    question.copy(alloc)?;
+    let message = view.read_whole(alloc)?;
+    for record in message.answers.as_slice() {
+        let copy = record.copy(alloc)?;
+        let data = copy.rdata.copy(alloc)?;
+        data.name(alloc)?;
+    }
+    Ok(())
+}
+
+#[test]
+fn each_refused_growth_is_want_of_memory(rt: HostRuntime) -> Result<(), Fail> {
+    let octets = decoded(
+        rt.alloc(),
+        "0008850000010001000000000161076578616d706c650000010001c00c000500010000003c00040162c00e",
+    )?;
+    let heap = Refusing::new(rt.alloc());
+    let mut refused = 0u64;
+    for count in 0..64u64 {
+        heap.allow(count);
+        match every_call(&heap, &octets) {
+            Ok(()) => break,
+            Err(fault) => assert_eq!(rt; fault, Fault::Memory, "after {count} growths"),
+        }
+        refused = count + 1;
+    }
+    assert_eq!(rt; refused, 16, "growths in all");
+    Ok(())
+}

@@ -1,0 +1,103 @@
+//! Many messages, right ones, cut ones and changed ones.
+
+use crate::messages::MESSAGES;
+use crate::shapes::SHAPES;
+use dns_message::{Fault, MessageRef, write};
+use plain_list::Octets;
+use rand_core::utils::NextWord;
+use rand_pcg::Pcg32;
+use std::alloc::{AllocError, Global};
+use std::test::Fail;
+
+/// How many changed messages are tried.
+const CHANGED: u32 = 20_000;
+
+/// Octets that mean something in a message: root, lengths, pointers, types.
+const TELLING: [u8; 12] = [0, 1, 2, 5, 6, 12, 14, 33, 63, 64, 192, 255];
+
+fn octets_of(alloc: Global, digits: &str) -> Result<Vec<u8>, Fail> {
+    Ok(hex::decode(alloc, digits)?)
+}
+
+/// Whether judging the octets without memory says the same as reading them whole.
+fn judging_agrees(alloc: Global, octets: &[u8]) -> Result<bool, AllocError> {
+    let Ok(view) = MessageRef::view(octets) else {
+        return Ok(true);
+    };
+    match view.read_whole(alloc) {
+        Ok(_) => Ok(view.is_whole()),
+        Err(Fault::Memory) => Err(AllocError),
+        Err(_) => Ok(!view.is_whole()),
+    }
+}
+
+/// The text that is written of the message that these octets spell.
+fn rewritten(alloc: Global, octets: &[u8]) -> Result<Octets<Global>, Fault> {
+    let message = MessageRef::view(octets)?.read_whole(alloc)?;
+    write(alloc, &message, 65535)
+}
+
+#[test]
+fn every_prefix_is_judged_as_it_is_read(rt: HostRuntime) -> Result<(), Fail> {
+    for digits in MESSAGES.iter().chain(SHAPES.iter()) {
+        let octets = octets_of(rt.alloc(), digits)?;
+        for end in 0..octets.len() {
+            assert!(rt;
+                judging_agrees(rt.alloc(), &octets[..end])?,
+                "{digits} cut to {end}"
+            );
+        }
+        assert!(rt; judging_agrees(rt.alloc(), &octets)?, "{digits}");
+    }
+    Ok(())
+}
+
+#[test]
+fn messages_with_every_shape_are_whole(rt: HostRuntime) -> Result<(), Fail> {
+    for digits in &SHAPES {
+        let octets = octets_of(rt.alloc(), digits)?;
+        let view = MessageRef::view(&octets)?;
+        assert!(rt; view.is_whole(), "{digits}");
+        let written = rewritten(rt.alloc(), &octets)?;
+        let again = rewritten(rt.alloc(), written.as_slice())?;
+        assert!(rt; again.as_slice() == written.as_slice(), "{digits}");
+    }
+    Ok(())
+}
+
+#[test]
+fn changed_messages_are_read_and_written_again(rt: HostRuntime) -> Result<(), Fail> {
+    let mut words = Pcg32::new(42, 54);
+    let mut whole = 0u32;
+    for turn in 0..CHANGED {
+        let at = turn as usize % (MESSAGES.len() + SHAPES.len());
+        let digits = match MESSAGES.get(at) {
+            Some(digits) => digits,
+            None => SHAPES[at - MESSAGES.len()],
+        };
+        let mut octets = octets_of(rt.alloc(), digits)?;
+        for _ in 0..=turn % 3 {
+            let place = words.next_word() as usize % (octets.len() + 1);
+            let choice = words.next_word() as usize;
+            if let Some(octet) = octets.get_mut(place) {
+                *octet = match TELLING.get(choice % 24) {
+                    Some(telling) => *telling,
+                    None => (choice / 24 % 256) as u8,
+                };
+            }
+        }
+        assert!(rt; judging_agrees(rt.alloc(), &octets)?, "turn {turn}");
+        if let Ok(view) = MessageRef::view(&octets)
+            && view.is_whole()
+        {
+            whole = whole.saturating_add(1);
+            let written = rewritten(rt.alloc(), &octets)?;
+            let again = rewritten(rt.alloc(), written.as_slice())?;
+            assert!(rt; again.as_slice() == written.as_slice(), "turn {turn}");
+        }
+    }
+    // Both outcomes were met often.
+    assert!(rt; whole > CHANGED / 4);
+    assert!(rt; whole < CHANGED);
+    Ok(())
+}
