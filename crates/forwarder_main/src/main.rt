@@ -1,0 +1,25 @@
+//! The forwarder's program: `forwarder check FILE` tells whether a configuration is accepted, and `forwarder replay`
+//! runs the events of a script and prints each action.
+#![tactic(auto)]
+
+mod actions;
+mod commands;
+mod events;
+mod fault;
+mod input;
+mod replay;
+#[cfg(test)]
+mod tests;
+
+use std::process::ExitCode;
+
+fn main(rt: HostRuntime) -> ExitCode {
+    match commands::run(&rt) {
+        Ok(()) => ExitCode::SUCCESS,
+        Err(fault) => {
+            // Where standard error fails too, the status alone tells it.
+            let _ = eprintln!(rt; "{fault}");
+            ExitCode::from(fault.status())
+        }
+    }
+}

@@ -1,0 +1,4 @@
+mod devices;
+mod refusals;
+mod replays;
+mod rows;
