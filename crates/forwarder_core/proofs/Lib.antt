@@ -11,3 +11,4 @@ pub mod Judging
 pub mod Deciding
 pub mod Theorem
 pub mod Runs
+pub mod Rows

@@ -93,7 +93,7 @@ abbrev pub lowered_by_all : Question → ℕ → List Record → ℕ
 lowered_by_all q most [] = most
 lowered_by_all q most (r ∷ records) = lowered_by_all q (lowered_by q most r) records
 
--- no set lives longer than a week (own)
+-- no set lives longer than a week; that bound is of this project
 abbrev pub longest : ℕ
 longest = 604800
 
