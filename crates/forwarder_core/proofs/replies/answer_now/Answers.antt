@@ -2,7 +2,7 @@ use Rattle.std.proofs.Common.{◌∙◌, ap, sym}
 use Rattle.std.proofs.lemmas.Result.{IfOk-weaker}
 use Rattle.forwarder_core.specs.Pieces.{Piece}
 use Rattle.forwarder_core.proofs.Messages.{answered_fresh}
-use Rattle.forwarder_core.proofs.forwarder.answer_now.Goals as goal
+use Rattle.forwarder_core.proofs.replies.answer_now.Goals as goal
 
 pub returns : goal.returns
 returns g c =

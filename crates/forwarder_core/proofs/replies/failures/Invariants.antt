@@ -3,7 +3,7 @@ use Rattle.forwarder_core.specs.declared.values.Why.TheVariants.{Exhausted}
 use Rattle.forwarder_core.specs.Values.{actions_of}
 use Rattle.forwarder_core.specs.Row.{closes, fails}
 use Rattle.forwarder_core.specs.Next.{with_replies}
-use Rattle.forwarder_core.proofs.forwarder.failures.Given as goal
+use Rattle.forwarder_core.proofs.replies.failures.Given as goal
 
 abbrev pub invariant-loop-x : goal.invariant-loop-x
 invariant-loop-x g l = with_replies (fails Exhausted l.query.question) (actions_of l.actions) (drop l.x-index l.waiting) ≡ with_replies (fails Exhausted l.query.question) (closes l.query.path ∷ []) l.waiting

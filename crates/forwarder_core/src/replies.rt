@@ -1,0 +1,115 @@
+//! The actions that end a query: its path is closed, and those that wait for it get their replies.
+
+ghost use Rattle.std.specs.Prelude.{◌≡◌, ◌∷◌, [], IfOk};
+ghost use Rattle.forwarder_core.specs.declared.values.Why.TheVariants.{Exhausted};
+ghost use Rattle.forwarder_core.specs.Values.{action_of, actions_of};
+ghost use Rattle.forwarder_core.specs.Row.{closes, answered, fails, is_given, reply_in, waits_for};
+ghost use Rattle.forwarder_core.specs.Next.{with_reply, with_replies};
+
+use crate::answers::{answer, failure};
+use crate::judge::is_same_question;
+use crate::sets::RecordSet;
+use crate::state::{OpenQuery, Waiting};
+use crate::values::{Action, Path, Why};
+use dns_message::Question;
+use plain_list::PlainList;
+use std::alloc::{AllocError, Allocator};
+
+/// The question waits for this one.
+pub(crate) fn is_waiting_for<A: Allocator>(question: &Question<A>, waiting: &Waiting<A>) -> bool
+    ensures { result ≡ waits_for question.now waiting.now }
+{
+    is_same_question(&waiting.question, question)
+}
+
+/// The action that gives a path up.
+fn close<A: Allocator>(path: Path) -> Action<A>
+    ensures { action_of result ≡ closes path }
+{
+    match path {
+        Path::Udp(port) => Action::CloseUdp { port },
+        Path::Tcp(conn) => Action::CloseTcp { conn },
+    }
+}
+
+/// Puts the failure of a question last, where it waits for this one.
+fn put_failure<A: Allocator + Copy>(
+    alloc: A,
+    actions: &mut PlainList<Action<A>, A>,
+    question: &Question<A>,
+    waiting: &Waiting<A>,
+) -> Result<(), AllocError>
+    ensures { IfOk result (λ _. actions_of actions.new ≡ with_reply (actions_of actions.old) (reply_in (fails Exhausted question.now waiting.now))) }
+{
+    if !is_waiting_for(question, waiting) {
+        return Ok(());
+    }
+    let action = failure(alloc, waiting, Why::Exhausted)?;
+    actions.push(action)
+}
+
+/// The query is closed, and each question that waits for it fails.
+pub(crate) fn failures<A: Allocator + Copy>(
+    alloc: A,
+    query: &OpenQuery<A>,
+    waiting: &[Waiting<A>],
+) -> Result<PlainList<Action<A>, A>, AllocError>
+    ensures { IfOk result (λ actions. actions_of actions ≡ with_replies (fails Exhausted query.now.question) (closes query.now.path ∷ []) waiting.now) }
+{
+    let mut actions = PlainList::new(alloc);
+    actions.push(close(query.path))?;
+    for x in waiting {
+        put_failure(alloc, &mut actions, &query.question, x)?;
+    }
+    Ok(actions)
+}
+
+/// The reply with a set that came at this moment, all of its lifetime left.
+fn answer_now<A: Allocator + Copy>(
+    alloc: A,
+    set: &RecordSet<A>,
+    now: u64,
+    waiting: &Waiting<A>,
+) -> Result<Action<A>, AllocError>
+    ensures { IfOk result (λ action. action_of action ≡ answered now (record { piece = set.now; accepted = now }) waiting.now) }
+{
+    let _now = now;
+    let _rdata = &set.rdata;
+    answer(alloc, waiting, set)
+}
+
+/// Puts the answer of a question last, where it waits for this one.
+fn put_answer<A: Allocator + Copy>(
+    alloc: A,
+    actions: &mut PlainList<Action<A>, A>,
+    question: &Question<A>,
+    set: &RecordSet<A>,
+    now: u64,
+    waiting: &Waiting<A>,
+) -> Result<(), AllocError>
+    ensures { IfOk result (λ _. actions_of actions.new ≡ with_reply (actions_of actions.old) (reply_in (is_given now (record { piece = set.now; accepted = now }) question.now waiting.now))) }
+{
+    if !is_waiting_for(question, waiting) {
+        return Ok(());
+    }
+    let action = answer_now(alloc, set, now, waiting)?;
+    actions.push(action)
+}
+
+/// The query is closed, and each question that waits for it is answered with the set that came at this moment.
+pub(crate) fn answers_to<A: Allocator + Copy>(
+    alloc: A,
+    query: &OpenQuery<A>,
+    set: &RecordSet<A>,
+    now: u64,
+    waiting: &[Waiting<A>],
+) -> Result<PlainList<Action<A>, A>, AllocError>
+    ensures { IfOk result (λ actions. actions_of actions ≡ with_replies (is_given now (record { piece = set.now; accepted = now }) query.now.question) (closes query.now.path ∷ []) waiting.now) }
+{
+    let mut actions = PlainList::new(alloc);
+    actions.push(close(query.path))?;
+    for x in waiting {
+        put_answer(alloc, &mut actions, &query.question, set, now, x)?;
+    }
+    Ok(actions)
+}
