@@ -2,7 +2,7 @@
 use Rattle.std.proofs.Common.{◌≡◌, ℕ, suc, ◌+◌, ◌<◌, ◌≤◌, List, [], ◌∷◌, ◌++◌, length, Bool, true, false, cond, refl, sym, ap, ◌∙◌, subst, inl, inr, arith}
 use Rattle.std.specs.Prelude.{filter, map, not, ◌==◌, ◌||◌}
 use Rattle.std.specs.List.{concat, cons_option}
-use Rattle.std.proofs.lemmas.List.{map-append}
+use Rattle.std.proofs.lemmas.List.{map-append, length-append}
 use Rattle.std.proofs.lemmas.Bool.{cond-true, cond-false, ne_eqb, false≢true, eq-eqb}
 use Rattle.dns_message.specs.Values.{Question}
 use Rattle.dns_message.specs.Writing.{written}
@@ -16,7 +16,6 @@ use Rattle.forwarder_core.specs.Pieces.{Held}
 use Rattle.forwarder_core.specs.History.{is_restart, moment_at, Query, queries_after, unlisted, listed, same_path, takes_question, NothingAccepted, Sends}
 use Rattle.forwarder_core.specs.Carried.{CarriedInEra}
 use Rattle.forwarder_core.specs.Queries.{query_message}
-use Rattle.forwarder_core.specs.Causes.{most_waiting}
 use Rattle.forwarder_core.specs.Sound.{among, unanswered, Owns, EachOwned, Replies, FromCache, SameAsEarlierFromCache, AsksFor, RightReply}
 use Rattle.forwarder_core.specs.State.{OpenQuery, Waiting, State}
 use Rattle.forwarder_core.specs.Row.{Fate, gets, waits, reply_in, waiting_in, replies, still_waiting, without_path, closes, asks, asks_by, start}
@@ -120,6 +119,14 @@ few_left : (fate : Waiting → Fate) (xs : List Waiting) → length (still_waiti
 few_left fate [] = omega arith
 few_left fate (x ∷ xs) = few_one (fate x) (still_waiting fate xs) (length xs) (few_left fate xs)
 
+few_kept : (v : Bool) {X : Type 0} (x : X) (xs : List X) (n : ℕ) → length xs ≤ n → length (cond v (x ∷ xs) xs) ≤ suc n
+few_kept true x xs n h = omega (arith, h)
+few_kept false x xs n h = omega (arith, h)
+
+few_filtered : {X : Type 0} (test : X → Bool) (xs : List X) → length (filter test xs) ≤ length xs
+few_filtered test [] = omega arith
+few_filtered test (x ∷ xs) = few_kept (test x) x (filter test xs) (length xs) (few_filtered test xs)
+
 Each-left : {X : Type 0} (P : X → Type 0) (test : X → Bool) (xs : List X) → Each P xs → Each P (filter test xs)
 Each-left P test [] h = tt
 Each-left P test (x ∷ xs) h = elim (test x) as (λ v. Each P (cond v (x ∷ filter test xs) (filter test xs))) [ true ↦ (h.0, Each-left P test xs h.1) | false ↦ Each-left P test xs h.1 ]
@@ -148,7 +155,8 @@ closed_explained c past w s h unkept more n a fate carried x run takes no_questi
     numbers = sym (numbers_left now past (owners ++ concat w) run takes ∙ unanswered-more past owners (concat w) ∙ ap (filter (λ i. not (among i owners))) (sym x.numbers) ∙ left_seconds fate x.numbers_of distinct);
     waits = left_each (OwnsReply c (now ∷ past)) (Waits c (now ∷ past)) fate x.numbers_of each_fated;
     taken = Each-append (λ i. i < suc (length past)) owners (concat w) (up (length past) owners (Each-owners (λ i. i < length past) fate x.numbers_of (subst (Each (λ i. i < length past)) (sym x.numbers) (are_free past (concat w)).below))) (up (length past) (concat w) x.taken);
-    few = let left = few_left fate s.waiting in let all : length s.waiting ≤ 1 = x.few in omega (arith, left, all);
+    few = let left = few_left fate s.waiting in let all = x.few in omega (arith, left, all);
+    few_queries = let left = few_filtered (λ b. not (same_path b.path a.path)) s.queries in let all = x.few_queries in omega (arith, left, all);
   },
 )
   where
@@ -195,6 +203,7 @@ idle_explained c past w s h unkept more n x run takes nothing is = let now : Ste
   waits = each_later c now past x.numbers_of run x.waits;
   taken = up (length past) (concat w) x.taken;
   few = x.few;
+  few_queries = x.few_queries;
 }
 
 -- a question that gets its reply at once
@@ -223,6 +232,7 @@ at_once_explained c past w s h unkept more n client octets request why x run tak
   waits = each_later c now past x.numbers_of run x.waits;
   taken = (omega arith, up (length past) (concat w) x.taken);
   few = x.few;
+  few_queries = x.few_queries;
 }
   where
     now : Step
@@ -239,9 +249,9 @@ pub opened_explained : (c : Config) (past : List Step) (w : List (List ℕ)) (s 
     → NothingAccepted c (step_of h (asks a ∷ []) unkept more) past → n ≡ moment_at (step_of h (asks a ∷ []) unkept more ∷ past)
     → a.asked ≡ n → IsReadable c a
     → Waits c (step_of h (asks a ∷ []) unkept more ∷ past) y (length past)
-    → length s.waiting + 1 ≤ most_waiting c
+    → length s.waiting + 1 ≤ c.limits.questions → length s.queries + 1 ≤ c.limits.inquiries
     → Explains c (step_of h (asks a ∷ []) unkept more ∷ past) ([] ∷ w) (record { queries = s.queries ++ a ∷ []; waiting = s.waiting ++ y ∷ []; moment = n })
-opened_explained c past w s h unkept more n y a x run takes nothing is asked readable waiting_is room = record {
+opened_explained c past w s h unkept more n y a x run takes nothing is asked readable waiting_is room room_asked = record {
   sound = (x.sound, quiet a.path, λ q octets f. absurd (silent a.path octets f.1));
   moment = is;
   queries = map-append shown s.queries (a ∷ []) ∙ ap (λ ls. ls ++ shown a ∷ []) x.queries ∙ sym (listed_one a.path refl) ∙ sym (cond-false (is_restart now) _ _ run);
@@ -253,7 +263,8 @@ opened_explained c past w s h unkept more n y a x run takes nothing is asked rea
   numbers = map-append (λ z. z.1) x.numbers_of _ ∙ ap (λ is. is ++ length past ∷ []) x.numbers ∙ sym (numbers_waiting now past (concat w) run takes x.taken);
   waits = Each-append (λ z. Waits c (now ∷ past) z.0 z.1) x.numbers_of _ (each_later c now past x.numbers_of run x.waits) (waiting_is, tt);
   taken = up (length past) (concat w) x.taken;
-  few = longer s.waiting room;
+  few = let longer = length-append s.waiting (y ∷ []) in omega (arith, longer, room);
+  few_queries = let longer = length-append s.queries (a ∷ []) in omega (arith, longer, room_asked);
 }
   where
     now : Step
@@ -271,9 +282,29 @@ opened_explained c past w s h unkept more n y a x run takes nothing is asked rea
     listed_one (Udp port) e = λ i. listed past ++ record { path = (sym e) i; server = a.server; octets = written (query_message a.id a.question); moment = (sym (asked ∙ is)) i } ∷ []
     listed_one (Tcp conn) e = λ i. listed past ++ record { path = (sym e) i; server = a.server; octets = written (query_message a.id a.question); moment = (sym (asked ∙ is)) i } ∷ []
 
-    longer : (xs : List Waiting) → length xs + 1 ≤ 1 → length (xs ++ y ∷ []) ≤ 1
-    longer [] h = omega arith
-    longer (z ∷ xs) h = absurd (omega (arith, h))
+-- a question that waits for a query that is listed already
+pub joined_explained : (c : Config) (past : List Step) (w : List (List ℕ)) (s : State) (h : Handed) (unkept : ℕ) (more : Bool) (n : ℕ) (y : Waiting)
+    → (x : Explains c past w s)
+    → is_restart (step_of h [] unkept more) ≡ false → takes_question h.event ≡ true
+    → NothingAccepted c (step_of h [] unkept more) past → n ≡ moment_at (step_of h [] unkept more ∷ past)
+    → Waits c (step_of h [] unkept more ∷ past) y (length past)
+    → length s.waiting + 1 ≤ c.limits.questions
+    → Explains c (step_of h [] unkept more ∷ past) ([] ∷ w) (record { queries = s.queries; waiting = s.waiting ++ y ∷ []; moment = n })
+joined_explained c past w s h unkept more n y x run takes nothing is waiting_is room = let now : Step = step_of h [] unkept more in record {
+  sound = (x.sound, tt, λ q octets f. absurd f.1);
+  moment = is;
+  queries = x.queries ∙ sym (cond-false (is_restart now) _ _ run);
+  readable = x.readable;
+  carried = x.carried;
+  carried_is = inr (inl (run, nothing, x.carried_is));
+  numbers_of = x.numbers_of ++ (y, length past) ∷ [];
+  waiting = map-append (λ z. z.0) x.numbers_of _ ∙ ap (λ ws. ws ++ y ∷ []) x.waiting;
+  numbers = map-append (λ z. z.1) x.numbers_of _ ∙ ap (λ is. is ++ length past ∷ []) x.numbers ∙ sym (numbers_waiting now past (concat w) run takes x.taken);
+  waits = Each-append (λ z. Waits c (now ∷ past) z.0 z.1) x.numbers_of _ (each_later c now past x.numbers_of run x.waits) (waiting_is, tt);
+  taken = up (length past) (concat w) x.taken;
+  few = let longer = length-append s.waiting (y ∷ []) in omega (arith, longer, room);
+  few_queries = x.few_queries;
+}
 
 -- a restart
 pub restart_explained : (c : Config) (past : List Step) (w : List (List ℕ)) (s : State) (h : Handed) (unkept : ℕ) (more : Bool)
@@ -292,6 +323,7 @@ restart_explained c past w s h unkept more x restarts = record {
   waits = tt;
   taken = up (length past) (concat w) x.taken;
   few = omega arith;
+  few_queries = omega arith;
 }
   where
     now : Step

@@ -14,7 +14,7 @@ use Rattle.forwarder_core.specs.declared.values.Why.{Why}
 use Rattle.forwarder_core.specs.Values.{Action}
 use Rattle.forwarder_core.specs.Pieces.{Held}
 use Rattle.forwarder_core.specs.State.{OpenQuery, Waiting, State}
-use Rattle.forwarder_core.specs.Row.{Done, Fate, gets, waits, reply_in, waiting_in, replies, still_waiting, without_path, closes, closed, gives_up, answered, waits_for, fails, is_given, idle, judge, judged, query_on, delivered, verdict_on}
+use Rattle.forwarder_core.specs.Row.{Done, Fate, gets, waits, reply_in, waiting_in, replies, still_waiting, without_path, closes, closed, gives_up, answered, waits_for, fails, is_given, idle, joined, unasked, is_asked, admitted, judge, judged, query_on, delivered, verdict_on}
 use Rattle.forwarder_core.specs.Next.{closing, with_reply, with_replies}
 use Rattle.forwarder_core.specs.Explains.{Each}
 use Rattle.forwarder_core.proofs.Listed.{query_on-is}
@@ -73,6 +73,14 @@ fails_frees why q = λ x. one_fate (waits_for q x) (gives_up why x) x
 
 pub given_frees : (n : ℕ) (o : Held) (q : Question) → Frees q (is_given n o q)
 given_frees n o q = λ x. one_fate (waits_for q x) (answered n o x) x
+
+-- ---- a question for which there is room
+
+pub joined_is : (c : Config) (n : ℕ) (words : List ℕ) (x : Waiting) (route : ℕ) (s : State) (d : Done) → is_asked x.question s.queries ≡ true → d ≡ joined n x s → d ≡ admitted c n words x route s
+joined_is c n words x route s d asked is = is ∙ sym (cond-true (is_asked x.question s.queries) _ _ asked)
+
+pub unasked_is : (c : Config) (n : ℕ) (words : List ℕ) (x : Waiting) (route : ℕ) (s : State) (d : Done) → is_asked x.question s.queries ≡ false → d ≡ unasked c n words x route s → d ≡ admitted c n words x route s
+unasked_is c n words x route s d asked is = is ∙ sym (cond-false (is_asked x.question s.queries) _ _ asked)
 
 -- ---- a delivery
 

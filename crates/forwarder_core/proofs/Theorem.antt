@@ -16,7 +16,7 @@ use Rattle.forwarder_core.specs.declared.values.Client.TheVariants.{Udp as FromU
 use Rattle.forwarder_core.specs.declared.values.Path.{Path}
 use Rattle.forwarder_core.specs.declared.values.Path.TheVariants.{Udp}
 use Rattle.forwarder_core.specs.declared.values.Why.{Why}
-use Rattle.forwarder_core.specs.declared.values.Why.TheVariants.{Answered, BadFormat, BadOpcode, NotServed, NoRoute, QuestionsFull, NoPort, Exhausted, TooLarge}
+use Rattle.forwarder_core.specs.declared.values.Why.TheVariants.{Answered, BadFormat, BadOpcode, NotServed, NoRoute, QuestionsFull, InquiriesFull, NoPort, Exhausted, TooLarge}
 use Rattle.forwarder_core.specs.declared.judge.Verdict.{Verdict}
 use Rattle.forwarder_core.specs.declared.judge.Verdict.TheVariants.{Stranger, Truncated, Failed, Malformed, Whole}
 use Rattle.forwarder_core.specs.Values.{Event, from_client, delivery, path_failed, tick, restart, Action, send_reply, Handed, Outcome, Step}
@@ -31,7 +31,7 @@ use Rattle.forwarder_core.specs.Queries.{closes_path}
 use Rattle.forwarder_core.specs.Causes.{is_unserved}
 use Rattle.forwarder_core.specs.Sound.{unanswered, error_response, RightReply}
 use Rattle.forwarder_core.specs.State.{OpenQuery, Waiting, State}
-use Rattle.forwarder_core.specs.Row.{Done, gets, waits, start, idle, at_once, replies, gives_up, answered_over, answered, waits_for, fails, is_given, asks, query_by, udp_draw, server_on, opened, routed, asked_for, requested, asks_this, matches, judged_whole, judge, given_up, end_piece, ended, read_whole, judged, query_on, delivered, Happens, HandsOctets, Row}
+use Rattle.forwarder_core.specs.Row.{Done, gets, waits, start, idle, at_once, replies, gives_up, answered_over, answered, waits_for, fails, is_given, asks, query_by, udp_draw, server_on, opened, joined, unasked, is_asked, admitted, routed, asked_for, requested, asks_this, matches, judged_whole, judge, given_up, end_piece, ended, read_whole, judged, query_on, delivered, Happens, HandsOctets, Row}
 use Rattle.forwarder_core.specs.Explains.{shown, Waits, IsReadable, Explains}
 use Rattle.forwarder_core.proofs.Fates.{Fated}
 use Rattle.forwarder_core.proofs.Since.{carried_since}
@@ -40,7 +40,7 @@ use Rattle.forwarder_core.proofs.QueryText.{query_reads}
 use Rattle.forwarder_core.proofs.Messages.{spells_read, read_spells, read_header}
 use Rattle.forwarder_core.proofs.SetLaws.{EndsAtSet, ends_at_set, end_piece_is, end_piece_at, set_ends, set_route}
 use Rattle.forwarder_core.proofs.Listed.{closes_it, on_path-shown, query_on-is, shown_from, drawn-shown, drawn_small}
-use Rattle.forwarder_core.proofs.Cases.{OwnsReply, step_of, closing_step, waits_later, closed_explained, idle_explained, at_once_explained, opened_explained, restart_explained}
+use Rattle.forwarder_core.proofs.Cases.{OwnsReply, step_of, closing_step, waits_later, closed_explained, idle_explained, at_once_explained, opened_explained, joined_explained, restart_explained}
 
 -- what a verdict rests on
 judged_parts : (from : Peer) (octets : List ℕ) (a : OpenQuery) → judge a from octets ≡ Whole
@@ -92,6 +92,12 @@ match_facts a from octets e =
       same = this.2;
     }
 
+is_full : (most n : ℕ) → nat_le most n ≡ true → n ≤ most → n ≡ most
+is_full most n t few = let all = leb-true most n t in omega (arith, all, few)
+
+has_room : (most n : ℕ) → nat_le most n ≡ false → n + 1 ≤ most
+has_room most n f = let below : ¬ (most ≤ n) = λ k. false≢true (sym f ∙ le-leb most n k) in omega (arith, below)
+
 module _ (c : Config) (past : List Step) (w : List (List ℕ)) (s : State) (x : Explains c past w s) (now : ℕ) (words : List ℕ) (unkept : ℕ) (more : Bool) where
   abbrev n : ℕ
   n = max (min now (2 ^ 62)) s.moment
@@ -128,6 +134,9 @@ module _ (c : Config) (past : List Step) (w : List (List ℕ)) (s : State) (x : 
         never (inl f) = failure f.0
         never (inr f) = f
 
+    queries_number : length (listed past) ≡ length s.queries
+    queries_number = sym (ap length x.queries) ∙ length-map s.queries shown
+
     waiting_number : length s.waiting ≡ length (unanswered past (concat w))
     waiting_number = sym (ap length x.waiting) ∙ length-map x.numbers_of (λ z. z.0) ∙ sym (length-map x.numbers_of (λ z. z.1)) ∙ ap length x.numbers
 
@@ -135,17 +144,21 @@ module _ (c : Config) (past : List Step) (w : List (List ℕ)) (s : State) (x : 
       abbrev y : Waiting
       y = record { client = client; header = header_in request; question = q }
 
-      opened_row : (route : ℕ) → route_of c q.name ≡ Some route → length s.waiting + 1 ≤ 1 → (draw : Option (ℕ × ℕ)) → udp_draw words s.queries ≡ draw → P (opened n y s (query_by c n q route draw))
-      opened_row route route_is room None none = refused _ NoPort takes (λ e. cc) (
+      waits_now : (actions : List Action) → Waits c (step actions ∷ past) y (length past)
+      waits_now actions = record { asked = step actions; before = past; in_era = inl refl; number = refl; request = request; sent = (refl, refl); taken = takes; reads = reads; header_is = refl }
+
+      opened_row : (route : ℕ) → route_of c q.name ≡ Some route → length s.waiting + 1 ≤ c.limits.questions → length s.queries + 1 ≤ c.limits.inquiries → (draw : Option (ℕ × ℕ)) → udp_draw words s.queries ≡ draw → P (opened n y s (query_by c n q route draw))
+      opened_row route route_is room room_asked None none = refused _ NoPort takes (λ e. cc) (
         (q, reads, refl),
         ap (λ ls. Rattle.forwarder_core.specs.Queries.drawn words ls (gives_up NoPort y ∷ [])) (sym x.queries) ∙ drawn-shown words s.queries (gives_up NoPort y ∷ []) (λ p. refl) ∙ none,
       )
-      opened_row route route_is room (Some draw) is = (
+      opened_row route route_is room room_asked (Some draw) is = (
         [],
         opened_explained c past w s (handed (from_client client request)) unkept more n y a x refl takes (λ ps k. k.4.matches.delivered) moment refl
             (record { reads = text.0; identifier = text.1; on_route = route_is })
-            (record { asked = step (asks a ∷ []); before = past; in_era = inl refl; number = refl; request = request; sent = (refl, refl); taken = takes; reads = reads; header_is = refl })
-            room,
+            (waits_now (asks a ∷ []))
+            room
+            room_asked,
       )
         where
           a : OpenQuery
@@ -154,18 +167,28 @@ module _ (c : Config) (past : List Step) (w : List (List ℕ)) (s : State) (x : 
           text : Reads (written (Rattle.forwarder_core.specs.Queries.query_message draw.0 q)) q × ((header_in (written (Rattle.forwarder_core.specs.Queries.query_message draw.0 q))).id ≡ draw.0)
           text = query_reads draw.0 request q are_octets reads (drawn_small words s.queries draw.0 draw.1 is)
 
+      unasked_row : (route : ℕ) → route_of c q.name ≡ Some route → length s.waiting + 1 ≤ c.limits.questions → P (unasked c n words y route s)
+      unasked_row route is room =
+          cond_both (nat_le c.limits.inquiries (length s.queries)) _ _ P
+          (λ t. refused _ InquiriesFull takes (λ e. cc) ((q, reads, refl), (refl, queries_number ∙ is_full c.limits.inquiries (length s.queries) t x.few_queries)))
+          (λ f. opened_row route is room (has_room c.limits.inquiries (length s.queries) f) (udp_draw words s.queries) refl)
+
+      unfilled_row : (route : ℕ) → route_of c q.name ≡ Some route → length s.waiting + 1 ≤ c.limits.questions
+          → P (admitted c n words y route s)
+      unfilled_row route is room =
+          cond_both (is_asked q s.queries) _ _ P
+          (λ t. (
+            [],
+            joined_explained c past w s (handed (from_client client request)) unkept more n y x refl takes (λ ps k. k.4.matches.delivered) moment (waits_now []) room,
+          ))
+          (λ f. unasked_row route is room)
+
       routed_row : (r : Option ℕ) → route_of c q.name ≡ r → P (routed c n words y s r)
       routed_row None none = refused _ NoRoute takes (λ e. cc) ((q, reads, refl), (refl, opcode, q, reads, served, none))
       routed_row (Some route) is =
-          cond_both (nat_le 1 (length s.waiting)) _ _ P
-          (λ t.
-          let one : 1 ≤ length s.waiting = leb-true 1 (length s.waiting) t in
-          let most : length s.waiting ≤ 1 = x.few in
-          let just : length s.waiting ≡ 1 = omega (arith, one, most) in
-          refused _ QuestionsFull takes (λ e. cc) ((q, reads, refl), (refl, sym waiting_number ∙ just)))
-          (λ f.
-          let below : ¬ (1 ≤ length s.waiting) = λ k. false≢true (sym f ∙ le-leb 1 (length s.waiting) k) in
-          opened_row route is (omega (arith, below)) (udp_draw words s.queries) refl)
+          cond_both (nat_le c.limits.questions (length s.waiting)) _ _ P
+          (λ t. refused _ QuestionsFull takes (λ e. cc) ((q, reads, refl), (refl, sym waiting_number ∙ is_full c.limits.questions (length s.waiting) t x.few)))
+          (λ f. unfilled_row route is (has_room c.limits.questions (length s.waiting) f))
 
     asked_row : is_taken request ≡ true → (header_in request).opcode ≡ 0 → (r : Option Question) → one_question request ≡ r → P (asked_for c n words client (header_in request) s r)
     asked_row takes opcode None none = refused _ BadFormat takes (λ e. cc) (refl, (refl, opcode, λ q reads. let e : None ≡ Some q = sym none ∙ reads in absurd (cc)))
@@ -488,4 +511,4 @@ row_explained c past w s h o s' x r = event_row c past w s x h.now h.words o.unk
 
 -- the empty history explains a new forwarder
 pub start_explained : (c : Config) → Explains c [] [] start
-start_explained c = record { sound = tt; moment = refl; queries = refl; readable = tt; carried = []; carried_is = refl; numbers_of = []; waiting = refl; numbers = refl; waits = tt; taken = tt; few = omega arith }
+start_explained c = record { sound = tt; moment = refl; queries = refl; readable = tt; carried = []; carried_is = refl; numbers_of = []; waiting = refl; numbers = refl; waits = tt; taken = tt; few = omega arith; few_queries = omega arith }

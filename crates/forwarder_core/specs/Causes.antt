@@ -19,10 +19,6 @@ use Rattle.forwarder_core.specs.Queries.{closes_path, drawn}
 abbrev pub is_unserved : Question → Bool
 is_unserved q = (q.kind == 0) || (q.kind == 41) || (nat_le 128 q.kind && nat_le q.kind 255) || (q.class == 255)
 
--- how many questions may wait: one
-abbrev pub most_waiting : Config → ℕ
-most_waiting c = 1
-
 abbrev pub newest_actions : List Step → List Action
 newest_actions [] = []
 newest_actions (s ∷ past) = s.outcome.actions
@@ -51,7 +47,8 @@ Cause c asked before now client octets waiting BadFormat = (now ≡ asked ∷ be
 Cause c asked before now client octets waiting NotServed = (now ≡ asked ∷ before) × ((header_in octets).opcode ≡ 0) × (q : Question) × Reads octets q × (is_unserved q ≡ true)
 Cause c asked before now client octets waiting NoRoute =
     (now ≡ asked ∷ before) × ((header_in octets).opcode ≡ 0) × (q : Question) × Reads octets q × (is_unserved q ≡ false) × (route_of c q.name ≡ None)
-Cause c asked before now client octets waiting QuestionsFull = (now ≡ asked ∷ before) × (waiting ≡ most_waiting c)
+Cause c asked before now client octets waiting QuestionsFull = (now ≡ asked ∷ before) × (waiting ≡ c.limits.questions)
+Cause c asked before now client octets waiting InquiriesFull = (now ≡ asked ∷ before) × (length (listed before) ≡ c.limits.inquiries)
 Cause c asked before now client octets waiting NoPort = drawn (newest_words now) (listed (before_newest now)) (newest_actions now) ≡ None
 Cause c asked before now client octets waiting Exhausted = (q : Question) × Reads octets q × FailsQuery c q now
 Cause c asked before now (Udp peer) octets waiting TooLarge = ⊥
@@ -59,6 +56,5 @@ Cause c asked before now (Tcp conn) octets waiting TooLarge =
     (q : Question) × (aliases : List Held) × (o : Held) × Reads octets q × Chain c asked before now q aliases o × (65535 < length (written (full_answer (header_in octets) q aliases o (moment_at now))))
 -- no question is told these yet, and success has no cause
 Cause c asked before now client octets waiting Answered = ⊥
-Cause c asked before now client octets waiting InquiriesFull = ⊥
 Cause c asked before now client octets waiting Deadline = ⊥
 Cause c asked before now client octets waiting ChainLong = ⊥

@@ -10,7 +10,6 @@ use Rattle.forwarder_core.specs.Pieces.{Held}
 use Rattle.forwarder_core.specs.History.{InEra, moment_at, Query, listed, Reads, Sends, takes_question}
 use Rattle.forwarder_core.specs.Carried.{CarriedInEra}
 use Rattle.forwarder_core.specs.Queries.{query_message}
-use Rattle.forwarder_core.specs.Causes.{most_waiting}
 use Rattle.forwarder_core.specs.Sound.{Sound, unanswered}
 use Rattle.forwarder_core.specs.State.{OpenQuery, Waiting, State}
 
@@ -53,4 +52,5 @@ pub record Explains (c : Config) (past : List Step) (w : List (List ℕ)) (s : S
   pub numbers : map (λ z. z.1) numbers_of ≡ unanswered past (concat w)
   pub waits : Each (λ z. Waits c past z.0 z.1) numbers_of
   pub taken : Each (λ i. i < length past) (concat w)
-  pub few : length s.waiting ≤ most_waiting c
+  pub few : length s.waiting ≤ c.limits.questions
+  pub few_queries : length s.queries ≤ c.limits.inquiries

@@ -4,7 +4,7 @@ use Rattle.std.specs.declared.alloc.AllocError.{AllocError}
 use Rattle.suffix_routes.specs.Values.{Config}
 use Rattle.forwarder_core.specs.declared.values.Path.{Path}
 use Rattle.forwarder_core.specs.declared.next.Change.{Change}
-use Rattle.forwarder_core.specs.declared.next.Change.TheVariants.{Nothing, Open, Close}
+use Rattle.forwarder_core.specs.declared.next.Change.TheVariants.{Nothing, Join, Open, Close}
 use Rattle.forwarder_core.specs.declared.next.Next.{Next}
 use Rattle.forwarder_core.specs.Values.{Event, restart, Action, actions_of, Outcome}
 use Rattle.forwarder_core.specs.State.{OpenQuery, Waiting, State}
@@ -17,6 +17,7 @@ closing n path s (Some a) = record { queries = without_path path s.queries; wait
 
 abbrev pub changed : {A : Type 0} → ℕ → State → Change A → State
 changed n s Nothing = record { queries = s.queries; waiting = s.waiting; moment = n }
+changed n s (Join x) = record { queries = s.queries; waiting = s.waiting ++ x ∷ []; moment = n }
 changed n s (Open x a) = record { queries = s.queries ++ a ∷ []; waiting = s.waiting ++ x ∷ []; moment = n }
 changed n s (Close path) = closing n path s (query_on path s.queries)
 

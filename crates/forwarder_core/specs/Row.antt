@@ -13,7 +13,7 @@ use Rattle.forwarder_core.specs.declared.values.Client.TheVariants.{Udp as FromU
 use Rattle.forwarder_core.specs.declared.values.Path.{Path}
 use Rattle.forwarder_core.specs.declared.values.Path.TheVariants.{Udp, Tcp}
 use Rattle.forwarder_core.specs.declared.values.Why.{Why}
-use Rattle.forwarder_core.specs.declared.values.Why.TheVariants.{Answered, BadFormat, BadOpcode, NotServed, NoRoute, QuestionsFull, NoPort, Exhausted, TooLarge}
+use Rattle.forwarder_core.specs.declared.values.Why.TheVariants.{Answered, BadFormat, BadOpcode, NotServed, NoRoute, QuestionsFull, InquiriesFull, NoPort, Exhausted, TooLarge}
 use Rattle.forwarder_core.specs.declared.judge.Verdict.{Verdict}
 use Rattle.forwarder_core.specs.declared.judge.Verdict.TheVariants.{Stranger, Truncated, Failed, Malformed, Whole}
 use Rattle.forwarder_core.specs.Values.{Event, from_client, delivery, path_failed, tick, restart, Action, ask_udp, ask_tcp, close_udp, close_tcp, send_reply, Handed, Outcome}
@@ -24,7 +24,7 @@ use Rattle.forwarder_core.specs.Pieces.{Piece, Held, Walk, is_lame, rank_of, rec
 use Rattle.forwarder_core.specs.History.{same_path, is_taken}
 use Rattle.forwarder_core.specs.Answers.{full_answer, truncated}
 use Rattle.forwarder_core.specs.Queries.{query_message, port_of}
-use Rattle.forwarder_core.specs.Causes.{is_unserved, most_waiting}
+use Rattle.forwarder_core.specs.Causes.{is_unserved}
 use Rattle.forwarder_core.specs.Sound.{error_response}
 use Rattle.forwarder_core.specs.State.{OpenQuery, Waiting, State}
 
@@ -134,11 +134,29 @@ abbrev pub opened : ℕ → Waiting → State → Option OpenQuery → Done
 opened n x s None = at_once n (gives_up NoPort x) s
 opened n x s (Some a) = record { actions = asks a ∷ []; state = record { queries = s.queries ++ a ∷ []; waiting = s.waiting ++ x ∷ []; moment = n } }
 
+-- the question waits for the query that is listed already
+abbrev pub joined : ℕ → Waiting → State → Done
+joined n x s = record { actions = []; state = record { queries = s.queries; waiting = s.waiting ++ x ∷ []; moment = n } }
+
+-- no query of the question is listed
+abbrev pub unasked : Config → ℕ → List ℕ → Waiting → ℕ → State → Done
+unasked c n words x route s =
+    if nat_le c.limits.inquiries (length s.queries)
+    then at_once n (gives_up InquiriesFull x) s
+    else opened n x s (query_by c n x.question route (udp_draw words s.queries))
+
+abbrev pub is_asked : Question → List OpenQuery → Bool
+is_asked q queries = list_any (λ a. same_question a.question q) queries
+
+-- a question for which there is room
+abbrev pub admitted : Config → ℕ → List ℕ → Waiting → ℕ → State → Done
+admitted c n words x route s = if is_asked x.question s.queries then joined n x s else unasked c n words x route s
+
 abbrev pub must_wait : Config → ℕ → List ℕ → Waiting → ℕ → State → Done
 must_wait c n words x route s =
-    if nat_le (most_waiting c) (length s.waiting)
+    if nat_le c.limits.questions (length s.waiting)
     then at_once n (gives_up QuestionsFull x) s
-    else opened n x s (query_by c n x.question route (udp_draw words s.queries))
+    else admitted c n words x route s
 
 abbrev pub routed : Config → ℕ → List ℕ → Waiting → State → Option ℕ → Done
 routed c n words x s None = at_once n (gives_up NoRoute x) s

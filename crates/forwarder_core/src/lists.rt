@@ -1,10 +1,11 @@
 //! The listed queries and the questions that wait, as plain lists.
 
 ghost use Rattle.std.specs.Prelude.{◌≡◌, ℕ, ◌+◌, nat_lt, not, filter, MatchOption, Some, None};
-ghost use Rattle.forwarder_core.specs.Row.{waits_for, without_path, server_on, query_on};
+ghost use Rattle.forwarder_core.specs.Row.{waits_for, is_asked, without_path, server_on, query_on};
 ghost use Rattle.forwarder_core.specs.Next.{closing};
 
 use crate::draw::is_same_path;
+use crate::judge::is_same_question;
 use crate::replies::is_waiting_for;
 use crate::state::{OpenQuery, Waiting};
 use crate::values::Path;
@@ -44,6 +45,15 @@ pub(crate) fn find_query<A: Allocator>(
         }
     }
     None
+}
+
+/// A query of an equal question is listed.
+pub(crate) fn is_asked<A: Allocator>(question: &Question<A>, queries: &[OpenQuery<A>]) -> bool
+    ensures { result ≡ is_asked question.now queries.now }
+{
+    queries
+        .iter()
+        .any(|query| is_same_question(&query.question, question))
 }
 
 /// Leaves out the queries on a path.

@@ -9,6 +9,8 @@ use std::alloc::{Allocator, Global};
 #[derive(Drop)]
 pub(crate) enum Change<A: Allocator = Global> {
     Nothing,
+    /// A question waits for a query that is listed already.
+    Join(Waiting<A>),
     /// A question waits, and its query is listed.
     Open(Waiting<A>, OpenQuery<A>),
     /// The query on this path is closed, and those that waited for it wait no more.

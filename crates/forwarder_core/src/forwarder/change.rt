@@ -22,6 +22,11 @@ impl<H: Drop, A: Allocator + Copy> Forwarder<H, A> {
                 self.moment = moment;
                 Ok(())
             }
+            Change::Join(waiting) => {
+                self.waiting.push(waiting)?;
+                self.moment = moment;
+                Ok(())
+            }
             Change::Open(waiting, query) => {
                 self.queries.reserve(1)?;
                 self.waiting.reserve(1)?;

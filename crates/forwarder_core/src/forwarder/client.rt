@@ -3,13 +3,13 @@
 ghost use Rattle.std.specs.Prelude.{◌≡◌, ℕ, false, IfOk, Some};
 ghost use Rattle.forwarder_core.specs.Values.{action_of};
 ghost use Rattle.forwarder_core.specs.History.{is_taken};
-ghost use Rattle.forwarder_core.specs.Row.{idle, at_once, query_by, opened, must_wait, served, requested};
+ghost use Rattle.forwarder_core.specs.Row.{idle, at_once, query_by, opened, joined, unasked, admitted, must_wait, served, requested};
 ghost use Rattle.forwarder_core.specs.Next.{next_of, IsQuiet};
 
 use crate::answers::{ask, failure, refusal};
 use crate::draw::draw;
 use crate::forwarder::Forwarder;
-use crate::lists::first_server;
+use crate::lists::{first_server, is_asked};
 use crate::next::{Change, Next};
 use crate::request::{is_not_served, only_question, taken_header};
 use crate::state::{OpenQuery, Waiting};
@@ -80,8 +80,51 @@ impl<H: Drop, A: Allocator + Copy> Forwarder<H, A> {
     ) -> Result<Next<A>, AllocError>
         ensures { IfOk result (λ next. next_of moment self.now.state next ≡ must_wait self.now.config moment words waiting route self.now.state) }
     {
-        if !self.waiting.is_empty() {
+        if self.waiting.len() >= self.config.limits.questions {
             let action = failure(self.alloc, &waiting, Why::QuestionsFull)?;
+            return self.reply(action);
+        }
+        self.admit(moment, words, waiting, route)
+    }
+
+    /// A question for which there is room: where its query is listed already, none goes out.
+    fn admit(
+        &self,
+        moment: u64,
+        words: [u32; 8],
+        waiting: Waiting<A>,
+        route: RouteId,
+    ) -> Result<Next<A>, AllocError>
+        ensures { IfOk result (λ next. next_of moment self.now.state next ≡ admitted self.now.config moment words waiting route self.now.state) }
+    {
+        if is_asked(&waiting.question, &self.queries) {
+            return Ok(self.join(waiting));
+        }
+        self.ask_anew(moment, words, waiting, route)
+    }
+
+    /// The question waits for the query that is listed already.
+    fn join(&self, waiting: Waiting<A>) -> Next<A>
+        ensures { (n : ℕ) → next_of n self.now.state result ≡ joined n waiting self.now.state }
+    {
+        Next {
+            actions: PlainList::new(self.alloc),
+            change: Change::Join(waiting),
+        }
+    }
+
+    /// A question of which no query is listed.
+    fn ask_anew(
+        &self,
+        moment: u64,
+        words: [u32; 8],
+        waiting: Waiting<A>,
+        route: RouteId,
+    ) -> Result<Next<A>, AllocError>
+        ensures { IfOk result (λ next. next_of moment self.now.state next ≡ unasked self.now.config moment words waiting route self.now.state) }
+    {
+        if self.queries.len() >= self.config.limits.inquiries {
+            let action = failure(self.alloc, &waiting, Why::InquiriesFull)?;
             return self.reply(action);
         }
         let Some((id, port)) = draw(words, &self.queries) else {
