@@ -3,6 +3,7 @@ pub mod Numbers
 pub mod Since
 pub mod Names
 pub mod QueryText
+pub mod Short
 pub mod Messages
 pub mod SetLaws
 pub mod Listed

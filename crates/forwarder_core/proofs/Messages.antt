@@ -23,7 +23,6 @@ use Rattle.dns_message.specs.Messages.{message_of, Spells}
 use Rattle.dns_message.specs.Writing.{written}
 use Rattle.dns_message.specs.Header.{header_in}
 use Rattle.dns_message.proofs.WholeLaws.{of_spelled, spelled_by}
-use Rattle.forwarder_core.specs.Queries.{query_message}
 use Rattle.forwarder_core.proofs.QueryText.{header_there}
 
 pub spells_read : (octets : List ℕ) (m : Message) → Spells octets m → message_of octets ≡ Ok m
@@ -58,24 +57,23 @@ within_err limit m fault e = ⊎_elim
     (λ (f : nat_lt limit (length (written m)) ≡ false). let bad : Ok (written m) ≡ Err fault = sym (cond-false (nat_lt limit (length (written m))) _ _ f) ∙ e in absurd (cc))
     (cases_Bool (nat_lt limit (length (written m))))
 
--- what fits of an error response is its text
-pub error_is : (limit : ℕ) (h header : Header) (why : Why) (rcode : ℕ) (qs : List Question) (records : List Record) (text : List ℕ)
+-- the text of an error response
+pub error_is : (h header : Header) (why : Why) (rcode : ℕ) (qs : List Question) (text : List ℕ)
     → header ≡ record { id = h.id; qr = true; opcode = h.opcode; aa = false; tc = false; rd = h.rd; ra = true; z = 0; rcode = rcode; counts = 0 ∷ 0 ∷ 0 ∷ 0 ∷ [] }
-    → rcode ≡ rcode_of_why why → records ≡ [] → written_within limit (record { header = header; questions = qs; answers = records; authority = []; additional = [] }) ≡ Ok text
+    → rcode ≡ rcode_of_why why → text ≡ written (record { header = header; questions = qs; answers = []; authority = []; additional = [] })
     → text ≡ written (error_response h why qs)
-error_is limit h header why rcode qs records text header_is code none e =
-    (within_ok limit _ text e).0
-    ∙ (λ i. written (record { header = header_is i; questions = qs; answers = none i; authority = []; additional = [] }))
+error_is h header why rcode qs text header_is code is =
+    is
+    ∙ (λ i. written (record { header = header_is i; questions = qs; answers = []; authority = []; additional = [] }))
     ∙ reply_counts h false rcode qs []
     ∙ ap (λ (n : ℕ). written (reply_message h false n qs [] [])) code
 
--- what fits of a cut answer is its text
-pub cut_is : (limit : ℕ) (header : Header) (x : Waiting) (qs : List Question) (records : List Record) (text : List ℕ)
+-- the text of a cut answer
+pub cut_is : (header : Header) (x : Waiting) (text : List ℕ)
     → header ≡ record { id = x.header.id; qr = true; opcode = x.header.opcode; aa = false; tc = true; rd = x.header.rd; ra = true; z = 0; rcode = 0; counts = 0 ∷ 0 ∷ 0 ∷ 0 ∷ [] }
-    → qs ≡ x.question ∷ [] → records ≡ [] → written_within limit (record { header = header; questions = qs; answers = records; authority = []; additional = [] }) ≡ Ok text
+    → text ≡ written (record { header = header; questions = x.question ∷ []; answers = []; authority = []; additional = [] })
     → text ≡ written (cut_answer x)
-cut_is limit header x qs records text header_is one none e =
-    (within_ok limit _ text e).0 ∙ (λ i. written (record { header = header_is i; questions = one i; answers = none i; authority = []; additional = [] })) ∙ reply_counts x.header true 0 (x.question ∷ []) []
+cut_is header x text header_is is = is ∙ (λ i. written (record { header = header_is i; questions = x.question ∷ []; answers = []; authority = []; additional = [] })) ∙ reply_counts x.header true 0 (x.question ∷ []) []
 
 within_counts : (limit : ℕ) (h : Header) (cut : Bool) (rcode : ℕ) (qs : List Question) (records : List Record)
     → written_within limit (record { header = record { id = h.id; qr = true; opcode = h.opcode; aa = false; tc = cut; rd = h.rd; ra = true; z = 0; rcode = rcode; counts = 0 ∷ 0 ∷ 0 ∷ 0 ∷ [] }; questions = qs; answers = records; authority = []; additional = [] })
@@ -109,13 +107,6 @@ fits_tcp conn x m cut text e =
 
 pub fails_tcp : (conn : ℕ) (x : Waiting) (m : Message) (cut : List ℕ) (fault : Fault) → written_within 65535 m ≡ Err fault → failed (FromTcp conn) x.header TooLargeWhy (x.question ∷ []) ≡ answered_over (FromTcp conn) x (written m) cut
 fails_tcp conn x m cut fault e = sym (cond-false (nat_le (length (written m)) 65535) _ _ (not_leb (length (written m)) 65535 (within_err 65535 m fault e)))
-
--- what fits of a query is its text
-pub query_is : (limit id : ℕ) (q : Question) (qs : List Question) (records : List Record) (text : List ℕ) → qs ≡ q ∷ [] → records ≡ []
-    → written_within limit (record { header = record { id = id; qr = false; opcode = 0; aa = false; tc = false; rd = true; ra = false; z = 0; rcode = 0; counts = 1 ∷ 0 ∷ 0 ∷ 0 ∷ [] }; questions = qs; answers = records; authority = []; additional = [] }) ≡ Ok text
-    → text ≡ written (query_message id q)
-query_is limit id q qs records text one none e =
-    (within_ok limit _ text e).0 ∙ (λ i. written (record { header = record { id = id; qr = false; opcode = 0; aa = false; tc = false; rd = true; ra = false; z = 0; rcode = 0; counts = 1 ∷ 0 ∷ 0 ∷ 0 ∷ [] }; questions = one i; answers = none i; authority = []; additional = [] }))
 
 pub fits_tcp_of : (now : Waiting) (client : Client) (x : Waiting) (conn : ℕ) (p : Piece) (text : List ℕ) → x ≡ now → x.client ≡ client → client ≡ FromTcp conn → written_within 65535 (fresh_answer now p) ≡ Ok text
     → send_reply client text Answered ≡ answered_over now.client now (written (fresh_answer now p)) (written (cut_answer now))

@@ -4,6 +4,7 @@ ghost use Rattle.std.specs.Prelude.{◌≡◌, ◌<◌, ◌≤◌, ◌∷◌, []
 ghost use Rattle.dns_message.specs.Writing.{written};
 ghost use Rattle.dns_message.specs.Writing.{written_within};
 ghost use Rattle.dns_message.specs.Reading.{Gives};
+ghost use Rattle.dns_name.specs.Labels.{IsName};
 ghost use Rattle.forwarder_core.specs.Values.{action_of};
 ghost use Rattle.forwarder_core.specs.Queries.{query_message};
 ghost use Rattle.forwarder_core.specs.Sound.{error_response, rcode_of_why};
@@ -14,6 +15,7 @@ use crate::sets::RecordSet;
 use crate::state::{OpenQuery, Waiting};
 use crate::values::{Action, Client, Path, Why};
 use dns_message::{Fault, Header, Message, Question, Record, write};
+use dns_name::Name;
 use plain_list::{Octets, PlainList};
 use std::alloc::{AllocError, Allocator};
 
@@ -98,6 +100,50 @@ fn one_question<A: Allocator + Copy>(
     Ok(questions)
 }
 
+/// The name of a question, which has 255 octets at most.
+fn name_of<A: Allocator>(question: &Question<A>) -> &Name<A>
+    ensures same { result.now ≡ question.now.name }
+    ensures name { IsName question.now.name }
+{
+    let _labels = question.name.labels();
+    &question.name
+}
+
+/// The text of a header alone.
+fn header_text<A: Allocator + Copy>(alloc: A, header: Header) -> Result<Octets<A>, AllocError>
+    requires opcode { header.opcode < 16 }
+    requires z { header.z < 8 }
+    requires rcode { header.rcode < 16 }
+    ensures { IfOk result (λ text. text ≡ written (record { header = header; questions = []; answers = []; authority = []; additional = [] })) }
+{
+    let (questions, answers) = (PlainList::new(alloc), PlainList::new(alloc));
+    match message_text(alloc, header, questions, answers, TCP_LIMIT) {
+        Ok(text) => Ok(text),
+        Err(Fault::TooLarge) => unreachable!(),
+        Err(_) => Err(AllocError),
+    }
+}
+
+/// The text of a header and a question; it has 271 octets at most.
+fn question_text<A: Allocator + Copy>(
+    alloc: A,
+    header: Header,
+    question: &Question<A>,
+) -> Result<Octets<A>, AllocError>
+    requires opcode { header.opcode < 16 }
+    requires z { header.z < 8 }
+    requires rcode { header.rcode < 16 }
+    ensures { IfOk result (λ text. text ≡ written (record { header = header; questions = question.now ∷ []; answers = []; authority = []; additional = [] })) }
+{
+    let _name = name_of(question);
+    let questions = one_question(alloc, question)?;
+    match message_text(alloc, header, questions, PlainList::new(alloc), TCP_LIMIT) {
+        Ok(text) => Ok(text),
+        Err(Fault::TooLarge) => unreachable!(),
+        Err(_) => Err(AllocError),
+    }
+}
+
 /// The records of a set that came at this moment.
 fn fresh_records<A: Allocator + Copy>(
     alloc: A,
@@ -118,23 +164,6 @@ fn fresh_records<A: Allocator + Copy>(
     Ok(records)
 }
 
-/// The text of an error response, with these questions.
-pub(crate) fn error_text<A: Allocator + Copy>(
-    alloc: A,
-    request: &Header,
-    why: Why,
-    questions: PlainList<Question<A>, A>,
-) -> Result<Octets<A>, AllocError>
-    requires { request.now.opcode < 16 }
-    ensures { IfOk result (λ text. text ≡ written (error_response request.now why questions)) }
-{
-    let header = reply_header(request, false, rcode_of(why));
-    match message_text(alloc, header, questions, PlainList::new(alloc), TCP_LIMIT) {
-        Ok(text) => Ok(text),
-        Err(_) => Err(AllocError),
-    }
-}
-
 /// The reply to a question that fails, with the question as it came.
 pub(crate) fn failure<A: Allocator + Copy>(
     alloc: A,
@@ -143,9 +172,8 @@ pub(crate) fn failure<A: Allocator + Copy>(
 ) -> Result<Action<A>, AllocError>
     ensures { IfOk result (λ action. action_of action ≡ gives_up why waiting.now) }
 {
-    let header = waiting.header;
-    let questions = one_question(alloc, &waiting.question)?;
-    let bytes = error_text(alloc, &header, why, questions)?;
+    let header = reply_header(&waiting.header, false, rcode_of(why));
+    let bytes = question_text(alloc, header, &waiting.question)?;
     Ok(Action::Reply {
         client: waiting.client,
         bytes,
@@ -163,7 +191,8 @@ pub(crate) fn refusal<A: Allocator + Copy>(
     requires { request.now.opcode < 16 }
     ensures { IfOk result (λ action. action_of action ≡ failed client request.now why []) }
 {
-    let bytes = error_text(alloc, request, why, PlainList::new(alloc))?;
+    let header = reply_header(request, false, rcode_of(why));
+    let bytes = header_text(alloc, header)?;
     Ok(Action::Reply { client, bytes, why })
 }
 
@@ -187,12 +216,8 @@ fn fresh_text<A: Allocator + Copy>(
 fn cut_text<A: Allocator + Copy>(alloc: A, waiting: &Waiting<A>) -> Result<Octets<A>, AllocError>
     ensures { IfOk result (λ text. text ≡ written (cut_answer waiting.now)) }
 {
-    let questions = one_question(alloc, &waiting.question)?;
     let header = reply_header(&waiting.header, true, 0);
-    match message_text(alloc, header, questions, PlainList::new(alloc), TCP_LIMIT) {
-        Ok(text) => Ok(text),
-        Err(_) => Err(AllocError),
-    }
+    question_text(alloc, header, &waiting.question)
 }
 
 /// The answer over UDP: what passes 512 octets is cut (RFC 1035 4.2.1).
@@ -252,11 +277,7 @@ fn query_text<A: Allocator + Copy>(alloc: A, query: &OpenQuery<A>) -> Result<Oct
         rcode: 0,
         counts: [1, 0, 0, 0],
     };
-    let questions = one_question(alloc, &query.question)?;
-    match message_text(alloc, header, questions, PlainList::new(alloc), TCP_LIMIT) {
-        Ok(text) => Ok(text),
-        Err(_) => Err(AllocError),
-    }
+    question_text(alloc, header, &query.question)
 }
 
 /// The action that sends a query.
