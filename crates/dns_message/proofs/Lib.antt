@@ -3,8 +3,10 @@ pub mod ShortcutLaws
 pub mod Loops
 pub mod DataLaws
 pub mod RecordLaws
+pub mod EndLaws
 pub mod Counting
 pub mod MessageLaws
+pub mod QuestionLaws
 pub mod SpellLaws
 pub mod WholeLaws
 pub mod ShapeLaws

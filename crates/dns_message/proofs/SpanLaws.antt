@@ -1,16 +1,52 @@
 -- The spans of a message are those of its records.
-use Rattle.std.proofs.Common.{◌≡◌, ℕ, List, [], ◌∷◌, length, Result, Ok, Err, refl, sym, ap, subst, ◌∙◌}
+use Rattle.std.proofs.Common.{◌≡◌, ℕ, ◌+◌, ◌<◌, List, [], ◌∷◌, ◌++◌, length, replicate, length-append, Result, Ok, Err, refl, sym, ap, subst, ◌∙◌, arith}
+use Rattle.std.specs.Prelude.{IsOk}
+use Rattle.std.proofs.lemmas.List.{length-replicate}
 use Rattle.dns_message.specs.declared.fault.Fault.{Fault}
 use Rattle.dns_message.specs.declared.reading.spans.Span.{Span}
+use Rattle.dns_message.specs.declared.reading.spans.Left.{Left}
 use Rattle.dns_message.specs.Values.{Question, Record}
 use Rattle.dns_message.specs.Reading.{behind}
 use Rattle.dns_message.specs.Numbers.{number16}
 use Rattle.dns_message.specs.Records.{QuestionAt, RecordAt, InRow, question_at, record_at, counted}
-use Rattle.dns_message.specs.Spans.{SpansAt, all_read, none_here, one_here, span_and_rest, spans_at, counted_sections, spans_from, spans_of}
+use Rattle.dns_message.specs.Spans.{SpansAt, all_read, none_here, one_here, span_and_rest, sections_of, spans_at, counted_sections, spans_from, spans_of}
 use Rattle.dns_message.proofs.SpellLaws.{read_as, question_sound, question_complete, record_sound, record_complete, counted_sound, counted_complete}
 
 abbrev span : ℕ → ℕ → ℕ → Span
 span o e section = record { start = o; end = e; section = section }
+
+-- ---- spans one by one
+
+pub none_counted : (bytes : List ℕ) (o : ℕ) → length (spans_at bytes [] o) ≡ 0
+unfolding spans_at
+none_counted bytes o = refl
+
+pub none_counted_here : (bytes : List ℕ) (o section : ℕ) (sections : List ℕ) (fault : Fault) → behind (record_at bytes o) ≡ Err fault → length (spans_at bytes (section ∷ sections) o) ≡ 0
+unfolding spans_at
+none_counted_here bytes o section sections fault is = rw is refl
+
+pub one_here_first : (bytes : List ℕ) (o e section : ℕ) (sections : List ℕ) → behind (record_at bytes o) ≡ Ok e → spans_at bytes (section ∷ sections) o ≡ span o e section ∷ spans_at bytes sections e
+unfolding spans_at
+one_here_first bytes o e section sections is = rw is refl
+
+pub one_counted_here : (bytes : List ℕ) (o e section : ℕ) (sections : List ℕ) → behind (record_at bytes o) ≡ Ok e → length (spans_at bytes (section ∷ sections) o) ≡ 1 + length (spans_at bytes sections e)
+one_counted_here bytes o e section sections is = omega (arith, ap length (one_here_first bytes o e section sections is))
+
+some_by : (bytes : List ℕ) (o section : ℕ) (sections : List ℕ) (r : Result (Record × ℕ) Fault) → 0 < length (span_and_rest o section (spans_at bytes sections) (behind r)) → IsOk r
+some_by bytes o section sections (Ok x) some = refl
+some_by bytes o section sections (Err fault) some = absurd (omega (arith, some))
+
+-- a record that begins a span can be read
+pub first_readable : (bytes : List ℕ) (o section : ℕ) (sections : List ℕ) → 0 < length (spans_at bytes (section ∷ sections) o) → IsOk (record_at bytes o)
+unfolding spans_at
+first_readable bytes o section sections some = some_by bytes o section sections (record_at bytes o) some
+
+pub sections_counted : (left : Left) → length (sections_of left) ≡ left.answers + (left.authority + left.additional)
+sections_counted left =
+    let (answers, authority, additional) : List ℕ × List ℕ × List ℕ = (replicate left.answers 0, replicate left.authority 1, replicate left.additional 2) in
+    omega (arith, length-append answers (authority ++ additional), length-append authority additional, length-replicate {A = ℕ} left.answers 0, length-replicate {A = ℕ} left.authority 1, length-replicate {A = ℕ} left.additional 2)
+
+-- ---- the spans are those of the records
 
 sound_by : (bytes : List ℕ) (o section : ℕ) (sections : List ℕ) → ((e : ℕ) → SpansAt bytes sections e (spans_at bytes sections e)) → (r : Result (Record × ℕ) Fault) → record_at bytes o ≡ r
     → SpansAt bytes (section ∷ sections) o (span_and_rest o section (spans_at bytes sections) (behind r))

@@ -7,6 +7,7 @@ pub mod Shortcuts
 pub mod Data
 pub mod Header
 pub mod Records
+pub mod Questions
 pub mod Messages
 pub mod Spans
 pub mod Fields

@@ -2,6 +2,7 @@
 
 ghost use Rattle.std.specs.Prelude.{◌≡◌, IfOk};
 ghost use Rattle.dns_message.specs.Data.{name_of_rdata};
+ghost use Rattle.dns_message.specs.Questions.{same_question};
 
 use crate::header::Header;
 use crate::reading::names::read_only_name;
@@ -39,6 +40,13 @@ impl<A: Allocator> Question<A> {
             kind: self.kind,
             class: self.class,
         })
+    }
+
+    /// Equal names, ASCII letter case aside (RFC 1035 2.3.3, RFC 4343), equal types and classes. It takes no memory.
+    pub fn is_same(&self, other: &Question<A>) -> bool
+        ensures { result ≡ same_question self.now other.now }
+    {
+        self.name.same(&other.name) && self.kind == other.kind && self.class == other.class
     }
 }
 

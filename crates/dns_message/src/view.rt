@@ -11,14 +11,14 @@ ghost use Rattle.dns_message.specs.declared.fault.Fault.TheVariants.{Memory};
 use crate::fault::Fault;
 use crate::header::Header;
 use crate::message::{Message, Question};
-use crate::reading::names::{name_is, skip_name};
+use crate::reading::names::skip_same_name;
 use crate::reading::numbers::number16;
 use crate::reading::records::{
     read_question, read_questions, read_records, skip_octets, skip_question, skip_questions,
     skip_records,
 };
+use crate::reading::shortcuts::{PLACES, SMALL};
 use crate::reading::spans::{Records, records_in};
-use crate::reading::walk::Bound;
 use std::alloc::Allocator;
 use std::marker::Model;
 
@@ -43,10 +43,7 @@ fn first_question_is<A: Allocator>(bytes: &[u8], question: &Question<A>) -> bool
     requires { IsViewed bytes.now }
     ensures { IsTrue result ↔ QuestionIs (first_question bytes.now) question.now }
 {
-    if !name_is(bytes, 12, &question.name) {
-        return false;
-    }
-    let Ok(after) = skip_name(bytes, &mut [], Bound::whole(bytes), 12) else {
+    let Some(after) = skip_same_name(bytes, 12, &question.name) else {
         return false;
     };
     let Ok(end) = skip_octets(bytes, after, 4) else {
@@ -54,12 +51,6 @@ fn first_question_is<A: Allocator>(bytes: &[u8], question: &Question<A>) -> bool
     };
     number16(bytes, after) == question.kind && number16(bytes, end - 2) == question.class
 }
-
-/// A message of at most so many octets is read without remembering where its pointers lead.
-const SMALL: usize = 1024;
-
-/// How many places a pointer can lead to: its offset has 14 bits.
-const PLACES: usize = 16384;
 
 /// The place behind the last counted record, where pointers lead remembered in `ends`.
 #[tactic(auto, using(crate::proofs::MessageLaws::message_behind))]

@@ -1,7 +1,9 @@
 -- What was decided is what the row has.
-use Rattle.std.proofs.Common.{◌≡◌, ℕ, List, [], ◌∷◌, ◌++◌, Bool, true, false, cond, refl, sym, ap, ◌∙◌, Option, Some, None}
-use Rattle.std.specs.Prelude.{◌+◌, filter, not, nat_lt, Result, Ok, Err, IsOk}
-use Rattle.std.specs.List.{cons_option}
+use Rattle.std.proofs.Common.{◌≡◌, ℕ, List, [], ◌∷◌, ◌++◌, Bool, true, false, cond, refl, sym, ap, ◌∙◌, subst, Option, Some, None}
+use Rattle.std.specs.Prelude.{◌+◌, filter, not, nat_lt, Result, Ok, Err, IsOk, IfOk}
+use Rattle.std.specs.declared.alloc.AllocError.{AllocError}
+use Rattle.std.proofs.lemmas.Result.{IfOk-weaker}
+use Rattle.std.specs.List.{cons_option, AllByRecursion}
 use Rattle.std.proofs.lemmas.Bool.{cond-true, cond-false}
 use Rattle.dns_message.specs.declared.fault.Fault.{Fault}
 use Rattle.dns_message.specs.Values.{Question}
@@ -9,15 +11,18 @@ use Rattle.dns_message.specs.Messages.{first_question}
 use Rattle.suffix_routes.specs.declared.peer.Peer.{Peer}
 use Rattle.suffix_routes.specs.Values.{Config}
 use Rattle.forwarder_core.specs.declared.judge.Verdict.TheVariants.{Stranger, Whole}
-use Rattle.forwarder_core.specs.declared.values.Path.{Path}
+use Rattle.outstanding.specs.declared.ask.Path.{Path}
 use Rattle.forwarder_core.specs.declared.values.Why.{Why}
-use Rattle.forwarder_core.specs.Values.{Action}
+use Rattle.forwarder_core.specs.Values.{Event, Action, Outcome}
 use Rattle.forwarder_core.specs.Pieces.{Held}
-use Rattle.forwarder_core.specs.State.{OpenQuery, Waiting, State}
-use Rattle.forwarder_core.specs.Row.{Done, Fate, gets, waits, reply_in, waiting_in, replies, still_waiting, without_path, closes, closed, gives_up, answered, waits_for, fails, is_given, idle, joined, unasked, is_asked, admitted, judge, judged, query_on, delivered, verdict_on}
-use Rattle.forwarder_core.specs.Next.{closing, with_reply, with_replies}
-use Rattle.forwarder_core.specs.Explains.{Each}
-use Rattle.forwarder_core.proofs.Listed.{query_on-is}
+use Rattle.forwarder_core.specs.State.{Waiting, State}
+use Rattle.outstanding.specs.Lists.{of_question, on_path as ask_on, without_path}
+use Rattle.outstanding.specs.Values.{Ask}
+use Rattle.forwarder_core.specs.Row.{Done, Fate, gets, waits, reply_in, waiting_in, replies, still_waiting, closes, closed, gives_up, answered, waits_for, fails, is_given, idle, judge, judged, delivered, verdict_on, Happens, HandsOctets, effective, Row}
+use Rattle.forwarder_core.specs.declared.next.Change.TheVariants.{Nothing}
+use Rattle.forwarder_core.specs.declared.next.Next.{Next}
+use Rattle.forwarder_core.specs.Next.{closing, next_of, CanChange, IsDecided, IsDecidedQuietly, IsOutcome, with_reply, with_replies}
+use Rattle.forwarder_core.proofs.Listed.{ask_on-is}
 use Rattle.forwarder_core.proofs.Judging.{unread_is_stranger}
 
 -- ---- closing a query
@@ -48,21 +53,21 @@ left_by_filter q fate frees [] = refl
 left_by_filter q fate frees (x ∷ xs) =
     (λ i. cons_option (frees x i) (left_by_filter q fate frees xs i)) ∙ freed_one (waits_for q x) x (filter (λ y. not (waits_for q y)) xs)
 
-always : (queries : List OpenQuery) → Each (λ a. Unit {0}) queries
+always : (queries : List Ask) → AllByRecursion (λ a. Unit {0}) queries
 always [] = tt
 always (a ∷ queries) = (tt, always queries)
 
-pub closed_is : (n : ℕ) (path : Path) (s : State) (a : OpenQuery) (fate : Waiting → Fate) (actions : List Action) → query_on path s.queries ≡ Some a → actions ≡ with_replies fate (closes a.path ∷ []) s.waiting → Frees a.question fate
-    → record { actions = actions; state = closing n path s (query_on path s.queries) } ≡ closed n a fate s
+pub closed_is : (n : ℕ) (path : Path) (s : State) (a : Ask) (fate : Waiting → Fate) (actions : List Action) → ask_on path s.asks ≡ Some a → actions ≡ with_replies fate (closes a.path ∷ []) s.waiting → Frees a.question fate
+    → record { actions = actions; state = closing n path s (ask_on path s.asks) } ≡ closed n a fate s
 closed_is n path s a fate actions on told frees =
     (λ i. record { actions = (told ∙ with_replies-is fate (closes a.path ∷ []) s.waiting) i; state = closing n path s (on i) })
     ∙ (λ i. record {
       actions = closes a.path ∷ replies fate s.waiting;
-      state = record { queries = without_path ((sym path_is) i) s.queries; waiting = (sym (left_by_filter a.question fate frees s.waiting)) i; moment = n };
+      state = record { asks = without_path ((sym path_is) i) s.asks; waiting = (sym (left_by_filter a.question fate frees s.waiting)) i; moment = n };
     })
   where
     path_is : a.path ≡ path
-    path_is = (query_on-is (λ b. Unit {0}) path s.queries a on (always s.queries)).0
+    path_is = (ask_on-is (λ b. Unit {0}) path s.asks a on (always s.asks)).0
 
 one_fate : (t : Bool) (a : Action) (x : Waiting) → waiting_in (cond t (gets a) (waits x)) ≡ cond t None (Some x)
 one_fate true a x = refl
@@ -74,30 +79,42 @@ fails_frees why q = λ x. one_fate (waits_for q x) (gives_up why x) x
 pub given_frees : (n : ℕ) (o : Held) (q : Question) → Frees q (is_given n o q)
 given_frees n o q = λ x. one_fate (waits_for q x) (answered n o x) x
 
--- ---- a question for which there is room
+-- ---- what was decided
 
-pub joined_is : (c : Config) (n : ℕ) (words : List ℕ) (x : Waiting) (route : ℕ) (s : State) (d : Done) → is_asked x.question s.queries ≡ true → d ≡ joined n x s → d ≡ admitted c n words x route s
-joined_is c n words x route s d asked is = is ∙ sym (cond-true (is_asked x.question s.queries) _ _ asked)
+pub fits_at : {A : Type 0} (r : Result (Next A) AllocError) (c : Config) (s : State) → IfOk r (λ next. (n : ℕ) → CanChange c n s next.change) → (m : ℕ) → IfOk r (λ next. CanChange c m s next.change)
+fits_at r c s all m = IfOk-weaker r _ _ (λ next e. e m) all
 
-pub unasked_is : (c : Config) (n : ℕ) (words : List ℕ) (x : Waiting) (route : ℕ) (s : State) (d : Done) → is_asked x.question s.queries ≡ false → d ≡ unasked c n words x route s → d ≡ admitted c n words x route s
-unasked_is c n words x route s d asked is = is ∙ sym (cond-false (is_asked x.question s.queries) _ _ asked)
+-- an outcome that is what was decided
+pub row_is : {A : Type 0} (c : Config) (s s' : State) (now n : ℕ) (words : List ℕ) (e : Event) (d : Option (Next A)) (next : Next A) (o : Outcome) → n ≡ effective now s → HandsOctets e → IsDecided c n words s e d → d ≡ Some next
+    → IsOutcome (next_of n s next) o s' → Row c s (record { now = now; words = words; event = e }) o s'
+row_is {A} c s s' now n words e d next o moment octets decided is done =
+    let happens : Happens c n words s e (next_of n s next) = subst (IsDecided c n words s e) is decided in
+    record {
+      octets = octets;
+      happens = subst (λ (m : ℕ). Happens c m words s e (record { actions = o.actions; state = s' })) moment (subst (Happens c n words s e) (sym done.done) happens);
+      unkept = done.unkept;
+      more = done.more;
+    }
+
+pub quiet_at : {A : Type 0} (d : Option (Next A)) (next : Next A) → d ≡ Some next → IsDecidedQuietly {A = A} (Ok d) → next.change ≡ Nothing
+quiet_at {A} d next is quiet = subst (λ (r : Option (Next A)). IsDecidedQuietly {A = A} (Ok r)) is quiet
 
 -- ---- a delivery
 
-pub idle_unlisted : (c : Config) (n : ℕ) (from : Peer) (octets : List ℕ) (s : State) (r : Option OpenQuery) (d : Done) → r ≡ None → d ≡ idle n s → d ≡ delivered c n from octets s r
+pub idle_unlisted : (c : Config) (n : ℕ) (from : Peer) (octets : List ℕ) (s : State) (r : Option Ask) (d : Done) → r ≡ None → d ≡ idle n s → d ≡ delivered c n from octets s r
 idle_unlisted c n from octets s r d none is = is ∙ sym (ap (delivered c n from octets s) none)
 
-pub idle_late : (c : Config) (n : ℕ) (from : Peer) (octets : List ℕ) (s : State) (r : Option OpenQuery) (a : OpenQuery) (d : Done) → r ≡ Some a → nat_lt n (a.asked + c.limits.ask_ms) ≡ false → d ≡ idle n s → d ≡ delivered c n from octets s r
+pub idle_late : (c : Config) (n : ℕ) (from : Peer) (octets : List ℕ) (s : State) (r : Option Ask) (a : Ask) (d : Done) → r ≡ Some a → nat_lt n (a.asked + c.limits.ask_ms) ≡ false → d ≡ idle n s → d ≡ delivered c n from octets s r
 idle_late c n from octets s r a d on late is = is ∙ sym (ap (delivered c n from octets s) on ∙ cond-false (nat_lt n (a.asked + c.limits.ask_ms)) _ _ late)
 
-pub judged_is : (c : Config) (n : ℕ) (from : Peer) (octets : List ℕ) (s : State) (r : Option OpenQuery) (a : OpenQuery) (d : Done) → r ≡ Some a → nat_lt n (a.asked + c.limits.ask_ms) ≡ true → d ≡ judged c n a octets s (judge a from octets) → d ≡ delivered c n from octets s r
+pub judged_is : (c : Config) (n : ℕ) (from : Peer) (octets : List ℕ) (s : State) (r : Option Ask) (a : Ask) (d : Done) → r ≡ Some a → nat_lt n (a.asked + c.limits.ask_ms) ≡ true → d ≡ judged c n a octets s (judge a from octets) → d ≡ delivered c n from octets s r
 judged_is c n from octets s r a d on live is = is ∙ sym (ap (delivered c n from octets s) on ∙ cond-true (nat_lt n (a.asked + c.limits.ask_ms)) _ _ live)
 
-pub verdict_is : (c : Config) (n : ℕ) (from : Peer) (octets : List ℕ) (r : Option OpenQuery) (a : OpenQuery) → r ≡ Some a → nat_lt n (a.asked + c.limits.ask_ms) ≡ true → verdict_on c n from octets r ≡ judge a from octets
+pub verdict_is : (c : Config) (n : ℕ) (from : Peer) (octets : List ℕ) (r : Option Ask) (a : Ask) → r ≡ Some a → nat_lt n (a.asked + c.limits.ask_ms) ≡ true → verdict_on c n from octets r ≡ judge a from octets
 verdict_is c n from octets r a on live = ap (verdict_on c n from octets) on ∙ cond-true (nat_lt n (a.asked + c.limits.ask_ms)) _ _ live
 
 -- a whole message has a first question
-pub whole_is_viewed : (a : OpenQuery) (from : Peer) (octets : List ℕ) → judge a from octets ≡ Whole → IsOk (first_question octets)
+pub whole_is_viewed : (a : Ask) (from : Peer) (octets : List ℕ) → judge a from octets ≡ Whole → IsOk (first_question octets)
 whole_is_viewed a from octets whole = by (first_question octets) refl
   where
     by : (r : Result Question Fault) → first_question octets ≡ r → IsOk r

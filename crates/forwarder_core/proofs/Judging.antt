@@ -10,9 +10,10 @@ use Rattle.dns_message.specs.Messages.{first_question, message_of, QuestionIs, I
 use Rattle.dns_message.proofs.WholeLaws.{of_spelled, spelled_by}
 use Rattle.suffix_routes.specs.declared.peer.Peer.{Peer}
 use Rattle.forwarder_core.specs.declared.judge.Verdict.TheVariants.{Stranger, Malformed, Whole}
-use Rattle.forwarder_core.specs.Names.{same_name, same_question}
+use Rattle.forwarder_core.specs.Names.{same_name}
+use Rattle.dns_message.specs.Questions.{same_question}
+use Rattle.outstanding.specs.Values.{Ask}
 use Rattle.forwarder_core.specs.Messages.{question_read, one_question}
-use Rattle.forwarder_core.specs.State.{OpenQuery}
 use Rattle.forwarder_core.specs.Row.{asks_this, matches, judged_whole, judge}
 use Rattle.forwarder_core.proofs.Names.{are_same, is-same_name}
 
@@ -54,7 +55,7 @@ always_none true = refl
 always_none false = refl
 
 -- no first question, no match
-pub unread_is_stranger : (a : OpenQuery) (from : Peer) (octets : List ℕ) (fault : Fault) → first_question octets ≡ Err fault → judge a from octets ≡ Stranger
+pub unread_is_stranger : (a : Ask) (from : Peer) (octets : List ℕ) (fault : Fault) → first_question octets ≡ Err fault → judge a from octets ≡ Stranger
 unread_is_stranger a from octets fault e = cond-false (matches a from octets) _ _ (and_right _ (asks_this a.question (one_question octets)) (ap (asks_this a.question) none))
   where
     none : one_question octets ≡ None

@@ -7,6 +7,8 @@ pub mod Short
 pub mod Messages
 pub mod SetLaws
 pub mod Listed
+pub mod Asking
+pub mod Keeping
 pub mod Cases
 pub mod Judging
 pub mod Deciding

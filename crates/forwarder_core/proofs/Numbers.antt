@@ -6,7 +6,7 @@ use Rattle.std.proofs.lemmas.List.Elements.{filter-append}
 use Rattle.forwarder_core.specs.Values.{Step}
 use Rattle.forwarder_core.specs.History.{is_restart, takes_question}
 use Rattle.forwarder_core.specs.Sound.{among, unanswered}
-use Rattle.forwarder_core.specs.Explains.{Each}
+use Rattle.std.specs.List.{AllByRecursion}
 use Rattle.forwarder_core.proofs.Fates.{Each-append, Each-weaker, Distinct}
 
 among-append : (i : ℕ) (is js : List ℕ) → among i (is ++ js) ≡ (among i is || among i js)
@@ -47,7 +47,7 @@ unanswered-more (s ∷ past) os taken = elim (is_restart s) as (λ v. cond v [] 
     one : List ℕ
     one = cond (takes_question s.handed.event && not (among (length past) taken)) (length past ∷ []) []
 
-Distinct-push : (is : List ℕ) (n : ℕ) → Distinct is → Each (λ i. i < n) is → Distinct (is ++ n ∷ [])
+Distinct-push : (is : List ℕ) (n : ℕ) → Distinct is → AllByRecursion (λ i. i < n) is → Distinct (is ++ n ∷ [])
 Distinct-push [] n d below = (tt, tt)
 Distinct-push (i ∷ is) n d below =
     let other : (n ≡ i) → ⊥ = λ e. let lt : i < n = below.0 in omega (arith, lt, e) in
@@ -55,17 +55,17 @@ Distinct-push (i ∷ is) n d below =
 
 -- they are numbers of steps, that own no reply, and differ
 pub record AreFree (past : List Step) (taken : List ℕ) : Type 0 where
-  pub below : Each (λ i. i < length past) (unanswered past taken)
-  pub not_taken : Each (λ i. among i taken ≡ false) (unanswered past taken)
+  pub below : AllByRecursion (λ i. i < length past) (unanswered past taken)
+  pub not_taken : AllByRecursion (λ i. among i taken ≡ false) (unanswered past taken)
   pub distinct : Distinct (unanswered past taken)
 
 abbrev Free : ℕ → List ℕ → List ℕ → Type 0
-Free n taken is = Each (λ i. i < n) is × Each (λ i. among i taken ≡ false) is × Distinct is
+Free n taken is = AllByRecursion (λ i. i < n) is × AllByRecursion (λ i. among i taken ≡ false) is × Distinct is
 
 free_one : (n : ℕ) (taken is : List ℕ) (b t : Bool) → among n taken ≡ t → Free n taken is → Free (suc n) taken (is ++ cond (b && not t) (n ∷ []) [])
 free_one n taken is b t e h = cases b t e
   where
-    up : Each (λ i. i < suc n) is
+    up : AllByRecursion (λ i. i < suc n) is
     up = Each-weaker (λ i. i < n) (λ i. i < suc n) (λ i l. omega (arith, l)) is h.0
 
     none : Free (suc n) taken (is ++ [])
@@ -102,11 +102,11 @@ numbers_left s past taken run asks =
     append_nil [] = refl
     append_nil (x ∷ xs) = ap (λ ys. x ∷ ys) (append_nil xs)
 
-below_taken : (n : ℕ) (is : List ℕ) → Each (λ i. i < n) is → among n is ≡ false
+below_taken : (n : ℕ) (is : List ℕ) → AllByRecursion (λ i. i < n) is → among n is ≡ false
 below_taken n [] h = refl
 below_taken n (i ∷ is) h = ap (λ v. v || among n is) (ne_eqb i n (λ e. let lt : i < n = h.0 in omega (arith, lt, e))) ∙ below_taken n is h.1
 
-filter_all : {X : Type 0} (f : X → Bool) (xs : List X) → Each (λ x. f x ≡ true) xs → filter f xs ≡ xs
+filter_all : {X : Type 0} (f : X → Bool) (xs : List X) → AllByRecursion (λ x. f x ≡ true) xs → filter f xs ≡ xs
 filter_all f [] h = refl
 filter_all f (x ∷ xs) h = cond-true (f x) _ _ h.0 ∙ ap (λ ys. x ∷ ys) (filter_all f xs h.1)
 
@@ -136,7 +136,7 @@ numbers_at_once s past taken run asks =
     append_nil (x ∷ xs) = ap (λ ys. x ∷ ys) (append_nil xs)
 
 -- a question that waits
-pub numbers_waiting : (s : Step) (past : List Step) (taken : List ℕ) → is_restart s ≡ false → takes_question s.handed.event ≡ true → Each (λ i. i < length past) taken
+pub numbers_waiting : (s : Step) (past : List Step) (taken : List ℕ) → is_restart s ≡ false → takes_question s.handed.event ≡ true → AllByRecursion (λ i. i < length past) taken
     → unanswered (s ∷ past) taken ≡ unanswered past taken ++ length past ∷ []
 numbers_waiting s past taken run asks below =
     cond-false (is_restart s) _ _ run

@@ -12,13 +12,14 @@ use Rattle.dns_message.specs.Messages.{message_at, first_question}
 use Rattle.dns_message.specs.Writing.{◌▹◌, each, name_text, data_text, with_length, written}
 use Rattle.forwarder_core.specs.declared.values.Client.{Client}
 use Rattle.forwarder_core.specs.declared.values.Client.TheVariants.{Udp as FromUdp}
-use Rattle.forwarder_core.specs.declared.values.Path.TheVariants.{Udp}
+use Rattle.outstanding.specs.declared.ask.Path.TheVariants.{Udp}
 use Rattle.forwarder_core.specs.declared.values.Why.TheVariants.{Answered, BadFormat, BadOpcode, NotServed}
 use Rattle.forwarder_core.specs.Values.{from_client, delivery, restart, ask_udp, close_udp, send_reply, Step}
 use Rattle.forwarder_core.specs.History.{moment_at, listed}
 use Rattle.forwarder_core.specs.Sound.{unanswered}
 use Rattle.forwarder_core.specs.State.{State}
-use Rattle.forwarder_core.specs.Row.{start, idle, at_once, requested, query_on, delivered}
+use Rattle.forwarder_core.specs.Row.{start, idle, at_once, requested, delivered}
+use Rattle.outstanding.specs.Lists.{on_path as ask_on}
 
 abbrev server : Peer
 server = record { ip = 192 ∷ 0 ∷ 2 ∷ 1 ∷ []; port = 53 }
@@ -100,7 +101,7 @@ opt_query = 0 ∷ 56 ∷ 1 ∷ 0 ∷ 0 ∷ 1 ∷ 0 ∷ 0 ∷ 0 ∷ 0 ∷ 0 ∷ 0
 
 abbrev after_question : State
 after_question = record {
-  queries = record { question = record { name = (97 ∷ []) ∷ (101 ∷ 120 ∷ 97 ∷ 109 ∷ 112 ∷ 108 ∷ 101 ∷ []) ∷ []; kind = 1; class = 1 }; route = 0; server = server; path = Udp 1032; id = 8; asked = 1000 } ∷ [];
+  asks = record { question = record { name = (97 ∷ []) ∷ (101 ∷ 120 ∷ 97 ∷ 109 ∷ 112 ∷ 108 ∷ 101 ∷ []) ∷ []; kind = 1; class = 1 }; route = 0; server = 0; peer = server; used = 1; path = Udp 1032; id = 8; asked = 1000 } ∷ [];
   waiting = record { client = client; header = record { id = 4660; qr = false; opcode = 0; aa = false; tc = false; rd = true; ra = false; z = 0; rcode = 0; counts = 1 ∷ 0 ∷ 0 ∷ 0 ∷ [] }; question = record { name = (97 ∷ []) ∷ (101 ∷ 120 ∷ 97 ∷ 109 ∷ 112 ∷ 108 ∷ 101 ∷ []) ∷ []; kind = 1; class = 1 } } ∷ [];
   moment = 1000;
 }
@@ -114,43 +115,43 @@ unfolding written ◌▹◌ each name_text first_question question_at octets_end
 asks = refl
 
 -- its reply, and the answer
-answers : delivered config 1020 server reply_text after_question (query_on (Udp 1032) after_question.queries)
-    ≡ record { actions = close_udp 1032 ∷ send_reply client answer Answered ∷ []; state = record { queries = []; waiting = []; moment = 1020 } }
+answers : delivered config 1020 server reply_text after_question (ask_on (Udp 1032) after_question.asks)
+    ≡ record { actions = close_udp 1032 ∷ send_reply client answer Answered ∷ []; state = record { asks = []; waiting = []; moment = 1020 } }
 unfolding written ◌▹◌ each name_text data_text with_length first_question question_at octets_end name_within walk_in name_step message_at header_of counted record_at data_at octets_within parts_at shape_of
 answers = refl
 
 -- forged replies: another identifier, path, server, port or question
-forged_identifier : delivered config 1001 server other_identifier after_question (query_on (Udp 1032) after_question.queries) ≡ idle 1001 after_question
+forged_identifier : delivered config 1001 server other_identifier after_question (ask_on (Udp 1032) after_question.asks) ≡ idle 1001 after_question
 unfolding written ◌▹◌ each name_text data_text with_length first_question question_at octets_end name_within walk_in name_step message_at header_of counted record_at data_at octets_within parts_at shape_of
 forged_identifier = refl
 
-forged_path : delivered config 1002 server reply_text after_question (query_on (Udp 1033) after_question.queries) ≡ idle 1002 after_question
+forged_path : delivered config 1002 server reply_text after_question (ask_on (Udp 1033) after_question.asks) ≡ idle 1002 after_question
 forged_path = refl
 
-forged_server : delivered config 1003 other_server reply_text after_question (query_on (Udp 1032) after_question.queries) ≡ idle 1003 after_question
+forged_server : delivered config 1003 other_server reply_text after_question (ask_on (Udp 1032) after_question.asks) ≡ idle 1003 after_question
 unfolding written ◌▹◌ each name_text data_text with_length first_question question_at octets_end name_within walk_in name_step message_at header_of counted record_at data_at octets_within parts_at shape_of
 forged_server = refl
 
-forged_port : delivered config 1004 other_port reply_text after_question (query_on (Udp 1032) after_question.queries) ≡ idle 1004 after_question
+forged_port : delivered config 1004 other_port reply_text after_question (ask_on (Udp 1032) after_question.asks) ≡ idle 1004 after_question
 unfolding written ◌▹◌ each name_text data_text with_length first_question question_at octets_end name_within walk_in name_step message_at header_of counted record_at data_at octets_within parts_at shape_of
 forged_port = refl
 
-forged_question : delivered config 1005 server other_type after_question (query_on (Udp 1032) after_question.queries) ≡ idle 1005 after_question
+forged_question : delivered config 1005 server other_type after_question (ask_on (Udp 1032) after_question.asks) ≡ idle 1005 after_question
 unfolding written ◌▹◌ each name_text data_text with_length first_question question_at octets_end name_within walk_in name_step message_at header_of counted record_at data_at octets_within parts_at shape_of
 forged_question = refl
 
 -- the reply spells the name in its own way: the question comes back as the client spelled it, the set as the server did
-letter_case : delivered config 1020 server upper_reply after_question (query_on (Udp 1032) after_question.queries)
-    ≡ record { actions = close_udp 1032 ∷ send_reply client upper_answer Answered ∷ []; state = record { queries = []; waiting = []; moment = 1020 } }
+letter_case : delivered config 1020 server upper_reply after_question (ask_on (Udp 1032) after_question.asks)
+    ≡ record { actions = close_udp 1032 ∷ send_reply client upper_answer Answered ∷ []; state = record { asks = []; waiting = []; moment = 1020 } }
 unfolding written ◌▹◌ each name_text data_text with_length first_question question_at octets_end name_within walk_in name_step message_at header_of counted record_at data_at octets_within parts_at shape_of
 letter_case = refl
 
 -- the query was live until 2499
-late : delivered config 2500 server reply_text after_question (query_on (Udp 1032) after_question.queries) ≡ idle 2500 after_question
+late : delivered config 2500 server reply_text after_question (ask_on (Udp 1032) after_question.asks) ≡ idle 2500 after_question
 late = refl
 
 -- after a restart the reply matches nothing, and the same question is asked anew
-restarted : delivered config 1020 server reply_text start (query_on (Udp 1032) start.queries) ≡ idle 1020 start
+restarted : delivered config 1020 server reply_text start (ask_on (Udp 1032) start.asks) ≡ idle 1020 start
 restarted = refl
 
 asks_anew : (requested config 1030 (2097184 ∷ []) client question_again start).actions ≡ ask_udp 1056 server query_again ∷ []

@@ -1,4 +1,4 @@
--- Each row leaves explained what was explained.
+-- AllByRecursion row leaves explained what was explained.
 use Rattle.std.proofs.Common.{◌≡◌, ◌⊎◌, ℕ, ◌+◌, ◌^◌, ◌<◌, ◌≤◌, List, [], ◌∷◌, ◌++◌, length, Bool, true, false, refl, sym, ap, ◌∙◌, subst, inl, inr, ⊎_elim, arith, Option, Some, None}
 use Rattle.std.specs.Prelude.{option_map, ◌==◌, ◌&&◌, ◌||◌, min, max, nat_le, nat_lt, Result, Ok, Err}
 use Rattle.std.specs.List.{concat}
@@ -13,14 +13,18 @@ use Rattle.suffix_routes.specs.declared.peer.Peer.{Peer}
 use Rattle.suffix_routes.specs.Values.{Config}
 use Rattle.forwarder_core.specs.declared.values.Client.{Client}
 use Rattle.forwarder_core.specs.declared.values.Client.TheVariants.{Udp as FromUdp, Tcp as FromTcp}
-use Rattle.forwarder_core.specs.declared.values.Path.{Path}
-use Rattle.forwarder_core.specs.declared.values.Path.TheVariants.{Udp}
+use Rattle.outstanding.specs.declared.ask.Path.{Path}
+use Rattle.outstanding.specs.declared.ask.Path.TheVariants.{Udp}
 use Rattle.forwarder_core.specs.declared.values.Why.{Why}
 use Rattle.forwarder_core.specs.declared.values.Why.TheVariants.{Answered, BadFormat, BadOpcode, NotServed, NoRoute, QuestionsFull, InquiriesFull, NoPort, Exhausted, TooLarge}
 use Rattle.forwarder_core.specs.declared.judge.Verdict.{Verdict}
 use Rattle.forwarder_core.specs.declared.judge.Verdict.TheVariants.{Stranger, Truncated, Failed, Malformed, Whole}
 use Rattle.forwarder_core.specs.Values.{Event, from_client, delivery, path_failed, tick, restart, Action, send_reply, Handed, Outcome, Step}
-use Rattle.forwarder_core.specs.Names.{same_question, same_peer, route_of}
+use Rattle.forwarder_core.specs.Names.{same_peer, route_of}
+use Rattle.dns_message.specs.Questions.{same_question}
+use Rattle.outstanding.specs.Draws.{udp_draw}
+use Rattle.outstanding.specs.Lists.{of_question, on_path as ask_on}
+use Rattle.outstanding.specs.Values.{Ask}
 use Rattle.dns_message.specs.Header.{header_in}
 use Rattle.forwarder_core.specs.Messages.{one_question, AreOctets}
 use Rattle.forwarder_core.specs.Pieces.{Piece, Held, Walk, is_lame, walk}
@@ -30,8 +34,8 @@ use Rattle.forwarder_core.specs.Answers.{full_answer, truncated, sized_for, Chai
 use Rattle.forwarder_core.specs.Queries.{closes_path}
 use Rattle.forwarder_core.specs.Causes.{is_unserved}
 use Rattle.forwarder_core.specs.Sound.{unanswered, error_response, RightReply}
-use Rattle.forwarder_core.specs.State.{OpenQuery, Waiting, State}
-use Rattle.forwarder_core.specs.Row.{Done, gets, waits, start, idle, at_once, replies, gives_up, answered_over, answered, waits_for, fails, is_given, asks, query_by, udp_draw, server_on, opened, joined, unasked, is_asked, admitted, routed, asked_for, requested, asks_this, matches, judged_whole, judge, given_up, end_piece, ended, read_whole, judged, query_on, delivered, Happens, HandsOctets, Row}
+use Rattle.forwarder_core.specs.State.{Waiting, State}
+use Rattle.forwarder_core.specs.Row.{Done, gets, waits, start, idle, at_once, replies, gives_up, answered_over, answered, waits_for, fails, is_given, asks, query_by, server_on, opened, joined, unasked, join_or_ask, routed, asked_for, requested, asks_this, matches, judged_whole, judge, given_up, end_piece, ended, read_whole, judged, delivered, Happens, HandsOctets, Row}
 use Rattle.forwarder_core.specs.Explains.{shown, Waits, IsReadable, Explains}
 use Rattle.forwarder_core.proofs.Fates.{Fated}
 use Rattle.forwarder_core.proofs.Since.{carried_since}
@@ -39,11 +43,11 @@ use Rattle.forwarder_core.proofs.Names.{are_same, same_question-sym, same_peer-t
 use Rattle.forwarder_core.proofs.QueryText.{query_reads}
 use Rattle.forwarder_core.proofs.Messages.{spells_read, read_spells, read_header}
 use Rattle.forwarder_core.proofs.SetLaws.{EndsAtSet, ends_at_set, end_piece_is, end_piece_at, set_ends, set_route}
-use Rattle.forwarder_core.proofs.Listed.{closes_it, on_path-shown, query_on-is, shown_from, drawn-shown, drawn_small}
+use Rattle.forwarder_core.proofs.Listed.{closes_it, on_path-shown, ask_on-is, shown_from, drawn-shown, drawn_fresh, IsFresh, none_there}
 use Rattle.forwarder_core.proofs.Cases.{OwnsReply, step_of, closing_step, waits_later, closed_explained, idle_explained, at_once_explained, opened_explained, joined_explained, restart_explained}
 
 -- what a verdict rests on
-judged_parts : (from : Peer) (octets : List ℕ) (a : OpenQuery) → judge a from octets ≡ Whole
+judged_parts : (from : Peer) (octets : List ℕ) (a : Ask) → judge a from octets ≡ Whole
     → (matches a from octets ≡ true) × ((header_in octets).tc ≡ false) × ((((header_in octets).rcode == 0) || ((header_in octets).rcode == 3)) ≡ true)
 judged_parts from octets a e = by (matches a from octets) refl (header_in octets).tc refl (((header_in octets).rcode == 0) || ((header_in octets).rcode == 3)) refl
   where
@@ -55,13 +59,13 @@ judged_parts from octets a e = by (matches a from octets) refl (header_in octets
     by true m false tc true rc = (m, tc, rc)
 
 -- the parts of a match, as facts
-pub record MatchFacts (a : OpenQuery) (from : Peer) (octets : List ℕ) : Type 0 where
+pub record MatchFacts (a : Ask) (from : Peer) (octets : List ℕ) : Type 0 where
   pub long_enough : 12 ≤ length octets
   pub not_too_long : length octets ≤ 65535
   pub is_reply : (header_in octets).qr ≡ true
   pub opcode : (header_in octets).opcode ≡ 0
   pub identifier : (header_in octets).id ≡ a.id
-  pub server : from ≡ a.server
+  pub server : from ≡ a.peer
   pub question : Question
   pub reads : one_question octets ≡ Some question
   pub same : same_question question a.question ≡ true
@@ -70,11 +74,11 @@ asked_this : (q : Question) (o : Option Question) → asks_this q o ≡ true →
 asked_this q None e = absurd (false≢true e)
 asked_this q (Some other) e = (other, refl, e)
 
-match_facts : (a : OpenQuery) (from : Peer) (octets : List ℕ) → matches a from octets ≡ true → MatchFacts a from octets
+match_facts : (a : Ask) (from : Peer) (octets : List ℕ) → matches a from octets ≡ true → MatchFacts a from octets
 match_facts a from octets e =
     let h = header_in octets in
-    let six = and_parts (nat_le 12 (length octets) && nat_le (length octets) 65535 && h.qr && (h.opcode == 0) && (h.id == a.id) && same_peer from a.server) (asks_this a.question (one_question octets)) e in
-    let five = and_parts (nat_le 12 (length octets) && nat_le (length octets) 65535 && h.qr && (h.opcode == 0) && (h.id == a.id)) (same_peer from a.server) six.0 in
+    let six = and_parts (nat_le 12 (length octets) && nat_le (length octets) 65535 && h.qr && (h.opcode == 0) && (h.id == a.id) && same_peer from a.peer) (asks_this a.question (one_question octets)) e in
+    let five = and_parts (nat_le 12 (length octets) && nat_le (length octets) 65535 && h.qr && (h.opcode == 0) && (h.id == a.id)) (same_peer from a.peer) six.0 in
     let four = and_parts (nat_le 12 (length octets) && nat_le (length octets) 65535 && h.qr && (h.opcode == 0)) (h.id == a.id) five.0 in
     let three = and_parts (nat_le 12 (length octets) && nat_le (length octets) 65535 && h.qr) (h.opcode == 0) four.0 in
     let two = and_parts (nat_le 12 (length octets) && nat_le (length octets) 65535) h.qr three.0 in
@@ -86,7 +90,7 @@ match_facts a from octets e =
       is_reply = two.1;
       opcode = eqb-true h.opcode 0 three.1;
       identifier = eqb-true h.id a.id four.1;
-      server = same_peer-true from a.server five.1;
+      server = same_peer-true from a.peer five.1;
       question = this.0;
       reads = this.1;
       same = this.2;
@@ -134,8 +138,8 @@ module _ (c : Config) (past : List Step) (w : List (List ℕ)) (s : State) (x : 
         never (inl f) = failure f.0
         never (inr f) = f
 
-    queries_number : length (listed past) ≡ length s.queries
-    queries_number = sym (ap length x.queries) ∙ length-map s.queries shown
+    queries_number : length (listed past) ≡ length s.asks
+    queries_number = sym (ap length x.queries) ∙ length-map s.asks shown
 
     waiting_number : length s.waiting ≡ length (unanswered past (concat w))
     waiting_number = sym (ap length x.waiting) ∙ length-map x.numbers_of (λ z. z.0) ∙ sym (length-map x.numbers_of (λ z. z.1)) ∙ ap length x.numbers
@@ -147,48 +151,54 @@ module _ (c : Config) (past : List Step) (w : List (List ℕ)) (s : State) (x : 
       waits_now : (actions : List Action) → Waits c (step actions ∷ past) y (length past)
       waits_now actions = record { asked = step actions; before = past; in_era = inl refl; number = refl; request = request; sent = (refl, refl); taken = takes; reads = reads; header_is = refl }
 
-      opened_row : (route : ℕ) → route_of c q.name ≡ Some route → length s.waiting + 1 ≤ c.limits.questions → length s.queries + 1 ≤ c.limits.inquiries → (draw : Option (ℕ × ℕ)) → udp_draw words s.queries ≡ draw → P (opened n y s (query_by c n q route draw))
-      opened_row route route_is room room_asked None none = refused _ NoPort takes (λ e. cc) (
+      opened_row : (route : ℕ) → route_of c q.name ≡ Some route → length s.waiting + 1 ≤ c.limits.questions → length s.asks + 1 ≤ c.limits.inquiries → of_question q s.asks ≡ None → (draw : Option (ℕ × ℕ)) → udp_draw words s.asks None ≡ draw → P (opened n y s (query_by c n q route draw))
+      opened_row route route_is room room_asked new None none = refused _ NoPort takes (λ e. cc) (
         (q, reads, refl),
-        ap (λ ls. Rattle.forwarder_core.specs.Queries.drawn words ls (gives_up NoPort y ∷ [])) (sym x.queries) ∙ drawn-shown words s.queries (gives_up NoPort y ∷ []) (λ p. refl) ∙ none,
+        ap (λ ls. Rattle.forwarder_core.specs.Queries.drawn words ls (gives_up NoPort y ∷ [])) (sym x.queries) ∙ drawn-shown words s.asks (gives_up NoPort y ∷ []) (λ p. refl) ∙ none,
       )
-      opened_row route route_is room room_asked (Some draw) is = (
+      opened_row route route_is room room_asked new (Some draw) is = (
         [],
         opened_explained c past w s (handed (from_client client request)) unkept more n y a x refl takes (λ ps k. k.4.matches.delivered) moment refl
             (record { reads = text.0; identifier = text.1; on_route = route_is })
             (waits_now (asks a ∷ []))
             room
-            room_asked,
+            room_asked
+            (none_there draw.1 s.asks fresh.free)
+            new
+            ((draw.0, record { question = q; text = refl; reads = text.0 }, drawn_is), tt),
       )
         where
-          a : OpenQuery
-          a = record { question = q; route = route; server = server_on c route; path = Udp draw.1; id = draw.0; asked = n }
+          a : Ask
+          a = record { question = q; route = route; server = 0; peer = server_on c route; used = 1; path = Udp draw.1; id = draw.0; asked = n }
+
+          fresh : IsFresh s.asks draw.0 draw.1
+          fresh = drawn_fresh words s.asks draw.0 draw.1 is
+
+          drawn_is : Rattle.forwarder_core.specs.Queries.drawn words (listed past) (asks a ∷ []) ≡ Some (draw.0, draw.1)
+          drawn_is = ap (λ ls. Rattle.forwarder_core.specs.Queries.drawn words ls (asks a ∷ [])) (sym x.queries) ∙ drawn-shown words s.asks (asks a ∷ []) (λ p. refl) ∙ is
 
           text : Reads (written (Rattle.forwarder_core.specs.Queries.query_message draw.0 q)) q × ((header_in (written (Rattle.forwarder_core.specs.Queries.query_message draw.0 q))).id ≡ draw.0)
-          text = query_reads draw.0 request q are_octets reads (drawn_small words s.queries draw.0 draw.1 is)
+          text = query_reads draw.0 request q are_octets reads fresh.small
 
-      unasked_row : (route : ℕ) → route_of c q.name ≡ Some route → length s.waiting + 1 ≤ c.limits.questions → P (unasked c n words y route s)
-      unasked_row route is room =
-          cond_both (nat_le c.limits.inquiries (length s.queries)) _ _ P
-          (λ t. refused _ InquiriesFull takes (λ e. cc) ((q, reads, refl), (refl, queries_number ∙ is_full c.limits.inquiries (length s.queries) t x.few_queries)))
-          (λ f. opened_row route is room (has_room c.limits.inquiries (length s.queries) f) (udp_draw words s.queries) refl)
+      unasked_row : (route : ℕ) → route_of c q.name ≡ Some route → length s.waiting + 1 ≤ c.limits.questions → of_question q s.asks ≡ None → P (unasked c n words y route s)
+      unasked_row route is room new =
+          cond_both (nat_le c.limits.inquiries (length s.asks)) _ _ P
+          (λ t. refused _ InquiriesFull takes (λ e. cc) ((q, reads, refl), (refl, queries_number ∙ is_full c.limits.inquiries (length s.asks) t x.asks_are.few)))
+          (λ f. opened_row route is room (has_room c.limits.inquiries (length s.asks) f) new (udp_draw words s.asks None) refl)
 
-      unfilled_row : (route : ℕ) → route_of c q.name ≡ Some route → length s.waiting + 1 ≤ c.limits.questions
-          → P (admitted c n words y route s)
-      unfilled_row route is room =
-          cond_both (is_asked q s.queries) _ _ P
-          (λ t. (
-            [],
-            joined_explained c past w s (handed (from_client client request)) unkept more n y x refl takes (λ ps k. k.4.matches.delivered) moment (waits_now []) room,
-          ))
-          (λ f. unasked_row route is room)
+      room_row : (route : ℕ) → route_of c q.name ≡ Some route → length s.waiting + 1 ≤ c.limits.questions → (r : Option Ask) → of_question q s.asks ≡ r → P (join_or_ask c n words y route s r)
+      room_row route is room (Some a) asked = (
+        [],
+        joined_explained c past w s (handed (from_client client request)) unkept more n y x refl takes (λ ps k. k.4.matches.delivered) moment (waits_now []) room,
+      )
+      room_row route is room None new = unasked_row route is room new
 
       routed_row : (r : Option ℕ) → route_of c q.name ≡ r → P (routed c n words y s r)
       routed_row None none = refused _ NoRoute takes (λ e. cc) ((q, reads, refl), (refl, opcode, q, reads, served, none))
       routed_row (Some route) is =
           cond_both (nat_le c.limits.questions (length s.waiting)) _ _ P
           (λ t. refused _ QuestionsFull takes (λ e. cc) ((q, reads, refl), (refl, sym waiting_number ∙ is_full c.limits.questions (length s.waiting) t x.few)))
-          (λ f. unfilled_row route is (has_room c.limits.questions (length s.waiting) f))
+          (λ f. room_row route is (has_room c.limits.questions (length s.waiting) f) (of_question q s.asks) refl)
 
     asked_row : is_taken request ≡ true → (header_in request).opcode ≡ 0 → (r : Option Question) → one_question request ≡ r → P (asked_for c n words client (header_in request) s r)
     asked_row takes opcode None none = refused _ BadFormat takes (λ e. cc) (refl, (refl, opcode, λ q reads. let e : None ≡ Some q = sym none ∙ reads in absurd (cc)))
@@ -216,8 +226,8 @@ module _ (c : Config) (past : List Step) (w : List (List ℕ)) (s : State) (x : 
 
     -- what an accepted delivery has
     pub record IsHeard : Type 0 where
-      pub query : OpenQuery
-      pub on : query_on path s.queries ≡ Some query
+      pub query : Ask
+      pub on : ask_on path s.asks ≡ Some query
       pub live : nat_lt n (query.asked + c.limits.ask_ms) ≡ true
       pub whole : judge query from octets ≡ Whole
       pub message : Message
@@ -246,14 +256,14 @@ module _ (c : Config) (past : List Step) (w : List (List ℕ)) (s : State) (x : 
         octets_is : octets ≡ accepts.octets
         octets_is = of_query.delivered.2
 
-        at : (a : OpenQuery) × (query_on path s.queries ≡ Some a) × (shown a ≡ k.0)
-        at = shown_from (query_on path s.queries) k.0 (sym (on_path-shown path s.queries) ∙ ap (on_path path) x.queries ∙ ap (λ (p : Path). on_path p (listed past)) of_query.delivered.0 ∙ of_query.is_listed)
+        at : (a : Ask) × (ask_on path s.asks ≡ Some a) × (shown a ≡ k.0)
+        at = shown_from (ask_on path s.asks) k.0 (sym (on_path-shown path s.asks) ∙ ap (on_path path) x.queries ∙ ap (λ (p : Path). on_path p (listed past)) of_query.delivered.0 ∙ of_query.is_listed)
 
-        a : OpenQuery
+        a : Ask
         a = at.0
 
         readable : IsReadable c a
-        readable = (query_on-is (IsReadable c) path s.queries a at.1 x.readable).1
+        readable = (ask_on-is (IsReadable c) path s.asks a at.1 x.readable).1
 
         -- the query's text reads as one question
         question_is : k.1 ≡ a.question
@@ -291,7 +301,7 @@ module _ (c : Config) (past : List Step) (w : List (List ℕ)) (s : State) (x : 
             (ap (λ (o : List ℕ). (header_in o).qr) octets_is ∙ of_query.is_reply))
             (eq-eqb (header_in octets).opcode 0 (ap (λ (o : List ℕ). (header_in o).opcode) octets_is ∙ of_query.opcode)))
             (eq-eqb (header_in octets).id a.id (ap (λ (o : List ℕ). (header_in o).id) octets_is ∙ of_query.identifier ∙ ap (λ (q : Query). (header_in q.octets).id) (sym at.2) ∙ readable.identifier)))
-            (same_peer-is from a.server (of_query.delivered.1 ∙ ap (λ (q : Query). q.server) (sym at.2))))
+            (same_peer-is from a.peer (of_query.delivered.1 ∙ ap (λ (q : Query). q.server) (sym at.2))))
             (ap (asks_this a.question) (ap one_question octets_is ∙ of_query.reads) ∙ subst (λ (q : Question). same_question of_query.question q ≡ true) question_is of_query.same_question_as_query)
 
         piece : (p : Piece) × EndsAtSet c k.3 a.question a.route p
@@ -303,15 +313,15 @@ module _ (c : Config) (past : List Step) (w : List (List ℕ)) (s : State) (x : 
     nothing_more : (IsHeard → ⊥) → D (idle n s)
     nothing_more none = ([], idle_explained c past w s (handed (delivery path from octets)) unkept more n x refl refl (quiet [] none) moment)
 
-    module _ (a : OpenQuery) (on : query_on path s.queries ≡ Some a) where
+    module _ (a : Ask) (on : ask_on path s.asks ≡ Some a) where
       is_on : (a.path ≡ path) × IsReadable c a
-      is_on = query_on-is (IsReadable c) path s.queries a on x.readable
+      is_on = ask_on-is (IsReadable c) path s.asks a on x.readable
 
       same_query : (h : IsHeard) → h.query ≡ a
       same_query h = let one : Some h.query ≡ Some a = sym h.on ∙ on in let same : h.query ≡ a = cc in same
 
       listed_is : on_path a.path (listed past) ≡ Some (shown a)
-      listed_is = ap (λ (p : Path). on_path p (listed past)) is_on.0 ∙ ap (on_path path) (sym x.queries) ∙ on_path-shown path s.queries ∙ ap (option_map shown) on
+      listed_is = ap (λ (p : Path). on_path p (listed past)) is_on.0 ∙ ap (on_path path) (sym x.queries) ∙ on_path-shown path s.asks ∙ ap (option_map shown) on
 
       given_up_row : (IsHeard → ⊥) → D (given_up n a s)
       given_up_row none = closed_explained c past w s (handed (delivery path from octets)) unkept more n a (fails Exhausted a.question) x.carried x refl refl (λ q f. f) moment fates
@@ -488,7 +498,7 @@ module _ (c : Config) (past : List Step) (w : List (List ℕ)) (s : State) (x : 
       judged_row live Malformed is = given_up_row (λ h. let e : Malformed ≡ Whole = sym is ∙ ap (λ q. judge q from octets) (sym (same_query h)) ∙ h.whole in absurd (cc))
       judged_row live Whole is = whole_row live is (message_of octets) refl
 
-    delivery_row : (r : Option OpenQuery) → query_on path s.queries ≡ r → D (delivered c n from octets s r)
+    delivery_row : (r : Option Ask) → ask_on path s.asks ≡ r → D (delivered c n from octets s r)
     delivery_row None on = nothing_more (λ h. let e : Some h.query ≡ None = sym h.on ∙ on in absurd (cc))
     delivery_row (Some a) on =
         cond_both (nat_lt n (a.asked + c.limits.ask_ms)) _ _ D
@@ -499,7 +509,7 @@ module _ (c : Config) (past : List Step) (w : List (List ℕ)) (s : State) (x : 
 
   event_row : (e : Event) → HandsOctets e → (d : Done) → Happens c n words s e d → Explained e d.actions d.state
   event_row (from_client client request) are d h = subst (λ (y : Done). Explained (from_client client request) y.actions y.state) (sym h) (client_row client request are)
-  event_row (delivery path from octets) are d h = subst (λ (y : Done). Explained (delivery path from octets) y.actions y.state) (sym h) (delivery_row path from octets are (query_on path s.queries) refl)
+  event_row (delivery path from octets) are d h = subst (λ (y : Done). Explained (delivery path from octets) y.actions y.state) (sym h) (delivery_row path from octets are (ask_on path s.asks) refl)
   event_row (path_failed path) are d h = subst (λ (y : Done). Explained (path_failed path) y.actions y.state) (sym h) ([], idle_explained c past w s (handed (path_failed path)) unkept more n x refl refl (λ ps k. k.4.matches.delivered) moment)
   event_row tick are d h = subst (λ (y : Done). Explained tick y.actions y.state) (sym h) ([], idle_explained c past w s (handed tick) unkept more n x refl refl (λ ps k. k.4.matches.delivered) moment)
   event_row restart are d h = subst (λ (y : Done). Explained restart y.actions y.state) (sym h) ([], restart_explained c past w s (handed restart) unkept more x refl)
@@ -511,4 +521,4 @@ row_explained c past w s h o s' x r = event_row c past w s x h.now h.words o.unk
 
 -- the empty history explains a new forwarder
 pub start_explained : (c : Config) → Explains c [] [] start
-start_explained c = record { sound = tt; moment = refl; queries = refl; readable = tt; carried = []; carried_is = refl; numbers_of = []; waiting = refl; numbers = refl; waits = tt; taken = tt; few = omega arith; few_queries = omega arith }
+start_explained c = record { sound = tt; moment = refl; queries = refl; readable = tt; carried = []; carried_is = refl; numbers_of = []; waiting = refl; numbers = refl; waits = tt; taken = tt; few = omega arith; asks_are = record { few = omega arith; in_turn = tt; in_time = tt }; earlier = tt; asked_well = tt }

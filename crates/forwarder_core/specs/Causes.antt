@@ -8,7 +8,8 @@ use Rattle.forwarder_core.specs.declared.values.Client.TheVariants.{Udp, Tcp}
 use Rattle.forwarder_core.specs.declared.values.Why.{Why}
 use Rattle.forwarder_core.specs.declared.values.Why.TheVariants.{Answered, BadFormat, BadOpcode, NotServed, NoRoute, QuestionsFull, InquiriesFull, NoPort, Exhausted, Deadline, ChainLong, TooLarge}
 use Rattle.forwarder_core.specs.Values.{Action, Step}
-use Rattle.forwarder_core.specs.Names.{same_question, route_of}
+use Rattle.forwarder_core.specs.Names.{route_of}
+use Rattle.dns_message.specs.Questions.{same_question}
 use Rattle.dns_message.specs.Header.{header_in}
 use Rattle.forwarder_core.specs.Pieces.{Held}
 use Rattle.forwarder_core.specs.History.{Query, listed, on_path, moment_at, NothingAccepted, Reads}

@@ -1,6 +1,6 @@
 -- A history explains the state of a forwarder.
 use Rattle.std.specs.Prelude.{◌≡◌, ℕ, ◌<◌, ◌≤◌, true, List, [], ◌∷◌, length, map, Some}
-use Rattle.std.specs.List.{concat}
+use Rattle.std.specs.List.{concat, AllByRecursion}
 use Rattle.dns_message.specs.Writing.{written}
 use Rattle.suffix_routes.specs.Values.{Config}
 use Rattle.forwarder_core.specs.Values.{Step}
@@ -11,15 +11,14 @@ use Rattle.forwarder_core.specs.History.{InEra, moment_at, Query, listed, Reads,
 use Rattle.forwarder_core.specs.Carried.{CarriedInEra}
 use Rattle.forwarder_core.specs.Queries.{query_message}
 use Rattle.forwarder_core.specs.Sound.{Sound, unanswered}
-use Rattle.forwarder_core.specs.State.{OpenQuery, Waiting, State}
+use Rattle.forwarder_core.specs.State.{Waiting, State}
+use Rattle.outstanding.specs.Values.{Ask}
+use Rattle.outstanding.specs.Lists.{AreListed}
+use Rattle.forwarder_core.specs.Asked.{AsksWell}
 
-abbrev pub Each : {X : Type 0} → (X → Type 0) → List X → Type 0
-Each P [] = Unit {0}
-Each P (x ∷ xs) = P x × Each P xs
-
--- a listed query as its action showed it
-abbrev pub shown : OpenQuery → Query
-shown a = record { path = a.path; server = a.server; octets = written (query_message a.id a.question); moment = a.asked }
+-- an ask as its action showed it
+abbrev pub shown : Ask → Query
+shown a = record { path = a.path; server = a.peer; octets = written (query_message a.id a.question); moment = a.asked }
 
 -- the step with this number asked the question that waits
 pub record Waits (c : Config) (now : List Step) (x : Waiting) (i : ℕ) : Type 0 where
@@ -34,7 +33,7 @@ pub record Waits (c : Config) (now : List Step) (x : Waiting) (i : ℕ) : Type 0
   pub header_is : x.header ≡ header_in request
 
 -- the text of a listed query reads as its question, on its route
-pub record IsReadable (c : Config) (a : OpenQuery) : Type 0 where
+pub record IsReadable (c : Config) (a : Ask) : Type 0 where
   pub reads : Reads (written (query_message a.id a.question)) a.question
   pub identifier : (header_in (written (query_message a.id a.question))).id ≡ a.id
   pub on_route : route_of c a.question.name ≡ Some a.route
@@ -42,15 +41,17 @@ pub record IsReadable (c : Config) (a : OpenQuery) : Type 0 where
 pub record Explains (c : Config) (past : List Step) (w : List (List ℕ)) (s : State) : Type 0 where
   pub sound : Sound c past w
   pub moment : s.moment ≡ moment_at past
-  pub queries : map shown s.queries ≡ listed past
-  pub readable : Each (IsReadable c) s.queries
+  pub queries : map shown s.asks ≡ listed past
+  pub readable : AllByRecursion (IsReadable c) s.asks
   pub carried : List Held
   pub carried_is : CarriedInEra c past carried
   -- the waiting questions, each with the number of its step
   pub numbers_of : List (Waiting × ℕ)
   pub waiting : map (λ z. z.0) numbers_of ≡ s.waiting
   pub numbers : map (λ z. z.1) numbers_of ≡ unanswered past (concat w)
-  pub waits : Each (λ z. Waits c past z.0 z.1) numbers_of
-  pub taken : Each (λ i. i < length past) (concat w)
+  pub waits : AllByRecursion (λ z. Waits c past z.0 z.1) numbers_of
+  pub taken : AllByRecursion (λ i. i < length past) (concat w)
   pub few : length s.waiting ≤ c.limits.questions
-  pub few_queries : length s.queries ≤ c.limits.inquiries
+  pub asks_are : AreListed (record { capacity = c.limits.inquiries; asks = s.asks })
+  pub earlier : AllByRecursion (λ a. a.asked ≤ s.moment) s.asks
+  pub asked_well : AsksWell c past

@@ -6,10 +6,12 @@ use Rattle.dns_message.specs.Messages.{Spells}
 use Rattle.suffix_routes.specs.declared.peer.Peer.{Peer}
 use Rattle.suffix_routes.specs.Values.{Config}
 use Rattle.forwarder_core.specs.declared.values.Client.{Client}
-use Rattle.forwarder_core.specs.declared.values.Path.{Path}
-use Rattle.forwarder_core.specs.declared.values.Path.TheVariants.{Udp, Tcp}
+use Rattle.outstanding.specs.declared.ask.Path.{Path}
+use Rattle.outstanding.specs.declared.ask.Path.TheVariants.{Udp, Tcp}
+use Rattle.outstanding.specs.Lists.{same_path}
 use Rattle.forwarder_core.specs.Values.{Event, from_client, delivery, path_failed, tick, restart, Action, ask_udp, ask_tcp, close_udp, close_tcp, send_reply, Step}
-use Rattle.forwarder_core.specs.Names.{same_question, route_of}
+use Rattle.forwarder_core.specs.Names.{route_of}
+use Rattle.dns_message.specs.Questions.{same_question}
 use Rattle.dns_message.specs.Header.{header_in}
 use Rattle.forwarder_core.specs.Messages.{one_question}
 use Rattle.forwarder_core.specs.Pieces.{Piece, is_lame, walk}
@@ -41,12 +43,6 @@ pub record Query : Type 0 where
   pub server : Peer
   pub octets : List ℕ
   pub moment : ℕ
-
-abbrev pub same_path : Path → Path → Bool
-same_path (Udp a) (Udp b) = a == b
-same_path (Tcp a) (Tcp b) = a == b
-same_path (Udp a) (Tcp b) = false
-same_path (Tcp a) (Udp b) = false
 
 abbrev pub unlisted : Path → List Query → List Query
 unlisted path queries = filter (λ a. not (same_path a.path path)) queries

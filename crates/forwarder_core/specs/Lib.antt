@@ -10,6 +10,7 @@ pub mod Causes
 pub mod Sound
 pub mod State
 pub mod Row
+pub mod Asked
 pub mod Explains
 pub mod Runs
 pub mod Texts

@@ -16,10 +16,6 @@ same_octets (x ∷ xs) (y ∷ ys) = (x == y) && same_octets xs ys
 abbrev pub same_name : List (List ℕ) → List (List ℕ) → Bool
 same_name a b = same a b
 
--- one name, type and class
-abbrev pub same_question : Question → Question → Bool
-same_question a b = same_name a.name b.name && (a.kind == b.kind) && (a.class == b.class)
-
 abbrev pub same_peer : Peer → Peer → Bool
 same_peer a b = same_octets a.ip b.ip && (a.port == b.port)
 

@@ -2,10 +2,12 @@
 use Rattle.std.specs.Prelude.{ℕ, ◌+◌, ◌/◌, ◌%◌, Bool, true, false, if◌then◌else◌, ◌&&◌, ◌||◌, not, List, [], ◌∷◌, Option, Some, None}
 use Rattle.std.specs.List.{list_any}
 use Rattle.dns_message.specs.Values.{Question, Message}
-use Rattle.forwarder_core.specs.declared.values.Path.{Path}
-use Rattle.forwarder_core.specs.declared.values.Path.TheVariants.{Udp, Tcp}
+use Rattle.outstanding.specs.declared.ask.Path.{Path}
+use Rattle.outstanding.specs.declared.ask.Path.TheVariants.{Udp, Tcp}
+use Rattle.outstanding.specs.Draws.{port_of}
 use Rattle.forwarder_core.specs.Values.{Action, ask_udp, ask_tcp, close_udp, close_tcp, send_reply}
-use Rattle.forwarder_core.specs.History.{Query, same_path}
+use Rattle.forwarder_core.specs.History.{Query}
+use Rattle.outstanding.specs.Lists.{same_path}
 
 -- the text of a query: RD alone, and one question (RFC 1035 4.1.1)
 abbrev pub query_message : ℕ → Question → Message
@@ -25,10 +27,6 @@ closes_path path (close_tcp conn ∷ more) = same_path path (Tcp conn) || closes
 closes_path path (ask_udp port server octets ∷ more) = closes_path path more
 closes_path path (ask_tcp conn server octets ∷ more) = closes_path path more
 closes_path path (send_reply client octets why ∷ more) = closes_path path more
-
--- the port of a random word
-abbrev pub port_of : ℕ → ℕ
-port_of word = 1024 + (word / 65536) % 64512
 
 -- a query was listed on this path before, and these actions leave it
 abbrev pub is_busy : Path → List Query → List Action → Bool

@@ -1,6 +1,6 @@
 -- One step of the forwarder, over plain values.
 use Rattle.std.specs.Prelude.{◌≡◌, ℕ, ◌+◌, ◌%◌, ◌^◌, Bool, false, if◌then◌else◌, ◌==◌, ◌&&◌, ◌||◌, not, nat_lt, nat_le, min, max, List, [], ◌∷◌, ◌++◌, length, filter, get_or, Option, Some, None, Result, Ok, Err}
-use Rattle.std.specs.List.{list_any, find, filter_map}
+use Rattle.std.specs.List.{filter_map}
 use Rattle.dns_message.specs.declared.header.Header.{Header}
 use Rattle.dns_message.specs.declared.fault.Fault.{Fault}
 use Rattle.dns_message.specs.Values.{Question, Message}
@@ -10,23 +10,27 @@ use Rattle.suffix_routes.specs.declared.peer.Peer.{Peer}
 use Rattle.suffix_routes.specs.Values.{Config}
 use Rattle.forwarder_core.specs.declared.values.Client.{Client}
 use Rattle.forwarder_core.specs.declared.values.Client.TheVariants.{Udp as FromUdp, Tcp as FromTcp}
-use Rattle.forwarder_core.specs.declared.values.Path.{Path}
-use Rattle.forwarder_core.specs.declared.values.Path.TheVariants.{Udp, Tcp}
+use Rattle.outstanding.specs.declared.ask.Path.{Path}
+use Rattle.outstanding.specs.declared.ask.Path.TheVariants.{Udp, Tcp}
 use Rattle.forwarder_core.specs.declared.values.Why.{Why}
 use Rattle.forwarder_core.specs.declared.values.Why.TheVariants.{Answered, BadFormat, BadOpcode, NotServed, NoRoute, QuestionsFull, InquiriesFull, NoPort, Exhausted, TooLarge}
 use Rattle.forwarder_core.specs.declared.judge.Verdict.{Verdict}
 use Rattle.forwarder_core.specs.declared.judge.Verdict.TheVariants.{Stranger, Truncated, Failed, Malformed, Whole}
 use Rattle.forwarder_core.specs.Values.{Event, from_client, delivery, path_failed, tick, restart, Action, ask_udp, ask_tcp, close_udp, close_tcp, send_reply, Handed, Outcome}
-use Rattle.forwarder_core.specs.Names.{same_question, same_peer, route_of}
+use Rattle.forwarder_core.specs.Names.{same_peer, route_of}
+use Rattle.dns_message.specs.Questions.{same_question}
+use Rattle.outstanding.specs.Draws.{udp_draw}
+use Rattle.outstanding.specs.Lists.{on_path as ask_on, of_question, without_path}
+use Rattle.outstanding.specs.Values.{Ask}
 use Rattle.dns_message.specs.Header.{header_in}
 use Rattle.forwarder_core.specs.Messages.{one_question, AreOctets}
 use Rattle.forwarder_core.specs.Pieces.{Piece, Held, Walk, is_lame, rank_of, records_for, set_of, walk_at_set, walk}
-use Rattle.forwarder_core.specs.History.{same_path, is_taken}
+use Rattle.forwarder_core.specs.History.{is_taken}
 use Rattle.forwarder_core.specs.Answers.{full_answer, truncated}
-use Rattle.forwarder_core.specs.Queries.{query_message, port_of}
+use Rattle.forwarder_core.specs.Queries.{query_message}
 use Rattle.forwarder_core.specs.Causes.{is_unserved}
 use Rattle.forwarder_core.specs.Sound.{error_response}
-use Rattle.forwarder_core.specs.State.{OpenQuery, Waiting, State}
+use Rattle.forwarder_core.specs.State.{Waiting, State}
 
 -- what a step does, and what it leaves
 pub record Done : Type 0 where
@@ -41,14 +45,14 @@ pub data Fate : Type 0 where
 -- ---- what a step may do
 
 abbrev pub start : State
-start = record { queries = []; waiting = []; moment = 0 }
+start = record { asks = []; waiting = []; moment = 0 }
 
 abbrev pub idle : ℕ → State → Done
-idle n s = record { actions = []; state = record { queries = s.queries; waiting = s.waiting; moment = n } }
+idle n s = record { actions = []; state = record { asks = s.asks; waiting = s.waiting; moment = n } }
 
 -- one reply, and nothing else
 abbrev pub at_once : ℕ → Action → State → Done
-at_once n action s = record { actions = action ∷ []; state = record { queries = s.queries; waiting = s.waiting; moment = n } }
+at_once n action s = record { actions = action ∷ []; state = record { asks = s.asks; waiting = s.waiting; moment = n } }
 
 abbrev pub reply_in : Fate → Option Action
 reply_in (gets a) = Some a
@@ -64,18 +68,15 @@ replies fate xs = filter_map (λ x. reply_in (fate x)) xs
 abbrev pub still_waiting : (Waiting → Fate) → List Waiting → List Waiting
 still_waiting fate xs = filter_map (λ x. waiting_in (fate x)) xs
 
-abbrev pub without_path : Path → List OpenQuery → List OpenQuery
-without_path path queries = filter (λ a. not (same_path a.path path)) queries
-
 abbrev pub closes : Path → Action
 closes (Udp port) = close_udp port
 closes (Tcp conn) = close_tcp conn
 
--- a query is closed, and each waiting question has its fate
-abbrev pub closed : ℕ → OpenQuery → (Waiting → Fate) → State → Done
+-- an ask is closed, and each waiting question has its fate
+abbrev pub closed : ℕ → Ask → (Waiting → Fate) → State → Done
 closed n a fate s = record {
   actions = closes a.path ∷ replies fate s.waiting;
-  state = record { queries = without_path a.path s.queries; waiting = still_waiting fate s.waiting; moment = n };
+  state = record { asks = without_path a.path s.asks; waiting = still_waiting fate s.waiting; moment = n };
 }
 
 -- ---- replies
@@ -111,46 +112,39 @@ is_given n o q x = if waits_for q x then gets (answered n o x) else waits x
 abbrev pub server_on : Config → ℕ → Peer
 server_on c route = get_or (get_or c.routes route (record { suffix = []; servers = [] })).servers 0 (record { ip = 0 ∷ 0 ∷ 0 ∷ 0 ∷ []; port = 0 })
 
-abbrev pub is_used : ℕ → List OpenQuery → Bool
-is_used port queries = list_any (λ a. same_path a.path (Udp port)) queries
-
--- identifier and port of the first word whose port has no query (RFC 5452 9.2)
-abbrev pub udp_draw : List ℕ → List OpenQuery → Option (ℕ × ℕ)
-udp_draw [] queries = None
-udp_draw (word ∷ words) queries = if is_used (port_of word) queries then udp_draw words queries else Some (word % 65536, port_of word)
-
-abbrev pub query_by : Config → ℕ → Question → ℕ → Option (ℕ × ℕ) → Option OpenQuery
+abbrev pub query_by : Config → ℕ → Question → ℕ → Option (ℕ × ℕ) → Option Ask
 query_by c n q route None = None
-query_by c n q route (Some draw) = Some (record { question = q; route = route; server = server_on c route; path = Udp draw.1; id = draw.0; asked = n })
+query_by c n q route (Some draw) = Some (record { question = q; route = route; server = 0; peer = server_on c route; used = 1; path = Udp draw.1; id = draw.0; asked = n })
 
-abbrev pub asks_by : Path → OpenQuery → Action
-asks_by (Udp port) a = ask_udp port a.server (written (query_message a.id a.question))
-asks_by (Tcp conn) a = ask_tcp conn a.server (written (query_message a.id a.question))
+abbrev pub asks_by : Path → Ask → Action
+asks_by (Udp port) a = ask_udp port a.peer (written (query_message a.id a.question))
+asks_by (Tcp conn) a = ask_tcp conn a.peer (written (query_message a.id a.question))
 
-abbrev pub asks : OpenQuery → Action
+abbrev pub asks : Ask → Action
 asks a = asks_by a.path a
 
-abbrev pub opened : ℕ → Waiting → State → Option OpenQuery → Done
+abbrev pub opened : ℕ → Waiting → State → Option Ask → Done
 opened n x s None = at_once n (gives_up NoPort x) s
-opened n x s (Some a) = record { actions = asks a ∷ []; state = record { queries = s.queries ++ a ∷ []; waiting = s.waiting ++ x ∷ []; moment = n } }
+opened n x s (Some a) = record { actions = asks a ∷ []; state = record { asks = s.asks ++ a ∷ []; waiting = s.waiting ++ x ∷ []; moment = n } }
 
 -- the question waits for the query that is listed already
 abbrev pub joined : ℕ → Waiting → State → Done
-joined n x s = record { actions = []; state = record { queries = s.queries; waiting = s.waiting ++ x ∷ []; moment = n } }
+joined n x s = record { actions = []; state = record { asks = s.asks; waiting = s.waiting ++ x ∷ []; moment = n } }
 
 -- no query of the question is listed
 abbrev pub unasked : Config → ℕ → List ℕ → Waiting → ℕ → State → Done
 unasked c n words x route s =
-    if nat_le c.limits.inquiries (length s.queries)
+    if nat_le c.limits.inquiries (length s.asks)
     then at_once n (gives_up InquiriesFull x) s
-    else opened n x s (query_by c n x.question route (udp_draw words s.queries))
+    else opened n x s (query_by c n x.question route (udp_draw words s.asks None))
 
-abbrev pub is_asked : Question → List OpenQuery → Bool
-is_asked q queries = list_any (λ a. same_question a.question q) queries
+abbrev pub join_or_ask : Config → ℕ → List ℕ → Waiting → ℕ → State → Option Ask → Done
+join_or_ask c n words x route s None = unasked c n words x route s
+join_or_ask c n words x route s (Some a) = joined n x s
 
 -- a question for which there is room
 abbrev pub admitted : Config → ℕ → List ℕ → Waiting → ℕ → State → Done
-admitted c n words x route s = if is_asked x.question s.queries then joined n x s else unasked c n words x route s
+admitted c n words x route s = join_or_ask c n words x route s (of_question x.question s.asks)
 
 abbrev pub must_wait : Config → ℕ → List ℕ → Waiting → ℕ → State → Done
 must_wait c n words x route s =
@@ -182,16 +176,16 @@ asks_this q None = false
 asks_this q (Some other) = same_question other q
 
 -- server, identifier and question are the query's (RFC 5452 9.1)
-abbrev pub matches : OpenQuery → Peer → List ℕ → Bool
+abbrev pub matches : Ask → Peer → List ℕ → Bool
 matches a from octets =
     nat_le 12 (length octets) && nat_le (length octets) 65535 && (header_in octets).qr && ((header_in octets).opcode == 0) && ((header_in octets).id == a.id)
-    && same_peer from a.server && asks_this a.question (one_question octets)
+    && same_peer from a.peer && asks_this a.question (one_question octets)
 
 abbrev pub judged_whole : Result Message Fault → Verdict
 judged_whole (Ok m) = Whole
 judged_whole (Err fault) = Malformed
 
-abbrev pub judge : OpenQuery → Peer → List ℕ → Verdict
+abbrev pub judge : Ask → Peer → List ℕ → Verdict
 judge a from octets =
     if matches a from octets
     then
@@ -201,7 +195,7 @@ judge a from octets =
     else Stranger
 
 -- the attempt failed, and no try is left
-abbrev pub given_up : ℕ → OpenQuery → State → Done
+abbrev pub given_up : ℕ → Ask → State → Done
 given_up n a s = closed n a (fails Exhausted a.question) s
 
 abbrev pub last_piece : Option Piece → List Piece → Option Piece
@@ -216,31 +210,28 @@ end_piece w = if is_lame w.end then None else last_piece None w.pieces
 abbrev pub set_ending : Message → Question → ℕ → Option Piece
 set_ending m q route = end_piece (walk_at_set q.kind (set_of (rank_of m.header.aa) route (records_for q.name q.kind q.class m.answers)))
 
-abbrev pub ended : ℕ → OpenQuery → State → Option Piece → Done
+abbrev pub ended : ℕ → Ask → State → Option Piece → Done
 ended n a s None = given_up n a s
 ended n a s (Some p) = closed n a (is_given n (record { piece = p; accepted = n }) a.question) s
 
-abbrev pub read_whole : Config → ℕ → OpenQuery → State → Result Message Fault → Done
+abbrev pub read_whole : Config → ℕ → Ask → State → Result Message Fault → Done
 read_whole c n a s (Ok m) = ended n a s (end_piece (walk c m a.question a.route))
 read_whole c n a s (Err fault) = given_up n a s
 
-abbrev pub judged : Config → ℕ → OpenQuery → List ℕ → State → Verdict → Done
+abbrev pub judged : Config → ℕ → Ask → List ℕ → State → Verdict → Done
 judged c n a octets s Stranger = idle n s
 judged c n a octets s Truncated = given_up n a s
 judged c n a octets s (Failed rcode) = given_up n a s
 judged c n a octets s Malformed = given_up n a s
 judged c n a octets s Whole = read_whole c n a s (message_of octets)
 
-abbrev pub query_on : Path → List OpenQuery → Option OpenQuery
-query_on path queries = find (λ a. same_path a.path path) queries
-
 -- a query that is past its time is no longer answered
-abbrev pub delivered : Config → ℕ → Peer → List ℕ → State → Option OpenQuery → Done
+abbrev pub delivered : Config → ℕ → Peer → List ℕ → State → Option Ask → Done
 delivered c n from octets s None = idle n s
 delivered c n from octets s (Some a) = if nat_lt n (a.asked + c.limits.ask_ms) then judged c n a octets s (judge a from octets) else idle n s
 
 -- what a delivery is to the query on its path
-abbrev pub verdict_on : Config → ℕ → Peer → List ℕ → Option OpenQuery → Verdict
+abbrev pub verdict_on : Config → ℕ → Peer → List ℕ → Option Ask → Verdict
 verdict_on c n from octets None = Stranger
 verdict_on c n from octets (Some a) = if nat_lt n (a.asked + c.limits.ask_ms) then judge a from octets else Stranger
 
@@ -248,7 +239,7 @@ verdict_on c n from octets (Some a) = if nat_lt n (a.asked + c.limits.ask_ms) th
 
 abbrev pub Happens : Config → ℕ → List ℕ → State → Event → Done → Type 0
 Happens c n words s (from_client client octets) d = d ≡ requested c n words client octets s
-Happens c n words s (delivery path from octets) d = d ≡ delivered c n from octets s (query_on path s.queries)
+Happens c n words s (delivery path from octets) d = d ≡ delivered c n from octets s (ask_on path s.asks)
 Happens c n words s (path_failed path) d = d ≡ idle n s
 Happens c n words s tick d = d ≡ idle n s
 Happens c n words s restart d = d ≡ record { actions = []; state = start }
@@ -268,7 +259,7 @@ effective now s = max (min now (2 ^ 62)) s.moment
 -- these events take no memory: a message that is dropped, a delivery that matches nothing, and all that changes no list or empties it
 abbrev pub TakesNoMemory : Config → ℕ → State → Event → Type 0
 TakesNoMemory c n s (from_client client octets) = is_taken octets ≡ false
-TakesNoMemory c n s (delivery path from octets) = verdict_on c n from octets (query_on path s.queries) ≡ Stranger
+TakesNoMemory c n s (delivery path from octets) = verdict_on c n from octets (ask_on path s.asks) ≡ Stranger
 TakesNoMemory c n s (path_failed path) = Unit {0}
 TakesNoMemory c n s tick = Unit {0}
 TakesNoMemory c n s restart = Unit {0}

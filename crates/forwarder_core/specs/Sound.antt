@@ -10,7 +10,7 @@ use Rattle.forwarder_core.specs.declared.values.Client.{Client}
 use Rattle.forwarder_core.specs.declared.values.Why.{Why}
 use Rattle.forwarder_core.specs.declared.values.Why.TheVariants.{Answered, BadFormat, BadOpcode, NotServed, NoRoute, QuestionsFull, InquiriesFull, NoPort, Exhausted, Deadline, ChainLong, TooLarge}
 use Rattle.forwarder_core.specs.Values.{Event, from_client, delivery, path_failed, tick, restart, Action, ask_udp, ask_tcp, close_udp, close_tcp, send_reply, Step}
-use Rattle.forwarder_core.specs.Names.{same_question}
+use Rattle.dns_message.specs.Questions.{same_question}
 use Rattle.dns_message.specs.Header.{header_in}
 use Rattle.forwarder_core.specs.History.{is_restart, InEra, moment_at, NothingAccepted, Reads, Sends, takes_question}
 use Rattle.forwarder_core.specs.Answers.{Answers, reply_message}

@@ -2,7 +2,7 @@
 use Rattle.std.specs.Prelude.{ℕ, Bool, List, map}
 use Rattle.suffix_routes.specs.declared.peer.Peer.{Peer}
 use Rattle.forwarder_core.specs.declared.values.Client.{Client}
-use Rattle.forwarder_core.specs.declared.values.Path.{Path}
+use Rattle.outstanding.specs.declared.ask.Path.{Path}
 use Rattle.forwarder_core.specs.declared.values.Why.{Why}
 use Rattle.forwarder_core.specs.declared.values.Event.{Event as OwnedEvent}
 use Rattle.forwarder_core.specs.declared.values.Event.TheVariants.{Client as OfClient, Delivery, PathFailed, Tick, Restart}

@@ -12,10 +12,11 @@ ghost use Rattle.forwarder_core.specs.Row.{failed, gives_up, answered_over, asks
 ghost use Rattle.forwarder_core.specs.Texts.{fresh_records, fresh_answer, cut_answer};
 
 use crate::sets::RecordSet;
-use crate::state::{OpenQuery, Waiting};
-use crate::values::{Action, Client, Path, Why};
+use crate::state::Waiting;
+use crate::values::{Action, Client, Why};
 use dns_message::{Fault, Header, Message, Question, Record, write};
 use dns_name::Name;
+use outstanding::{Ask, Path};
 use plain_list::{Octets, PlainList};
 use std::alloc::{AllocError, Allocator};
 
@@ -262,7 +263,7 @@ pub(crate) fn answer<A: Allocator + Copy>(
 }
 
 /// The text of a query: RD alone, and one question (RFC 1035 4.1.1).
-fn query_text<A: Allocator + Copy>(alloc: A, query: &OpenQuery<A>) -> Result<Octets<A>, AllocError>
+fn query_text<A: Allocator + Copy>(alloc: A, query: &Ask<A>) -> Result<Octets<A>, AllocError>
     ensures { IfOk result (λ text. text ≡ written (query_message query.now.id query.now.question)) }
 {
     let header = Header {
@@ -281,14 +282,11 @@ fn query_text<A: Allocator + Copy>(alloc: A, query: &OpenQuery<A>) -> Result<Oct
 }
 
 /// The action that sends a query.
-pub(crate) fn ask<A: Allocator + Copy>(
-    alloc: A,
-    query: &OpenQuery<A>,
-) -> Result<Action<A>, AllocError>
+pub(crate) fn ask<A: Allocator + Copy>(alloc: A, query: &Ask<A>) -> Result<Action<A>, AllocError>
     ensures { IfOk result (λ action. action_of action ≡ asks_by query.now.path query.now) }
 {
     let bytes = query_text(alloc, query)?;
-    let server = query.server;
+    let server = query.peer;
     match query.path {
         Path::Udp(port) => Ok(Action::AskUdp {
             port,

@@ -3,13 +3,14 @@
 ghost use Rattle.std.specs.Prelude.{◌≡◌, IsOk};
 ghost use Rattle.dns_message.specs.Header.{header_in};
 ghost use Rattle.dns_message.specs.Messages.{first_question, message_of};
-ghost use Rattle.forwarder_core.specs.Names.{same_name, same_question, same_peer};
+ghost use Rattle.forwarder_core.specs.Names.{same_name, same_peer};
+ghost use Rattle.dns_message.specs.Questions.{same_question};
 ghost use Rattle.forwarder_core.specs.Messages.{one_question};
 ghost use Rattle.forwarder_core.specs.Row.{asks_this, matches, judged_whole, judge};
 
-use crate::state::OpenQuery;
 use dns_message::{Header, MessageRef, Question};
 use dns_name::Name;
+use outstanding::Ask;
 use std::alloc::Allocator;
 use suffix_routes::Peer;
 
@@ -35,13 +36,6 @@ pub(crate) fn is_same_name<A: Allocator>(a: &Name<A>, b: &Name<A>) -> bool
     a.same(b)
 }
 
-/// Equal names, letter case aside, equal types and classes.
-pub(crate) fn is_same_question<A: Allocator>(a: &Question<A>, b: &Question<A>) -> bool
-    ensures { result ≡ same_question a.now b.now }
-{
-    is_same_name(&a.name, &b.name) && a.kind == b.kind && a.class == b.class
-}
-
 /// One address and port.
 fn is_same_peer(a: Peer, b: Peer) -> bool
     ensures { result ≡ same_peer a b }
@@ -51,7 +45,7 @@ fn is_same_peer(a: Peer, b: Peer) -> bool
 
 /// Server, identifier and question are the query's, and the message is a reply (RFC 5452 9.1).
 fn is_match<A: Allocator>(
-    query: &OpenQuery<A>,
+    query: &Ask<A>,
     from: Peer,
     bytes: &[u8],
     header: &Header,
@@ -66,7 +60,7 @@ fn is_match<A: Allocator>(
         && header.qr
         && header.opcode == 0
         && header.id == query.id
-        && is_same_peer(from, query.server)
+        && is_same_peer(from, query.peer)
         && asks_only(bytes, header, message, &query.question)
 }
 
@@ -108,7 +102,7 @@ fn whole_verdict(message: &MessageRef<'_>) -> Verdict
 }
 
 /// What the octets are to the query.
-pub(crate) fn judge<A: Allocator>(query: &OpenQuery<A>, from: Peer, bytes: &[u8]) -> Verdict
+pub(crate) fn judge<A: Allocator>(query: &Ask<A>, from: Peer, bytes: &[u8]) -> Verdict
     ensures { result ≡ judge query.now from bytes.now }
 {
     let Ok(message) = MessageRef::view(bytes) else {

@@ -3,7 +3,6 @@
 #![tactic(auto)]
 
 mod answers;
-mod draw;
 mod forwarder;
 mod judge;
 mod lists;
@@ -16,8 +15,9 @@ mod state;
 mod values;
 
 pub use forwarder::Forwarder;
+pub use outstanding::Path;
 pub use run::run_list;
-pub use values::{Action, Client, Event, Handed, Outcome, Path, Step, Why};
+pub use values::{Action, Client, Event, Handed, Outcome, Step, Why};
 
 #[cfg(test)]
 mod tests;

@@ -1,16 +1,15 @@
-//! The listed queries and the questions that wait, as plain lists.
+//! What is looked up in a configuration and in the lists of a forwarder.
 
-ghost use Rattle.std.specs.Prelude.{◌≡◌, ℕ, ◌+◌, nat_lt, not, filter, MatchOption, Some, None};
-ghost use Rattle.forwarder_core.specs.Row.{waits_for, is_asked, without_path, server_on, query_on};
-ghost use Rattle.forwarder_core.specs.Next.{closing};
+ghost use Rattle.std.specs.Prelude.{◌≡◌, ◌<◌, ◌+◌, ◌∷◌, ◌++◌, [], length, nat_lt, not, filter, OnOk, OnErr};
+ghost use Rattle.outstanding.specs.Lists.{MayBegin, on_path as ask_on, without_path};
+ghost use Rattle.forwarder_core.specs.Row.{waits_for, server_on};
+ghost use Rattle.forwarder_core.specs.Next.{left_waiting};
 
-use crate::draw::is_same_path;
-use crate::judge::is_same_question;
 use crate::replies::is_waiting_for;
-use crate::state::{OpenQuery, Waiting};
-use crate::values::Path;
+use crate::state::Waiting;
 use dns_message::Question;
-use std::alloc::Allocator;
+use outstanding::{Ask, Inquiries, Path, Refusal};
+use std::alloc::{AllocError, Allocator};
 use suffix_routes::{Config, Peer, RouteId};
 
 /// The peer of a group without servers; no configuration has one.
@@ -32,35 +31,35 @@ pub(crate) fn first_server<A: Allocator>(config: &Config<A>, route: RouteId) -> 
     }
 }
 
-/// The query on a path.
-pub(crate) fn find_query<A: Allocator>(
-    path: Path,
-    queries: &[OpenQuery<A>],
-) -> Option<&OpenQuery<A>>
-    ensures { MatchOption result (query_on path queries.now ≡ None) (λ query. query_on path queries.now ≡ Some query.now) }
+/// Lists an ask for which there is room. `Err` where memory ran out, and then nothing has changed.
+pub(crate) fn list<A: Allocator>(
+    inquiries: &mut Inquiries<A>,
+    ask: Ask<A>,
+) -> Result<(), AllocError>
+    requires begins { MayBegin ask inquiries.old.asks }
+    requires room { length inquiries.old.asks < inquiries.old.capacity }
+    ensures ok { OnOk result (inquiries.new ≡ record inquiries.old { asks = inquiries.old.asks ++ ask ∷ [] }) }
+    ensures err { OnErr result (inquiries.new ≡ inquiries.old) }
 {
-    for query in queries {
-        if is_same_path(query.path, path) {
-            return Some(query);
-        }
+    match inquiries.begin(ask) {
+        Ok(()) => Ok(()),
+        Err((_, Refusal::Full)) => unreachable!(),
+        Err((_, Refusal::Memory)) => Err(AllocError),
     }
-    None
 }
 
-/// A query of an equal question is listed.
-pub(crate) fn is_asked<A: Allocator>(question: &Question<A>, queries: &[OpenQuery<A>]) -> bool
-    ensures { result ≡ is_asked question.now queries.now }
+/// The ask on the path is closed, and those that waited for it wait no more.
+pub(crate) fn close<A: Allocator>(
+    inquiries: &mut Inquiries<A>,
+    waiting: &mut Vec<Waiting<A>, A>,
+    path: Path,
+)
+    ensures asks { inquiries.new ≡ record inquiries.old { asks = without_path path inquiries.old.asks } }
+    ensures waiting { waiting.new.items ≡ left_waiting (ask_on path inquiries.old.asks) waiting.old.items }
 {
-    queries
-        .iter()
-        .any(|query| is_same_question(&query.question, question))
-}
-
-/// Leaves out the queries on a path.
-fn drop_path<A: Allocator>(queries: &mut Vec<OpenQuery<A>, A>, path: Path)
-    ensures { queries.new.items ≡ without_path path queries.old.items }
-{
-    queries.retain(|query| !is_same_path(query.path, path));
+    if let Some(ask) = inquiries.end(path) {
+        drop_waiting(waiting, &ask.question);
+    }
 }
 
 /// Leaves out those that wait for this question.
@@ -70,23 +69,8 @@ fn drop_waiting<A: Allocator>(waiting: &mut Vec<Waiting<A>, A>, question: &Quest
     waiting.retain(|x| !is_waiting_for(question, x));
 }
 
-/// The query on the path is closed, and those that waited for it wait no more.
-pub(crate) fn close_query<A: Allocator>(
-    queries: &mut Vec<OpenQuery<A>, A>,
-    waiting: &mut Vec<Waiting<A>, A>,
-    path: Path,
-)
-    ensures { (n moment : ℕ) → record { queries = queries.new.items; waiting = waiting.new.items; moment = n } ≡ closing n path (record { queries = queries.old.items; waiting = waiting.old.items; moment = moment }) (query_on path queries.old.items) }
-{
-    let Some(query) = find_query(path, queries) else {
-        return;
-    };
-    drop_waiting(waiting, &query.question);
-    drop_path(queries, path);
-}
-
 /// The query may still be answered.
-pub(crate) fn is_live<A: Allocator>(config: &Config<A>, moment: u64, query: &OpenQuery<A>) -> bool
+pub(crate) fn is_live<A: Allocator>(config: &Config<A>, moment: u64, query: &Ask<A>) -> bool
     ensures { result ≡ nat_lt moment (query.now.asked + config.now.limits.ask_ms) }
 {
     u128::from(moment) < u128::from(query.asked) + u128::from(config.limits.ask_ms)

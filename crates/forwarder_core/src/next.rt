@@ -1,7 +1,8 @@
 //! What a step is about to do, with all the memory that it takes.
 
-use crate::state::{OpenQuery, Waiting};
-use crate::values::{Action, Path};
+use crate::state::Waiting;
+use crate::values::Action;
+use outstanding::{Ask, Path};
 use plain_list::PlainList;
 use std::alloc::{Allocator, Global};
 
@@ -12,7 +13,7 @@ pub(crate) enum Change<A: Allocator = Global> {
     /// A question waits for a query that is listed already.
     Join(Waiting<A>),
     /// A question waits, and its query is listed.
-    Open(Waiting<A>, OpenQuery<A>),
+    Open(Waiting<A>, Ask<A>),
     /// The query on this path is closed, and those that waited for it wait no more.
     Close(Path),
 }

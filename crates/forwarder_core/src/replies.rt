@@ -7,11 +7,11 @@ ghost use Rattle.forwarder_core.specs.Row.{closes, answered, fails, is_given, re
 ghost use Rattle.forwarder_core.specs.Next.{with_reply, with_replies};
 
 use crate::answers::{answer, failure};
-use crate::judge::is_same_question;
 use crate::sets::RecordSet;
-use crate::state::{OpenQuery, Waiting};
-use crate::values::{Action, Path, Why};
+use crate::state::Waiting;
+use crate::values::{Action, Why};
 use dns_message::Question;
+use outstanding::{Ask, Path};
 use plain_list::PlainList;
 use std::alloc::{AllocError, Allocator};
 
@@ -19,7 +19,7 @@ use std::alloc::{AllocError, Allocator};
 pub(crate) fn is_waiting_for<A: Allocator>(question: &Question<A>, waiting: &Waiting<A>) -> bool
     ensures { result ≡ waits_for question.now waiting.now }
 {
-    is_same_question(&waiting.question, question)
+    waiting.question.is_same(question)
 }
 
 /// The action that gives a path up.
@@ -51,7 +51,7 @@ fn put_failure<A: Allocator + Copy>(
 /// The query is closed, and each question that waits for it fails.
 pub(crate) fn failures<A: Allocator + Copy>(
     alloc: A,
-    query: &OpenQuery<A>,
+    query: &Ask<A>,
     waiting: &[Waiting<A>],
 ) -> Result<PlainList<Action<A>, A>, AllocError>
     ensures { IfOk result (λ actions. actions_of actions ≡ with_replies (fails Exhausted query.now.question) (closes query.now.path ∷ []) waiting.now) }
@@ -99,7 +99,7 @@ fn put_answer<A: Allocator + Copy>(
 /// The query is closed, and each question that waits for it is answered with the set that came at this moment.
 pub(crate) fn answers_to<A: Allocator + Copy>(
     alloc: A,
-    query: &OpenQuery<A>,
+    query: &Ask<A>,
     set: &RecordSet<A>,
     now: u64,
     waiting: &[Waiting<A>],

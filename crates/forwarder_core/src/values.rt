@@ -2,6 +2,7 @@
 
 ghost use Rattle.std.specs.Prelude.{◌≡◌, IfOk};
 
+use outstanding::Path;
 use plain_list::{Octets, PlainList};
 use std::alloc::{AllocError, Allocator, Global};
 use std::marker::Model;
@@ -11,13 +12,6 @@ use suffix_routes::Peer;
 #[derive(Clone, Copy, PartialEq, Eq, Debug)]
 pub enum Client {
     Udp(Peer),
-    Tcp(u64),
-}
-
-/// The way to a server: the UDP port that a query was sent from, or the number of a TCP connection.
-#[derive(Clone, Copy, PartialEq, Eq, Debug)]
-pub enum Path {
-    Udp(u16),
     Tcp(u64),
 }
 

@@ -1,6 +1,6 @@
 //! Names in a message, with pointers: RFC 1035 4.1.4.
 
-ghost use Rattle.std.specs.Prelude.{◌≡◌, ◌↔◌, ◌≤◌, IsTrue, IfOk, length};
+ghost use Rattle.std.specs.Prelude.{◌≡◌, ◌≤◌, IsOk, IfOk, MatchOption, Ok, length};
 ghost use Rattle.dns_message.specs.Data.{name_of_rdata};
 ghost use Rattle.dns_message.specs.Reading.{Gives, behind};
 ghost use Rattle.dns_message.specs.Shortcuts.{AreShortcuts};
@@ -56,25 +56,46 @@ pub(crate) fn skip_name(
     }
 }
 
-/// The name at a place is this one, letter case aside.
-pub(crate) fn name_is<A: Allocator>(bytes: &[u8], offset: usize, name: &Name<A>) -> bool
-    ensures { IsTrue result ↔ NameIs (name_at bytes.now offset) name.now }
+/// The place behind the name at a place, which can be read. It is found in the name's own octets: a name ends behind its
+/// zero octet, or behind its first pointer, wherever that leads.
+#[tactic(auto, using(crate::proofs::EndLaws::name_begins, crate::proofs::EndLaws::goes_on))]
+pub(crate) fn readable_name_end(bytes: &[u8], offset: usize) -> usize
+    requires { IsOk (name_at bytes.now offset) }
+    ensures { behind (name_at bytes.now offset) ≡ Ok result }
+{
+    let mut at = offset;
+    loop {
+        let first = bytes[at];
+        if first == 0 {
+            return at + 1;
+        }
+        if first >= 192 {
+            return at + 2;
+        }
+        at += first as usize + 1;
+    }
+}
+
+/// The place behind the name at a place, where it is this one, letter case aside.
+pub(crate) fn skip_same_name<A: Allocator>(
+    bytes: &[u8],
+    offset: usize,
+    name: &Name<A>,
+) -> Option<usize>
+    ensures { MatchOption result (NameIs (name_at bytes.now offset) name.now → ⊥) (λ end. NameIs (name_at bytes.now offset) name.now × (behind (name_at bytes.now offset) ≡ Ok end)) }
 {
     let mut walk = Walk::new(bytes, Bound::whole(bytes), offset);
     let mut labels = name.labels();
     loop {
-        match next_label(bytes, &mut [], walk) {
-            Err(_) => return false,
-            Ok(Next::End(_)) => return labels.next().is_none(),
-            Ok(Next::Label(label, after)) => match labels.next() {
-                None => return false,
-                Some(other) => {
-                    if !label.eq_ignore_ascii_case(other) {
-                        return false;
-                    }
-                    walk = after;
+        match next_label(bytes, &mut [], walk).ok()? {
+            Next::End(end) => return labels.next().is_none().then_some(end),
+            Next::Label(label, after) => {
+                let other = labels.next()?;
+                if !label.eq_ignore_ascii_case(other) {
+                    return None;
                 }
-            },
+                walk = after;
+            }
         }
     }
 }

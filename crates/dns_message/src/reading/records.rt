@@ -1,6 +1,6 @@
 //! The header, questions and records, at a place of a message.
 
-ghost use Rattle.std.specs.Prelude.{◌≡◌, IfSome};
+ghost use Rattle.std.specs.Prelude.{◌≡◌, IfSome, IsOk, Ok};
 ghost use Rattle.dns_message.specs.Reading.{Gives, behind};
 ghost use Rattle.dns_message.specs.Shortcuts.{AreShortcuts};
 ghost use Rattle.dns_message.specs.Header.{FitsBits, header_of};
@@ -10,7 +10,7 @@ use crate::fault::Fault;
 use crate::header::Header;
 use crate::message::{Question, Rdata, Record};
 use crate::reading::data::{read_data, skip_data};
-use crate::reading::names::{read_name, skip_name};
+use crate::reading::names::{read_name, readable_name_end, skip_name};
 use crate::reading::numbers::{number16, number32};
 use crate::reading::walk::Bound;
 use plain_list::PlainList;
@@ -132,6 +132,16 @@ pub(crate) fn skip_record(bytes: &[u8], ends: &mut [u16], offset: usize) -> Resu
     let kind = number16(bytes, after);
     let len = number16(bytes, after + 8) as usize;
     skip_data(bytes, ends, kind, fixed, len)
+}
+
+/// The place behind the record at a place, which can be read. No pointer is followed.
+#[tactic(auto, using(crate::proofs::EndLaws::owner_readable, crate::proofs::EndLaws::record_ends))]
+pub(crate) fn readable_record_end(bytes: &[u8], offset: usize) -> usize
+    requires { IsOk (record_at bytes.now offset) }
+    ensures { behind (record_at bytes.now offset) ≡ Ok result }
+{
+    let after = readable_name_end(bytes, offset);
+    after + 10 + number16(bytes, after + 8) as usize
 }
 
 /// So many questions from a place on, and the place behind them.

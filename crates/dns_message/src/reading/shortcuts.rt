@@ -7,6 +7,12 @@
 ghost use Rattle.std.specs.Prelude.{◌≡◌, ◌≤◌, ◌<◌, IfSome};
 ghost use Rattle.dns_message.specs.Shortcuts.{SameRun, IsShortcut, AreShortcuts};
 
+/// A message of at most so many octets is read without remembering where its pointers lead.
+pub(crate) const SMALL: usize = 1024;
+
+/// How many places a pointer can lead to: its offset has 14 bits.
+pub(crate) const PLACES: usize = 16384;
+
 /// Where the pointer at a place leads, if one stands there that a run may begin with.
 #[tactic(auto, using(crate::proofs::ShortcutLaws::shortcut_behind))]
 fn pointer_at(bytes: &[u8], place: usize) -> Option<usize>

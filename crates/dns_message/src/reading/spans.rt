@@ -2,10 +2,12 @@
 
 ghost use Rattle.std.specs.Iterator.{YieldsFirst, item_count};
 ghost use Rattle.std.specs.Prelude.{◌≡◌, ◌≤◌, ◌∷◌, [], MatchOption, length};
+ghost use Rattle.dns_message.specs.Shortcuts.{AreShortcuts};
 ghost use Rattle.dns_message.specs.Spans.{sections_of, spans_at, spans_of};
 
 use crate::reading::numbers::number16;
-use crate::reading::records::{skip_questions, skip_record};
+use crate::reading::records::{readable_record_end, skip_questions, skip_record};
+use crate::reading::shortcuts::{PLACES, SMALL};
 use std::marker::Model;
 
 /// The number of the answer section.
@@ -70,16 +72,38 @@ fn next_section(left: Left) -> Option<(u8, Left)>
     None
 }
 
-/// The spans of the records that can be read, in order. It takes no memory.
+/// How many of the counted records can be read, from a place on up to the first that can't be.
+#[tactic(auto, using(crate::proofs::SpanLaws::one_counted_here, crate::proofs::SpanLaws::none_counted_here, crate::proofs::SpanLaws::none_counted, crate::proofs::SpanLaws::sections_counted))]
+fn readable_records(bytes: &[u8], ends: &mut [u16], offset: usize, left: Left) -> usize
+    requires { AreShortcuts bytes.now ends.old }
+    ensures { result ≡ length (spans_at bytes.now (sections_of left) offset) }
+{
+    let (mut at, mut left) = (offset, left);
+    let mut count = 0;
+    while let Some((_, after)) = next_section(left) {
+        let Ok(end) = skip_record(bytes, ends, at) else {
+            return count;
+        };
+        count += 1;
+        at = end;
+        left = after;
+    }
+    count
+}
+
+/// The spans of the records that can be read, in order. It takes no memory, and each step takes as long as the octets of
+/// the owner's own name: how many can be read was counted when it was made, so no pointer is followed.
 #[derive(Drop)]
 pub struct Records<'a> {
     bytes: &'a [u8],
     offset: usize,
     left: Left,
+    /// How many of those left can be read.
+    readable: usize,
 }
 
 impl<'a> Model for Records<'a> {
-    ghost use Rattle.std.specs.Prelude.{List};
+    ghost use Rattle.std.specs.Prelude.{List, length, ◌≡◌};
     ghost use Rattle.dns_message.specs.declared.reading.spans.Span.{Span};
 
     ghost Value = { List Span };
@@ -87,6 +111,8 @@ impl<'a> Model for Records<'a> {
     ghost use Rattle.dns_message.specs.Spans.{sections_of, spans_at};
 
     ghost view = { λ r. spans_at r.bytes.now (sections_of r.left) r.offset };
+
+    ghost invariant = { λ r. r.readable ≡ length (spans_at r.bytes.now (sections_of r.left) r.offset) };
 }
 
 impl<'a> Iterator for Records<'a> {
@@ -96,48 +122,47 @@ impl<'a> Iterator for Records<'a> {
 
     ghost remaining = { item_count (λ s. s) };
 
-    #[tactic(auto, unfolding(crate::specs::Spans::spans_at))]
+    #[tactic(auto, using(crate::proofs::SpanLaws::first_readable, crate::proofs::SpanLaws::one_here_first, crate::proofs::SpanLaws::none_counted))]
     fn next(&mut self) -> Option<Span> {
+        if self.readable == 0 {
+            return None;
+        }
         let (section, left) = next_section(self.left)?;
         let start = self.offset;
-        match skip_record(self.bytes, &mut [], start) {
-            Ok(end) => {
-                self.offset = end;
-                self.left = left;
-                Some(Span {
-                    start,
-                    end,
-                    section,
-                })
-            }
-            Err(_) => {
-                self.left = Left {
-                    answers: 0,
-                    authority: 0,
-                    additional: 0,
-                };
-                None
-            }
-        }
+        let end = readable_record_end(self.bytes, start);
+        self.offset = end;
+        self.left = left;
+        self.readable -= 1;
+        Some(Span {
+            start,
+            end,
+            section,
+        })
     }
 }
 
-/// The spans of the records of a message.
+/// The spans of the records of a message, where pointers lead remembered in `ends`.
 #[tactic(auto, unfolding(crate::specs::Spans::spans_of, crate::specs::Spans::spans_at))]
-pub(crate) fn records_in<'a>(bytes: &'a [u8]) -> Records<'a>
-    requires { 12 ≤ length bytes.now }
+fn records_with<'a>(bytes: &'a [u8], ends: &mut [u16]) -> Records<'a>
+    requires header { 12 ≤ length bytes.now }
+    requires known { AreShortcuts bytes.now ends.old }
     ensures { result ≡ spans_of bytes.now }
 {
-    match skip_questions(bytes, &mut [], 12, number16(bytes, 4)) {
-        Ok(offset) => Records {
-            bytes,
-            offset,
-            left: Left {
+    match skip_questions(bytes, ends, 12, number16(bytes, 4)) {
+        Ok(offset) => {
+            let left = Left {
                 answers: number16(bytes, 6),
                 authority: number16(bytes, 8),
                 additional: number16(bytes, 10),
-            },
-        },
+            };
+            let readable = readable_records(bytes, ends, offset, left);
+            Records {
+                bytes,
+                offset,
+                left,
+                readable,
+            }
+        }
         Err(_) => Records {
             bytes,
             offset: 12,
@@ -146,6 +171,29 @@ pub(crate) fn records_in<'a>(bytes: &'a [u8]) -> Records<'a>
                 authority: 0,
                 additional: 0,
             },
+            readable: 0,
         },
     }
+}
+
+/// `records_with` of a message that may have long chains of pointers.
+#[tactic(auto, using(crate::proofs::ShortcutLaws::none_known))]
+fn records_in_large<'a>(bytes: &'a [u8]) -> Records<'a>
+    requires { 12 ≤ length bytes.now }
+    ensures { result ≡ spans_of bytes.now }
+{
+    let mut ends = [0u16; PLACES];
+    records_with(bytes, &mut ends)
+}
+
+/// The spans of the records of a message.
+#[tactic(auto, using(crate::proofs::ShortcutLaws::none_kept))]
+pub(crate) fn records_in<'a>(bytes: &'a [u8]) -> Records<'a>
+    requires { 12 ≤ length bytes.now }
+    ensures { result ≡ spans_of bytes.now }
+{
+    if bytes.len() > SMALL {
+        return records_in_large(bytes);
+    }
+    records_with(bytes, &mut [])
 }

@@ -2,26 +2,27 @@
 
 ghost use Rattle.std.specs.Prelude.{◌≡◌, IfOk, IsOk, Some};
 ghost use Rattle.dns_message.specs.Messages.{first_question, message_of};
-ghost use Rattle.forwarder_core.specs.Row.{judged, delivered, ended, given_up, read_whole, set_ending, verdict_on, query_on};
-ghost use Rattle.forwarder_core.specs.Next.{next_of, IsQuiet};
+ghost use Rattle.forwarder_core.specs.Row.{judged, delivered, ended, given_up, read_whole, set_ending, verdict_on};
+ghost use Rattle.outstanding.specs.Lists.{on_path as ask_on};
+ghost use Rattle.forwarder_core.specs.Next.{next_of, IsQuiet, CanChange};
 
 use crate::forwarder::Forwarder;
 use crate::judge::{Verdict, judge};
-use crate::lists::{find_query, is_live};
+use crate::lists::is_live;
 use crate::next::{Change, Next};
 use crate::replies::{answers_to, failures};
 use crate::sets::{RecordSet, set_in};
-use crate::state::OpenQuery;
-use crate::values::Path;
 use dns_message::{Fault, Message, MessageRef};
+use outstanding::{Ask, Path};
 use std::alloc::{AllocError, Allocator};
 use suffix_routes::Peer;
 
 impl<H: Drop, A: Allocator + Copy> Forwarder<H, A> {
     /// The query on a path failed, and no try is left.
-    fn give_up(&self, moment: u64, path: Path, query: &OpenQuery<A>) -> Result<Next<A>, AllocError>
-        requires { query_on path self.now.state.queries ≡ Some query.now }
-        ensures { IfOk result (λ next. next_of moment self.now.state next ≡ given_up moment query.now self.now.state) }
+    fn give_up(&self, moment: u64, path: Path, query: &Ask<A>) -> Result<Next<A>, AllocError>
+        requires { ask_on path self.now.state.asks ≡ Some query.now }
+        ensures row { IfOk result (λ next. next_of moment self.now.state next ≡ given_up moment query.now self.now.state) }
+        ensures fits { IfOk result (λ next. CanChange self.now.config moment self.now.state next.change) }
     {
         let actions = failures(self.alloc, query, &self.waiting)?;
         Ok(Next {
@@ -35,11 +36,12 @@ impl<H: Drop, A: Allocator + Copy> Forwarder<H, A> {
         &self,
         moment: u64,
         path: Path,
-        query: &OpenQuery<A>,
+        query: &Ask<A>,
         set: &RecordSet<A>,
     ) -> Result<Next<A>, AllocError>
-        requires { query_on path self.now.state.queries ≡ Some query.now }
-        ensures { IfOk result (λ next. next_of moment self.now.state next ≡ ended moment query.now self.now.state (Some set.now)) }
+        requires { ask_on path self.now.state.asks ≡ Some query.now }
+        ensures row { IfOk result (λ next. next_of moment self.now.state next ≡ ended moment query.now self.now.state (Some set.now)) }
+        ensures fits { IfOk result (λ next. CanChange self.now.config moment self.now.state next.change) }
     {
         let actions = answers_to(self.alloc, query, set, moment, &self.waiting)?;
         Ok(Next {
@@ -53,11 +55,12 @@ impl<H: Drop, A: Allocator + Copy> Forwarder<H, A> {
         &self,
         moment: u64,
         path: Path,
-        query: &OpenQuery<A>,
+        query: &Ask<A>,
         message: &Message<A>,
     ) -> Result<Next<A>, AllocError>
-        requires { query_on path self.now.state.queries ≡ Some query.now }
-        ensures { IfOk result (λ next. next_of moment self.now.state next ≡ ended moment query.now self.now.state (set_ending message.now query.now.question query.now.route)) }
+        requires { ask_on path self.now.state.asks ≡ Some query.now }
+        ensures row { IfOk result (λ next. next_of moment self.now.state next ≡ ended moment query.now self.now.state (set_ending message.now query.now.question query.now.route)) }
+        ensures fits { IfOk result (λ next. CanChange self.now.config moment self.now.state next.change) }
     {
         match set_in(self.alloc, message, &query.question, query.route)? {
             Some(set) => self.accept(moment, path, query, &set),
@@ -70,12 +73,13 @@ impl<H: Drop, A: Allocator + Copy> Forwarder<H, A> {
         &self,
         moment: u64,
         path: Path,
-        query: &OpenQuery<A>,
+        query: &Ask<A>,
         bytes: &[u8],
     ) -> Result<Next<A>, AllocError>
-        requires on { query_on path self.now.state.queries ≡ Some query.now }
+        requires on { ask_on path self.now.state.asks ≡ Some query.now }
         requires viewed { IsOk (first_question bytes.now) }
-        ensures { IfOk result (λ next. next_of moment self.now.state next ≡ read_whole self.now.config moment query.now self.now.state (message_of bytes.now)) }
+        ensures row { IfOk result (λ next. next_of moment self.now.state next ≡ read_whole self.now.config moment query.now self.now.state (message_of bytes.now)) }
+        ensures fits { IfOk result (λ next. CanChange self.now.config moment self.now.state next.change) }
     {
         let Ok(view) = MessageRef::view(bytes) else {
             unreachable!();
@@ -92,14 +96,15 @@ impl<H: Drop, A: Allocator + Copy> Forwarder<H, A> {
         &self,
         moment: u64,
         path: Path,
-        query: &OpenQuery<A>,
+        query: &Ask<A>,
         bytes: &[u8],
         verdict: Verdict,
     ) -> Result<Next<A>, AllocError>
-        requires on { query_on path self.now.state.queries ≡ Some query.now }
+        requires on { ask_on path self.now.state.asks ≡ Some query.now }
         requires viewed { verdict ≡ Verdict.Whole → IsOk (first_question bytes.now) }
         ensures row { IfOk result (λ next. next_of moment self.now.state next ≡ judged self.now.config moment query.now bytes.now self.now.state verdict) }
         ensures unmatched { verdict ≡ Verdict.Stranger → IsQuiet result }
+        ensures fits { IfOk result (λ next. CanChange self.now.config moment self.now.state next.change) }
     {
         match verdict {
             Verdict::Stranger => Ok(self.nothing()),
@@ -118,10 +123,11 @@ impl<H: Drop, A: Allocator + Copy> Forwarder<H, A> {
         from: Peer,
         bytes: &[u8],
     ) -> Result<Next<A>, AllocError>
-        ensures row { IfOk result (λ next. next_of moment self.now.state next ≡ delivered self.now.config moment from bytes.now self.now.state (query_on path self.now.state.queries)) }
-        ensures unmatched { verdict_on self.now.config moment from bytes.now (query_on path self.now.state.queries) ≡ Verdict.Stranger → IsQuiet result }
+        ensures row { IfOk result (λ next. next_of moment self.now.state next ≡ delivered self.now.config moment from bytes.now self.now.state (ask_on path self.now.state.asks)) }
+        ensures unmatched { verdict_on self.now.config moment from bytes.now (ask_on path self.now.state.asks) ≡ Verdict.Stranger → IsQuiet result }
+        ensures fits { IfOk result (λ next. CanChange self.now.config moment self.now.state next.change) }
     {
-        let Some(query) = find_query(path, &self.queries) else {
+        let Some(query) = self.inquiries.by_path(path) else {
             return Ok(self.nothing());
         };
         if !is_live(&self.config, moment, query) {

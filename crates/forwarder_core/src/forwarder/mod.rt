@@ -1,10 +1,10 @@
 //! The forwarder, and its step.
 
-ghost use Rattle.std.specs.Prelude.{◌≡◌, [], IfOk, OnErr, IsOk};
+ghost use Rattle.std.specs.Prelude.{◌≡◌, ◌^◌, ◌≤◌, [], IfOk, IfSome, OnErr, IsOk};
 ghost use Rattle.forwarder_core.specs.Values.{event_of};
 ghost use Rattle.forwarder_core.specs.Messages.{AreOctets};
 ghost use Rattle.forwarder_core.specs.Row.{start, HandsOctets, TakesNoMemory, effective, Row};
-ghost use Rattle.forwarder_core.specs.Next.{IsDecided, IsDecidedQuietly};
+ghost use Rattle.forwarder_core.specs.Next.{IsDecided, IsDecidedQuietly, CanChange};
 ghost use Rattle.forwarder_core.specs.Runs.{StaysExplained};
 ghost use Rattle.forwarder_core.specs.Explains.{Explains};
 
@@ -13,8 +13,9 @@ mod client;
 mod delivery;
 
 use crate::next::Next;
-use crate::state::{OpenQuery, Waiting};
+use crate::state::Waiting;
 use crate::values::{Event, Outcome};
+use outstanding::Inquiries;
 use plain_list::PlainList;
 use std::alloc::{AllocError, Allocator, Global};
 use std::marker::Model;
@@ -49,7 +50,7 @@ pub struct Forwarder<H, A: Allocator = Global> {
     alloc: A,
     config: Config<A>,
     hasher: H,
-    queries: Vec<OpenQuery<A>, A>,
+    inquiries: Inquiries<A>,
     waiting: Vec<Waiting<A>, A>,
     moment: u64,
 }
@@ -59,7 +60,11 @@ impl<H, A: Allocator> Model for Forwarder<H, A> {
 
     ghost Value = { Running };
 
-    ghost view = { λ f. record { config = f.config; state = record { queries = f.queries.items; waiting = f.waiting.items; moment = f.moment } } };
+    ghost view = { λ f. record { config = f.config; state = record { asks = f.inquiries.asks; waiting = f.waiting.items; moment = f.moment } } };
+
+    ghost use Rattle.forwarder_core.specs.State.{IsKept};
+
+    ghost invariant = { λ f. IsKept f.config f.inquiries f.moment };
 }
 
 impl<H: Drop, A: Allocator + Copy> Forwarder<H, A> {
@@ -72,6 +77,7 @@ impl<H: Drop, A: Allocator + Copy> Forwarder<H, A> {
     ) -> Result<Option<Next<A>>, AllocError>
         ensures row { IfOk result (λ next. IsDecided self.now.config moment words self.now.state (event_of event.now) next) }
         ensures no_memory { TakesNoMemory self.now.config moment self.now.state (event_of event.now) → IsDecidedQuietly result }
+        ensures fits { IfOk result (λ next. IfSome next (λ some. CanChange self.now.config moment self.now.state some.change)) }
     {
         match event {
             Event::Client { client, bytes } => {
@@ -87,6 +93,16 @@ impl<H: Drop, A: Allocator + Copy> Forwarder<H, A> {
         }
     }
 
+    /// The greatest moment handed in so far, at most 2^62.
+    fn effective(&self, now: u64) -> u64
+        ensures value { result ≡ effective now self.now.state }
+        ensures later { self.now.state.moment ≤ result }
+        ensures in_time { result ≤ 2 ^ 62 }
+    {
+        now.min(LATEST).max(self.moment)
+    }
+
+    /// One step over octets that were looked at.
     fn take(
         &mut self,
         now: u64,
@@ -99,7 +115,7 @@ impl<H: Drop, A: Allocator + Copy> Forwarder<H, A> {
         ensures no_memory { TakesNoMemory self.old.config (effective now self.old.state) self.old.state (event_of event.now) → IsOk result }
         ensures err { OnErr result (self.new ≡ self.old) }
     {
-        let moment = now.min(LATEST).max(self.moment);
+        let moment = self.effective(now);
         let Some(next) = self.decide(moment, words, event)? else {
             self.restart();
             return Ok(Outcome {
@@ -116,11 +132,12 @@ impl<H: Drop, A: Allocator + Copy> Forwarder<H, A> {
         ensures new { IfOk result (λ forwarder. forwarder ≡ record { config = config; state = start }) }
         ensures explained { IfOk result (λ forwarder. Explains forwarder.config [] [] forwarder.state) }
     {
+        let capacity = config.limits.inquiries;
         Ok(Forwarder {
             alloc,
             config,
             hasher,
-            queries: Vec::new(alloc),
+            inquiries: Inquiries::new(alloc, capacity),
             waiting: Vec::new(alloc),
             moment: 0,
         })
@@ -130,7 +147,7 @@ impl<H: Drop, A: Allocator + Copy> Forwarder<H, A> {
     pub fn restart(&mut self)
         ensures { self.new ≡ record { config = self.old.config; state = start } }
     {
-        self.queries.clear();
+        self.inquiries.clear();
         self.waiting.clear();
         self.moment = 0;
     }

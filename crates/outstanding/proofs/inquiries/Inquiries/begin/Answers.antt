@@ -1,0 +1,12 @@
+use Rattle.std.proofs.Common.{◌<◌, length, arith, rules, sym, subst}
+use Rattle.std.specs.Prelude.{is_ok}
+use Rattle.outstanding.specs.Values.{Inquiries}
+use Rattle.outstanding.specs.Lists.{MayBegin}
+use Rattle.outstanding.proofs.Listed.{put_or_not}
+use Rattle.outstanding.proofs.inquiries.Inquiries.begin.Goals as goal
+
+pub invariant_of-self : goal.invariant_of-self
+invariant_of-self g c =
+    put_or_not (is_ok c.push.result) c.self.inside.capacity c.self.inside.asks.items c.push.new.self.items c.args.ask c.push.ensures.items c.self.invariant
+    (subst (λ (inquiries : Inquiries). MayBegin c.args.ask inquiries.asks) (sym c.self.view_is) c.requires)
+    (search rules)

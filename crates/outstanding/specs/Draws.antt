@@ -1,0 +1,27 @@
+-- The identifier and the port that random words give an ask by UDP (RFC 5452 9.2).
+use Rattle.std.specs.Prelude.{ℕ, ◌+◌, ◌/◌, ◌%◌, Bool, false, ◌==◌, ◌||◌, not, if◌then◌else◌, List, [], ◌∷◌, Option, Some, None}
+use Rattle.std.specs.List.{list_any}
+use Rattle.outstanding.specs.declared.ask.Path.TheVariants.{Udp}
+use Rattle.outstanding.specs.Values.{Ask}
+use Rattle.outstanding.specs.Lists.{same_path}
+
+-- the port of a word, from 1024 on
+abbrev pub port_of : ℕ → ℕ
+port_of word = 1024 + (word / 65536) % 64512
+
+-- an ask is listed on the port
+abbrev pub is_used : ℕ → List Ask → Bool
+is_used port asks = list_any (λ a. same_path a.path (Udp port)) asks
+
+-- the port counts as free, whatever is listed
+abbrev pub is_freed : ℕ → Option ℕ → Bool
+is_freed port None = false
+is_freed port (Some freed) = port == freed
+
+abbrev pub is_free : ℕ → List Ask → Option ℕ → Bool
+is_free port asks freed = is_freed port freed || not (is_used port asks)
+
+-- identifier and port of the first word whose port is free
+abbrev pub udp_draw : List ℕ → List Ask → Option ℕ → Option (ℕ × ℕ)
+udp_draw [] asks freed = None
+udp_draw (word ∷ words) asks freed = if is_free (port_of word) asks freed then Some (word % 65536, port_of word) else udp_draw words asks freed

@@ -1,0 +1,18 @@
+-- When asks are due.
+use Rattle.std.specs.Prelude.{ℕ, ◌+◌, nat_le, if◌then◌else◌, List, [], ◌∷◌, Option, Some, None}
+use Rattle.outstanding.specs.declared.ask.Path.{Path}
+use Rattle.outstanding.specs.Values.{Ask}
+
+-- so many milliseconds after it was asked
+abbrev pub due_of : ℕ → Ask → ℕ × Path
+due_of ask_ms ask = (ask.asked + ask_ms, ask.path)
+
+-- the sooner of two; at equal moments the first
+abbrev pub sooner : ℕ × Path → Option (ℕ × Path) → Option (ℕ × Path)
+sooner first None = Some first
+sooner first (Some second) = if nat_le first.0 second.0 then Some first else Some second
+
+-- the least moment at which an ask is due, and the path of that ask; at equal moments the older ask
+abbrev pub next_due : ℕ → List Ask → Option (ℕ × Path)
+next_due ask_ms [] = None
+next_due ask_ms (ask ∷ asks) = sooner (due_of ask_ms ask) (next_due ask_ms asks)

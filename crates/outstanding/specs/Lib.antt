@@ -1,0 +1,4 @@
+pub mod Values
+pub mod Lists
+pub mod Due
+pub mod Draws

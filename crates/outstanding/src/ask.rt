@@ -1,0 +1,60 @@
+//! One ask, and the path that it went on.
+
+ghost use Rattle.std.specs.Prelude.{◌≡◌};
+ghost use Rattle.outstanding.specs.Lists.{same_path};
+
+use dns_message::Question;
+use std::alloc::{Allocator, Global};
+use std::marker::Model;
+use suffix_routes::{Peer, RouteId};
+
+/// The way that an ask goes and its reply comes.
+#[derive(Clone, Copy, Debug, PartialEq, Eq)]
+pub enum Path {
+    /// By UDP, from this port of ours.
+    Udp(u16),
+    /// Over TCP, on the connection of this number.
+    Tcp(u64),
+}
+
+impl Path {
+    /// Whether both are one port, or one connection. It takes no memory.
+    pub fn is_same(self, other: Path) -> bool
+        ensures { result ≡ same_path self other }
+    {
+        match (self, other) {
+            (Path::Udp(port), Path::Udp(other)) => port == other,
+            (Path::Tcp(connection), Path::Tcp(other)) => connection == other,
+            _ => false,
+        }
+    }
+}
+
+/// A question that was sent to a server and may still be answered.
+#[derive(Drop)]
+pub struct Ask<A: Allocator = Global> {
+    /// What was asked, in the spelling that was sent.
+    pub question: Question<A>,
+    /// The route of the question's name.
+    pub route: RouteId,
+    /// The place of the asked server among the servers of the route, from 0.
+    pub server: usize,
+    /// That server.
+    pub peer: Peer,
+    /// How many tries the inquiry has used, this one included.
+    pub used: u8,
+    /// Where the reply has to come.
+    pub path: Path,
+    /// The identifier of the message (RFC 1035 4.1.1).
+    pub id: u16,
+    /// The moment of asking, in milliseconds, at most 2^62.
+    pub asked: u64,
+}
+
+impl<A: Allocator> Model for Ask<A> {
+    ghost use Rattle.outstanding.specs.Values.{Ask};
+
+    ghost Value = { Ask };
+
+    ghost view = { λ a. record { question = a.question; route = a.route; server = a.server; peer = a.peer; used = a.used; path = a.path; id = a.id; asked = a.asked } };
+}

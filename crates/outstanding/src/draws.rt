@@ -1,0 +1,62 @@
+//! The port and the identifier of an ask by UDP: both are drawn, so that a forger has to guess them (RFC 5452 9.2).
+
+ghost use Rattle.std.specs.Prelude.{◌≡◌};
+ghost use Rattle.outstanding.specs.Draws.{is_freed, is_used, port_of, udp_draw};
+
+use crate::ask::{Ask, Path};
+use crate::inquiries::Inquiries;
+use std::alloc::Allocator;
+
+/// Identifier and port of the first word whose port has no listed ask; the port `freed`, which is about to be given up,
+/// counts as free. A word `w` stands for identifier `w mod 65536` and port `1024 + (w / 65536) mod 64512`. `None` exactly
+/// where all eight ports are listed and not freed. It takes no memory.
+pub fn draw<A: Allocator>(
+    words: [u32; 8],
+    inquiries: &Inquiries<A>,
+    freed: Option<u16>,
+) -> Option<(u16, u16)>
+    ensures { result ≡ udp_draw words inquiries.now.asks freed }
+{
+    draw_among(words, inquiries.asks(), freed)
+}
+
+/// Identifier and port of the first word whose port has none of these asks, or is freed.
+fn draw_among<A: Allocator>(
+    words: [u32; 8],
+    asks: &[Ask<A>],
+    freed: Option<u16>,
+) -> Option<(u16, u16)>
+    ensures { result ≡ udp_draw words asks.now freed }
+{
+    for word in words {
+        let port = port_from(word);
+        if is_freed(port, freed) || !is_used(port, asks) {
+            return Some(((word % 65536) as u16, port));
+        }
+    }
+    None
+}
+
+/// The port that a random word gives, from 1024 on.
+fn port_from(word: u32) -> u16
+    ensures { result ≡ port_of word }
+{
+    (1024 + (word / 65536) % 64512) as u16
+}
+
+/// The port is about to be given up.
+fn is_freed(port: u16, freed: Option<u16>) -> bool
+    ensures { result ≡ is_freed port freed }
+{
+    match freed {
+        Some(freed) => port == freed,
+        None => false,
+    }
+}
+
+/// An ask is listed on the port.
+fn is_used<A: Allocator>(port: u16, asks: &[Ask<A>]) -> bool
+    ensures { result ≡ is_used port asks.now }
+{
+    asks.iter().any(|ask| ask.path.is_same(Path::Udp(port)))
+}

@@ -1,0 +1,13 @@
+//! The asks that are under way: which question went to which server, on which path, and when. No two of them have one
+//! path or equal questions.
+#![tactic(auto)]
+
+mod ask;
+mod draws;
+mod inquiries;
+#[cfg(test)]
+mod tests;
+
+pub use ask::{Ask, Path};
+pub use draws::draw;
+pub use inquiries::{Inquiries, Refusal};
