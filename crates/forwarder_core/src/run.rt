@@ -1,8 +1,9 @@
 //! A run over a list of what is handed in.
 
-ghost use Rattle.std.specs.Prelude.{◌≡◌, map, IfOk};
+ghost use Rattle.std.specs.Prelude.{◌≡◌, map, reverse, IfOk};
 ghost use Rattle.forwarder_core.specs.State.{State};
 ghost use Rattle.forwarder_core.specs.Row.{start};
+ghost use Rattle.forwarder_core.specs.Asked.{AsksWell};
 ghost use Rattle.forwarder_core.specs.Runs.{Run, IsSound};
 
 use crate::forwarder::Forwarder;
@@ -21,6 +22,9 @@ pub fn run_list<A: Allocator + Copy>(
     ensures run { IfOk result (λ steps. (last : State) × Run config.now start steps.items last) }
     // For some owners of the replies, each reply is right for the question that owns it.
     ensures sound { IfOk result (λ steps. IsSound config.now steps.items) }
+    // After every step the listed queries have different paths and different questions, and are no more than may be
+    // open; each query has the identifier and the port that its step's words give.
+    ensures asks { IfOk result (λ steps. AsksWell config.now (reverse steps.items)) }
 {
     let own = config.copy(alloc)?;
     let mut forwarder = Forwarder::new(alloc, own, DefaultHasher::default())?;

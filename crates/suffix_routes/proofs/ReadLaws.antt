@@ -1,10 +1,10 @@
 -- Numbers in text, and the keys of a table.
-use Rattle.std.proofs.Common.{◌≡◌, ℕ, ◌+◌, ◌-◌, ◌*◌, ◌<◌, ◌≤◌, Bool, true, false, ◌&&◌, nat_le, List, [], ◌∷◌, ◌++◌, length, get_or, take, drop, map, Option, Some, None, String, Global, string_bytes, refl, sym, ap, ◌∙◌, arith}
-use Rattle.std.specs.Prelude.{fold}
-use Rattle.std.specs.List.{list_all}
-use Rattle.std.proofs.lemmas.Bool.{lt-leb}
+use Rattle.std.proofs.Common.{◌≡◌, ℕ, ◌+◌, ◌-◌, ◌*◌, ◌<◌, ◌≤◌, Bool, List, [], ◌∷◌, ◌++◌, length, get_or, take, drop, map, None, String, Global, string_bytes, refl, sym, ap, ◌∙◌, arith, inl, inr}
+use Rattle.std.specs.Prelude.{fold, option_map}
+use Rattle.std.specs.List.{find}
+use Rattle.std.proofs.lemmas.Bool.{cases_Bool, lt-leb}
 use Rattle.std.proofs.lemmas.List.{take-append-drop, take_more}
-use Rattle.toml.specs.Data.{Data, Members}
+use Rattle.toml.specs.Data.{Data}
 use Rattle.toml.specs.View.{members_of, items_of}
 use Rattle.suffix_routes.specs.Peers.{decimal_value, up_to}
 use Rattle.suffix_routes.specs.Reading.{keys_of, list_of}
@@ -29,18 +29,15 @@ value_grows i digits =
 pub too_great : (i high : ℕ) (digits : List ℕ) → high < decimal_value (take i digits) → up_to high (decimal_value digits) ≡ None
 too_great i high digits lt = let great : high < decimal_value digits = omega (arith, value_grows i digits) in rw (lt-leb (decimal_value digits) high great) refl
 
--- the keys of a map are those of its members
-pub keys-members : (known : List ℕ → Bool) (es : List (String Global × Data)) → list_all known (keys_of (members_of es)) ≡ list_all (λ k. known (string_bytes k)) (map (λ (e : String Global × Data). e.0) es)
-keys-members known [] = refl
-keys-members known (e ∷ es) = ap (λ (b : Bool). known (string_bytes e.0) && b) (keys-members known es)
-
-first-of-viewed : {V : Type 0} (view : V → Data) (es : List (String Global × V)) → map (λ (e : String Global × Data). e.0) (map (λ (e : String Global × V). (e.0, view e.1)) es) ≡ map (λ (e : String Global × V). e.0) es
-first-of-viewed view [] = refl
-first-of-viewed view (e ∷ es) = ap (λ (ks : List (String Global)). e.0 ∷ ks) (first-of-viewed view es)
-
-pub keys-viewed : {V : Type 0} (view : V → Data) (known : List ℕ → Bool) (es : List (String Global × V))
-    → list_all known (keys_of (members_of (map (λ (e : String Global × V). (e.0, view e.1)) es))) ≡ list_all (λ k. known (string_bytes k)) (map (λ (e : String Global × V). e.0) es)
-keys-viewed {V = V} view known es = keys-members known (map (λ (e : String Global × V). (e.0, view e.1)) es) ∙ ap (list_all (λ k. known (string_bytes k))) (first-of-viewed view es)
+-- the keys of a map are those of its members: so is the first of some sort
+pub first-key : {V : Type 0} (view : V → Data) (strange : List ℕ → Bool) (es : List (String Global × V))
+    → find strange (keys_of (members_of (map (λ (e : String Global × V). (e.0, view e.1)) es))) ≡ option_map string_bytes (find (λ k. strange (string_bytes k)) (map (λ (e : String Global × V). e.0) es))
+first-key view strange [] = refl
+first-key view strange (e ∷ es) =
+    elim (cases_Bool (strange (string_bytes e.0))) [
+      | inl is ↦ rw is refl
+      | inr isnt ↦ rw isnt (first-key view strange es)
+    ]
 
 -- the items of an array as a list
 pub list-of-items : (ds : List Data) → list_of (items_of ds) ≡ ds

@@ -1,24 +1,23 @@
 -- What holds of a configuration that was read, and how faults are passed on.
-use Rattle.std.proofs.Common.{◌≡◌, ℕ, zero, suc, ◌+◌, ◌<◌, ◌≤◌, ℤ, pos, Bool, true, false, ◌&&◌, ◌==◌, nat_lt, List, [], ◌∷◌, ◌++◌, length, get_or, take, drop, map, Option, Some, None, Result, Ok, Err, refl, sym, ap, subst, ◌∙◌, append_assoc, arith, inl, inr, ◌⊎◌}
+use Rattle.std.proofs.Common.{◌≡◌, ℕ, suc, ◌+◌, ◌<◌, Bool, true, false, ◌==◌, List, [], ◌∷◌, ◌++◌, length, get_or, Option, Some, None, Result, Ok, Err, refl, sym, ap, subst, arith, inl, inr}
 use Rattle.std.specs.Prelude.{slice_get, position, codes}
 use Rattle.std.proofs.lemmas.Bool.Decides.{nat_tests}
 use Rattle.std.specs.List.{AllByRecursion, position_or_len}
-use Rattle.std.proofs.lemmas.Bool.{cases_Bool, cases_lt, lt-ltb, le-ltb}
+use Rattle.std.proofs.lemmas.Bool.{cases_lt, lt-ltb, le-ltb}
 use Rattle.std.proofs.lemmas.List.{length-append}
 use Rattle.std.proofs.lemmas.List.Sums.{position_or_len_is}
 use Rattle.std.proofs.lemmas.Option.{slice_get_within, get_or_from_slice_get, slice_get-get_or}
 use Rattle.suffix_routes.specs.declared.place.Place.TheVariants as place
 use Rattle.toml.specs.Data.{Data, Members}
-use Rattle.dns_name.specs.Labels.{IsName, IsSame, same}
+use Rattle.dns_name.specs.Labels.{IsName, IsSame}
 use Rattle.dns_name.specs.Text.{name_in}
 use Rattle.dns_name.specs.declared.fault.NameFault.{NameFault}
-use Rattle.dns_name.specs.Faults as name_faults
-use Rattle.dns_name.specs.declared.fault.NameFault.TheVariants as why
 use Rattle.dns_name.proofs.FaultLaws.{name_in_name}
 use Rattle.suffix_routes.specs.declared.fault.ConfigFault.{ConfigFault}
 use Rattle.suffix_routes.specs.declared.fault.ConfigFault.TheVariants as fault
 use Rattle.suffix_routes.specs.declared.peer.Peer.{Peer}
 use Rattle.suffix_routes.specs.Values.{Route, IsRoute, IsWithin, HasNoSuffix, AllDiffer}
+use Rattle.suffix_routes.specs.Excerpts.{excerpt}
 use Rattle.suffix_routes.specs.Routes.{route_at}
 use Rattle.suffix_routes.specs.Reading.{◌>>=◌, Fails, required, text_in, array_in, table_in, known_keys, suffix_name, new_suffix, servers_after, counted_servers, servers_in, suffix_in, route_in, routes_after, counted_routes, routes_in}
 use Rattle.suffix_routes.proofs.RouteLaws.{no_own}
@@ -29,30 +28,30 @@ pub fails_bind : {A B : Type 0} (e : ConfigFault) (r : Result A ConfigFault) (f 
 fails_bind (fault.Toml a) r f is = rw is refl
 fails_bind (fault.Version a) r f is = rw is refl
 fails_bind (fault.MissingKey a) r f is = rw is refl
-fails_bind (fault.WrongKind a) r f is = rw is refl
-fails_bind (fault.BadName a b) r f is = rw is refl
-fails_bind (fault.BadPeer a) r f is = rw is refl
+fails_bind (fault.WrongKind a b) r f is = rw is refl
+fails_bind (fault.BadName a b c) r f is = rw is refl
+fails_bind (fault.BadPeer a b) r f is = rw is refl
 fails_bind (fault.Range a b) r f is = rw is refl
 fails_bind (fault.TooManyServers a b) r f is = rw is refl
 fails_bind (fault.TwiceSuffix a b) r f is = rw is refl
 fails_bind (fault.TooManyRoutes a) r f is = rw is refl
 fails_bind (fault.NoServers a) r f is = rw is refl
-fails_bind (fault.UnknownKey a) r f is = rw is refl
+fails_bind (fault.UnknownKey a b) r f is = rw is refl
 fails_bind fault.Memory r f is = tt
 
 pub fails_of : {A : Type 0} (e : ConfigFault) (r : Result A ConfigFault) → r ≡ Err e → Fails e r
 fails_of (fault.Toml a) r is = is
 fails_of (fault.Version a) r is = is
 fails_of (fault.MissingKey a) r is = is
-fails_of (fault.WrongKind a) r is = is
-fails_of (fault.BadName a b) r is = is
-fails_of (fault.BadPeer a) r is = is
+fails_of (fault.WrongKind a b) r is = is
+fails_of (fault.BadName a b c) r is = is
+fails_of (fault.BadPeer a b) r is = is
 fails_of (fault.Range a b) r is = is
 fails_of (fault.TooManyServers a b) r is = is
 fails_of (fault.TwiceSuffix a b) r is = is
 fails_of (fault.TooManyRoutes a) r is = is
 fails_of (fault.NoServers a) r is = is
-fails_of (fault.UnknownKey a) r is = is
+fails_of (fault.UnknownKey a b) r is = is
 fails_of fault.Memory r is = tt
 
 -- ---- what comes of what is there
@@ -97,9 +96,9 @@ servers_range route ms servers is =
 
 -- ---- suffixes
 
-name_of : (place : ℕ) (r : Result (List (List ℕ)) NameFault) (name : List (List ℕ)) → suffix_name place r ≡ Ok name → r ≡ Ok name
-name_of place (Ok n) name is = let one : n ≡ name = cc in ap Ok one
-name_of place (Err e) name is = absurd (let no : Err (fault.BadName place e) ≡ Ok name = is in cc)
+name_of : (place : ℕ) (text : List ℕ) (r : Result (List (List ℕ)) NameFault) (name : List (List ℕ)) → suffix_name place text r ≡ Ok name → r ≡ Ok name
+name_of place text (Ok n) name is = let one : n ≡ name = cc in ap Ok one
+name_of place text (Err e) name is = absurd (let no : Err (fault.BadName place (excerpt text) e) ≡ Ok name = is in cc)
 
 new_is : (place : ℕ) (suffix name : List (List ℕ)) (first : Option ℕ) → new_suffix place suffix first ≡ Ok name → (suffix ≡ name) × (first ≡ None)
 new_is place suffix name None is = (cc, refl)
@@ -112,13 +111,13 @@ pub record IsNewSuffix (earlier : List Route) (suffix : List (List ℕ)) : Type 
 pub suffix_is_new : (earlier : List Route) (ms : Members) (suffix : List (List ℕ)) → suffix_in earlier ms ≡ Ok suffix → IsNewSuffix earlier suffix
 unfolding suffix_in
 suffix_is_new earlier ms suffix is =
-    let told : List ℕ → Result (List (List ℕ)) ConfigFault = λ text. suffix_name (length earlier) (name_in text) >>= λ n. new_suffix (length earlier) n (route_at earlier n) in
+    let told : List ℕ → Result (List (List ℕ)) ConfigFault = λ text. suffix_name (length earlier) text (name_in text) >>= λ n. new_suffix (length earlier) n (route_at earlier n) in
     let value = bind_ok (required (place.Suffix (length earlier)) (codes "suffix") ms) (λ d. text_in (place.Suffix (length earlier)) d >>= told) suffix is in
     let text = bind_ok (text_in (place.Suffix (length earlier)) value.value) told suffix value.next in
-    let name = bind_ok (suffix_name (length earlier) (name_in text.value)) (λ n. new_suffix (length earlier) n (route_at earlier n)) suffix text.next in
+    let name = bind_ok (suffix_name (length earlier) text.value (name_in text.value)) (λ n. new_suffix (length earlier) n (route_at earlier n)) suffix text.next in
     let parts = new_is (length earlier) name.value suffix (route_at earlier name.value) name.next in
     record {
-      name = rw (← parts.0) (name_in_name text.value name.value (name_of (length earlier) (name_in text.value) name.value name.there));
+      name = rw (← parts.0) (name_in_name text.value name.value (name_of (length earlier) text.value (name_in text.value) name.value name.there));
       new = rw (← parts.0) parts.1;
     }
 

@@ -1,5 +1,5 @@
 -- The route of a name: there is one answer, and it is the one that is computed.
-use Rattle.std.proofs.Common.{◌≡◌, ℕ, zero, suc, ◌+◌, ◌<◌, ◌≤◌, Bool, true, false, not, List, [], ◌∷◌, ◌++◌, length, get_or, Option, Some, None, refl, sym, ap, subst, ◌∙◌, arith, inl, inr, ◌⊎◌}
+use Rattle.std.proofs.Common.{◌≡◌, ℕ, zero, suc, ◌+◌, ◌<◌, ◌≤◌, Bool, true, false, List, [], ◌∷◌, ◌++◌, length, Option, Some, None, refl, sym, ap, subst, ◌∙◌, arith, inl, inr, ◌⊎◌}
 use Rattle.std.specs.Prelude.{slice_get, position}
 use Rattle.std.specs.Prelude.{nat_eq}
 use Rattle.std.specs.Cmp.Lexicographic.{pointwise}
@@ -7,10 +7,10 @@ use Rattle.std.specs.List.{AllByRecursion, position_or_len}
 use Rattle.std.proofs.lemmas.Option.{slice_get_within}
 use Rattle.std.proofs.lemmas.Bool.{cases_Bool, cases_lt, lt-ltb, le-ltb}
 use Rattle.dns_name.specs.Labels.{IsUnder, IsSame, lowered, same, size_of}
-use Rattle.dns_name.proofs.NameLaws.{same_sym, same_trans, same_count, same_decides, same_lowered, lowered_again, under_ends, under_same_names, under_count, under_refl, more_labels}
-use Rattle.dns_name.proofs.LabelLaws.{size_of-some, same_under, rest_under}
+use Rattle.dns_name.proofs.NameLaws.{same_count, same_decides, lowered_again, under_ends, under_same_names, under_count, under_refl, more_labels}
+use Rattle.dns_name.proofs.LabelLaws.{size_of-some, rest_under}
 use Rattle.suffix_routes.specs.Values.{Route, IsRoute, HasNoSuffix, AllDiffer}
-use Rattle.suffix_routes.specs.Routes.{IsRouteOf, HasNoRoute, IsAnswer, route_at, place_or, route_of}
+use Rattle.suffix_routes.specs.Routes.{IsRouteOf, IsAnswer, route_at, place_or, route_of}
 
 abbrev Name : Type 0
 Name = List (List ℕ)

@@ -1,5 +1,5 @@
 -- A peer in text.
-use Rattle.std.specs.Prelude.{◌≡◌, ◌++◌, ℕ, ◌+◌, ◌-◌, ◌*◌, Bool, not, ◌&&◌, ◌==◌, nat_lt, nat_le, if◌then◌else◌, List, [], ◌∷◌, length, take, drop, slice_index, fold, position, option_map, Option, Some, None}
+use Rattle.std.specs.Prelude.{◌≡◌, ◌++◌, ℕ, ◌+◌, ◌-◌, ◌*◌, Bool, not, ◌&&◌, ◌==◌, nat_lt, nat_le, if◌then◌else◌, List, [], ◌∷◌, length, take, drop, slice_index, fold, position, option_map, Option, Some, None, codes, decimal}
 use Rattle.std.specs.List.{list_all}
 use Rattle.std.specs.Char.{is_ascii_digit}
 use Rattle.suffix_routes.specs.declared.peer.Peer.{Peer}
@@ -62,3 +62,8 @@ pub record Writes (text : List ℕ) (peer : Peer) : Type 0 where
   pub is_d : number_in 0 255 fourth ≡ Some d
   pub is_port : number_in 1 65535 last ≡ Some port
   pub is_peer : peer ≡ record { ip = a ∷ b ∷ c ∷ d ∷ []; port = port }
+
+-- how a peer is written: its octets with dots between, a colon, its port
+abbrev pub peer_text : Peer → List ℕ
+peer_text peer =
+    decimal (slice_index peer.ip 0) ++ (codes "." ++ (decimal (slice_index peer.ip 1) ++ (codes "." ++ (decimal (slice_index peer.ip 2) ++ (codes "." ++ (decimal (slice_index peer.ip 3) ++ (codes ":" ++ decimal peer.port)))))))

@@ -5,7 +5,7 @@ use Rattle.std.specs.Cmp.Lexicographic.{pointwise}
 use Rattle.suffix_routes.specs.declared.place.Limit.{Limit}
 use Rattle.suffix_routes.specs.declared.place.Limit.TheVariants.{Questions, Inquiries, Cache, Tries, AskMs, DeadlineMs}
 use Rattle.suffix_routes.specs.declared.place.Place.{Place}
-use Rattle.suffix_routes.specs.declared.place.Place.TheVariants.{Document, Version, Listen, Limits, Limit as LimitPlace, Routes, Route, Suffix, Servers, Server}
+use Rattle.suffix_routes.specs.declared.place.Place.TheVariants.{Document, Limits, Route}
 use Rattle.suffix_routes.specs.declared.fault.ConfigFault.{ConfigFault}
 use Rattle.suffix_routes.specs.declared.fault.ConfigFault.TheVariants as fault
 
@@ -70,13 +70,13 @@ abbrev pub number_of : ConfigFault → ℕ
 number_of (fault.Toml at) = 1
 number_of (fault.Version value) = 2
 number_of (fault.MissingKey place) = 3
-number_of (fault.WrongKind place) = 4
-number_of (fault.BadName route why) = 5
-number_of (fault.BadPeer place) = 6
+number_of (fault.WrongKind place kind) = 4
+number_of (fault.BadName route text why) = 5
+number_of (fault.BadPeer place text) = 6
 number_of (fault.Range limit value) = 7
 number_of (fault.TooManyServers route count) = 7
 number_of (fault.TwiceSuffix route earlier) = 8
 number_of (fault.TooManyRoutes count) = 9
 number_of (fault.NoServers route) = 10
-number_of (fault.UnknownKey place) = 11
+number_of (fault.UnknownKey place key) = 11
 number_of fault.Memory = 12

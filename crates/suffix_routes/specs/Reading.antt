@@ -1,7 +1,7 @@
 -- The configuration that a table of TOML holds, else the first fault in order.
-use Rattle.std.specs.Prelude.{◌≡◌, ℕ, ℤ, pos, int_le, unsigned_abs, Bool, ◌==◌, nat_lt, ◌&&◌, if◌then◌else◌, List, [], ◌∷◌, ◌++◌, length, codes, option_map, Option, Some, None, Result, Ok, Err}
+use Rattle.std.specs.Prelude.{◌≡◌, ℕ, ◌≤◌, ℤ, pos, int_le, unsigned_abs, Bool, not, ◌==◌, nat_lt, ◌&&◌, if◌then◌else◌, List, [], ◌∷◌, ◌++◌, length, codes, option_map, Option, Some, None, Result, Ok, Err}
 use Rattle.std.specs.Ordering.{int_eq}
-use Rattle.std.specs.List.{list_all}
+use Rattle.std.specs.List.{find}
 use Rattle.toml.specs.Data.{Data, Items, no_items, item, Members, no_members, member, get_member, as_str, as_integer, as_array, as_table}
 use Rattle.toml.specs.Parse.{parse_document}
 use Rattle.dns_name.specs.Text.{name_in}
@@ -17,6 +17,8 @@ use Rattle.suffix_routes.specs.declared.fault.ConfigFault.TheVariants.{Toml, Ver
 use Rattle.suffix_routes.specs.Values.{Route, Config, default_limits}
 use Rattle.suffix_routes.specs.Places.{limit_key, lowest, highest, default_of, knows}
 use Rattle.suffix_routes.specs.Peers.{peer_of}
+use Rattle.suffix_routes.specs.Excerpts.{excerpt}
+use Rattle.suffix_routes.specs.Kinds.{kind_of}
 use Rattle.suffix_routes.specs.Routes.{route_at}
 
 -- the first fault, or what comes next of what is there
@@ -58,9 +60,18 @@ abbrev pub list_of : Items → List Data
 list_of no_items = []
 list_of (item d ds) = d ∷ list_of ds
 
--- no key but those that the table at this place may have
+-- a key that the table at this place may not have
+abbrev pub is_strange : Place → List ℕ → Bool
+is_strange place key = not (knows place key)
+
+-- a fault where such a key was met
+abbrev pub no_strange : Place → Option (List ℕ) → Result (Unit {0}) ConfigFault
+no_strange place None = Ok tt
+no_strange place (Some key) = Err (UnknownKey place (excerpt key))
+
+-- no key but those that the table at this place may have, else the first that it may not have
 unfoldable pub known_keys : Place → Members → Result (Unit {0}) ConfigFault
-known_keys place ms = unless (list_all (knows place) (keys_of ms)) (UnknownKey place)
+known_keys place ms = no_strange place (find (is_strange place) (keys_of ms))
 
 -- the value at a key that has to be there
 abbrev pub required : Place → List ℕ → Members → Result Data ConfigFault
@@ -69,22 +80,22 @@ required place key ms = ok_or (get_member key ms) (MissingKey place)
 -- ---- what stands at one place
 
 abbrev pub text_in : Place → Data → Result (List ℕ) ConfigFault
-text_in place d = ok_or (as_str d) (WrongKind place)
+text_in place d = ok_or (as_str d) (WrongKind place (kind_of d))
 
 abbrev pub integer_in : Place → Data → Result ℤ ConfigFault
-integer_in place d = ok_or (as_integer d) (WrongKind place)
+integer_in place d = ok_or (as_integer d) (WrongKind place (kind_of d))
 
 abbrev pub array_in : Place → Data → Result (List Data) ConfigFault
-array_in place d = ok_or (option_map list_of (as_array d)) (WrongKind place)
+array_in place d = ok_or (option_map list_of (as_array d)) (WrongKind place (kind_of d))
 
 abbrev pub table_in : Place → Data → Result Members ConfigFault
-table_in place d = ok_or (as_table d) (WrongKind place)
+table_in place d = ok_or (as_table d) (WrongKind place (kind_of d))
 
 -- a peer
 unfoldable pub peer_in : Place → Data → Result Peer ConfigFault
 peer_in place d =
     text_in place d >>= λ text.
-    ok_or (peer_of text) (BadPeer place)
+    ok_or (peer_of text) (BadPeer place (excerpt text))
 
 -- a limit: its default where the key is absent, else an integer in its range
 abbrev pub in_range : Limit → ℤ → Result ℕ ConfigFault
@@ -147,9 +158,9 @@ limits_in ms = limits_of (get_member (codes "limits") ms)
 -- ---- a route
 
 -- the name that a text writes, for the route at this place
-abbrev pub suffix_name : ℕ → Result (List (List ℕ)) NameFault → Result (List (List ℕ)) ConfigFault
-suffix_name place (Ok name) = Ok name
-suffix_name place (Err why) = Err (BadName place why)
+abbrev pub suffix_name : ℕ → List ℕ → Result (List (List ℕ)) NameFault → Result (List (List ℕ)) ConfigFault
+suffix_name place text (Ok name) = Ok name
+suffix_name place text (Err why) = Err (BadName place (excerpt text) why)
 
 -- a suffix that no earlier route has
 abbrev pub new_suffix : ℕ → List (List ℕ) → Option ℕ → Result (List (List ℕ)) ConfigFault
@@ -160,7 +171,7 @@ unfoldable pub suffix_in : List Route → Members → Result (List (List ℕ)) C
 suffix_in earlier ms =
     required (place.Suffix (length earlier)) (codes "suffix") ms >>= λ d.
     text_in (place.Suffix (length earlier)) d >>= λ text.
-    suffix_name (length earlier) (name_in text) >>= λ suffix.
+    suffix_name (length earlier) text (name_in text) >>= λ suffix.
     new_suffix (length earlier) suffix (route_at earlier suffix)
 
 -- the servers, each behind those before it
@@ -218,17 +229,17 @@ config_in ms =
     routes_in ms >>= λ routes.
     Ok (record { listen = listen; limits = limits; routes = routes })
 
--- the fault of a text that is no TOML
-abbrev pub IsNoToml : Result Config ConfigFault → Type 0
-IsNoToml (Err (Toml at)) = Unit {0}
-IsNoToml (Err Memory) = Unit {0}
-IsNoToml _ = ⊥
+-- the fault of a text that is no TOML, which tells an octet of it or its end
+abbrev pub IsNoToml : List ℕ → Result Config ConfigFault → Type 0
+IsNoToml text (Err (Toml at)) = at ≤ length text
+IsNoToml text (Err Memory) = Unit {0}
+IsNoToml text _ = ⊥
 
 -- what is told of a document, where it could be read
-abbrev pub IsTold : Option Members → Result Config ConfigFault → Type 0
-IsTold None answer = IsNoToml answer
-IsTold (Some ms) answer = Gives (λ c. c) answer (config_in ms)
+abbrev pub IsTold : List ℕ → Option Members → Result Config ConfigFault → Type 0
+IsTold text None answer = IsNoToml text answer
+IsTold text (Some ms) answer = Gives (λ c. c) answer (config_in ms)
 
 -- what was read in a text: its configuration, else its first fault
 abbrev pub IsReadIn : List ℕ → Result Config ConfigFault → Type 0
-IsReadIn text answer = IsTold (parse_document text) answer
+IsReadIn text answer = IsTold text (parse_document text) answer

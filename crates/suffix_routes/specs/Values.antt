@@ -1,5 +1,5 @@
 -- What a configuration is: plain values, and what holds of each that was accepted.
-use Rattle.std.specs.Prelude.{◌≡◌, ℕ, ◌<◌, ◌≤◌, List, [], ◌∷◌, length}
+use Rattle.std.specs.Prelude.{ℕ, ◌≤◌, List, [], ◌∷◌, length}
 use Rattle.std.specs.List.{AllByRecursion}
 use Rattle.dns_name.specs.Labels.{IsName, IsSame}
 use Rattle.suffix_routes.specs.declared.peer.Peer.{Peer}

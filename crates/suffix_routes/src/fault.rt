@@ -4,6 +4,8 @@ ghost use Rattle.std.specs.Prelude.{◌≡◌};
 ghost use Rattle.suffix_routes.specs.Places.{number_of};
 ghost use Rattle.suffix_routes.specs.declared.fault.ConfigFault.TheVariants.{Memory};
 
+use crate::excerpt::Excerpt;
+use crate::kind::Kind;
 use crate::place::{Limit, Place};
 use dns_name::NameFault;
 use std::alloc::AllocError;
@@ -20,17 +22,17 @@ pub enum ConfigFault {
     #[error("`version` is {0}, and has to be 1")]
     Version(i64),
     /// Nothing stands at this place, or no route in the array of routes.
-    #[error("{0} is missing")]
+    #[error("{} is {}, and has to be {}", .0, .0.absence(), .0.wanted())]
     MissingKey(Place),
-    /// What stands at this place is of another kind.
-    #[error("{} has to be {}", .0, .0.kind())]
-    WrongKind(Place),
-    /// The suffix of this route is no name.
-    #[error("{} is no name: {}", Place::Suffix(*.0), .1)]
-    BadName(usize, NameFault),
-    /// What stands at this place is no peer.
-    #[error("{0} has to be four numbers from 0 to 255 with dots between, a colon, and a port from 1 to 65535")]
-    BadPeer(Place),
+    /// What stands at this place is of this kind, which is another than it has to be.
+    #[error("{} is {}, and has to be {}", .0, .1, .0.wanted())]
+    WrongKind(Place, Kind),
+    /// The suffix of this route is this text, which is no name.
+    #[error("{} is {}, which is no name: {}", Place::Suffix(*.0), .1, .2)]
+    BadName(usize, Excerpt, NameFault),
+    /// What stands at this place is this text, which is no peer.
+    #[error("{0} is {1}, and has to be four numbers from 0 to 255 with dots between, a colon, and a port from 1 to 65535")]
+    BadPeer(Place, Excerpt),
     /// A limit has this value, which is out of its range.
     #[error("{} is {}, and has to be {} to {}", Place::Limit(*.0), .1, .0.lowest(), .0.highest())]
     Range(Limit, i64),
@@ -38,7 +40,7 @@ pub enum ConfigFault {
     #[error("{} are {}, and have to be 1 to 8", Place::Servers(*.0), .1)]
     TooManyServers(usize, usize),
     /// The route at this place has the suffix of an earlier one.
-    #[error("{} is that of {} too", Place::Suffix(*.0), Place::Route(*.1))]
+    #[error("{} is that of {} too, and each route has to have its own", Place::Suffix(*.0), Place::Route(*.1))]
     TwiceSuffix(usize, usize),
     /// There are so many routes, which are more than 64.
     #[error("there are {0} routes, and have to be 1 to 64")]
@@ -46,9 +48,9 @@ pub enum ConfigFault {
     /// The route at this place has no servers.
     #[error("{} is empty, and has to have 1 to 8", Place::Servers(*.0))]
     NoServers(usize),
-    /// The table at this place has a key that is not known.
-    #[error("{} has a key that is none of {}", .0, .0.keys())]
-    UnknownKey(Place),
+    /// The table at this place has this key, which is not known. Of several it is the least by its octets.
+    #[error("{} has the key {}, which is none of {}", .0, .1, .0.keys())]
+    UnknownKey(Place, Excerpt),
     /// Memory ran out.
     #[error("memory ran out")]
     Memory,
@@ -64,14 +66,14 @@ impl ConfigFault {
             ConfigFault::Toml(_) => 1,
             ConfigFault::Version(_) => 2,
             ConfigFault::MissingKey(_) => 3,
-            ConfigFault::WrongKind(_) => 4,
-            ConfigFault::BadName(_, _) => 5,
-            ConfigFault::BadPeer(_) => 6,
+            ConfigFault::WrongKind(_, _) => 4,
+            ConfigFault::BadName(_, _, _) => 5,
+            ConfigFault::BadPeer(_, _) => 6,
             ConfigFault::Range(_, _) | ConfigFault::TooManyServers(_, _) => 7,
             ConfigFault::TwiceSuffix(_, _) => 8,
             ConfigFault::TooManyRoutes(_) => 9,
             ConfigFault::NoServers(_) => 10,
-            ConfigFault::UnknownKey(_) => 11,
+            ConfigFault::UnknownKey(_, _) => 11,
             ConfigFault::Memory => 12,
         }
     }

@@ -2,7 +2,9 @@
 #![tactic(auto)]
 
 mod config;
+mod excerpt;
 mod fault;
+mod kind;
 mod limits;
 mod peer;
 mod place;
@@ -12,7 +14,9 @@ mod route;
 mod table;
 
 pub use config::Config;
+pub use excerpt::Excerpt;
 pub use fault::ConfigFault;
+pub use kind::Kind;
 pub use limits::Limits;
 pub use peer::Peer;
 pub use place::{Limit, Place};

@@ -1,9 +1,9 @@
 //! Peers: servers and clients by their address.
 
-ghost use Rattle.std.specs.Prelude.{◌≡◌, ◌≤◌, ◌==◌, true, IfSome, MatchOption, option_map, position};
+ghost use Rattle.std.specs.Prelude.{◌≡◌, ◌≤◌, ◌==◌, true, Some, IfSome, MatchOption, option_map, position};
 ghost use Rattle.std.specs.Char.{is_ascii_digit};
 ghost use Rattle.std.specs.List.{list_all};
-ghost use Rattle.suffix_routes.specs.Peers.{cut, is_decimal, decimal_value, up_to, number_in, peer_of, Writes};
+ghost use Rattle.suffix_routes.specs.Peers.{cut, is_decimal, decimal_value, up_to, number_in, peer_of, peer_text, Writes};
 
 use std::fmt;
 
@@ -113,6 +113,8 @@ fn value_up_to(digits: &[u8], high: u32) -> Option<u32>
 
 /// The form `a.b.c.d:port`, all numbers in decimal.
 impl fmt::Display for Peer {
+    ghost output = { λ p. Some (peer_text p) };
+
     fn fmt<W: fmt::Write>(&self, f: &mut fmt::Formatter<W>) -> fmt::Result {
         let [a, b, c, d] = self.ip;
         write!(f, "{a}.{b}.{c}.{d}:{}", self.port)

@@ -104,13 +104,22 @@ pub enum Place {
 
 impl Place {
     /// What has to stand at this place.
-    pub fn kind(&self) -> &'static str {
+    pub fn wanted(&self) -> &'static str {
         match self {
             Place::Document | Place::Limits | Place::Route(_) => "a table",
-            Place::Version | Place::Limit(_) => "an integer",
+            Place::Version => "the integer 1",
+            Place::Limit(_) => "an integer",
             Place::Listen | Place::Suffix(_) | Place::Server(_, _) => "a string",
-            Place::Routes => "an array of tables",
-            Place::Servers(_) => "an array of strings",
+            Place::Routes => "an array of 1 to 64 tables",
+            Place::Servers(_) => "an array of 1 to 8 strings",
+        }
+    }
+
+    /// How the fault of a missing key is worded: an empty array of routes is told by it too.
+    pub(crate) fn absence(&self) -> &'static str {
+        match self {
+            Place::Routes => "missing or empty",
+            _ => "missing",
         }
     }
 

@@ -11,7 +11,7 @@ use crate::limits::Limits;
 use crate::peer::Peer;
 use crate::place::{Limit, Place};
 use crate::read_route::read_routes;
-use crate::table::{check_keys, find, integer_at, limit_at, peer_at, require, table_at};
+use crate::table::{check_keys, integer_at, limit_at, peer_at, require, table_at, value_of};
 use std::alloc::{Allocator, Global};
 use toml::Table;
 
@@ -74,7 +74,7 @@ fn check_version(table: &Table) -> Result<(), ConfigFault>
 fn read_listen(table: &Table) -> Result<Peer, ConfigFault>
     ensures { result ≡ listen_in (table_view table.now) }
 {
-    match find(table, "listen") {
+    match value_of(table, "listen") {
         None => Ok(Peer {
             ip: [127, 0, 0, 1],
             port: 53,
@@ -89,7 +89,7 @@ fn read_limits(table: &Table) -> Result<Limits, ConfigFault>
     ensures given { result ≡ limits_in (table_view table.now) }
     ensures accepted { IfOk result AreLimits }
 {
-    match find(table, "limits") {
+    match value_of(table, "limits") {
         None => Ok(Limits::defaults()),
         Some(value) => read_all_limits(table_at(value, Place::Limits)?),
     }

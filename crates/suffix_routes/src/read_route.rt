@@ -6,6 +6,7 @@ ghost use Rattle.dns_name.specs.Text.{name_in};
 ghost use Rattle.suffix_routes.specs.Routes.{route_at};
 ghost use Rattle.suffix_routes.specs.Reading.{Gives, suffix_name, suffix_in, servers_after, servers_in, route_in, routes_after, routes_in};
 
+use crate::excerpt::Excerpt;
 use crate::fault::ConfigFault;
 use crate::peer::Peer;
 use crate::place::Place;
@@ -87,12 +88,12 @@ fn read_suffix<A: Allocator>(
 
 /// The name that a text writes, for the suffix of the route at this place.
 fn read_name<A: Allocator>(alloc: A, text: &str, place: usize) -> Result<Name<A>, ConfigFault>
-    ensures { Gives (λ n. n) result (suffix_name place (name_in text.now)) }
+    ensures { Gives (λ n. n) result (suffix_name place text.now (name_in text.now)) }
 {
     match Name::from_text(alloc, text) {
         Ok(name) => Ok(name),
         Err(NameFault::Memory) => Err(ConfigFault::Memory),
-        Err(fault) => Err(ConfigFault::BadName(place, fault)),
+        Err(fault) => Err(ConfigFault::BadName(place, Excerpt::of(text), fault)),
     }
 }
 

@@ -1,20 +1,22 @@
 //! What stands at a place of a TOML table.
 
-ghost use Rattle.std.specs.Prelude.{◌≡◌, ◌≤◌, IfOk, map, option_map, string_bytes};
+ghost use Rattle.std.specs.Prelude.{◌≡◌, ◌≤◌, IfOk, not, map, option_map, option_copied, string_bytes};
 ghost use Rattle.std.specs.BTreeMap.{keys};
-ghost use Rattle.std.specs.List.{list_all};
+ghost use Rattle.std.specs.List.{find};
 ghost use Rattle.toml.specs.Data.{get_member};
 ghost use Rattle.toml.specs.View.{view, table_view};
 ghost use Rattle.suffix_routes.specs.Places.{knows, limit_key, lowest, highest};
 ghost use Rattle.suffix_routes.specs.Reading.{Shows, known_keys, required, peer_in, limit_in, in_range, text_in, array_in, table_in, integer_in};
 
+use crate::excerpt::Excerpt;
 use crate::fault::ConfigFault;
+use crate::kind::Kind;
 use crate::peer::Peer;
 use crate::place::{Limit, Place};
 use toml::{Table, Value};
 
 /// The value at a key.
-pub(crate) fn find<'a>(table: &'a Table, key: &str) -> Option<&'a Value>
+pub(crate) fn value_of<'a>(table: &'a Table, key: &str) -> Option<&'a Value>
     ensures { option_map (λ v. view v.now) result ≡ get_member key.now (table_view table.now) }
 {
     table.get(key)
@@ -28,7 +30,7 @@ pub(crate) fn require<'a>(
 ) -> Result<&'a Value, ConfigFault>
     ensures { Shows (λ v. view v.now) result (required place key.now (table_view table.now)) }
 {
-    match find(table, key) {
+    match value_of(table, key) {
         Some(value) => Ok(value),
         None => Err(ConfigFault::MissingKey(place)),
     }
@@ -38,17 +40,17 @@ pub(crate) fn require<'a>(
 pub(crate) fn check_keys(table: &Table, place: Place) -> Result<(), ConfigFault>
     ensures { result ≡ known_keys place (table_view table.now) }
 {
-    if has_known_keys(table, place) {
-        Ok(())
-    } else {
-        Err(ConfigFault::UnknownKey(place))
+    match unknown_key(table, place) {
+        None => Ok(()),
+        Some(key) => Err(ConfigFault::UnknownKey(place, Excerpt::of(key.as_str()))),
     }
 }
 
-fn has_known_keys(table: &Table, place: Place) -> bool
-    ensures { result ≡ list_all (λ k. knows place (string_bytes k)) (keys table.now) }
+/// The first key, in the table's order, that a table at this place may not have.
+fn unknown_key<'a>(table: &'a Table, place: Place) -> Option<&'a String>
+    ensures { option_copied result ≡ find (λ k. not (knows place (string_bytes k))) (keys table.now) }
 {
-    table.keys().all(|key| place.knows(key.as_str()))
+    table.keys().find(|key| !place.knows(key.as_str()))
 }
 
 /// A string.
@@ -57,7 +59,7 @@ pub(crate) fn text_at<'a>(value: &'a Value, place: Place) -> Result<&'a str, Con
 {
     match value.as_str() {
         Some(text) => Ok(text),
-        None => Err(ConfigFault::WrongKind(place)),
+        None => Err(ConfigFault::WrongKind(place, Kind::of(value))),
     }
 }
 
@@ -67,7 +69,7 @@ pub(crate) fn array_at<'a>(value: &'a Value, place: Place) -> Result<&'a [Value]
 {
     match value.as_array() {
         Some(array) => Ok(array.as_slice()),
-        None => Err(ConfigFault::WrongKind(place)),
+        None => Err(ConfigFault::WrongKind(place, Kind::of(value))),
     }
 }
 
@@ -77,7 +79,7 @@ pub(crate) fn table_at<'a>(value: &'a Value, place: Place) -> Result<&'a Table, 
 {
     match value.as_table() {
         Some(table) => Ok(table),
-        None => Err(ConfigFault::WrongKind(place)),
+        None => Err(ConfigFault::WrongKind(place, Kind::of(value))),
     }
 }
 
@@ -87,7 +89,7 @@ pub(crate) fn integer_at(value: &Value, place: Place) -> Result<i64, ConfigFault
 {
     match value.as_integer() {
         Some(integer) => Ok(integer),
-        None => Err(ConfigFault::WrongKind(place)),
+        None => Err(ConfigFault::WrongKind(place, Kind::of(value))),
     }
 }
 
@@ -96,9 +98,10 @@ pub(crate) fn integer_at(value: &Value, place: Place) -> Result<i64, ConfigFault
 pub(crate) fn peer_at(value: &Value, place: Place) -> Result<Peer, ConfigFault>
     ensures { result ≡ peer_in place (view value.now) }
 {
-    match Peer::from_text(text_at(value, place)?) {
+    let text = text_at(value, place)?;
+    match Peer::from_text(text) {
         Some(peer) => Ok(peer),
-        None => Err(ConfigFault::BadPeer(place)),
+        None => Err(ConfigFault::BadPeer(place, Excerpt::of(text))),
     }
 }
 
@@ -108,7 +111,7 @@ pub(crate) fn limit_at(table: &Table, limit: Limit) -> Result<u64, ConfigFault>
     ensures value { result ≡ limit_in limit (table_view table.now) }
     ensures range { IfOk result (λ n. (lowest limit ≤ n) × (n ≤ highest limit)) }
 {
-    match find(table, limit.key()) {
+    match value_of(table, limit.key()) {
         None => Ok(limit.default_value()),
         Some(value) => in_range(limit, integer_at(value, Place::Limit(limit))?),
     }

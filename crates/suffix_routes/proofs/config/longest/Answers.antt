@@ -1,9 +1,9 @@
-use Rattle.std.proofs.Common.{arith, ◌≡◌, ◌≤◌, ◌<◌, ◌+◌, ◌∙◌, sym, ap, refl, Option, Some, length}
+use Rattle.std.proofs.Common.{arith, ◌≡◌, ◌≤◌, ◌+◌, ◌∙◌, sym, ap, refl, Some, length}
 use Rattle.std.specs.Prelude.{slice_get}
 use Rattle.std.proofs.lemmas.Option.{slice_get_read}
 use Rattle.dns_name.specs.Labels.{IsUnder, size_of}
 use Rattle.suffix_routes.specs.Values.{Route}
-use Rattle.suffix_routes.proofs.RouteLaws.{BestBelow, passed_over, taken, best_of_all}
+use Rattle.suffix_routes.proofs.RouteLaws.{passed_over, taken, best_of_all}
 use Rattle.suffix_routes.proofs.config.longest.Goals as goal
 use Rattle.suffix_routes.proofs.config.longest.Goals.{then-size-octets+then-is_under, else-size-octets, else-size-octets-via-then-size-octets+else-is_under, else-size-octets-via-else-size-octets}
 

@@ -1,5 +1,4 @@
-use Rattle.std.proofs.Common.{◌≡◌, ◌+◌, ◌*◌, ◌<◌, arith, sym, take}
-use Rattle.suffix_routes.specs.Peers.{decimal_value}
+use Rattle.std.proofs.Common.{◌+◌, arith, sym}
 use Rattle.suffix_routes.proofs.ReadLaws.{too_great, value_more}
 use Rattle.suffix_routes.proofs.peer.value_up_to.Goals as goal
 

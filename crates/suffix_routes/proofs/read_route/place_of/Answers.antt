@@ -1,7 +1,7 @@
-use Rattle.std.proofs.Common.{arith, ◌≡◌, ◌<◌, ℕ, Some, false, true, sym, ap, refl, length, ◌∙◌}
+use Rattle.std.proofs.Common.{arith, ◌≡◌, Some, false, true, sym, ap, refl, length, ◌∙◌}
 use Rattle.std.specs.Prelude.{slice_get}
 use Rattle.std.proofs.lemmas.Option.{slice_get_read, slice_get_within}
-use Rattle.dns_name.specs.Labels.{same, IsSame}
+use Rattle.dns_name.specs.Labels.{same}
 use Rattle.dns_name.proofs.NameLaws.{same_decides, told}
 use Rattle.suffix_routes.specs.Values.{Route}
 use Rattle.suffix_routes.proofs.ReadRoutes.{first_at, none_first, one_more}

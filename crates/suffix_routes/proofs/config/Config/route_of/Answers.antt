@@ -1,4 +1,4 @@
-use Rattle.std.proofs.Common.{◌∙◌, ◌≡◌}
+use Rattle.std.proofs.Common.{◌∙◌}
 use Rattle.dns_name.specs.Labels.{lowered}
 use Rattle.dns_name.proofs.NameLaws.{same_lowered}
 use Rattle.suffix_routes.proofs.RouteLaws.{answer_of_same, route_of-lowered}
