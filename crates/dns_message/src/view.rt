@@ -185,7 +185,8 @@ impl<'a> MessageRef<'a> {
         skip_message(self.bytes).is_ok()
     }
 
-    /// The spans of the records that can be read, in order. It takes no memory.
+    /// The spans of the records that can be read, in order. It takes no memory, and with all of them about the time of
+    /// `is_whole`, also where many names lie behind one long chain of pointers.
     #[tactic(auto, using(crate::proofs::MessageLaws::viewed_long))]
     pub fn records(&self) -> Records<'a>
         ensures { result ≡ spans_of self.now }

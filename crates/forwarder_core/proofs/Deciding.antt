@@ -10,7 +10,7 @@ use Rattle.dns_message.specs.Values.{Question}
 use Rattle.dns_message.specs.Messages.{first_question}
 use Rattle.suffix_routes.specs.declared.peer.Peer.{Peer}
 use Rattle.suffix_routes.specs.Values.{Config}
-use Rattle.forwarder_core.specs.declared.judge.Verdict.TheVariants.{Stranger, Whole}
+use Rattle.reply_match.specs.declared.verdict.Verdict.TheVariants.{Stranger, Whole}
 use Rattle.outstanding.specs.declared.ask.Path.{Path}
 use Rattle.forwarder_core.specs.declared.values.Why.{Why}
 use Rattle.forwarder_core.specs.Values.{Event, Action, Outcome}
@@ -18,12 +18,13 @@ use Rattle.forwarder_core.specs.Pieces.{Held}
 use Rattle.forwarder_core.specs.State.{Waiting, State}
 use Rattle.outstanding.specs.Lists.{of_question, on_path as ask_on, without_path}
 use Rattle.outstanding.specs.Values.{Ask}
-use Rattle.forwarder_core.specs.Row.{Done, Fate, gets, waits, reply_in, waiting_in, replies, still_waiting, closes, closed, gives_up, answered, waits_for, fails, is_given, idle, judge, judged, delivered, verdict_on, Happens, HandsOctets, effective, Row}
+use Rattle.forwarder_core.specs.Row.{Done, Fate, gets, waits, reply_in, waiting_in, replies, still_waiting, closes, closed, gives_up, answered, waits_for, fails, is_given, idle, judged, delivered, verdict_on, Happens, HandsOctets, effective, Row}
+use Rattle.reply_match.proofs.VerdictLaws.{unread_is_stranger}
+use Rattle.reply_match.specs.Verdicts.{judge}
 use Rattle.forwarder_core.specs.declared.next.Change.TheVariants.{Nothing}
 use Rattle.forwarder_core.specs.declared.next.Next.{Next}
 use Rattle.forwarder_core.specs.Next.{closing, next_of, CanChange, IsDecided, IsDecidedQuietly, IsOutcome, with_reply, with_replies}
 use Rattle.forwarder_core.proofs.Listed.{ask_on-is}
-use Rattle.forwarder_core.proofs.Judging.{unread_is_stranger}
 
 -- ---- closing a query
 

@@ -10,7 +10,6 @@ pub mod Listed
 pub mod Asking
 pub mod Keeping
 pub mod Cases
-pub mod Judging
 pub mod Deciding
 pub mod Theorem
 pub mod Runs

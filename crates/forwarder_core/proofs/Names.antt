@@ -9,7 +9,8 @@ use Rattle.suffix_routes.specs.declared.peer.Peer.{Peer}
 use Rattle.suffix_routes.specs.Values.{Config}
 use Rattle.suffix_routes.specs.Routes.{route_of as route_among}
 use Rattle.suffix_routes.proofs.RouteLaws.{route_of-lowered}
-use Rattle.forwarder_core.specs.Names.{same_octets, same_name, same_peer, route_of}
+use Rattle.forwarder_core.specs.Names.{same_octets, same_name, route_of}
+use Rattle.reply_match.specs.Peers.{same_peer}
 use Rattle.dns_message.specs.Questions.{same_question}
 
 pub same_octets-refl : (xs : List ℕ) → same_octets xs xs ≡ true

@@ -15,7 +15,8 @@ use Rattle.dns_message.specs.Written.{IsQuestion}
 use Rattle.dns_message.proofs.ShapeLaws.{name_is}
 use Rattle.dns_message.proofs.WholeLaws.{first_sound, first_complete}
 use Rattle.dns_message.proofs.RoundTripMessage.{message_spelled}
-use Rattle.forwarder_core.specs.Messages.{question_read, AreOctets}
+use Rattle.forwarder_core.specs.Messages.{AreOctets}
+use Rattle.reply_match.specs.Questions.{question_read}
 use Rattle.forwarder_core.specs.History.{Reads}
 use Rattle.forwarder_core.specs.Queries.{query_message}
 

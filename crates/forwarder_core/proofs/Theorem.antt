@@ -17,16 +17,19 @@ use Rattle.outstanding.specs.declared.ask.Path.{Path}
 use Rattle.outstanding.specs.declared.ask.Path.TheVariants.{Udp}
 use Rattle.forwarder_core.specs.declared.values.Why.{Why}
 use Rattle.forwarder_core.specs.declared.values.Why.TheVariants.{Answered, BadFormat, BadOpcode, NotServed, NoRoute, QuestionsFull, InquiriesFull, NoPort, Exhausted, TooLarge}
-use Rattle.forwarder_core.specs.declared.judge.Verdict.{Verdict}
-use Rattle.forwarder_core.specs.declared.judge.Verdict.TheVariants.{Stranger, Truncated, Failed, Malformed, Whole}
+use Rattle.reply_match.specs.declared.verdict.Verdict.{Verdict}
+use Rattle.reply_match.specs.declared.verdict.Verdict.TheVariants.{Stranger, Truncated, Failed, Malformed, Whole}
 use Rattle.forwarder_core.specs.Values.{Event, from_client, delivery, path_failed, tick, restart, Action, send_reply, Handed, Outcome, Step}
-use Rattle.forwarder_core.specs.Names.{same_peer, route_of}
+use Rattle.forwarder_core.specs.Names.{route_of}
+use Rattle.reply_match.specs.Peers.{same_peer}
+use Rattle.reply_match.specs.Questions.{asks_this, one_question}
+use Rattle.reply_match.specs.Verdicts.{judge, judged_whole, matches}
 use Rattle.dns_message.specs.Questions.{same_question}
 use Rattle.outstanding.specs.Draws.{udp_draw}
 use Rattle.outstanding.specs.Lists.{of_question, on_path as ask_on}
 use Rattle.outstanding.specs.Values.{Ask}
 use Rattle.dns_message.specs.Header.{header_in}
-use Rattle.forwarder_core.specs.Messages.{one_question, AreOctets}
+use Rattle.forwarder_core.specs.Messages.{AreOctets}
 use Rattle.forwarder_core.specs.Pieces.{Piece, Held, Walk, is_lame, walk}
 use Rattle.forwarder_core.specs.History.{InEra, moment_at, Query, listed, on_path, is_taken, Reads, Sends, Matches, Accepts, Carries, NothingAccepted}
 use Rattle.forwarder_core.specs.Carried.{CarriedInEra, Justified}
@@ -35,7 +38,7 @@ use Rattle.forwarder_core.specs.Queries.{closes_path}
 use Rattle.forwarder_core.specs.Causes.{is_unserved}
 use Rattle.forwarder_core.specs.Sound.{unanswered, error_response, RightReply}
 use Rattle.forwarder_core.specs.State.{Waiting, State}
-use Rattle.forwarder_core.specs.Row.{Done, gets, waits, start, idle, at_once, replies, gives_up, answered_over, answered, waits_for, fails, is_given, asks, query_by, server_on, opened, joined, unasked, join_or_ask, routed, asked_for, requested, asks_this, matches, judged_whole, judge, given_up, end_piece, ended, read_whole, judged, delivered, Happens, HandsOctets, Row}
+use Rattle.forwarder_core.specs.Row.{Done, gets, waits, start, idle, at_once, replies, gives_up, answered_over, answered, waits_for, fails, is_given, asks, query_by, server_on, opened, joined, unasked, join_or_ask, routed, asked_for, requested, given_up, end_piece, ended, read_whole, judged, delivered, Happens, HandsOctets, Row}
 use Rattle.forwarder_core.specs.Explains.{shown, Waits, IsReadable, Explains}
 use Rattle.forwarder_core.proofs.Fates.{Fated}
 use Rattle.forwarder_core.proofs.Since.{carried_since}

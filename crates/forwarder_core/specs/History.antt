@@ -13,7 +13,7 @@ use Rattle.forwarder_core.specs.Values.{Event, from_client, delivery, path_faile
 use Rattle.forwarder_core.specs.Names.{route_of}
 use Rattle.dns_message.specs.Questions.{same_question}
 use Rattle.dns_message.specs.Header.{header_in}
-use Rattle.forwarder_core.specs.Messages.{one_question}
+use Rattle.reply_match.specs.Questions.{one_question}
 use Rattle.forwarder_core.specs.Pieces.{Piece, is_lame, walk}
 
 abbrev pub is_restart_event : Event → Bool

@@ -16,9 +16,6 @@ same_octets (x ∷ xs) (y ∷ ys) = (x == y) && same_octets xs ys
 abbrev pub same_name : List (List ℕ) → List (List ℕ) → Bool
 same_name a b = same a b
 
-abbrev pub same_peer : Peer → Peer → Bool
-same_peer a b = same_octets a.ip b.ip && (a.port == b.port)
-
 -- the place of the route that a name is on: that of the configured suffix with the most labels which the name is under
 abbrev pub route_of : Config → List (List ℕ) → Option ℕ
 route_of config name = route_among config.routes name

@@ -14,16 +14,19 @@ use Rattle.outstanding.specs.declared.ask.Path.{Path}
 use Rattle.outstanding.specs.declared.ask.Path.TheVariants.{Udp, Tcp}
 use Rattle.forwarder_core.specs.declared.values.Why.{Why}
 use Rattle.forwarder_core.specs.declared.values.Why.TheVariants.{Answered, BadFormat, BadOpcode, NotServed, NoRoute, QuestionsFull, InquiriesFull, NoPort, Exhausted, TooLarge}
-use Rattle.forwarder_core.specs.declared.judge.Verdict.{Verdict}
-use Rattle.forwarder_core.specs.declared.judge.Verdict.TheVariants.{Stranger, Truncated, Failed, Malformed, Whole}
+use Rattle.reply_match.specs.declared.verdict.Verdict.{Verdict}
+use Rattle.reply_match.specs.declared.verdict.Verdict.TheVariants.{Stranger, Truncated, Failed, Malformed, Whole}
 use Rattle.forwarder_core.specs.Values.{Event, from_client, delivery, path_failed, tick, restart, Action, ask_udp, ask_tcp, close_udp, close_tcp, send_reply, Handed, Outcome}
-use Rattle.forwarder_core.specs.Names.{same_peer, route_of}
+use Rattle.forwarder_core.specs.Names.{route_of}
+use Rattle.reply_match.specs.Peers.{same_peer}
+use Rattle.reply_match.specs.Questions.{one_question}
+use Rattle.reply_match.specs.Verdicts.{judge}
 use Rattle.dns_message.specs.Questions.{same_question}
 use Rattle.outstanding.specs.Draws.{udp_draw}
 use Rattle.outstanding.specs.Lists.{on_path as ask_on, of_question, without_path}
 use Rattle.outstanding.specs.Values.{Ask}
 use Rattle.dns_message.specs.Header.{header_in}
-use Rattle.forwarder_core.specs.Messages.{one_question, AreOctets}
+use Rattle.forwarder_core.specs.Messages.{AreOctets}
 use Rattle.forwarder_core.specs.Pieces.{Piece, Held, Walk, is_lame, rank_of, records_for, set_of, walk_at_set, walk}
 use Rattle.forwarder_core.specs.History.{is_taken}
 use Rattle.forwarder_core.specs.Answers.{full_answer, truncated}
@@ -170,29 +173,6 @@ requested c n words client octets s =
     else idle n s
 
 -- ---- a delivery
-
-abbrev pub asks_this : Question → Option Question → Bool
-asks_this q None = false
-asks_this q (Some other) = same_question other q
-
--- server, identifier and question are the query's (RFC 5452 9.1)
-abbrev pub matches : Ask → Peer → List ℕ → Bool
-matches a from octets =
-    nat_le 12 (length octets) && nat_le (length octets) 65535 && (header_in octets).qr && ((header_in octets).opcode == 0) && ((header_in octets).id == a.id)
-    && same_peer from a.peer && asks_this a.question (one_question octets)
-
-abbrev pub judged_whole : Result Message Fault → Verdict
-judged_whole (Ok m) = Whole
-judged_whole (Err fault) = Malformed
-
-abbrev pub judge : Ask → Peer → List ℕ → Verdict
-judge a from octets =
-    if matches a from octets
-    then
-    if (header_in octets).tc
-    then Truncated
-    else if ((header_in octets).rcode == 0) || ((header_in octets).rcode == 3) then judged_whole (message_of octets) else Failed (header_in octets).rcode
-    else Stranger
 
 -- the attempt failed, and no try is left
 abbrev pub given_up : ℕ → Ask → State → Done

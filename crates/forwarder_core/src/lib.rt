@@ -4,7 +4,6 @@
 
 mod answers;
 mod forwarder;
-mod judge;
 mod lists;
 mod next;
 mod replies;

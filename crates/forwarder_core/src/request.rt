@@ -2,7 +2,7 @@
 
 ghost use Rattle.std.specs.Prelude.{◌≡◌, true, false, MatchOption, IfOk};
 ghost use Rattle.dns_message.specs.Header.{header_in};
-ghost use Rattle.forwarder_core.specs.Messages.{one_question};
+ghost use Rattle.reply_match.specs.Questions.{one_question};
 ghost use Rattle.forwarder_core.specs.History.{is_taken};
 ghost use Rattle.forwarder_core.specs.Causes.{is_unserved};
 

@@ -2,11 +2,10 @@
 
 ghost use Rattle.std.specs.Prelude.{◌≡◌, ◌==◌, ◌&&◌, [], Some, None, IfOk, MatchOption};
 ghost use Rattle.std.specs.List.{list_any, find};
-ghost use Rattle.forwarder_core.specs.Names.{same_octets};
+ghost use Rattle.forwarder_core.specs.Names.{same_octets, same_name};
 ghost use Rattle.forwarder_core.specs.Pieces.{is_of, records_for, with_data, with_answer, with_answers, seconds_of, lowered_by, lowered_by_all, longest, rank_of, set_of, has_many};
 ghost use Rattle.forwarder_core.specs.Row.{set_ending};
 
-use crate::judge::is_same_name;
 use dns_message::{Message, Question, Rdata, Record};
 use dns_name::Name;
 use plain_list::PlainList;
@@ -44,6 +43,13 @@ impl<A: Allocator> Model for RecordSet<A> {
     ghost Value = { Piece };
 
     ghost view = { λ s. record { owner = s.owner; slot = record { key = lowered s.owner; class = s.class; kind = Some s.kind }; body = rows s.rdata; lifetime = s.lifetime; rank = s.rank; route = s.route } };
+}
+
+/// Equal names, letter case aside (RFC 4343).
+fn is_same_name<A: Allocator>(a: &Name<A>, b: &Name<A>) -> bool
+    ensures { result ≡ same_name a.now b.now }
+{
+    a.same(b)
 }
 
 /// The record has the question's name, type and class.

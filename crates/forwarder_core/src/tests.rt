@@ -1,4 +1,6 @@
-//! One question, one query, one reply: what is done, and what happens when memory runs out.
+//! Questions, their queries and replies: what is done, and what happens when memory runs out.
+
+mod several;
 
 use crate::{Action, Client, Event, Forwarder, Handed, Path, Why, run_list};
 use dns_name::Name;
@@ -57,9 +59,17 @@ fn config<A: Allocator + Copy>(alloc: A) -> Result<Config<A>, AllocError> {
 }
 
 fn asks<A: Allocator + Copy>(alloc: A) -> Result<Event<A>, AllocError> {
+    sends(alloc, CLIENT, QUESTION)
+}
+
+fn sends<A: Allocator + Copy>(
+    alloc: A,
+    client: Client,
+    bytes: &[u8],
+) -> Result<Event<A>, AllocError> {
     Ok(Event::Client {
-        client: CLIENT,
-        bytes: PlainList::copied(alloc, QUESTION)?,
+        client,
+        bytes: PlainList::copied(alloc, bytes)?,
     })
 }
 

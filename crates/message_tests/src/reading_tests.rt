@@ -2,7 +2,7 @@
 
 use dns_message::{Fault, Header, Message, MessageRef, Question, Rdata, Span};
 use refusing_allocator::Refusing;
-use std::alloc::{Allocator, Global};
+use std::alloc::{AllocError, Allocator, Global};
 use std::test::Fail;
 
 /// A reply: a.example, A, IN has the address 198.51.100.5 for 300 seconds.
@@ -118,6 +118,72 @@ fn the_spans_of_the_records_are_told(rt: HostRuntime) -> Result<(), Fail> {
     let mut records = view.records();
     assert_eq!(rt; records.next(), Some(span));
     assert_eq!(rt; records.next(), None);
+    Ok(())
+}
+
+/// A record with this owner and no data: its type is NULL (RFC 1035 3.3.10), its class IN.
+fn push_empty_record<A: Allocator>(
+    octets: &mut Vec<u8, A>,
+    owner: &[u8],
+) -> Result<(), AllocError> {
+    octets.extend_from_slice(owner)?;
+    octets.extend_from_slice(b"\x00\x0a\x00\x01\x00\x00\x00\x00\x00\x00".as_slice())
+}
+
+/// A message of 1,253 octets: a question, an answer at 17 whose data is 600 pointers behind one another, two authority
+/// records whose owners are behind all of them, and a counted record that is not there.
+fn with_a_chain_of_pointers(alloc: Global) -> Result<Vec<u8>, Fail> {
+    let mut octets = decoded(
+        alloc,
+        "000885000001000100020001000001000100000a00010000000004b100c01c",
+    )?;
+    for place in 0..599u16 {
+        let target = 0xc01d + place * 2;
+        octets.extend_from_slice(&target.to_be_bytes())?;
+    }
+    for _ in 0..2u8 {
+        push_empty_record(&mut octets, b"\xc4\xcb".as_slice())?;
+    }
+    Ok(octets)
+}
+
+#[test]
+fn the_spans_behind_many_pointers_are_told(rt: HostRuntime) -> Result<(), Fail> {
+    let octets = with_a_chain_of_pointers(rt.alloc())?;
+    let view = MessageRef::view(&octets)?;
+    assert!(rt; !view.is_whole());
+    let mut records = view.records();
+    for (start, end, section) in [(17, 1229, 0), (1229, 1241, 1), (1241, 1253, 1)] {
+        let span = Span {
+            start,
+            end,
+            section,
+        };
+        assert_eq!(rt; records.next(), Some(span));
+    }
+    assert_eq!(rt; records.next(), None);
+    Ok(())
+}
+
+#[test]
+fn questions_are_the_same_letter_case_aside(rt: HostRuntime) -> Result<(), Fail> {
+    let lower = decoded(
+        rt.alloc(),
+        "0001010000010000000000000161076578616d706c650000010001",
+    )?;
+    let upper = decoded(
+        rt.alloc(),
+        "0002010000010000000000000141076578616d706c650000010001",
+    )?;
+    let question = MessageRef::view(&lower)?.question(rt.alloc())?;
+    let other = MessageRef::view(&upper)?.question(rt.alloc())?;
+    assert!(rt; question.is_same(&other));
+    let of_another_type = Question {
+        name: other.name,
+        kind: 28,
+        class: 1,
+    };
+    assert!(rt; !question.is_same(&of_another_type));
     Ok(())
 }
 

@@ -7,13 +7,13 @@ ghost use Rattle.outstanding.specs.Lists.{on_path as ask_on};
 ghost use Rattle.forwarder_core.specs.Next.{next_of, IsQuiet, CanChange};
 
 use crate::forwarder::Forwarder;
-use crate::judge::{Verdict, judge};
 use crate::lists::is_live;
 use crate::next::{Change, Next};
 use crate::replies::{answers_to, failures};
 use crate::sets::{RecordSet, set_in};
 use dns_message::{Fault, Message, MessageRef};
 use outstanding::{Ask, Path};
+use reply_match::{Verdict, judge};
 use std::alloc::{AllocError, Allocator};
 use suffix_routes::Peer;
 

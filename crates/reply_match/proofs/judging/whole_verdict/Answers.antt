@@ -1,7 +1,7 @@
 use Rattle.std.proofs.Common.{◌∙◌, sym}
 use Rattle.std.proofs.lemmas.Bool.{true≢false}
-use Rattle.forwarder_core.proofs.Judging.{whole_told, malformed_told}
-use Rattle.forwarder_core.proofs.judge.whole_verdict.Goals as goal
+use Rattle.reply_match.proofs.VerdictLaws.{whole_told, malformed_told}
+use Rattle.reply_match.proofs.judging.whole_verdict.Goals as goal
 
 pub returns-then-is_whole : goal.returns-then-is_whole
 returns-then-is_whole c = whole_told c.args.message.now (c.is_whole.ensures.0 c.if-is_whole.true)

@@ -1,5 +1,5 @@
 use Rattle.forwarder_core.proofs.Names.{told_same_name}
-use Rattle.forwarder_core.proofs.judge.is_same_name.Goals as goal
+use Rattle.forwarder_core.proofs.sets.is_same_name.Goals as goal
 
 pub returns : goal.returns
 returns g c = told_same_name _ _ _ c.same.ensures

@@ -1,7 +1,7 @@
 -- What a look at the octets tells of a verdict.
 use Rattle.std.proofs.Common.{◌≡◌, ℕ, List, Bool, true, false, cond, refl, sym, ap, ◌∙◌, subst, Option, None}
 use Rattle.std.specs.Prelude.{◌==◌, ◌&&◌, Result, Ok, Err, slice_index}
-use Rattle.std.proofs.lemmas.Bool.{and_from, and_right, cond-true, cond-false, eq-eqb}
+use Rattle.std.proofs.lemmas.Bool.{and_from, and_parts, and_left, and_right, cond-true, cond-false, eq-eqb, eqb-true}
 use Rattle.dns_message.specs.declared.header.Header.{Header}
 use Rattle.dns_message.specs.declared.fault.Fault.{Fault}
 use Rattle.dns_message.specs.Values.{Question, Message}
@@ -9,22 +9,25 @@ use Rattle.dns_message.specs.Header.{header_in}
 use Rattle.dns_message.specs.Messages.{first_question, message_of, QuestionIs, IsSameQuestion, IsWhole}
 use Rattle.dns_message.proofs.WholeLaws.{of_spelled, spelled_by}
 use Rattle.suffix_routes.specs.declared.peer.Peer.{Peer}
-use Rattle.forwarder_core.specs.declared.judge.Verdict.TheVariants.{Stranger, Malformed, Whole}
-use Rattle.forwarder_core.specs.Names.{same_name}
+use Rattle.reply_match.specs.declared.verdict.Verdict.TheVariants.{Stranger, Malformed, Whole}
+use Rattle.dns_name.specs.Labels.{same}
+use Rattle.dns_name.proofs.NameLaws.{same_decides}
 use Rattle.dns_message.specs.Questions.{same_question}
+use Rattle.reply_match.specs.Questions.{question_read, one_question, asks_this}
 use Rattle.outstanding.specs.Values.{Ask}
-use Rattle.forwarder_core.specs.Messages.{question_read, one_question}
-use Rattle.forwarder_core.specs.Row.{asks_this, matches, judged_whole, judge}
-use Rattle.forwarder_core.proofs.Names.{are_same, is-same_name}
+use Rattle.reply_match.specs.Verdicts.{is_reply, matches, judged_whole, judge}
 
 same_from : (a b : Question) → IsSameQuestion a b → same_question a b ≡ true
-same_from a b same =
-    and_from (same_name a.name b.name && (a.kind == b.kind)) (a.class == b.class)
-    (and_from (same_name a.name b.name) (a.kind == b.kind) (is-same_name a.name b.name same.name) (eq-eqb a.kind b.kind same.kind))
-    (eq-eqb a.class b.class same.class)
+same_from a b are =
+    and_from (same a.name b.name && (a.kind == b.kind)) (a.class == b.class)
+    (and_from (same a.name b.name) (a.kind == b.kind) ((same_decides a.name b.name).1 are.name) (eq-eqb a.kind b.kind are.kind))
+    (eq-eqb a.class b.class are.class)
 
 same_to : (a b : Question) → same_question a b ≡ true → IsSameQuestion a b
-same_to a b e = let same = are_same a b e in record { name = same.name; kind = same.kind; class = same.class }
+same_to a b e =
+    let outer = and_parts (same a.name b.name && (a.kind == b.kind)) (a.class == b.class) e in
+    let inner = and_parts (same a.name b.name) (a.kind == b.kind) outer.0 in
+    record { name = (same_decides a.name b.name).0 inner.0; kind = eqb-true a.kind b.kind inner.1; class = eqb-true a.class b.class outer.1 }
 
 -- the test of the first question
 pub told_question : (r : Bool) (q : Question) (read : Result Question Fault) → (r ≡ true → QuestionIs read q) × (QuestionIs read q → r ≡ true) → r ≡ asks_this q (question_read read)
@@ -56,7 +59,7 @@ always_none false = refl
 
 -- no first question, no match
 pub unread_is_stranger : (a : Ask) (from : Peer) (octets : List ℕ) (fault : Fault) → first_question octets ≡ Err fault → judge a from octets ≡ Stranger
-unread_is_stranger a from octets fault e = cond-false (matches a from octets) _ _ (and_right _ (asks_this a.question (one_question octets)) (ap (asks_this a.question) none))
+unread_is_stranger a from octets fault e = cond-false (matches a from octets) _ _ (and_right (is_reply a from octets) (asks_this a.question (one_question octets)) (ap (asks_this a.question) none))
   where
     none : one_question octets ≡ None
     none = ap (λ r. cond (slice_index (header_in octets).counts 0 == 1) (question_read r) None) e ∙ always_none (slice_index (header_in octets).counts 0 == 1)
