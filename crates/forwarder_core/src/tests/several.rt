@@ -1,11 +1,11 @@
 //! Several questions at a time.
 
-use super::{CLIENT, QUESTION, SERVER, WORDS, config, delivers, is_query, sends};
+use super::{CLIENT, QUESTION, SERVER, WORDS, asked, delivers, is_query, sends};
 use crate::{Action, Client, Forwarder, Path, Why};
 use lru::DefaultHasher;
-use std::alloc::{AllocError, Allocator};
+use std::alloc::{Allocator, Global};
 use std::test::Fail;
-use suffix_routes::{Limits, Peer};
+use suffix_routes::Config;
 
 const OTHER_CLIENT: Client = Client::Tcp(7);
 
@@ -33,19 +33,19 @@ const ANSWER_IN_OTHER_LETTERS: &[u8] =
 const FAILURE_OF_ANOTHER: &[u8] =
     b"\x12\x36\x81\x82\x00\x01\x00\x00\x00\x00\x00\x00\x01b\x07example\x00\x00\x01\x00\x01";
 
-fn limited<A: Allocator + Copy>(
-    alloc: A,
-    questions: usize,
-    inquiries: usize,
-) -> Result<Forwarder<DefaultHasher, A>, AllocError> {
-    let mut config = config(alloc)?;
-    config.limits = Limits {
-        questions,
-        inquiries,
-        ..config.limits
-    };
-    let mut forwarder = Forwarder::new(alloc, config, DefaultHasher::default())?;
-    let _outcome = forwarder.step(1000, WORDS, sends(alloc, CLIENT, QUESTION)?)?;
+/// Two questions may wait, for one inquiry.
+const TWO_QUESTIONS: &str =
+    "version = 1\n[[route]]\nsuffix = \".\"\nservers = [\"192.0.2.1:53\"]\n[limits]\nquestions = 2\ninquiries = 1\n";
+
+/// One question may wait.
+const ONE_QUESTION: &str =
+    "version = 1\n[[route]]\nsuffix = \".\"\nservers = [\"192.0.2.1:53\"]\n[limits]\nquestions = 1\n";
+
+/// A forwarder that has sent the query, with a configuration in TOML.
+fn asked_with(heap: Global, text: &str) -> Result<Forwarder<DefaultHasher>, Fail> {
+    let config = Config::read(heap, heap, text)?;
+    let mut forwarder = Forwarder::new(heap, config, DefaultHasher::default())?;
+    let _outcome = forwarder.step(1000, WORDS, sends(heap, CLIENT, QUESTION)?)?;
     Ok(forwarder)
 }
 
@@ -66,7 +66,7 @@ fn is_reply_to<A: Allocator>(
 #[test]
 fn equal_questions_wait_for_one_query(rt: HostRuntime) -> Result<(), Fail> {
     let alloc = rt.alloc();
-    let mut forwarder = limited(alloc, 2, 1)?;
+    let mut forwarder = asked_with(alloc, TWO_QUESTIONS)?;
     let event = sends(alloc, OTHER_CLIENT, IN_OTHER_LETTERS)?;
     let joined = forwarder.step(1001, MORE_WORDS, event)?;
     assert!(rt; joined.actions.as_slice().is_empty());
@@ -83,7 +83,7 @@ fn equal_questions_wait_for_one_query(rt: HostRuntime) -> Result<(), Fail> {
 #[test]
 fn one_question_more_than_may_wait(rt: HostRuntime) -> Result<(), Fail> {
     let alloc = rt.alloc();
-    let mut forwarder = limited(alloc, 1, 9)?;
+    let mut forwarder = asked_with(alloc, ONE_QUESTION)?;
     let event = sends(alloc, OTHER_CLIENT, ANOTHER)?;
     let outcome = forwarder.step(1001, MORE_WORDS, event)?;
     let (action, text) = (outcome.actions.as_slice().first(), FAILURE_OF_ANOTHER);
@@ -94,7 +94,7 @@ fn one_question_more_than_may_wait(rt: HostRuntime) -> Result<(), Fail> {
 #[test]
 fn one_inquiry_more_than_may_be_open(rt: HostRuntime) -> Result<(), Fail> {
     let alloc = rt.alloc();
-    let mut forwarder = limited(alloc, 9, 1)?;
+    let mut forwarder = asked_with(alloc, TWO_QUESTIONS)?;
     let event = sends(alloc, OTHER_CLIENT, ANOTHER)?;
     let outcome = forwarder.step(1001, MORE_WORDS, event)?;
     let (action, text) = (outcome.actions.as_slice().first(), FAILURE_OF_ANOTHER);
@@ -108,7 +108,7 @@ fn one_inquiry_more_than_may_be_open(rt: HostRuntime) -> Result<(), Fail> {
 #[test]
 fn no_port_is_free(rt: HostRuntime) -> Result<(), Fail> {
     let alloc = rt.alloc();
-    let mut forwarder = limited(alloc, 9, 9)?;
+    let mut forwarder = asked(alloc)?;
     let taken = [WORDS[0]; 8];
     let event = sends(alloc, OTHER_CLIENT, ANOTHER)?;
     let outcome = forwarder.step(1001, taken, event)?;
@@ -120,7 +120,7 @@ fn no_port_is_free(rt: HostRuntime) -> Result<(), Fail> {
 #[test]
 fn each_inquiry_has_its_own_reply(rt: HostRuntime) -> Result<(), Fail> {
     let alloc = rt.alloc();
-    let mut forwarder = limited(alloc, 9, 9)?;
+    let mut forwarder = asked(alloc)?;
     let event = sends(alloc, OTHER_CLIENT, ANOTHER)?;
     let outcome = forwarder.step(1001, MORE_WORDS, event)?;
     let actions = outcome.actions.as_slice();
