@@ -16,7 +16,7 @@ use Rattle.forwarder_core.specs.declared.values.Why.{Why}
 use Rattle.forwarder_core.specs.Values.{Event, Action, Outcome}
 use Rattle.forwarder_core.specs.Pieces.{Held}
 use Rattle.forwarder_core.specs.State.{Waiting, State}
-use Rattle.outstanding.specs.Lists.{of_question, on_path as ask_on, without_path}
+use Rattle.outstanding.specs.Lists.{on_path as ask_on, without_path}
 use Rattle.outstanding.specs.Values.{Ask}
 use Rattle.forwarder_core.specs.Row.{Done, Fate, gets, waits, reply_in, waiting_in, replies, still_waiting, closes, closed, gives_up, answered, waits_for, fails, is_given, idle, judged, delivered, verdict_on, Happens, HandsOctets, effective, Row}
 use Rattle.reply_match.proofs.VerdictLaws.{unread_is_stranger}

@@ -1,13 +1,13 @@
 -- A message with at most one question, and without records, is short.
-use Rattle.std.proofs.Common.{◌≡◌, ℕ, ◌+◌, ◌<◌, ◌≤◌, List, [], ◌∷◌, ◌++◌, length, refl, sym, ap, ◌∙◌, subst, arith, Option, Some, None, false}
+use Rattle.std.proofs.Common.{◌≡◌, ℕ, ◌+◌, ◌≤◌, List, [], ◌∷◌, ◌++◌, length, sym, ◌∙◌, arith, Option, Some, None}
 use Rattle.std.specs.Prelude.{nat_lt, Result, Ok, Err}
 use Rattle.std.proofs.lemmas.Bool.{cond-false, le-ltb}
 use Rattle.std.proofs.lemmas.List.{length-append}
-use Rattle.dns_name.specs.Labels.{size_of, label_octets, IsName}
+use Rattle.dns_name.specs.Labels.{size_of, IsName}
 use Rattle.dns_message.specs.declared.fault.Fault.{Fault}
 use Rattle.dns_message.specs.declared.header.Header.{Header}
 use Rattle.dns_message.specs.Values.{Question, Record, Message}
-use Rattle.dns_message.specs.Writing.{Place, Writing, as_is, ◌▹◌, each, octets16, pointer_to, pointer_or, label_text, name_text, question_text, record_text, header_text, message_text, written, written_within, place_of}
+use Rattle.dns_message.specs.Writing.{Place, Writing, as_is, ◌▹◌, each, octets16, pointer_or, label_text, name_text, question_text, record_text, header_text, written, written_within, place_of}
 
 -- wherever it is written, it has at most so many octets
 abbrev Short : ℕ → Writing → Type 0

@@ -38,7 +38,7 @@ use Rattle.forwarder_core.specs.Queries.{closes_path}
 use Rattle.forwarder_core.specs.Causes.{is_unserved}
 use Rattle.forwarder_core.specs.Sound.{unanswered, error_response, RightReply}
 use Rattle.forwarder_core.specs.State.{Waiting, State}
-use Rattle.forwarder_core.specs.Row.{Done, gets, waits, start, idle, at_once, replies, gives_up, answered_over, answered, waits_for, fails, is_given, asks, query_by, server_on, opened, joined, unasked, join_or_ask, routed, asked_for, requested, given_up, end_piece, ended, read_whole, judged, delivered, Happens, HandsOctets, Row}
+use Rattle.forwarder_core.specs.Row.{Done, gets, waits, start, idle, at_once, replies, gives_up, answered_over, answered, waits_for, fails, is_given, asks, query_by, server_on, opened, unasked, join_or_ask, routed, asked_for, requested, given_up, end_piece, ended, read_whole, judged, delivered, Happens, HandsOctets, Row}
 use Rattle.forwarder_core.specs.Explains.{shown, Waits, IsReadable, Explains}
 use Rattle.forwarder_core.proofs.Fates.{Fated}
 use Rattle.forwarder_core.proofs.Since.{carried_since}

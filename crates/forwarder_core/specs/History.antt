@@ -1,5 +1,5 @@
 -- A history is the list of its steps, the newest first: what is said of a step is said of the list that begins with it.
-use Rattle.std.specs.Prelude.{◌≡◌, ℕ, ◌+◌, ◌^◌, ◌<◌, ◌≤◌, Bool, true, false, if◌then◌else◌, ◌==◌, ◌&&◌, not, nat_le, min, max, List, [], ◌∷◌, ◌++◌, length, filter, Option, Some, ◌⊎◌}
+use Rattle.std.specs.Prelude.{◌≡◌, ℕ, ◌+◌, ◌^◌, ◌<◌, ◌≤◌, Bool, true, false, if◌then◌else◌, ◌&&◌, not, nat_le, min, max, List, [], ◌∷◌, ◌++◌, length, filter, Option, Some, ◌⊎◌}
 use Rattle.std.specs.List.{find}
 use Rattle.dns_message.specs.Values.{Question, Message}
 use Rattle.dns_message.specs.Messages.{Spells}

@@ -1,8 +1,6 @@
 -- Names, questions and peers, compared as the forwarder compares them.
 use Rattle.std.specs.Prelude.{ℕ, Bool, true, false, ◌==◌, ◌&&◌, List, [], ◌∷◌, Option}
 use Rattle.dns_name.specs.Labels.{same}
-use Rattle.dns_message.specs.Values.{Question}
-use Rattle.suffix_routes.specs.declared.peer.Peer.{Peer}
 use Rattle.suffix_routes.specs.Values.{Config}
 use Rattle.suffix_routes.specs.Routes.{route_of as route_among}
 

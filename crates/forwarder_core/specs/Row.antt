@@ -1,5 +1,5 @@
 -- One step of the forwarder, over plain values.
-use Rattle.std.specs.Prelude.{◌≡◌, ℕ, ◌+◌, ◌%◌, ◌^◌, Bool, false, if◌then◌else◌, ◌==◌, ◌&&◌, ◌||◌, not, nat_lt, nat_le, min, max, List, [], ◌∷◌, ◌++◌, length, filter, get_or, Option, Some, None, Result, Ok, Err}
+use Rattle.std.specs.Prelude.{◌≡◌, ℕ, ◌+◌, ◌^◌, Bool, false, if◌then◌else◌, ◌==◌, nat_lt, nat_le, min, max, List, [], ◌∷◌, ◌++◌, length, get_or, Option, Some, None, Result, Ok, Err}
 use Rattle.std.specs.List.{filter_map}
 use Rattle.dns_message.specs.declared.header.Header.{Header}
 use Rattle.dns_message.specs.declared.fault.Fault.{Fault}
@@ -18,7 +18,6 @@ use Rattle.reply_match.specs.declared.verdict.Verdict.{Verdict}
 use Rattle.reply_match.specs.declared.verdict.Verdict.TheVariants.{Stranger, Truncated, Failed, Malformed, Whole}
 use Rattle.forwarder_core.specs.Values.{Event, from_client, delivery, path_failed, tick, restart, Action, ask_udp, ask_tcp, close_udp, close_tcp, send_reply, Handed, Outcome}
 use Rattle.forwarder_core.specs.Names.{route_of}
-use Rattle.reply_match.specs.Peers.{same_peer}
 use Rattle.reply_match.specs.Questions.{one_question}
 use Rattle.reply_match.specs.Verdicts.{judge}
 use Rattle.dns_message.specs.Questions.{same_question}

@@ -1,6 +1,6 @@
 use Rattle.std.proofs.lemmas.Result.{IfOk-weaker}
 use Rattle.forwarder_core.specs.Values.{event_of}
-use Rattle.forwarder_core.proofs.Deciding.{row_is, quiet_at}
+use Rattle.forwarder_core.proofs.Deciding.{row_is}
 use Rattle.forwarder_core.proofs.forwarder.Forwarder.take.Goals as goal
 
 pub returns-clause-row : goal.returns-clause-row
