@@ -1,6 +1,7 @@
 //! Event lines of a script, read as moments and events.
 
 ghost use Rattle.std.specs.Prelude.{◌≡◌, ◌≤◌};
+ghost use Rattle.forwarder_main.specs.declared.events.Refusal.TheVariants.{Memory};
 ghost use Rattle.forwarder_main.specs.Words.{words_of};
 
 use forwarder_core::{Client, Event, Path};
@@ -22,6 +23,8 @@ pub(crate) enum Refusal {
 }
 
 impl From<AllocError> for Refusal {
+    ghost from_gives = { λ _ e. e ≡ Memory };
+
     fn from(_: AllocError) -> Refusal {
         Refusal::Memory
     }

@@ -1,7 +1,9 @@
 //! What ends a replay or the program.
 
 ghost use Rattle.std.specs.Prelude.{◌≡◌};
-ghost use Rattle.forwarder_main.specs.Statuses.{status_of};
+ghost use Rattle.forwarder_main.specs.declared.fault.Fault.TheVariants.{Stopped};
+ghost use Rattle.forwarder_main.specs.declared.fault.ReplayFault.TheVariants.{Memory};
+ghost use Rattle.forwarder_main.specs.Statuses.{status_of, replay_fault};
 
 use std::alloc::AllocError;
 use std::{fmt, io};
@@ -60,6 +62,8 @@ impl fmt::Display for Fault {
 }
 
 impl From<ReplayFault> for Fault {
+    ghost from_gives = { λ fault e. e ≡ Stopped fault };
+
     fn from(fault: ReplayFault) -> Fault {
         Fault::Stopped(fault)
     }
@@ -72,12 +76,16 @@ impl From<io::Error> for Fault {
 }
 
 impl From<AllocError> for Fault {
+    ghost from_gives = { λ _ e. e ≡ Stopped Memory };
+
     fn from(_: AllocError) -> Fault {
         Fault::Stopped(ReplayFault::Memory)
     }
 }
 
 impl From<AllocError> for ReplayFault {
+    ghost from_gives = { λ _ e. e ≡ Memory };
+
     fn from(_: AllocError) -> ReplayFault {
         ReplayFault::Memory
     }
@@ -94,11 +102,12 @@ impl From<io::Error> for ReplayFault {
 }
 
 impl From<ConfigFault> for ReplayFault {
+    ghost from_gives = { λ fault e. e ≡ replay_fault fault };
+
     fn from(fault: ConfigFault) -> ReplayFault {
-        if fault == ConfigFault::Memory {
-            ReplayFault::Memory
-        } else {
-            ReplayFault::Config(fault)
+        match fault {
+            ConfigFault::Memory => ReplayFault::Memory,
+            _ => ReplayFault::Config(fault),
         }
     }
 }
