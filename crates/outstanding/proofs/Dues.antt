@@ -1,12 +1,11 @@
 -- The first of listed asks is due first.
-use Rattle.std.proofs.Common.{◌≡◌, ℕ, ◌+◌, ◌≤◌, List, [], ◌∷◌, Bool, true, false, cond, refl, sym, ap, ◌∙◌, arith, Option, Some, None}
+use Rattle.std.proofs.Common.{◌≡◌, ℕ, ◌+◌, ◌≤◌, List, [], ◌∷◌, refl, sym, ap, ◌∙◌, arith, Option, Some, None}
 use Rattle.std.specs.Prelude.{nat_le, slice_get}
-use Rattle.std.specs.List.{AllByRecursion}
 use Rattle.std.proofs.lemmas.Bool.{le-leb, cond-true}
 use Rattle.std.proofs.lemmas.Option.{none-some, same_Some}
 use Rattle.outstanding.specs.declared.ask.Path.{Path}
 use Rattle.outstanding.specs.Values.{Ask}
-use Rattle.outstanding.specs.Lists.{Follows, AreInTurn}
+use Rattle.outstanding.specs.Lists.{AreInTurn}
 use Rattle.outstanding.specs.Due.{due_of, sooner, next_due}
 
 -- of asks that come no earlier, the next one is due no earlier

@@ -1,5 +1,5 @@
 -- The test that the tests make before they list an ask is enough.
-use Rattle.std.proofs.Common.{◌≡◌, ℕ, ◌≤◌, List, [], ◌∷◌, Bool, true, false, cond, refl, sym, ap, ◌∙◌, Option, Some, None}
+use Rattle.std.proofs.Common.{◌≡◌, ◌≤◌, List, [], ◌∷◌, Bool, true, false, cond, refl, sym, ap, ◌∙◌, None}
 use Rattle.std.specs.Prelude.{not, nat_le, ◌&&◌, ◌||◌}
 use Rattle.std.specs.List.{list_all, AllByRecursion}
 use Rattle.std.proofs.lemmas.Bool.{and_parts, not-true, leb-true, cond-false}
@@ -8,7 +8,7 @@ use Rattle.outstanding.specs.Values.{Ask}
 use Rattle.dns_message.specs.Questions.{same_question}
 use Rattle.outstanding.specs.Lists.{same_path, on_path, of_question, without_path, IsInTime, MayBegin}
 
-abbrev pub precedes : Ask → Ask → Bool
+abbrev precedes : Ask → Ask → Bool
 precedes ask a = not (same_path a.path ask.path) && not (same_question a.question ask.question) && nat_le a.asked ask.asked
 
 record AllPrecede (ask : Ask) (asks : List Ask) : Type 0 where

@@ -3,7 +3,7 @@ use Rattle.std.specs.Prelude.{ℕ, ◌+◌, ◌/◌, ◌%◌, Bool, false, ◌==
 use Rattle.std.specs.List.{list_any}
 use Rattle.outstanding.specs.declared.ask.Path.TheVariants.{Udp}
 use Rattle.outstanding.specs.Values.{Ask}
-use Rattle.outstanding.specs.Lists.{same_path}
+use Rattle.outstanding.specs.Lists.{same_path, without_path}
 
 -- the port of a word, from 1024 on
 abbrev pub port_of : ℕ → ℕ
@@ -25,3 +25,8 @@ is_free port asks freed = is_freed port freed || not (is_used port asks)
 abbrev pub udp_draw : List ℕ → List Ask → Option ℕ → Option (ℕ × ℕ)
 udp_draw [] asks freed = None
 udp_draw (word ∷ words) asks freed = if is_free (port_of word) asks freed then Some (word % 65536, port_of word) else udp_draw words asks freed
+
+-- the list once the freed port is given up
+abbrev pub without_port : Option ℕ → List Ask → List Ask
+without_port None asks = asks
+without_port (Some port) asks = without_path (Udp port) asks

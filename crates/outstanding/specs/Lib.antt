@@ -2,3 +2,4 @@ pub mod Values
 pub mod Lists
 pub mod Due
 pub mod Draws
+pub mod Laws

@@ -1,5 +1,5 @@
 -- Lists of asks, in the order in which they were asked: what is looked up in them, and what holds of each that is kept.
-use Rattle.std.specs.Prelude.{◌≡◌, ℕ, ◌^◌, ◌≤◌, Bool, true, false, ◌==◌, not, List, [], ◌∷◌, length, filter, Option, None}
+use Rattle.std.specs.Prelude.{◌≡◌, ◌^◌, ◌≤◌, Bool, false, ◌==◌, not, List, [], ◌∷◌, length, filter, Option, None}
 use Rattle.std.specs.List.{find, AllByRecursion}
 use Rattle.dns_message.specs.Values.{Question}
 use Rattle.outstanding.specs.declared.ask.Path.{Path}

@@ -1,7 +1,8 @@
 //! The port and the identifier of an ask by UDP: both are drawn, so that a forger has to guess them (RFC 5452 9.2).
 
-ghost use Rattle.std.specs.Prelude.{◌≡◌};
-ghost use Rattle.outstanding.specs.Draws.{is_freed, is_used, port_of, udp_draw};
+ghost use Rattle.std.specs.Prelude.{◌≡◌, None, IfSome};
+ghost use Rattle.outstanding.specs.Draws.{is_freed, is_used, port_of, udp_draw, without_port};
+ghost use Rattle.outstanding.specs.Lists.{on_path};
 
 use crate::ask::{Ask, Path};
 use crate::inquiries::Inquiries;
@@ -9,13 +10,15 @@ use std::alloc::Allocator;
 
 /// Identifier and port of the first word whose port has no listed ask; the port `freed`, which is about to be given up,
 /// counts as free. A word `w` stands for identifier `w mod 65536` and port `1024 + (w / 65536) mod 64512`. `None` exactly
-/// where all eight ports are listed and not freed. It takes no memory.
+/// where all eight ports are listed and not freed. So no ask is listed on the port once the freed one is given up. It takes
+/// no memory.
 pub fn draw<A: Allocator>(
     words: [u32; 8],
     inquiries: &Inquiries<A>,
     freed: Option<u16>,
 ) -> Option<(u16, u16)>
-    ensures { result ≡ udp_draw words inquiries.now.asks freed }
+    ensures drawn { result ≡ udp_draw words inquiries.now.asks freed }
+    ensures free { IfSome result (λ draw. on_path (Path.Udp draw.1) (without_port freed inquiries.now.asks) ≡ None) }
 {
     draw_among(words, inquiries.asks(), freed)
 }

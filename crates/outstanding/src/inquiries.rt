@@ -1,10 +1,10 @@
 //! The list of asks that are under way.
 
-ghost use Rattle.std.specs.Prelude.{◌≡◌, ◌<◌, ◌≤◌, ◌+◌, ◌↔◌, ◌^◌, ◌∷◌, ◌++◌, [], length, Some, None, IfErr, IsSome, MatchOption, OnErr, OnOk, OnSome, position, vec_capacity, vec_len};
-ghost use Rattle.outstanding.specs.Due.{next_due};
+ghost use Rattle.std.specs.Prelude.{◌≡◌, ◌<◌, ◌≤◌, ◌+◌, ◌↔◌, ◌^◌, ◌∷◌, ◌++◌, [], length, Some, None, if◌then◌else◌, is_ok, position, vec_capacity, vec_len, IfErr, IsSome, MatchOption, OnErr, OnOk, OnSome};
 ghost use Rattle.std.specs.List.{AllByRecursion};
+ghost use Rattle.outstanding.specs.Due.{next_due};
+ghost use Rattle.outstanding.specs.Lists.{AreInTurn, AreListed, IsInTime, MayBegin, of_question, on_path, same_path, without_path};
 ghost use Rattle.dns_message.specs.Questions.{same_question};
-ghost use Rattle.outstanding.specs.Lists.{AreInTurn, IsInTime, MayBegin, of_question, on_path, same_path, without_path};
 
 use crate::ask::{Ask, Path};
 use dns_message::Question;
@@ -23,8 +23,8 @@ pub enum Refusal {
     Memory = 2,
 }
 
-/// The listed asks, in the order in which they were asked: each stands for an inquiry. No two are on one path, no two have
-/// equal questions, and the moments of asking never fall along the list.
+/// The listed asks, in the order in which they were asked, at most `capacity` of them. Each stands for an inquiry: no two
+/// are on one path, no two have equal questions, and the moments of asking never fall along the list.
 #[derive(Drop)]
 pub struct Inquiries<A: Allocator = Global> {
     capacity: usize,
@@ -58,7 +58,6 @@ impl<A: Allocator> Inquiries<A> {
     /// The ask comes back with `Full` exactly where `capacity` asks are listed, and with `Memory` where a growth was
     /// refused; then the list is as it was. The caller sees to it that its path and its question are not listed, that
     /// no listed ask was asked later, and that its moment is at most 2^62 milliseconds.
-
     pub fn begin(&mut self, ask: Ask<A>) -> Result<(), (Ask<A>, Refusal)>
         requires { MayBegin ask self.old.asks }
         ensures ok { OnOk result (self.new ≡ record self.old { asks = self.old.asks ++ ask ∷ [] }) }
@@ -70,10 +69,7 @@ impl<A: Allocator> Inquiries<A> {
         if self.asks.len() >= self.capacity {
             return Err((ask, Refusal::Full));
         }
-        match self.asks.push(ask) {
-            Ok(()) => Ok(()),
-            Err(refused) => Err((refused.value, Refusal::Memory)),
-        }
+        put_last(&mut self.asks, ask)
     }
 
     /// Ends the ask on a path, and lists another one behind all others: it gets the room of the one that ended, so this is
@@ -81,7 +77,6 @@ impl<A: Allocator> Inquiries<A> {
     ///
     /// The caller sees to it that the path is listed, and that what `begin` asks of the new one holds without the ended
     /// one.
-
     pub fn replace(&mut self, path: Path, ask: Ask<A>) -> Ask<A>
         requires listed { IsSome (on_path path self.old.asks) }
         requires begins { MayBegin ask (without_path path self.old.asks) }
@@ -93,7 +88,6 @@ impl<A: Allocator> Inquiries<A> {
 
     /// Ends the ask on a path: it is taken out, and the others stay in order. `None` exactly where no ask is listed on
     /// the path; then nothing changes. It takes no memory.
-
     pub fn end(&mut self, path: Path) -> Option<Ask<A>>
         ensures ended { result ≡ on_path path self.old.asks }
         ensures list { self.new ≡ record self.old { asks = without_path path self.old.asks } }
@@ -101,9 +95,11 @@ impl<A: Allocator> Inquiries<A> {
         take_out(&mut self.asks, path)
     }
 
-    /// The ask on a path. `None` exactly where no ask is listed there. It takes no memory.
+    /// The ask on a path. `None` exactly where no ask is listed there. It takes no memory. `listed` says again what holds of
+    /// each list.
     pub fn by_path(&self, path: Path) -> Option<&Ask<A>>
-        ensures { MatchOption result (on_path path self.now.asks ≡ None) (λ ask. on_path path self.now.asks ≡ Some ask.now) }
+        ensures found { MatchOption result (on_path path self.now.asks ≡ None) (λ ask. on_path path self.now.asks ≡ Some ask.now) }
+        ensures listed { AreListed self.now }
     {
         find_on(path, &self.asks)
     }
@@ -111,7 +107,8 @@ impl<A: Allocator> Inquiries<A> {
     /// The ask with an equal question: the same name, letter case aside, the same type and class. `None` exactly where
     /// none is listed. It takes no memory.
     pub fn by_question(&self, question: &Question<A>) -> Option<&Ask<A>>
-        ensures { MatchOption result (of_question question.now self.now.asks ≡ None) (λ ask. of_question question.now self.now.asks ≡ Some ask.now) }
+        ensures found { MatchOption result (of_question question.now self.now.asks ≡ None) (λ ask. of_question question.now self.now.asks ≡ Some ask.now) }
+        ensures listed { AreListed self.now }
     {
         find_of(question, &self.asks)
     }
@@ -134,7 +131,8 @@ impl<A: Allocator> Inquiries<A> {
 
     /// How many asks are listed. It takes no memory.
     pub fn len(&self) -> usize
-        ensures { result ≡ length self.now.asks }
+        ensures count { result ≡ length self.now.asks }
+        ensures listed { AreListed self.now }
     {
         self.asks.len()
     }
@@ -176,8 +174,18 @@ fn place_on<A: Allocator>(path: Path, asks: &[Ask<A>]) -> Option<usize>
 fn place_of<A: Allocator>(question: &Question<A>, asks: &[Ask<A>]) -> Option<usize>
     ensures { result ≡ position (λ a. same_question a.question question.now) asks.now }
 {
-    asks.iter()
-        .position(|ask| ask.question.is_same(question))
+    asks.iter().position(|ask| ask.question.is_same(question))
+}
+
+/// Puts an ask last. It comes back with `Memory` where a growth was refused, and then nothing has changed.
+fn put_last<A: Allocator>(asks: &mut Vec<Ask<A>, A>, ask: Ask<A>) -> Result<(), (Ask<A>, Refusal)>
+    ensures list { asks.new.items ≡ (if is_ok result then asks.old.items ++ ask ∷ [] else asks.old.items) }
+    ensures refused { IfErr result (λ refused. (refused.0 ≡ ask) × (refused.1 ≡ Refusal.Memory)) }
+{
+    match asks.push(ask) {
+        Ok(()) => Ok(()),
+        Err(refused) => Err((refused.value, Refusal::Memory)),
+    }
 }
 
 /// Takes the ask on a path out.
@@ -208,7 +216,6 @@ fn put_in_place<A: Allocator>(asks: &mut Vec<Ask<A>, A>, path: Path, ask: Ask<A>
 }
 
 /// When the first ask is due, and its path.
-
 fn due_first<A: Allocator>(asks: &[Ask<A>], ask_ms: u64) -> Option<(u64, Path)>
     requires short { ask_ms ≤ 2 ^ 62 }
     requires in_turn { AreInTurn asks.now }

@@ -5,9 +5,11 @@
 mod ask;
 mod draws;
 mod inquiries;
+mod laws;
 #[cfg(test)]
 mod tests;
 
 pub use ask::{Ask, Path};
 pub use draws::draw;
 pub use inquiries::{Inquiries, Refusal};
+pub use laws::{ended_is_unlisted, next_may_begin, unlisted_stays_so};

@@ -66,7 +66,7 @@ fn all_precede<A: Allocator>(asks: &[Ask<A>], ask: &Ask<A>) -> bool
 fn others_precede<A: Allocator>(asks: &[Ask<A>], gone: Path, ask: &Ask<A>) -> bool
     ensures { result ≡ list_all (λ a. same_path a.path gone || (not (same_path a.path ask.now.path) && not (same_question a.question ask.now.question) && nat_le a.asked ask.now.asked)) asks.now }
 {
-    asks.iter().all(|listed| listed.path.is_same(gone) || precedes(listed, ask))
+    asks.iter().all(|listed| is_no_hindrance(listed, gone, ask))
 }
 
 /// Lists an ask; `None` where it may not be listed.

@@ -1,7 +1,7 @@
 -- What a look at the octets tells of a verdict.
 use Rattle.std.proofs.Common.{◌≡◌, ℕ, List, Bool, true, false, cond, refl, sym, ap, ◌∙◌, subst, Option, None}
-use Rattle.std.specs.Prelude.{◌==◌, ◌&&◌, Result, Ok, Err, slice_index}
-use Rattle.std.proofs.lemmas.Bool.{and_from, and_parts, and_left, and_right, cond-true, cond-false, eq-eqb, eqb-true}
+use Rattle.std.specs.Prelude.{◌==◌, ◌&&◌, ◌||◌, IsOk, Result, Ok, Err, slice_index}
+use Rattle.std.proofs.lemmas.Bool.{and_from, and_parts, and_right, cond-true, cond-false, eq-eqb, eqb-true}
 use Rattle.dns_message.specs.declared.header.Header.{Header}
 use Rattle.dns_message.specs.declared.fault.Fault.{Fault}
 use Rattle.dns_message.specs.Values.{Question, Message}
@@ -9,13 +9,15 @@ use Rattle.dns_message.specs.Header.{header_in}
 use Rattle.dns_message.specs.Messages.{first_question, message_of, QuestionIs, IsSameQuestion, IsWhole}
 use Rattle.dns_message.proofs.WholeLaws.{of_spelled, spelled_by}
 use Rattle.suffix_routes.specs.declared.peer.Peer.{Peer}
-use Rattle.reply_match.specs.declared.verdict.Verdict.TheVariants.{Stranger, Malformed, Whole}
+use Rattle.reply_match.specs.declared.verdict.Verdict.{Verdict}
+use Rattle.reply_match.specs.declared.verdict.Verdict.TheVariants.{Stranger, Truncated, Failed, Malformed, Whole}
 use Rattle.dns_name.specs.Labels.{same}
 use Rattle.dns_name.proofs.NameLaws.{same_decides}
 use Rattle.dns_message.specs.Questions.{same_question}
 use Rattle.reply_match.specs.Questions.{question_read, one_question, asks_this}
 use Rattle.outstanding.specs.Values.{Ask}
 use Rattle.reply_match.specs.Verdicts.{is_reply, matches, judged_whole, judge}
+use Rattle.reply_match.specs.Laws.{StrangersDoNotMatch, WholeIsRead}
 
 same_from : (a b : Question) → IsSameQuestion a b → same_question a b ≡ true
 same_from a b are =
@@ -75,3 +77,43 @@ malformed_told octets none = by (message_of octets) refl
     by : (r : Result Message Fault) → message_of octets ≡ r → Malformed ≡ judged_whole r
     by (Ok m) e = absurd (none (m, spelled_by octets m e))
     by (Err fault) e = refl
+
+-- ---- which verdict tells what
+
+judged_whole-stranger : (r : Result Message Fault) → judged_whole r ≡ Stranger → ⊥
+judged_whole-stranger (Ok m) e = absurd (cc)
+judged_whole-stranger (Err fault) e = absurd (cc)
+
+judged_whole-whole : (r : Result Message Fault) → judged_whole r ≡ Whole → IsOk r
+judged_whole-whole (Ok m) e = refl
+judged_whole-whole (Err fault) e = absurd (cc)
+
+stranger_only : (m t r : Bool) (w : Verdict) (code : ℕ) → (w ≡ Stranger → ⊥) → cond m (cond t Truncated (cond r w (Failed code))) Stranger ≡ Stranger → m ≡ false
+stranger_only true true r w code not_w e = absurd (cc)
+stranger_only true false true w code not_w e = absurd (not_w e)
+stranger_only true false false w code not_w e = absurd (cc)
+stranger_only false t r w code not_w e = refl
+
+whole_only : (m t r : Bool) (w : Verdict) (code : ℕ) → cond m (cond t Truncated (cond r w (Failed code))) Stranger ≡ Whole → w ≡ Whole
+whole_only true true r w code e = absurd (cc)
+whole_only true false true w code e = e
+whole_only true false false w code e = absurd (cc)
+whole_only false t r w code e = absurd (cc)
+
+pub strangers : StrangersDoNotMatch
+strangers ask from octets = (
+  stranger_only (matches ask from octets) (header_in octets).tc (((header_in octets).rcode == 0) || ((header_in octets).rcode == 3)) (judged_whole (message_of octets)) (header_in octets).rcode
+      (judged_whole-stranger (message_of octets)),
+  λ none. cond-false (matches ask from octets) _ _ none,
+)
+
+question_read_where_whole : (ask : Ask) (from : Peer) (octets : List ℕ) (r : Result Question Fault) → first_question octets ≡ r → judge ask from octets ≡ Whole → IsOk r
+question_read_where_whole ask from octets (Ok question) is whole = refl
+question_read_where_whole ask from octets (Err fault) is whole = let bad : Stranger ≡ Whole = sym (unread_is_stranger ask from octets fault is) ∙ whole in absurd (cc)
+
+pub whole_read : WholeIsRead
+whole_read ask from octets whole = (
+  question_read_where_whole ask from octets (first_question octets) refl whole,
+  judged_whole-whole (message_of octets) (whole_only (matches ask from octets) (header_in octets).tc (((header_in octets).rcode == 0) || ((header_in octets).rcode == 3)) (judged_whole (message_of octets))
+      (header_in octets).rcode whole),
+)

@@ -1,3 +1,4 @@
 pub mod Peers
 pub mod Questions
 pub mod Verdicts
+pub mod Laws

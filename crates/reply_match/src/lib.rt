@@ -2,9 +2,11 @@
 #![tactic(auto)]
 
 mod judging;
+mod laws;
 #[cfg(test)]
 mod tests;
 mod verdict;
 
 pub use judging::judge;
+pub use laws::{strangers_do_not_match, whole_is_read};
 pub use verdict::Verdict;

@@ -1,6 +1,4 @@
-use Rattle.std.proofs.Common.{◌≡◌, List, Option, Some, None, sym, ap, ◌∙◌}
-use Rattle.std.specs.Prelude.{position}
-use Rattle.outstanding.specs.declared.ask.Path.{Path}
+use Rattle.std.proofs.Common.{Some, sym, ap, ◌∙◌}
 use Rattle.outstanding.specs.Values.{Ask}
 use Rattle.outstanding.specs.Lists.{same_path}
 use Rattle.outstanding.proofs.Places.{place_of, nowhere, somewhere, removed, none_left_out}

@@ -10,13 +10,13 @@ use Rattle.forwarder_core.proofs.forwarder.Forwarder.on_delivery.Goals as goal
 pub returns-in_default-clause-row : goal.returns-in_default-clause-row
 returns-in_default-clause-row g c =
     idle_unlisted c.args.self.now.config c.args.moment c.args.from c.args.bytes.now c.args.self.now.state _ _
-    (sym (ap (ask_on c.args.path) (ap (λ (r : Running). r.state.asks) c.self.view_is)) ∙ c.in_default.ensures)
+    (sym (ap (ask_on c.args.path) (ap (λ (r : Running). r.state.asks) c.self.view_is)) ∙ c.in_default.ensures.found)
     (c.nothing.ensures.row c.args.moment)
 
 pub returns-then-not-is_live-clause-row : goal.returns-then-not-is_live-clause-row
 returns-then-not-is_live-clause-row g c =
     idle_late c.args.self.now.config c.args.moment c.args.from c.args.bytes.now c.args.self.now.state _ c.in-Some.query.now _
-    (sym (ap (ask_on c.args.path) (ap (λ (r : Running). r.state.asks) c.self.view_is)) ∙ c.in-Some.ensures)
+    (sym (ap (ask_on c.args.path) (ap (λ (r : Running). r.state.asks) c.self.view_is)) ∙ c.in-Some.ensures.found)
     (ap (λ (r : Running). nat_lt c.args.moment (c.in-Some.query.now.asked + r.config.limits.ask_ms)) (sym c.self.view_is) ∙ sym c.is_live.ensures ∙ c.if-not-is_live.true)
     (c.nothing-then-not-is_live.ensures.row c.args.moment)
 
@@ -24,7 +24,7 @@ pub returns-clause-row : goal.returns-clause-row
 returns-clause-row g c =
     IfOk-weaker c.on_verdict.result _ _
     (λ next e. judged_is c.args.self.now.config c.args.moment c.args.from c.args.bytes.now c.args.self.now.state _ c.in-Some.query.now _
-    (sym (ap (ask_on c.args.path) (ap (λ (r : Running). r.state.asks) c.self.view_is)) ∙ c.in-Some.ensures)
+    (sym (ap (ask_on c.args.path) (ap (λ (r : Running). r.state.asks) c.self.view_is)) ∙ c.in-Some.ensures.found)
     (ap (λ (r : Running). nat_lt c.args.moment (c.in-Some.query.now.asked + r.config.limits.ask_ms)) (sym c.self.view_is) ∙ sym c.is_live.ensures ∙ c.if-not-is_live.false)
     (e ∙ ap (judged c.args.self.now.config c.args.moment c.in-Some.query.now c.args.bytes.now c.args.self.now.state) c.judge-verdict.ensures))
     c.on_verdict.ensures.row
@@ -34,6 +34,6 @@ returns-clause-unmatched g c stranger =
     c.on_verdict.ensures.unmatched
     (c.judge-verdict.ensures
     ∙ sym (verdict_is c.args.self.now.config c.args.moment c.args.from c.args.bytes.now _ c.in-Some.query.now
-    (sym (ap (ask_on c.args.path) (ap (λ (r : Running). r.state.asks) c.self.view_is)) ∙ c.in-Some.ensures)
+    (sym (ap (ask_on c.args.path) (ap (λ (r : Running). r.state.asks) c.self.view_is)) ∙ c.in-Some.ensures.found)
     (ap (λ (r : Running). nat_lt c.args.moment (c.in-Some.query.now.asked + r.config.limits.ask_ms)) (sym c.self.view_is) ∙ sym c.is_live.ensures ∙ c.if-not-is_live.false))
     ∙ stranger)
