@@ -1,5 +1,5 @@
--- Worked steps, computed: one question and its reply, forged and late replies, letter case, a restart, and what clients may send.
-use Rattle.std.proofs.Common.{◌≡◌, ℕ, List, [], ◌∷◌, false, true, refl}
+-- Worked steps, computed: one question and its reply, forged and late replies, letter case, a restart, what clients may send, and several questions.
+use Rattle.std.proofs.Common.{◌≡◌, ℕ, List, [], ◌∷◌, length, false, true, refl}
 use Rattle.suffix_routes.specs.declared.peer.Peer.{Peer}
 use Rattle.suffix_routes.specs.Values.{Config, default_limits}
 use Rattle.suffix_routes.specs.Routes.{route_of}
@@ -13,7 +13,7 @@ use Rattle.dns_message.specs.Writing.{◌▹◌, each, name_text, data_text, wit
 use Rattle.forwarder_core.specs.declared.values.Client.{Client}
 use Rattle.forwarder_core.specs.declared.values.Client.TheVariants.{Udp as FromUdp}
 use Rattle.outstanding.specs.declared.ask.Path.TheVariants.{Udp}
-use Rattle.forwarder_core.specs.declared.values.Why.TheVariants.{Answered, BadFormat, BadOpcode, NotServed}
+use Rattle.forwarder_core.specs.declared.values.Why.TheVariants.{Answered, BadFormat, BadOpcode, NotServed, QuestionsFull, InquiriesFull, NoPort}
 use Rattle.forwarder_core.specs.Values.{from_client, delivery, restart, ask_udp, close_udp, send_reply, Step}
 use Rattle.forwarder_core.specs.History.{moment_at, listed}
 use Rattle.forwarder_core.specs.Sound.{unanswered}
@@ -184,6 +184,43 @@ any_type = refl
 behind_the_question : (requested config 1000 (3670072 ∷ []) client with_opt start).actions ≡ ask_udp 1080 server opt_query ∷ []
 unfolding written ◌▹◌ each name_text first_question question_at octets_end name_within walk_in name_step route_of
 behind_the_question = refl
+
+-- ---- several questions
+
+abbrev other_question : List ℕ
+other_question = 18 ∷ 53 ∷ 1 ∷ 0 ∷ 0 ∷ 1 ∷ 0 ∷ 0 ∷ 0 ∷ 0 ∷ 0 ∷ 0 ∷ 1 ∷ 98 ∷ 7 ∷ 101 ∷ 120 ∷ 97 ∷ 109 ∷ 112 ∷ 108 ∷ 101 ∷ 0 ∷ 0 ∷ 1 ∷ 0 ∷ 1 ∷ []
+
+abbrev other_query : List ℕ
+other_query = 0 ∷ 16 ∷ 1 ∷ 0 ∷ 0 ∷ 1 ∷ 0 ∷ 0 ∷ 0 ∷ 0 ∷ 0 ∷ 0 ∷ 1 ∷ 98 ∷ 7 ∷ 101 ∷ 120 ∷ 97 ∷ 109 ∷ 112 ∷ 108 ∷ 101 ∷ 0 ∷ 0 ∷ 1 ∷ 0 ∷ 1 ∷ []
+
+abbrev other_failure : List ℕ
+other_failure = 18 ∷ 53 ∷ 129 ∷ 130 ∷ 0 ∷ 1 ∷ 0 ∷ 0 ∷ 0 ∷ 0 ∷ 0 ∷ 0 ∷ 1 ∷ 98 ∷ 7 ∷ 101 ∷ 120 ∷ 97 ∷ 109 ∷ 112 ∷ 108 ∷ 101 ∷ 0 ∷ 0 ∷ 1 ∷ 0 ∷ 1 ∷ []
+
+-- so many questions may wait, for so many inquiries
+abbrev limited : ℕ → ℕ → Config
+limited questions inquiries = record config { limits = record default_limits { questions = questions; inquiries = inquiries } }
+
+-- an equal question waits for the same query
+joins : let d = requested config 1001 words client question_again after_question in (d.actions ≡ []) × (d.state.asks ≡ after_question.asks) × (length d.state.waiting ≡ 2)
+unfolding first_question question_at octets_end name_within walk_in name_step route_of
+joins = (refl, refl, refl)
+
+-- the port in use is passed over
+takes_another_port : (requested config 1001 (524296 ∷ 1048592 ∷ []) client other_question after_question).actions ≡ ask_udp 1040 server other_query ∷ []
+unfolding written ◌▹◌ each name_text first_question question_at octets_end name_within walk_in name_step route_of
+takes_another_port = refl
+
+no_port : requested config 1001 (524296 ∷ 524297 ∷ []) client other_question after_question ≡ at_once 1001 (send_reply client other_failure NoPort) after_question
+unfolding written ◌▹◌ each name_text first_question question_at octets_end name_within walk_in name_step route_of
+no_port = refl
+
+questions_full : requested (limited 1 9) 1001 words client other_question after_question ≡ at_once 1001 (send_reply client other_failure QuestionsFull) after_question
+unfolding written ◌▹◌ each name_text first_question question_at octets_end name_within walk_in name_step route_of
+questions_full = refl
+
+inquiries_full : requested (limited 9 1) 1001 words client other_question after_question ≡ at_once 1001 (send_reply client other_failure InquiriesFull) after_question
+unfolding written ◌▹◌ each name_text first_question question_at octets_end name_within walk_in name_step route_of
+inquiries_full = refl
 
 -- ---- the same as a history
 
