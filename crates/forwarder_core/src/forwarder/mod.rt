@@ -44,7 +44,7 @@ fn octets_of(bytes: &[u8]) -> &[u8]
     bytes
 }
 
-/// A forwarder: its configuration, its listed queries, the questions that wait, and its effective moment.
+/// A forwarder: its configuration, the asks that are under way, the questions that wait, and its effective moment.
 #[derive(Drop)]
 pub struct Forwarder<H, A: Allocator = Global> {
     alloc: A,
@@ -56,13 +56,11 @@ pub struct Forwarder<H, A: Allocator = Global> {
 }
 
 impl<H, A: Allocator> Model for Forwarder<H, A> {
-    ghost use Rattle.forwarder_core.specs.State.{Running};
+    ghost use Rattle.forwarder_core.specs.State.{Running, IsKept};
 
     ghost Value = { Running };
 
     ghost view = { λ f. record { config = f.config; state = record { asks = f.inquiries.asks; waiting = f.waiting.items; moment = f.moment } } };
-
-    ghost use Rattle.forwarder_core.specs.State.{IsKept};
 
     ghost invariant = { λ f. IsKept f.config f.inquiries f.moment };
 }
