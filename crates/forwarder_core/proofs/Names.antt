@@ -1,10 +1,12 @@
 -- Names and questions that are compared equal.
 use Rattle.std.proofs.Common.{◌≡◌, ℕ, List, [], ◌∷◌, Bool, true, refl, sym, ap, ◌∙◌, subst}
-use Rattle.std.specs.Prelude.{◌==◌, ◌&&◌}
+use Rattle.std.specs.Prelude.{◌==◌}
 use Rattle.std.proofs.lemmas.Bool.{and_parts, and_from, eqb-true, eq-eqb, false≢true}
 use Rattle.dns_name.specs.Labels.{IsSame}
 use Rattle.dns_name.proofs.NameLaws.{same_decides, told}
 use Rattle.dns_message.specs.Values.{Question}
+use Rattle.dns_message.specs.Messages.{IsSameQuestion}
+use Rattle.dns_message.proofs.QuestionLaws.{same_question_decides}
 use Rattle.suffix_routes.specs.declared.peer.Peer.{Peer}
 use Rattle.suffix_routes.specs.Values.{Config}
 use Rattle.suffix_routes.specs.Routes.{route_of as route_among}
@@ -44,28 +46,14 @@ same_peer-true a b e =
 pub same_peer-is : (a b : Peer) → a ≡ b → same_peer a b ≡ true
 same_peer-is a b e = subst (λ (x : Peer). same_peer a x ≡ true) e (and_from (same_octets a.ip a.ip) (a.port == a.port) (same_octets-refl a.ip) (eq-eqb a.port a.port refl))
 
--- what a test on two questions tells
-pub record AreSame (a b : Question) : Type 0 where
-  pub name : IsSame a.name b.name
-  pub kind : a.kind ≡ b.kind
-  pub class : a.class ≡ b.class
-
-pub are_same : (a b : Question) → same_question a b ≡ true → AreSame a b
-are_same a b e =
-    let outer = and_parts (same_name a.name b.name && (a.kind == b.kind)) (a.class == b.class) e in
-    let inner = and_parts (same_name a.name b.name) (a.kind == b.kind) outer.0 in
-    record { name = same_name-is a.name b.name inner.0; kind = eqb-true a.kind b.kind inner.1; class = eqb-true a.class b.class outer.1 }
-
 -- equal names are on one route
-pub route_of-alike : (c : Config) (a b : Question) → AreSame a b → route_of c a.name ≡ route_of c b.name
+pub route_of-alike : (c : Config) (a b : Question) → IsSameQuestion a b → route_of c a.name ≡ route_of c b.name
 route_of-alike c a b same = sym (route_of-lowered c.routes a.name) ∙ ap (route_among c.routes) same.name ∙ route_of-lowered c.routes b.name
 
 pub same_question-sym : (a b : Question) → same_question a b ≡ true → same_question b a ≡ true
 same_question-sym a b e =
-    let same = are_same a b e in
-    and_from (same_name b.name a.name && (b.kind == a.kind)) (b.class == a.class)
-    (and_from (same_name b.name a.name) (b.kind == a.kind) (is-same_name b.name a.name (sym same.name)) (eq-eqb b.kind a.kind (sym same.kind)))
-    (eq-eqb b.class a.class (sym same.class))
+    let same = (same_question_decides a b).0 e in
+    (same_question_decides b a).1 (record { name = sym same.name; kind = sym same.kind; class = sym same.class })
 
 -- a test that is told by the fact is this test
 pub told_same_name : (r : Bool) (a b : List (List ℕ)) → (r ≡ true → IsSame a b) × (IsSame a b → r ≡ true) → r ≡ same_name a b

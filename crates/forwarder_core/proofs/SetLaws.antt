@@ -6,13 +6,14 @@ use Rattle.std.specs.Char.{to_ascii_lowercase}
 use Rattle.std.proofs.lemmas.Str.Ascii.{lowercase-lowercase}
 use Rattle.std.proofs.lemmas.Bool.{cases_Bool, and_parts, and_from, eqb-true, eq-eqb, cond-true, cond-false, true≢false}
 use Rattle.dns_name.specs.Labels.{lowered, IsSame}
+use Rattle.dns_message.specs.Messages.{IsSameQuestion}
 use Rattle.dns_message.specs.Values.{Question, Record, Message}
 use Rattle.suffix_routes.specs.Values.{Config}
 use Rattle.forwarder_core.specs.Names.{same_name}
 use Rattle.forwarder_core.specs.Pieces.{rows, Piece, found, is_lame, is_of, records_for, with_data, with_all_data, with_answers, seconds_of, lifetime_within, lowered_by_all, longest, rank_of, set_of, Walk, lame_walk, has_many, walk_at_set, walk}
 use Rattle.forwarder_core.specs.Answers.{EndsChain}
 use Rattle.forwarder_core.specs.Row.{end_piece, set_ending}
-use Rattle.forwarder_core.proofs.Names.{AreSame, same_name-is, is-same_name}
+use Rattle.forwarder_core.proofs.Names.{same_name-is, is-same_name}
 
 lowered_label : (xs : List ℕ) → map to_ascii_lowercase (map to_ascii_lowercase xs) ≡ map to_ascii_lowercase xs
 lowered_label [] = refl
@@ -87,7 +88,7 @@ end_piece_at c m q route p e = by (is_lame (walk c m q route).end) refl
         (f, subst (EndsAtSet c m q route) same at.1)
 
 -- the set answers each equal question
-pub set_ends : (q other : Question) (route : ℕ) (p : Piece) → AreSame other q → IsSet q route p → EndsChain other p p.body
+pub set_ends : (q other : Question) (route : ℕ) (p : Piece) → IsSameQuestion other q → IsSet q route p → EndsChain other p p.body
 set_ends q other route p same set = subst (λ (x : Piece). EndsChain other x x.body) (sym set.is)
     (and_from (same_name (lowered set.first.owner) other.name && (set.first.class == other.class)) (set.first.kind == other.kind)
     (and_from (same_name (lowered set.first.owner) other.name) (set.first.class == other.class)

@@ -42,7 +42,8 @@ use Rattle.forwarder_core.specs.Row.{Done, gets, waits, start, idle, at_once, re
 use Rattle.forwarder_core.specs.Explains.{shown, Waits, IsReadable, Explains}
 use Rattle.forwarder_core.proofs.Fates.{Fated}
 use Rattle.forwarder_core.proofs.Since.{carried_since}
-use Rattle.forwarder_core.proofs.Names.{are_same, same_question-sym, same_peer-true, same_peer-is, route_of-alike}
+use Rattle.dns_message.proofs.QuestionLaws.{same_question_decides}
+use Rattle.forwarder_core.proofs.Names.{same_question-sym, same_peer-true, same_peer-is, route_of-alike}
 use Rattle.forwarder_core.proofs.QueryText.{query_reads}
 use Rattle.forwarder_core.proofs.Messages.{spells_read, read_spells, read_header}
 use Rattle.forwarder_core.proofs.SetLaws.{EndsAtSet, ends_at_set, end_piece_is, end_piece_at, set_ends, set_route}
@@ -417,7 +418,7 @@ module _ (c : Config) (past : List Step) (w : List (List ℕ)) (s : State) (x : 
                 held ∷ since.1,
                 since.2,
                 subst (λ (os : List Held). CarriedInEra c (step ∷ past) (held ∷ os)) since.3 carried_now,
-                route_of-alike c y.question a.question (are_same y.question a.question same) ∙ is_on.1.on_route ∙ ap Some (sym (set_route a.question a.route p at_set.1.set)),
+                route_of-alike c y.question a.question ((same_question_decides y.question a.question).0 same) ∙ is_on.1.on_route ∙ ap Some (sym (set_route a.question a.route p at_set.1.set)),
                 inr (inl refl),
               )
 
@@ -427,7 +428,7 @@ module _ (c : Config) (past : List Step) (w : List (List ℕ)) (s : State) (x : 
             last = y.question;
             follows = refl;
             justified = justified y asked before era same;
-            ends = set_ends a.question y.question a.route p (are_same y.question a.question same) at_set.1.set;
+            ends = set_ends a.question y.question a.route p ((same_question_decides y.question a.question).0 same) at_set.1.set;
           }
 
           full_is : (y : Waiting) (request : List ℕ) → y.header ≡ header_in request → written (full_answer y.header y.question [] held n) ≡ written (full_answer (header_in request) y.question [] held (moment_at (step ∷ past)))

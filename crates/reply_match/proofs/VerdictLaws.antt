@@ -1,45 +1,32 @@
 -- What a look at the octets tells of a verdict.
 use Rattle.std.proofs.Common.{◌≡◌, ℕ, List, Bool, true, false, cond, refl, sym, ap, ◌∙◌, subst, Option, None}
-use Rattle.std.specs.Prelude.{◌==◌, ◌&&◌, ◌||◌, IsOk, Result, Ok, Err, slice_index}
-use Rattle.std.proofs.lemmas.Bool.{and_from, and_parts, and_right, cond-true, cond-false, eq-eqb, eqb-true}
+use Rattle.std.specs.Prelude.{◌==◌, ◌||◌, IsOk, Result, Ok, Err, slice_index}
+use Rattle.std.proofs.lemmas.Bool.{and_right, cond-true, cond-false, eq-eqb}
 use Rattle.dns_message.specs.declared.header.Header.{Header}
 use Rattle.dns_message.specs.declared.fault.Fault.{Fault}
 use Rattle.dns_message.specs.Values.{Question, Message}
 use Rattle.dns_message.specs.Header.{header_in}
-use Rattle.dns_message.specs.Messages.{first_question, message_of, QuestionIs, IsSameQuestion, IsWhole}
+use Rattle.dns_message.specs.Messages.{first_question, message_of, QuestionIs, IsWhole}
+use Rattle.dns_message.proofs.QuestionLaws.{same_question_decides}
 use Rattle.dns_message.proofs.WholeLaws.{of_spelled, spelled_by}
 use Rattle.suffix_routes.specs.declared.peer.Peer.{Peer}
 use Rattle.reply_match.specs.declared.verdict.Verdict.{Verdict}
 use Rattle.reply_match.specs.declared.verdict.Verdict.TheVariants.{Stranger, Truncated, Failed, Malformed, Whole}
-use Rattle.dns_name.specs.Labels.{same}
-use Rattle.dns_name.proofs.NameLaws.{same_decides}
 use Rattle.dns_message.specs.Questions.{same_question}
 use Rattle.reply_match.specs.Questions.{question_read, one_question, asks_this}
 use Rattle.outstanding.specs.Values.{Ask}
 use Rattle.reply_match.specs.Verdicts.{is_reply, matches, judged_whole, judge}
 use Rattle.reply_match.specs.Laws.{StrangersDoNotMatch, WholeIsRead}
 
-same_from : (a b : Question) → IsSameQuestion a b → same_question a b ≡ true
-same_from a b are =
-    and_from (same a.name b.name && (a.kind == b.kind)) (a.class == b.class)
-    (and_from (same a.name b.name) (a.kind == b.kind) ((same_decides a.name b.name).1 are.name) (eq-eqb a.kind b.kind are.kind))
-    (eq-eqb a.class b.class are.class)
-
-same_to : (a b : Question) → same_question a b ≡ true → IsSameQuestion a b
-same_to a b e =
-    let outer = and_parts (same a.name b.name && (a.kind == b.kind)) (a.class == b.class) e in
-    let inner = and_parts (same a.name b.name) (a.kind == b.kind) outer.0 in
-    record { name = (same_decides a.name b.name).0 inner.0; kind = eqb-true a.kind b.kind inner.1; class = eqb-true a.class b.class outer.1 }
-
 -- the test of the first question
 pub told_question : (r : Bool) (q : Question) (read : Result Question Fault) → (r ≡ true → QuestionIs read q) × (QuestionIs read q → r ≡ true) → r ≡ asks_this q (question_read read)
-told_question true q (Ok other) tells = sym (same_from other q (tells.0 refl))
+told_question true q (Ok other) tells = sym ((same_question_decides other q).1 (tells.0 refl))
 told_question true q (Err fault) tells = absurd (tells.0 refl)
 told_question false q (Err fault) tells = refl
 told_question false q (Ok other) tells = by (same_question other q) refl
   where
     by : (v : Bool) → same_question other q ≡ v → false ≡ v
-    by true e = tells.1 (same_to other q e)
+    by true e = tells.1 ((same_question_decides other q).0 e)
     by false e = refl
 
 counted_one : (octets : List ℕ) → slice_index (header_in octets).counts 0 ≡ 1 → one_question octets ≡ question_read (first_question octets)
