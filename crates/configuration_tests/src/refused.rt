@@ -1,11 +1,11 @@
 //! The first fault of a text, each number at each place.
 
-use super::{CORP, ROOT, fault_of, routes_text, told};
-use crate::{ConfigFault, Excerpt, Kind, Limit, Peer, Place};
+use crate::texts::{CORP, ROOT, fault_of, routes_text, told};
 use dns_name::NameFault;
 use std::alloc::Global;
 use std::process::Abort;
 use std::test::Fail;
+use suffix_routes::{ConfigFault, Excerpt, Kind, Limit, Peer, Place};
 
 #[test]
 fn rows_of_configurations(rt: HostRuntime) -> Result<(), Fail> {

@@ -1,9 +1,9 @@
 //! What a fault says to a person.
 
-use super::{ROOT, routes_text, told};
-use crate::Excerpt;
+use crate::texts::{ROOT, routes_text, told};
 use std::alloc::{AllocError, Global};
 use std::test::Fail;
+use suffix_routes::Excerpt;
 
 /// What is said of the fault that is told of a text.
 fn said(heap: Global, text: &str) -> Result<String, AllocError> {

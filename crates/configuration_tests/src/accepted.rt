@@ -1,10 +1,10 @@
 //! What is read in a text that is accepted.
 
-use super::{CORP, ROOT};
-use crate::{Config, ConfigFault, Limits, Peer};
+use crate::texts::{CORP, ROOT};
 use dns_name::Name;
 use std::alloc::Global;
 use std::test::Fail;
+use suffix_routes::{Config, ConfigFault, Limits, Peer};
 
 /// The place of the route of a name in the configuration of a text.
 fn route_place(heap: Global, text: &str, name: &str) -> Result<Option<usize>, Fail> {
