@@ -1,0 +1,26 @@
+-- When two questions are one.
+use Rattle.std.proofs.Common.{◌≡◌, true}
+use Rattle.std.specs.Prelude.{◌==◌, ◌&&◌}
+use Rattle.std.specs.Bool.{Decides}
+use Rattle.std.proofs.lemmas.Bool.{and_parts, and_from, eqb-true, eq-eqb}
+use Rattle.dns_name.specs.Labels.{same}
+use Rattle.dns_name.proofs.NameLaws.{same_decides}
+use Rattle.message_reading.specs.Values.{Question}
+use Rattle.message_reading.specs.Messages.{IsSameQuestion}
+use Rattle.message_reading.specs.Questions.{same_question}
+
+question_is : (a b : Question) → same_question a b ≡ true → IsSameQuestion a b
+question_is a b e =
+    let outer = and_parts (same a.name b.name && (a.kind == b.kind)) (a.class == b.class) e in
+    let inner = and_parts (same a.name b.name) (a.kind == b.kind) outer.0 in
+    record { name = (same_decides a.name b.name).0 inner.0; kind = eqb-true a.kind b.kind inner.1; class = eqb-true a.class b.class outer.1 }
+
+is_question : (a b : Question) → IsSameQuestion a b → same_question a b ≡ true
+is_question a b is =
+    and_from (same a.name b.name && (a.kind == b.kind)) (a.class == b.class)
+    (and_from (same a.name b.name) (a.kind == b.kind) ((same_decides a.name b.name).1 is.name) (eq-eqb a.kind b.kind is.kind))
+    (eq-eqb a.class b.class is.class)
+
+-- the test tells the fact
+pub same_question_decides : (a b : Question) → Decides (same_question a b) (IsSameQuestion a b)
+same_question_decides a b = (λ e. question_is a b e, λ is. is_question a b is)
