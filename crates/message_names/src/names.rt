@@ -10,7 +10,10 @@ use crate::walk::{Bound, Next, Walk, next_label};
 use dns_name::Name;
 use std::alloc::Allocator;
 
-/// The name at a place, and the place behind it.
+/// The name at a place, and the place behind it. Where pointers lead is remembered in `ends`, which may be empty.
+///
+/// `Err` is `Memory` where a growth was refused, or the first fault of the name from its front: `Short`, `LabelForm`,
+/// `Pointer` or `NameLong`.
 pub fn read_name<A: Allocator>(
     alloc: A,
     bytes: &[u8],
@@ -34,7 +37,8 @@ pub fn read_name<A: Allocator>(
     }
 }
 
-/// The place behind the name at a place, in a run that must end before a bound.
+/// The place behind the name at a place, in a run that must end before a bound. `Err` is the first fault of the name
+/// from its front. It takes no memory.
 pub fn skip_name(
     bytes: &[u8],
     ends: &mut [u16],
@@ -75,7 +79,8 @@ pub fn readable_name_end(bytes: &[u8], offset: usize) -> usize
     }
 }
 
-/// The place behind the name at a place, where it is this one, letter case aside.
+/// The place behind the name at a place, where it is this one, letter case aside (RFC 1035 2.3.3); `None` where it is
+/// another, or cannot be read. It takes no memory.
 pub fn skip_same_name<A: Allocator>(bytes: &[u8], offset: usize, name: &Name<A>) -> Option<usize>
     ensures { MatchOption result (NameIs (name_at bytes.now offset) name.now → ⊥) (λ end. NameIs (name_at bytes.now offset) name.now × (behind (name_at bytes.now offset) ≡ Ok end)) }
 {

@@ -7,16 +7,18 @@ ghost use Rattle.message_names.specs.Names.{whole, inside, step, Stays, Resumes,
 use crate::fault::Fault;
 use crate::shortcuts::resolve;
 
-/// Where a run of labels must end, and what is said of an octet that it needs beyond.
+/// Where a run of labels must end, in octets from the front of the message. A run is the labels of a name that stand one
+/// behind another, with the zero octet or the pointer that ends them (RFC 1035 4.1.4).
 #[derive(Clone, Copy)]
 pub struct Bound {
     /// No octet of the run lies here or behind.
     pub stop: usize,
+    /// The fault where the run needs an octet that lies there.
     pub beyond: Fault,
 }
 
 impl Bound {
-    /// The end of the message.
+    /// The end of the message; beyond it an octet is `Short`.
     pub fn whole(bytes: &[u8]) -> Bound
         ensures { result ≡ whole bytes.now }
     {
@@ -26,7 +28,7 @@ impl Bound {
         }
     }
 
-    /// The end of a record's data.
+    /// The end of a record's data; beyond it an octet is `Rdata`, also where the message goes on.
     pub fn data(stop: usize) -> Bound
         ensures { result ≡ inside stop }
     {
@@ -48,7 +50,7 @@ pub(crate) enum Step {
     Pointer(usize),
 }
 
-/// Where the reading of a name stands.
+/// Where the reading of a name stands: a cursor, in octets from the front of the message.
 #[derive(Clone, Copy)]
 pub struct Walk {
     /// The place that is read next.
@@ -64,7 +66,7 @@ pub struct Walk {
 }
 
 impl Walk {
-    /// The beginning of the name at a place.
+    /// The beginning of the name at a place. Nothing is read yet.
     #[tactic(auto, unfolding(crate::specs::Names::resume, crate::specs::Names::name_within))]
     pub fn new(bytes: &[u8], bound: Bound, offset: usize) -> Walk
         ensures used { result.used ≡ 0 }
@@ -83,11 +85,13 @@ impl Walk {
 
 /// What comes next in a name.
 pub enum Next<'a> {
+    /// A label of 1 to 63 octets without its length, and where the reading stands behind it.
     Label(&'a [u8], Walk),
+    /// The name ends, and its own octets end before this place.
     End(usize),
 }
 
-/// Some octets from a place on.
+/// So many octets from a place on, where they are there.
 pub fn part(bytes: &[u8], start: usize, len: usize) -> &[u8]
     requires { start + len ≤ length bytes.now }
     ensures { result.now ≡ take len (drop start bytes.now) }
@@ -137,7 +141,12 @@ fn step_at(bytes: &[u8], walk: Walk) -> Result<Step, Fault>
     }
 }
 
-/// The next label of a name, pointers followed; where they lead is remembered in `ends`.
+/// The next label of a name, pointers followed; where they lead is remembered in `ends`, which may be empty. It takes no
+/// memory.
+///
+/// The fault is the first from where the walk stands (RFC 1035 4.1.4): `Short` or `Rdata` where an octet lies beyond the
+/// bound, `NameLong` where the name would have more than 255 octets, `LabelForm` where neither a label nor a pointer
+/// begins, `Pointer` where one does not lead to before the run that it ends.
 pub fn next_label<'a>(bytes: &'a [u8], ends: &mut [u16], walk: Walk) -> Result<Next<'a>, Fault>
     requires used { walk.used ≤ 254 }
     requires stop { walk.bound.stop ≤ length bytes.now }

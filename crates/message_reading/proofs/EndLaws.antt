@@ -5,7 +5,7 @@ use Rattle.message_names.specs.declared.fault.Fault.{Fault}
 use Rattle.message_names.specs.Reading.{behind}
 use Rattle.message_names.specs.Numbers.{number16}
 use Rattle.message_names.specs.Names.{name_at}
-use Rattle.message_names.proofs.CallerLemmas.{name_complete}
+use Rattle.message_names.proofs.CallerLemmas.{standing_name_is_read}
 use Rattle.message_reading.specs.Values.{Record}
 use Rattle.message_reading.specs.Records.{record_at}
 use Rattle.message_reading.proofs.SpellLaws.{read_as, record_sound}
@@ -26,7 +26,7 @@ owner_by bytes o (Ok x) is ok =
     record {
       labels = x.0.owner;
       after = at.after;
-      read = name_complete bytes o x.0.owner at.after at.owner at.fits;
+      read = standing_name_is_read bytes o x.0.owner at.after at.owner at.fits;
       ends = record { there = at.there; ends = ap behind is ∙ ap (λ (e : ℕ). Ok e) at.ends };
     }
 owner_by bytes o (Err fault) is ok = absurd cc

@@ -16,7 +16,7 @@ use Rattle.message_names.specs.Names.{NameAt, at_root, at_label, at_pointer, tar
 use Rattle.message_reading.specs.Data.{name_octets, IsPart, HasParts, no_parts, more_parts, IsOfShape, IsShaped, PartAt, PartsAt, parts_end, parts_go_on, ShapedAt, DataAt, name_if_all, name_of_rdata}
 use Rattle.message_reading.specs.Records.{RecordAt, InRow}
 use Rattle.message_reading.specs.Messages.{Spells, AreShaped, HasShapes, message_of}
-use Rattle.message_names.proofs.CallerLemmas.{name_sound, name_complete}
+use Rattle.message_names.proofs.CallerLemmas.{name_read_stands, standing_name_is_read}
 use Rattle.message_reading.proofs.SpellLaws.{read_as}
 use Rattle.message_reading.proofs.WholeLaws.{header_is, spelled_by}
 
@@ -152,7 +152,7 @@ pub named_sound : (octets : List ℕ) (labels : List (List ℕ)) → name_of_rda
 unfolding name_of_rdata
 named_sound octets labels is =
     let read = all_of (length octets) (name_at octets 0) labels is in
-    let at = name_sound octets 0 labels (length octets) read.read in
+    let at = name_read_stands octets 0 labels (length octets) read.read in
     let whole = stands octets 0 0 (length octets) labels refl at.0 in
     (name_is octets 0 0 (length octets) labels at.0 at.1, whole ∙ ap (λ (t : List ℕ). name_octets labels ++ t) (drop_all (length octets) octets (omega arith)) ∙ append-nil (name_octets labels))
 
@@ -163,4 +163,4 @@ pub named_complete : (octets : List ℕ) (labels : List (List ℕ)) → IsName l
 unfolding name_of_rdata
 named_complete octets labels name is =
     let at : NameAt octets 0 0 labels (length octets) = rw is (written_at [] 0 labels name.each) in
-    ap (name_if_all (length octets)) (name_complete octets 0 labels (length octets) at name.short) ∙ if_all labels (length octets)
+    ap (name_if_all (length octets)) (standing_name_is_read octets 0 labels (length octets) at name.short) ∙ if_all labels (length octets)

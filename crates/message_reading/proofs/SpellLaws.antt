@@ -11,7 +11,7 @@ use Rattle.message_names.specs.Numbers.{number16, number32}
 use Rattle.message_names.specs.Names.{name_at, name_within, inside}
 use Rattle.message_reading.specs.Data.{name_octets, PartAt, PartsAt, parts_end, parts_go_on, ShapedAt, DataAt, octets_within, written_out, prefixed, text_within, part_at, parts_at, shaped_at, data_at}
 use Rattle.message_reading.specs.Records.{QuestionAt, RecordAt, InRow, octets_end, question_at, record_at, with_first, counted}
-use Rattle.message_names.proofs.CallerLemmas.{within_sound, within_complete, name_sound, name_complete}
+use Rattle.message_names.proofs.CallerLemmas.{bounded_name_read_stands, bounded_standing_name_is_read, name_read_stands, standing_name_is_read}
 
 -- what was read, and the place behind it
 abbrev pub read_as : {X : Type 0} → X → ℕ → Result (X × ℕ) Fault
@@ -79,14 +79,14 @@ name_out (Err f) octets e is = absurd cc
 part_sound : (part : Part) (bytes : List ℕ) (stop o : ℕ) (octets : List ℕ) (e : ℕ) → stop ≤ length bytes → part_at part bytes stop o ≡ read_as octets e → PartAt part bytes stop o octets e
 part_sound Name bytes stop o octets e le is =
     let name = name_out (name_within bytes (inside stop) o) octets e is in
-    let at = within_sound bytes (inside stop) o name.labels e le name.read in
+    let at = bounded_name_read_stands bytes (inside stop) o name.labels e le name.read in
     (name.labels, at.0, at.1, at.2, name.out)
 part_sound Number16 bytes stop o octets e le is = let h = octets_sound bytes stop o 2 octets e is in (h.there, h.octets_are, h.ends)
 part_sound Number32 bytes stop o octets e le is = let h = octets_sound bytes stop o 4 octets e is in (h.there, h.octets_are, h.ends)
 part_sound Text bytes stop o octets e le is = let h = text_sound bytes stop o octets e is in (h.there, h.octets_are, h.ends)
 
 part_complete : (part : Part) (bytes : List ℕ) (stop o : ℕ) (octets : List ℕ) (e : ℕ) → PartAt part bytes stop o octets e → part_at part bytes stop o ≡ read_as octets e
-part_complete Name bytes stop o octets e at = rw (within_complete bytes (inside stop) o at.0 e at.1 at.2 at.3, at.4) refl
+part_complete Name bytes stop o octets e at = rw (bounded_standing_name_is_read bytes (inside stop) o at.0 e at.1 at.2 at.3, at.4) refl
 part_complete Number16 bytes stop o octets e at = rw (at.1, at.2) (octets_complete bytes stop o 2 at.0)
 part_complete Number32 bytes stop o octets e at = rw (at.1, at.2) (octets_complete bytes stop o 4 at.0)
 part_complete Text bytes stop o octets e at = rw (at.1, at.2) (text_complete bytes stop o at.0)
@@ -178,7 +178,7 @@ unfolding question_at
 question_sound bytes o question e is =
     let name = steps (name_at bytes o) _ (question, e) is in
     let end = steps (octets_end bytes name.value.1 4) _ (question, e) name.rest in
-    let at = name_sound bytes o name.value.0 name.value.1 name.first in
+    let at = name_read_stands bytes o name.value.0 name.value.1 name.first in
     let there = there_sound bytes name.value.1 4 end.value end.first in
     let same = read_first (question_with bytes name.value.0 name.value.1) question end.value e end.rest in
     let here : QuestionAt bytes o (question_with bytes name.value.0 name.value.1) e =
@@ -189,7 +189,7 @@ question_sound bytes o question e is =
 pub question_complete : (bytes : List ℕ) (o : ℕ) (question : Question) (e : ℕ) → QuestionAt bytes o question e → question_at bytes o ≡ read_as question e
 unfolding question_at
 question_complete bytes o question e at =
-    rw (name_complete bytes o question.name at.after at.name at.fits, there_complete bytes at.after 4 at.there, at.ends)
+    rw (standing_name_is_read bytes o question.name at.after at.name at.fits, there_complete bytes at.after 4 at.there, at.ends)
     (rw (← at.kind, ← at.class) refl)
 
 abbrev record_with : List ℕ → List (List ℕ) → ℕ → List ℕ → Record
@@ -202,7 +202,7 @@ record_sound bytes o entry e is =
     let fixed = steps (octets_end bytes owner.value.1 10) _ (entry, e) owner.rest in
     let there = there_sound bytes owner.value.1 10 fixed.value fixed.first in
     let rdata = steps (data_at (number16 bytes owner.value.1) bytes fixed.value (number16 bytes (owner.value.1 + 8))) _ (entry, e) fixed.rest in
-    let at = name_sound bytes o owner.value.0 owner.value.1 owner.first in
+    let at = name_read_stands bytes o owner.value.0 owner.value.1 owner.first in
     let data_here = data_sound (number16 bytes owner.value.1) bytes fixed.value (number16 bytes (owner.value.1 + 8)) rdata.value.0 rdata.value.1 rdata.first in
     let same = read_first (record_with bytes owner.value.0 owner.value.1 rdata.value.0) entry rdata.value.1 e rdata.rest in
     let D : ℕ → Type 0 = λ start. DataAt (number16 bytes owner.value.1) bytes start (number16 bytes (owner.value.1 + 8)) rdata.value.0 in
@@ -226,7 +226,7 @@ unfolding record_at
 record_complete bytes o entry e at =
     let D : ℕ → Type 0 = λ kind. DataAt kind bytes (at.after + 10) (number16 bytes (at.after + 8)) entry.rdata in
     let data_here = data_complete (number16 bytes at.after) bytes (at.after + 10) (number16 bytes (at.after + 8)) entry.rdata (subst D at.kind at.rdata) in
-    rw (name_complete bytes o entry.owner at.after at.owner at.fits, there_complete bytes at.after 10 at.there, data_here, at.ends)
+    rw (standing_name_is_read bytes o entry.owner at.after at.owner at.fits, there_complete bytes at.after 10 at.there, data_here, at.ends)
     (rw (← at.kind, ← at.class, ← at.ttl) refl)
 
 -- ---- counted things

@@ -176,7 +176,7 @@ fn records_with<'a>(bytes: &'a [u8], ends: &mut [u16]) -> Records<'a>
 }
 
 /// `records_with` of a message that may have long chains of pointers.
-#[tactic(auto, using(message_names::proofs::CallerLemmas::none_known))]
+#[tactic(auto, using(message_names::proofs::CallerLemmas::zeros_are_shortcuts))]
 fn records_in_large<'a>(bytes: &'a [u8]) -> Records<'a>
     requires { 12 ≤ length bytes.now }
     ensures { result ≡ spans_of bytes.now }
@@ -186,7 +186,7 @@ fn records_in_large<'a>(bytes: &'a [u8]) -> Records<'a>
 }
 
 /// The spans of the records of a message.
-#[tactic(auto, using(message_names::proofs::CallerLemmas::none_kept))]
+#[tactic(auto, using(message_names::proofs::CallerLemmas::no_table_is_shortcuts))]
 pub(crate) fn records_in<'a>(bytes: &'a [u8]) -> Records<'a>
     requires { 12 ≤ length bytes.now }
     ensures { result ≡ spans_of bytes.now }

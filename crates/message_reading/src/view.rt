@@ -63,7 +63,7 @@ fn skip_sections(bytes: &[u8], ends: &mut [u16]) -> Result<usize, Fault>
 }
 
 /// `skip_sections` of a message that may have long chains of pointers.
-#[tactic(auto, using(message_names::proofs::CallerLemmas::none_known))]
+#[tactic(auto, using(message_names::proofs::CallerLemmas::zeros_are_shortcuts))]
 fn skip_large_message(bytes: &[u8]) -> Result<usize, Fault>
     requires { 12 ≤ length bytes.now }
     ensures { result ≡ behind (message_at bytes.now) }
@@ -73,7 +73,7 @@ fn skip_large_message(bytes: &[u8]) -> Result<usize, Fault>
 }
 
 /// The place behind the last counted record.
-#[tactic(auto, using(message_names::proofs::CallerLemmas::none_kept))]
+#[tactic(auto, using(message_names::proofs::CallerLemmas::no_table_is_shortcuts))]
 fn skip_message(bytes: &[u8]) -> Result<usize, Fault>
     requires { 12 ≤ length bytes.now }
     ensures { result ≡ behind (message_at bytes.now) }
@@ -111,7 +111,7 @@ fn read_sections<A: Allocator + Copy>(
 }
 
 /// `read_sections` of a message that may have long chains of pointers.
-#[tactic(auto, using(message_names::proofs::CallerLemmas::none_known))]
+#[tactic(auto, using(message_names::proofs::CallerLemmas::zeros_are_shortcuts))]
 fn read_large_message<A: Allocator + Copy>(alloc: A, bytes: &[u8]) -> Result<Message<A>, Fault>
     ensures { Gives (λ m. m) result (message_of bytes.now) }
 {
@@ -120,7 +120,7 @@ fn read_large_message<A: Allocator + Copy>(alloc: A, bytes: &[u8]) -> Result<Mes
 }
 
 /// The message that the octets spell.
-#[tactic(auto, using(message_names::proofs::CallerLemmas::none_kept))]
+#[tactic(auto, using(message_names::proofs::CallerLemmas::no_table_is_shortcuts))]
 fn read_message<A: Allocator + Copy>(alloc: A, bytes: &[u8]) -> Result<Message<A>, Fault>
     ensures { Gives (λ m. m) result (message_of bytes.now) }
 {

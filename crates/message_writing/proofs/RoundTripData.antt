@@ -11,7 +11,7 @@ use Rattle.message_names.specs.Names.{NameAt, at_root, inside}
 use Rattle.message_reading.specs.Data.{name_octets, IsPart, HasParts, no_parts, more_parts, IsOfShape, IsShaped, PartAt, PartsAt, parts_end, parts_go_on, ShapedAt, DataAt}
 use Rattle.message_writing.specs.Fields.{Field, named, plain, first_octets, first_field, fields_of, if_compressed}
 use Rattle.message_writing.specs.Writing.{Text, Writing, as_is, after, each, field_text, by_fields, data_text}
-use Rattle.message_names.proofs.CallerLemmas.{within_complete}
+use Rattle.message_names.proofs.CallerLemmas.{bounded_standing_name_is_read}
 use Rattle.message_writing.proofs.WriterLaws.{after_both}
 use Rattle.message_writing.proofs.RoundTrip.{Begins, begins_back, begins_long, behind_as_is, octet_at, after_length, after_more, PlacesStand, stands_known, label_stands, name_stands, name_places, as_is_stands}
 
@@ -80,7 +80,7 @@ made Name first rest (labels, name, is) =
     let P : ℕ → Type 0 = λ e. NameAt xs 0 0 labels e in
     let same : 0 + length (name_octets labels) ≡ length (name_octets labels) = omega arith in
     let at : NameAt xs 0 0 labels (length (name_octets labels)) = subst P same (full_stands xs labels [] rest 0 name.each (ap (λ (x : List ℕ). x ++ rest) is)) in
-    let read = within_complete xs (inside (length xs)) 0 labels (length (name_octets labels)) at name.short (omega (arith, length-append first rest, ap length is)) in
+    let read = bounded_standing_name_is_read xs (inside (length xs)) 0 labels (length (name_octets labels)) at name.short (omega (arith, length-append first rest, ap length is)) in
     record {
       field = named labels;
       is = rw read (ap (λ (x : List ℕ). Some (named labels, x)) (drop_at first rest (length (name_octets labels)) (ap length is)));

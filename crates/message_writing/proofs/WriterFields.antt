@@ -5,14 +5,14 @@ use Rattle.std.specs.Option.{option_map}
 use Rattle.std.specs.List.{AllByRecursion}
 use Rattle.std.proofs.lemmas.List.{length-append, length-take, length-drop, take-append-drop, drop-drop, drop_more, drop_all, take_at}
 use Rattle.dns_name.specs.Labels.{labels_of, octets_of, IsLaidOut, IsLabel}
-use Rattle.dns_name.proofs.LabelLaws.{labels_of-octets_of, laid_out}
+use Rattle.dns_name.proofs.CallerLemmas.{labels_of_octets, octets_are_laid_out}
 use Rattle.message_names.specs.declared.fault.Fault.{Fault}
 use Rattle.message_names.specs.declared.walk.Bound.{Bound}
 use Rattle.message_reading.specs.declared.shape.Part.{Part}
 use Rattle.message_reading.specs.declared.shape.Part.TheVariants.{Name}
 use Rattle.message_names.specs.Reading.{behind}
 use Rattle.message_names.specs.Names.{NameAt, at_root, at_label, at_pointer, name_within, inside}
-use Rattle.message_names.proofs.CallerLemmas.{within_sound}
+use Rattle.message_names.proofs.CallerLemmas.{bounded_name_read_stands}
 use Rattle.message_writing.specs.Fields.{Field, first_field, fields_of}
 use Rattle.message_writing.specs.Writing.{Writing, as_is, ◌▹◌, each, field_text, by_fields}
 use Rattle.message_writing.specs.Writer.{field_in, IsFirst}
@@ -55,17 +55,17 @@ in_front xs e is = front_by (name_within xs (inside (length xs)) 0) refl is
     front_by (Err fault) read ends = absurd cc
     front_by (Ok n) read ends =
         let e_is : e ≡ n.1 = cc in
-        let sound = within_sound xs (inside (length xs)) 0 n.0 n.1 (omega arith) read in
+        let sound = bounded_name_read_stands xs (inside (length xs)) 0 n.0 n.1 (omega arith) read in
         let full = in_full xs 0 0 n.1 n.0 refl sound.0 in
         let whole : xs ≡ octets_of n.0 ++ (0 ∷ drop n.1 xs) = full.octets in
         let size : length xs ≡ length (octets_of n.0) + (1 + (length xs - n.1)) = omega (arith, ap length whole, length-append (octets_of n.0) (0 ∷ drop n.1 xs), length-drop n.1 xs) in
         let long : length (octets_of n.0) ≡ e - 1 = omega (arith, size, sound.2, e_is) in
         let front : take (e - 1) xs ≡ octets_of n.0 = ap (take (e - 1)) whole ∙ take_at (octets_of n.0) (0 ∷ drop n.1 xs) (e - 1) long in
-        let labels : labels_of (take (e - 1) xs) ≡ n.0 = ap labels_of front ∙ labels_of-octets_of n.0 in
+        let labels : labels_of (take (e - 1) xs) ≡ n.0 = ap labels_of front ∙ labels_of_octets n.0 in
         record {
           fits = omega (arith, sound.2, e_is);
           some = omega (arith, size, sound.2, e_is);
-          laid = rw front (laid_out n.0 (record { each = full.each; short = sound.1 }));
+          laid = rw front (octets_are_laid_out n.0 (record { each = full.each; short = sound.1 }));
           is = read ∙ rw (labels, e_is) refl;
         }
 

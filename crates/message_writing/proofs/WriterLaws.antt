@@ -11,7 +11,7 @@ use Rattle.std.proofs.lemmas.Bool.{lt-leb, le-leb}
 use Rattle.std.proofs.lemmas.Map.Text.{btree_map_updates_str}
 use Rattle.std.proofs.lemmas.Slice.Eq.{slice_eq-Decides, bytes_eq-Decides}
 use Rattle.dns_name.specs.Labels.{labels_of, octets_of, label_octets, IsLaidOut, Splits}
-use Rattle.dns_name.proofs.LabelLaws.{labels_of-octets_of, labels_of-nil}
+use Rattle.dns_name.proofs.CallerLemmas.{labels_of_octets, labels_of_nothing}
 use Rattle.message_writing.specs.declared.writer.Writer.{Writer}
 use Rattle.message_writing.specs.Writing.{Place, Text, Writing, as_is, after, ◌▹◌, labels_eq, place_of, pointer_to, octets16, places_at, label_text, name_text}
 use Rattle.message_writing.specs.Writer.{Holds, Writes, pointer_in}
@@ -92,7 +92,7 @@ same_name : (octets : List ℕ) (name : List (List ℕ)) → IsLaidOut octets �
 same_name octets name laid =
     same_tests (bytes_eq octets (octets_of name)) (labels_eq (labels_of octets) name) (bytes_eq-Decides octets (octets_of name))
     (slice_eq-Decides bytes_eq-Decides (labels_of octets) name (labels_eq (labels_of octets) name) refl)
-    (λ e. ap labels_of e ∙ labels_of-octets_of name) (λ e. sym laid.whole ∙ ap octets_of e)
+    (λ e. ap labels_of e ∙ labels_of_octets name) (λ e. sym laid.whole ∙ ap octets_of e)
 
 abbrev one_place : ℕ → List (List ℕ) → List Place
 one_place o name = record { offset = o; name = name } ∷ []
@@ -164,7 +164,7 @@ holds_near old new label rest octets pointer laid begins_ near unknown pointer_i
 
 pub root_left : (t : Text) (octets : List ℕ) → octets ≡ [] → after t (name_text (labels_of octets)) ≡ after t (as_is (0 ∷ []))
 unfolding after name_text
-root_left t octets none = rw (none, labels_of-nil) refl
+root_left t octets none = rw (none, labels_of_nothing) refl
 
 label_left : (t : Text) (label : List ℕ) (rest : List (List ℕ)) → place_of t.places (label ∷ rest) ≡ None → after t (name_text (label ∷ rest)) ≡ after t (label_text label rest ▹ name_text rest)
 unfolding after name_text

@@ -3,3 +3,4 @@ pub mod Listed
 pub mod Dues
 pub mod TestLaws
 pub mod Retries
+pub mod CallerLemmas

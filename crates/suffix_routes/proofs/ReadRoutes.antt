@@ -12,7 +12,7 @@ use Rattle.toml.specs.Data.{Data, Members}
 use Rattle.dns_name.specs.Labels.{IsName, IsSame}
 use Rattle.dns_name.specs.Text.{name_in}
 use Rattle.dns_name.specs.declared.fault.NameFault.{NameFault}
-use Rattle.dns_name.proofs.FaultLaws.{name_in_name}
+use Rattle.dns_name.proofs.CallerLemmas.{name_in_text}
 use Rattle.suffix_routes.specs.declared.fault.ConfigFault.{ConfigFault}
 use Rattle.suffix_routes.specs.declared.fault.ConfigFault.TheVariants as fault
 use Rattle.suffix_routes.specs.declared.peer.Peer.{Peer}
@@ -117,7 +117,7 @@ suffix_is_new earlier ms suffix is =
     let name = bind_ok (suffix_name (length earlier) text.value (name_in text.value)) (λ n. new_suffix (length earlier) n (route_at earlier n)) suffix text.next in
     let parts = new_is (length earlier) name.value suffix (route_at earlier name.value) name.next in
     record {
-      name = rw (← parts.0) (name_in_name text.value name.value (name_of (length earlier) text.value (name_in text.value) name.value name.there));
+      name = rw (← parts.0) (name_in_text text.value name.value (name_of (length earlier) text.value (name_in text.value) name.value name.there));
       new = rw (← parts.0) parts.1;
     }
 

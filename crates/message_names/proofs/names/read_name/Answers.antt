@@ -1,5 +1,5 @@
 use Rattle.std.proofs.Common.{ap, arith, sym, ◌∙◌}
-use Rattle.dns_name.proofs.LabelLaws.{size_of-push}
+use Rattle.dns_name.proofs.CallerLemmas.{size_with_label}
 use Rattle.message_names.proofs.Loops.{with_front, front_more, front_none}
 use Rattle.message_names.proofs.names.read_name.Goals as goal
 
@@ -17,7 +17,7 @@ loop-name-preserved g c =
     rw c.in_ok-append-in-Label.ensures.ok
     (record {
       read = sym (front_more c.loop-name.name c.in-Label.label.now _) ∙ ap (with_front c.loop-name.name) (sym a.read) ∙ now.read;
-      used = omega (arith, size_of-push c.loop-name.name c.in-Label.label.now, now.used, a.used);
+      used = omega (arith, size_with_label c.loop-name.name c.in-Label.label.now, now.used, a.used);
       room = a.room;
       stop = a.stop;
       known = c.in_ok-end.ensures.known;

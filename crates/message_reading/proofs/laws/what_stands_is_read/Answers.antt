@@ -1,9 +1,9 @@
-use Rattle.message_names.proofs.CallerLemmas.{name_sound, name_complete}
+use Rattle.message_names.proofs.CallerLemmas.{name_read_stands, standing_name_is_read}
 use Rattle.message_reading.proofs.SpellLaws.{data_sound, data_complete, question_sound, question_complete, record_sound, record_complete}
 use Rattle.message_reading.proofs.laws.what_stands_is_read.Goals as goal
 
 pub returns-clause-name : goal.returns-clause-name
-returns-clause-name c = λ bytes o e labels. (λ read. name_sound bytes o labels e read, λ at. name_complete bytes o labels e at.0 at.1)
+returns-clause-name c = λ bytes o e labels. (λ read. name_read_stands bytes o labels e read, λ at. standing_name_is_read bytes o labels e at.0 at.1)
 
 pub returns-clause-rdata : goal.returns-clause-rdata
 returns-clause-rdata c = λ kind bytes o len octets. (λ read. (data_sound kind bytes o len octets _ read).0, λ at. data_complete kind bytes o len octets at)
