@@ -1,5 +1,5 @@
 -- What the proofs of crates above cite of names in messages.
-use Rattle.std.proofs.Common.{◌≡◌, ℕ, ◌≤◌, List, [], length, replicate, Result, Ok}
+use Rattle.std.proofs.Common.{◌≡◌, ℕ, ◌≤◌, List, [], length, replicate, Ok}
 use Rattle.dns_name.specs.Labels.{size_of}
 use Rattle.message_names.specs.declared.walk.Bound.{Bound}
 use Rattle.message_names.specs.Names.{NameAt, name_within, name_at}

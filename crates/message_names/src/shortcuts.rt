@@ -4,7 +4,7 @@
 //! comes to by pointers alone, or 0 where that is not known. With it, many names behind one long chain of pointers don't
 //! walk it anew; without, as an empty slice, each does.
 
-ghost use Rattle.std.specs.Prelude.{◌≡◌, ◌≤◌, ◌<◌, IfSome};
+ghost use Rattle.std.specs.Prelude.{◌≤◌, ◌<◌, IfSome};
 ghost use Rattle.message_names.specs.Shortcuts.{SameRun, IsShortcut, AreShortcuts};
 
 /// A message of at most so many octets is read without remembering where its pointers lead.

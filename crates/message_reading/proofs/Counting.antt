@@ -1,9 +1,9 @@
 -- A loop over counted things.
 use Rattle.std.proofs.Common.{◌≡◌, ℕ, suc, ◌+◌, ◌-◌, ◌<◌, ◌≤◌, List, [], ◌∷◌, ◌++◌, Result, Ok, Err, refl, sym, ap, ◌∙◌, append_assoc, arith}
 use Rattle.std.proofs.lemmas.List.{append-nil}
+use Rattle.first_fault.proofs.CallerLemmas.{fault_of_part}
 use Rattle.message_names.specs.declared.fault.Fault.{Fault}
-use Rattle.message_names.specs.declared.fault.Fault.TheVariants.{Short, LabelForm, Pointer, NameLong, Rdata, TooLarge, Memory, NoQuestion}
-use Rattle.message_names.specs.Reading.{◌>>=◌, Fails, behind}
+use Rattle.message_names.specs.Reading.{◌>>=◌, wants_memory, Fails, behind}
 use Rattle.message_reading.specs.Records.{with_first, counted}
 
 -- what is left after i of count
@@ -38,14 +38,8 @@ fault_here front read count i o f lt is = rw (left count i lt, is) refl
 
 pub read_fails : {X : Type 0} (e : Fault) (front : List X) (read : ℕ → Result (X × ℕ) Fault) (count i o : ℕ) (total : Result (List X × ℕ) Fault) → i < count → Fails e (read o)
     → after_these front (counted read (count - i) o) ≡ total → Fails e total
-read_fails Memory front read count i o total lt is so_far = tt
-read_fails Short front read count i o total lt is so_far = sym so_far ∙ fault_here front read count i o Short lt is
-read_fails LabelForm front read count i o total lt is so_far = sym so_far ∙ fault_here front read count i o LabelForm lt is
-read_fails Pointer front read count i o total lt is so_far = sym so_far ∙ fault_here front read count i o Pointer lt is
-read_fails NameLong front read count i o total lt is so_far = sym so_far ∙ fault_here front read count i o NameLong lt is
-read_fails Rdata front read count i o total lt is so_far = sym so_far ∙ fault_here front read count i o Rdata lt is
-read_fails TooLarge front read count i o total lt is so_far = sym so_far ∙ fault_here front read count i o TooLarge lt is
-read_fails NoQuestion front read count i o total lt is so_far = sym so_far ∙ fault_here front read count i o NoQuestion lt is
+read_fails e front read count i o total lt fails so_far =
+    fault_of_part wants_memory e (read o) total (λ is. sym so_far ∙ fault_here front read count i o e lt is) fails
 
 pub read_done : {X : Type 0} (front : List X) (read : ℕ → Result (X × ℕ) Fault) (count i o : ℕ) (total : Result (List X × ℕ) Fault) → count ≤ i → after_these front (counted read (count - i) o) ≡ total
     → total ≡ Ok (front, o)

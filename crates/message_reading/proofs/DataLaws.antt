@@ -1,10 +1,11 @@
 -- The parts of a record's data, one after another.
 use Rattle.std.proofs.Common.{◌≡◌, ℕ, ◌+◌, ◌<◌, ◌≤◌, List, [], ◌++◌, length, drop, get_or, Result, Ok, Err, refl, sym, ap, ◌∙◌, append_assoc, arith}
 use Rattle.std.proofs.lemmas.List.{drop_more, drop_all, append-nil}
+use Rattle.first_fault.proofs.CallerLemmas.{fault_of_part}
 use Rattle.message_names.specs.declared.fault.Fault.{Fault}
-use Rattle.message_names.specs.declared.fault.Fault.TheVariants.{Short, LabelForm, Pointer, NameLong, Rdata, TooLarge, Memory, NoQuestion}
+use Rattle.message_names.specs.declared.fault.Fault.TheVariants.{Rdata}
 use Rattle.message_reading.specs.declared.shape.Part.{Part}
-use Rattle.message_names.specs.Reading.{◌>>=◌, Fails, behind}
+use Rattle.message_names.specs.Reading.{◌>>=◌, wants_memory, Fails, behind}
 use Rattle.message_reading.specs.Data.{prefixed, part_at, parts_at}
 
 -- ---- parts that are read
@@ -41,14 +42,8 @@ read_fault front parts i d bytes stop o fault lt is =
 
 pub read_fails : (fault : Fault) (front : List ℕ) (parts : List Part) (i : ℕ) (d : Part) (bytes : List ℕ) (stop o : ℕ) (total : Result (List ℕ × ℕ) Fault) → i < length parts
     → Fails fault (prefixed front (part_at (get_or parts i d) bytes stop o)) → prefixed front (parts_at (drop i parts) bytes stop o) ≡ total → Fails fault total
-read_fails Memory front parts i d bytes stop o total lt is so_far = tt
-read_fails Short front parts i d bytes stop o total lt is so_far = sym so_far ∙ read_fault front parts i d bytes stop o Short lt is
-read_fails LabelForm front parts i d bytes stop o total lt is so_far = sym so_far ∙ read_fault front parts i d bytes stop o LabelForm lt is
-read_fails Pointer front parts i d bytes stop o total lt is so_far = sym so_far ∙ read_fault front parts i d bytes stop o Pointer lt is
-read_fails NameLong front parts i d bytes stop o total lt is so_far = sym so_far ∙ read_fault front parts i d bytes stop o NameLong lt is
-read_fails Rdata front parts i d bytes stop o total lt is so_far = sym so_far ∙ read_fault front parts i d bytes stop o Rdata lt is
-read_fails TooLarge front parts i d bytes stop o total lt is so_far = sym so_far ∙ read_fault front parts i d bytes stop o TooLarge lt is
-read_fails NoQuestion front parts i d bytes stop o total lt is so_far = sym so_far ∙ read_fault front parts i d bytes stop o NoQuestion lt is
+read_fails fault front parts i d bytes stop o total lt fails so_far =
+    fault_of_part wants_memory fault (prefixed front (part_at (get_or parts i d) bytes stop o)) total (λ is. sym so_far ∙ read_fault front parts i d bytes stop o fault lt is) fails
 
 -- once all parts were read they have to fill the data
 pub parts_full : (parts : List Part) (i : ℕ) (bytes : List ℕ) (stop o : ℕ) → length parts ≤ i → o ≡ stop → parts_at (drop i parts) bytes stop o ≡ Ok ([], o)

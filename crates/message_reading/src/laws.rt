@@ -4,7 +4,7 @@ ghost use Rattle.std.specs.Prelude.{◌≡◌, ◌↔◌, ◌≤◌, [], List, �
 ghost use Rattle.dns_name.specs.Labels.{IsName, size_of};
 ghost use Rattle.message_reading.specs.Values as values;
 ghost use Rattle.message_names.specs.Names.{NameAt, name_at};
-ghost use Rattle.message_reading.specs.Data.{DataAt, IsShaped, data_at, name_octets, name_of_rdata};
+ghost use Rattle.message_reading.specs.Data.{DataAt, data_at, name_octets, name_of_rdata};
 ghost use Rattle.message_reading.specs.Records.{QuestionAt, RecordAt, InRow, question_at, record_at};
 ghost use Rattle.message_reading.specs.Messages.{Spells, FirstQuestion, HasShapes, first_question, message_of};
 ghost use Rattle.message_names.specs.Numbers.{number16};

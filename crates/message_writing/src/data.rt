@@ -1,9 +1,9 @@
 //! The data of records, written with pointers where its type allows them.
 
-ghost use Rattle.std.specs.Prelude.{◌≡◌, ◌≤◌, ◌<◌, ◌++◌, ◌∷◌, [], ℕ, List, length, OnOk, take, drop, IsTrue, is_some, MatchOption, None};
+ghost use Rattle.std.specs.Prelude.{◌≡◌, ◌≤◌, ◌<◌, [], length, OnOk, take, drop, IsTrue, is_some, MatchOption, None};
 ghost use Rattle.dns_name.specs.Labels.{IsLaidOut};
-ghost use Rattle.message_writing.specs.Fields.{fields_of, fields_of_kind, first_field};
-ghost use Rattle.message_writing.specs.Writing.{as_is, data_text, each, field_text, by_fields};
+ghost use Rattle.message_writing.specs.Fields.{fields_of, first_field};
+ghost use Rattle.message_writing.specs.Writing.{data_text, field_text, by_fields};
 ghost use Rattle.message_writing.specs.Writer.{Writes, IsFirst, field_in};
 
 use crate::writer::Writer;

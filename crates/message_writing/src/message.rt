@@ -1,6 +1,6 @@
 //! Writing messages as octets: RFC 1035 4.1.
 
-ghost use Rattle.std.specs.Prelude.{◌≡◌, ◌↔◌, ◌≤◌, ◌<◌, length, OnOk, IfOk, IsTrue};
+ghost use Rattle.std.specs.Prelude.{◌≡◌, ◌↔◌, ◌≤◌, ◌<◌, OnOk, IfOk, IsTrue};
 ghost use Rattle.message_names.specs.Reading.{Gives};
 ghost use Rattle.message_reading.specs.Header.{FitsBits};
 ghost use Rattle.message_reading.specs.Messages.{Spells, HasShapes};

@@ -1,6 +1,6 @@
 //! Questions and records, written one behind another: RFC 1035 4.1.2 and 4.1.3.
 
-ghost use Rattle.std.specs.Prelude.{◌≡◌, ◌≤◌, ◌<◌, ◌+◌, ◌++◌, [], List, length, take, drop, OnOk};
+ghost use Rattle.std.specs.Prelude.{◌≡◌, ◌≤◌, ◌<◌, ◌+◌, ◌++◌, List, length, take, drop, OnOk};
 ghost use Rattle.message_writing.specs.Writing.{octets16, with_length, each, data_text, question_text, head_text, record_text};
 ghost use Rattle.std.specs.List.{AllByRecursion};
 ghost use Rattle.message_writing.specs.Written.{IsQuestion, IsRecord};

@@ -1,9 +1,9 @@
 //! Octets that are written from the front, with pointers to the names in them.
 
-ghost use Rattle.std.specs.Prelude.{◌≡◌, ◌≤◌, ◌<◌, ◌++◌, ◌∷◌, [], ℕ, List, length, OnOk, None, MatchResult};
+ghost use Rattle.std.specs.Prelude.{◌≡◌, ◌≤◌, ◌<◌, ◌∷◌, ℕ, List, length, OnOk, None, MatchResult};
 ghost use Rattle.dns_name.specs.Labels.{labels_of, IsLaidOut, IsLabel};
 ghost use Rattle.message_writing.specs.Writing.{as_is, octets16, octets32, name_text, label_text};
-ghost use Rattle.message_writing.specs.Writer.{Writes, IsEmpty, Holds, pointer_in};
+ghost use Rattle.message_writing.specs.Writer.{Writes, IsEmpty, pointer_in};
 
 use byteorder::{BigEndian, ByteOrder};
 use dns_name::split_label;
