@@ -3,7 +3,7 @@ use Rattle.std.proofs.Common.{◌≡◌, ℕ, ◌+◌, ◌<◌, ◌≤◌, List,
 use Rattle.std.proofs.lemmas.Bool.{lt-ltb, le-ltb, cases_lt}
 use Rattle.first_fault.proofs.CallerLemmas.{fault_of_part}
 use Rattle.dns_name.specs.declared.fault.NameFault.{NameFault}
-use Rattle.dns_name.specs.declared.fault.NameFault.TheVariants.{EmptyLabel, LabelLong, NameLong, BadCharacter, Memory}
+use Rattle.dns_name.specs.declared.fault.NameFault.TheVariants.{NameLong}
 use Rattle.std.specs.List.{AllByRecursion}
 use Rattle.dns_name.specs.Labels.{size_of, IsLabel, IsName, labels_of}
 use Rattle.dns_name.specs.Faults.{label_fault, fault_or, first_fault, sized, judged, named, pushed, wants_memory, Fails}

@@ -1,5 +1,5 @@
 -- What the proofs of crates above cite of reading with the first fault.
-use Rattle.std.proofs.Common.{◌≡◌, Bool, true, false, Result, Ok, Err, refl}
+use Rattle.std.proofs.Common.{◌≡◌, Bool, true, false, Result, Err, refl}
 use Rattle.first_fault.specs.Reading.{◌>>=◌, Unless, Fails}
 
 unless_on : {P Q : Type 0} (test : Bool) → (P → Q) → Unless test P → Unless test Q

@@ -59,8 +59,8 @@ pub fn skip_name(
     }
 }
 
-/// The place behind the name at a place, which can be read. It is found in the name's own octets: a name ends behind its
-/// zero octet, or behind its first pointer, wherever that leads.
+/// The place behind the name at a place, which can be read. It is found in the name's own octets: a name ends behind
+/// its zero octet, or behind its first pointer, wherever that leads. It takes no memory.
 #[tactic(auto, using(crate::proofs::EndLaws::name_begins, crate::proofs::EndLaws::goes_on))]
 pub fn readable_name_end(bytes: &[u8], offset: usize) -> usize
     requires { IsOk (name_at bytes.now offset) }

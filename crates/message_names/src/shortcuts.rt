@@ -1,8 +1,8 @@
 //! Where pointers alone lead, remembered.
 //!
 //! `ends` has a number for each of the first places of a message: one more than the place that a run which begins here
-//! comes to by pointers alone, or 0 where that is not known. With it, many names behind one long chain of pointers don't
-//! walk it anew; without, as an empty slice, each does.
+//! comes to by pointers alone, or 0 where that is not known. With it, many names behind one long chain of pointers
+//! don't walk it anew; without, as an empty slice, each does.
 
 ghost use Rattle.std.specs.Prelude.{◌≤◌, ◌<◌, IfSome};
 ghost use Rattle.message_names.specs.Shortcuts.{SameRun, IsShortcut, AreShortcuts};

@@ -7,8 +7,8 @@ ghost use Rattle.message_names.specs.Names.{whole, inside, step, Stays, Resumes,
 use crate::fault::Fault;
 use crate::shortcuts::resolve;
 
-/// Where a run of labels must end, in octets from the front of the message. A run is the labels of a name that stand one
-/// behind another, with the zero octet or the pointer that ends them (RFC 1035 4.1.4).
+/// Where a run of labels must end, in octets from the front of the message. A run is the labels of a name that stand
+/// one behind another, with the zero octet or the pointer that ends them (RFC 1035 4.1.4).
 #[derive(Clone, Copy)]
 pub struct Bound {
     /// No octet of the run lies here or behind.
@@ -141,12 +141,12 @@ fn step_at(bytes: &[u8], walk: Walk) -> Result<Step, Fault>
     }
 }
 
-/// The next label of a name, pointers followed; where they lead is remembered in `ends`, which may be empty. It takes no
-/// memory.
+/// The next label of a name, pointers followed; where they lead is remembered in `ends`, which may be empty. It takes
+/// no memory.
 ///
-/// The fault is the first from where the walk stands (RFC 1035 4.1.4): `Short` or `Rdata` where an octet lies beyond the
-/// bound, `NameLong` where the name would have more than 255 octets, `LabelForm` where neither a label nor a pointer
-/// begins, `Pointer` where one does not lead to before the run that it ends.
+/// The fault is the first from where the walk stands (RFC 1035 4.1.4): `Short` or `Rdata` where an octet lies beyond
+/// the bound, `NameLong` where the name would have more than 255 octets, `LabelForm` where neither a label nor a
+/// pointer begins, `Pointer` where one does not lead to before the run that it ends.
 pub fn next_label<'a>(bytes: &'a [u8], ends: &mut [u16], walk: Walk) -> Result<Next<'a>, Fault>
     requires used { walk.used ≤ 254 }
     requires stop { walk.bound.stop ≤ length bytes.now }

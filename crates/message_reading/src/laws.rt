@@ -19,8 +19,8 @@ pub fn what_stands_is_read()
     ensures entry { (bytes : List ℕ) (o e : ℕ) (entry : values.Record) → record_at bytes o ≡ Ok (entry, e) ↔ RecordAt bytes o entry e }
 {}
 
-/// A message and its first question are read exactly where the octets spell them, and no octets spell two messages. The data of a message's
-/// records is of their shapes.
+/// A message and its first question are read exactly where the octets spell them, and no octets spell two messages. The
+/// data of a message's records is of their shapes.
 pub fn messages_are_spelled()
     ensures read { (bytes : List ℕ) (message : values.Message) → message_of bytes ≡ Ok message ↔ Spells bytes message }
     ensures first { (bytes : List ℕ) (question : values.Question) → first_question bytes ≡ Ok question ↔ FirstQuestion bytes question }
