@@ -84,7 +84,7 @@ none_behind : (x : Ask) (q : Question) (asks : List Ask) → same_question x.que
 none_behind x q [] one all = refl
 none_behind x q (y ∷ asks) one all = cond-false (same_question y.question q) _ _ (differs x.question y.question q one all.0.question) ∙ none_behind x q asks one all.1
 
-question_free : (path : Path) (q : Question) (asks : List Ask) (a : Ask) → AreInTurn asks → on_path path asks ≡ Some a → same_question a.question q ≡ true → of_question q (without_path path asks) ≡ None
+pub question_free : (path : Path) (q : Question) (asks : List Ask) (a : Ask) → AreInTurn asks → on_path path asks ≡ Some a → same_question a.question q ≡ true → of_question q (without_path path asks) ≡ None
 question_free path q [] a in_turn on one = absurd (none-some a on)
 question_free path q (x ∷ asks) a in_turn on one = by (same_path x.path path) on (λ here. question_free path q asks a in_turn.1 here one)
   where
@@ -97,7 +97,7 @@ question_free path q (x ∷ asks) a in_turn on one = by (same_path x.path path) 
         let follows : Follows x a = found_has (Follows x) (λ (y : Ask). same_path y.path path) asks a in_turn.0 here in
         cond-false (same_question x.question q) _ _ (differs_too x.question a.question q one follows.question) ∙ rest here
 
-all_left : (P : Ask → Type 0) (path : Path) (asks : List Ask) → AllByRecursion P asks → AllByRecursion P (without_path path asks)
+pub all_left : (P : Ask → Type 0) (path : Path) (asks : List Ask) → AllByRecursion P asks → AllByRecursion P (without_path path asks)
 all_left P path [] all = tt
 all_left P path (x ∷ asks) all = by (same_path x.path path) (all_left P path asks all.1)
   where
