@@ -17,7 +17,7 @@ use Rattle.step_values.specs.declared.action.Why.TheVariants.{Exhausted}
 use Rattle.step_values.specs.Values.{from_client, delivery, restart, ask_udp, close_udp, Step}
 use Rattle.step_history.specs.History.{moment_at, Query, listed, Matches}
 use Rattle.step_history.specs.Asked.{IsServerFor}
-use Rattle.step_history.specs.Causes.{is_unserved, Cause}
+use Rattle.step_history.specs.Causes.{is_unserved, NoneAsks, Cause}
 
 -- ---- which questions are served
 
@@ -116,11 +116,15 @@ of_another_route h =
 abbrev asked_again : Step
 asked_again = record { handed = record { now = 1020; words = words; event = delivery (Udp 1032) other_server (with_identifier 8) }; outcome = record { actions = close_udp 1032 ∷ ask_udp 1033 other_server (with_identifier 9) ∷ []; unkept = 0; more = false } }
 
+abbrev next_query : Query
+next_query = record { path = Udp 1033; server = other_server; octets = with_identifier 9; moment = 1020 }
+
 -- so it has not failed yet
 still_asked : Cause config asked [] (asked_again ∷ asked ∷ []) client (with_identifier 7) 0 Exhausted → ⊥
 unfolding first_question question_at octets_end name_within walk_in name_step
 still_asked h =
     let is : Some address ≡ Some h.0 = h.1 in
     let same : address ≡ h.0 = cc in
-    let differs : same_question address h.0 ≡ false = h.3.0 address refl in
+    let none : NoneAsks h.0 (next_query ∷ []) = h.3 in
+    let differs : same_question address h.0 ≡ false = none.0 address refl in
     true≢false (subst (λ (q : Question). same_question address q ≡ false) (sym same) differs)
