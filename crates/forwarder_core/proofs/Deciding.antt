@@ -12,19 +12,19 @@ use Rattle.suffix_routes.specs.declared.peer.Peer.{Peer}
 use Rattle.suffix_routes.specs.Values.{Config}
 use Rattle.reply_match.specs.declared.verdict.Verdict.TheVariants.{Stranger, Whole}
 use Rattle.outstanding.specs.declared.ask.Path.{Path}
-use Rattle.forwarder_core.specs.declared.values.Why.{Why}
-use Rattle.forwarder_core.specs.Values.{Event, Action, Outcome}
-use Rattle.forwarder_core.specs.Pieces.{Held}
-use Rattle.forwarder_core.specs.State.{Waiting, State}
+use Rattle.step_values.specs.declared.action.Why.{Why}
+use Rattle.step_values.specs.Values.{Event, Action, Outcome}
+use Rattle.step_history.specs.Pieces.{Held}
+use Rattle.step_rules.specs.State.{Waiting, State}
 use Rattle.outstanding.specs.Lists.{on_path as ask_on, without_path}
 use Rattle.outstanding.specs.Values.{Ask}
-use Rattle.forwarder_core.specs.Row.{Done, Fate, gets, waits, reply_in, waiting_in, replies, still_waiting, closes, closed, gives_up, answered, waits_for, fails, is_given, idle, judged, delivered, verdict_on, Happens, HandsOctets, effective, Row}
+use Rattle.step_rules.specs.Row.{Done, Fate, gets, waits, reply_in, waiting_in, replies, still_waiting, closes, closed, gives_up, answered, waits_for, fails, is_given, idle, judged, delivered, verdict_on, Happens, HandsOctets, effective, Row}
 use Rattle.reply_match.proofs.VerdictLaws.{unread_is_stranger}
 use Rattle.reply_match.specs.Verdicts.{judge}
 use Rattle.forwarder_core.specs.declared.next.Change.TheVariants.{Nothing}
 use Rattle.forwarder_core.specs.declared.next.Next.{Next}
 use Rattle.forwarder_core.specs.Next.{closing, next_of, CanChange, IsDecided, IsDecidedQuietly, IsOutcome, with_reply, with_replies}
-use Rattle.forwarder_core.proofs.Listed.{ask_on-is}
+use Rattle.step_soundness.proofs.CallerLemmas.{ask_on-is}
 
 -- ---- closing a query
 

@@ -6,9 +6,9 @@ use Rattle.suffix_routes.specs.Values.{Config}
 use Rattle.outstanding.specs.declared.ask.Path.{Path}
 use Rattle.outstanding.specs.Values.{Ask, Inquiries}
 use Rattle.outstanding.specs.Lists.{same_path, without_path}
-use Rattle.forwarder_core.specs.State.{IsKept}
-use Rattle.forwarder_core.proofs.Fates.{Each-append}
-use Rattle.forwarder_core.proofs.Asking.{still_earlier}
+use Rattle.step_rules.specs.State.{IsKept}
+use Rattle.step_soundness.proofs.CallerLemmas.{Each-append}
+use Rattle.step_soundness.proofs.CallerLemmas.{still_earlier}
 
 pub kept_put : (c : Config) (i i' : Inquiries) (m n : ℕ) (a : Ask) → IsKept c i m → m ≤ n → n ≤ 2 ^ 62 → a.asked ≡ n → i' ≡ record i { asks = i.asks ++ a ∷ [] } → IsKept c i' n
 kept_put c i i' m n a kept later in_time asked is =

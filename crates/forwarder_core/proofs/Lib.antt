@@ -1,16 +1,5 @@
-pub mod Fates
-pub mod Numbers
-pub mod Since
-pub mod Names
-pub mod QueryText
 pub mod Short
-pub mod Messages
+pub mod TextLaws
 pub mod SetLaws
-pub mod Listed
-pub mod Asking
 pub mod Keeping
-pub mod Cases
 pub mod Deciding
-pub mod Theorem
-pub mod Runs
-pub mod Rows

@@ -6,11 +6,11 @@ use Rattle.outstanding.specs.declared.ask.Path.{Path}
 use Rattle.forwarder_core.specs.declared.next.Change.{Change}
 use Rattle.forwarder_core.specs.declared.next.Change.TheVariants.{Nothing, Join, Open, Close}
 use Rattle.forwarder_core.specs.declared.next.Next.{Next}
-use Rattle.forwarder_core.specs.Values.{Event, restart, Action, actions_of, Outcome}
-use Rattle.forwarder_core.specs.State.{Waiting, State}
+use Rattle.step_values.specs.Values.{Event, restart, Action, actions_of, Outcome}
+use Rattle.step_rules.specs.State.{Waiting, State}
 use Rattle.outstanding.specs.Lists.{on_path as ask_on, of_question, without_path}
 use Rattle.outstanding.specs.Values.{Ask}
-use Rattle.forwarder_core.specs.Row.{Done, Fate, reply_in, waits_for, Happens}
+use Rattle.step_rules.specs.Row.{Done, Fate, reply_in, waits_for, Happens}
 
 -- those that did not wait for the ask
 abbrev pub left_waiting : Option Ask → List Waiting → List Waiting

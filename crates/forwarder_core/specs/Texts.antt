@@ -1,9 +1,9 @@
 -- The messages of fresh answers.
 use Rattle.std.specs.Prelude.{ℕ, true, false, List, [], ◌∷◌, map}
 use Rattle.dns_message.specs.Values.{Record, Message}
-use Rattle.forwarder_core.specs.Pieces.{Body, rows, no_data, denied, Piece}
-use Rattle.forwarder_core.specs.Answers.{kind_of, reply_message}
-use Rattle.forwarder_core.specs.State.{Waiting}
+use Rattle.step_history.specs.Pieces.{Body, rows, no_data, denied, Piece}
+use Rattle.step_history.specs.Answers.{kind_of, reply_message}
+use Rattle.step_rules.specs.State.{Waiting}
 
 -- a record of a set that came at this moment
 abbrev pub fresh_record : Piece → List ℕ → Record

@@ -8,15 +8,8 @@ mod lists;
 mod next;
 mod replies;
 mod request;
-mod run;
 mod sets;
 mod state;
-mod values;
 
 pub use forwarder::Forwarder;
-pub use outstanding::Path;
-pub use run::run_list;
-pub use values::{Action, Client, Event, Handed, Outcome, Step, Why};
-
-#[cfg(test)]
-mod tests;
+pub use step_values::{Action, Client, Event, Handed, Outcome, Path, Step, Why};

@@ -2,7 +2,7 @@
 
 ghost use Rattle.std.specs.Prelude.{◌≡◌, ◌<◌, ◌+◌, ◌∷◌, ◌++◌, [], length, nat_lt, not, filter, OnOk, OnErr};
 ghost use Rattle.outstanding.specs.Lists.{MayBegin, on_path as ask_on, without_path};
-ghost use Rattle.forwarder_core.specs.Row.{waits_for, server_on};
+ghost use Rattle.step_rules.specs.Row.{waits_for, server_on};
 ghost use Rattle.forwarder_core.specs.Next.{left_waiting};
 
 use crate::replies::is_waiting_for;

@@ -1,7 +1,7 @@
 //! What a step is about to do, with all the memory that it takes.
 
 use crate::state::Waiting;
-use crate::values::Action;
+use step_values::Action;
 use outstanding::{Ask, Path};
 use plain_list::PlainList;
 use std::alloc::{Allocator, Global};

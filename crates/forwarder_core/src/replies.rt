@@ -1,15 +1,15 @@
 //! The actions that end a query: its path is closed, and those that wait for it get their replies.
 
 ghost use Rattle.std.specs.Prelude.{◌≡◌, ◌∷◌, [], IfOk};
-ghost use Rattle.forwarder_core.specs.declared.values.Why.TheVariants.{Exhausted};
-ghost use Rattle.forwarder_core.specs.Values.{action_of, actions_of};
-ghost use Rattle.forwarder_core.specs.Row.{closes, answered, fails, is_given, reply_in, waits_for};
+ghost use Rattle.step_values.specs.declared.action.Why.TheVariants.{Exhausted};
+ghost use Rattle.step_values.specs.Values.{action_of, actions_of};
+ghost use Rattle.step_rules.specs.Row.{closes, answered, fails, is_given, reply_in, waits_for};
 ghost use Rattle.forwarder_core.specs.Next.{with_reply, with_replies};
 
 use crate::answers::{answer, failure};
 use crate::sets::RecordSet;
 use crate::state::Waiting;
-use crate::values::{Action, Why};
+use step_values::{Action, Why};
 use dns_message::Question;
 use outstanding::{Ask, Path};
 use plain_list::PlainList;

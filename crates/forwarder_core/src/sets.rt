@@ -2,9 +2,10 @@
 
 ghost use Rattle.std.specs.Prelude.{◌≡◌, ◌==◌, ◌&&◌, [], Some, None, IfOk, MatchOption};
 ghost use Rattle.std.specs.List.{list_any, find};
-ghost use Rattle.forwarder_core.specs.Names.{same_octets, same_name};
-ghost use Rattle.forwarder_core.specs.Pieces.{is_of, records_for, with_data, with_answer, with_answers, seconds_of, lowered_by, lowered_by_all, longest, rank_of, set_of, has_many};
-ghost use Rattle.forwarder_core.specs.Row.{set_ending};
+ghost use Rattle.step_history.specs.Names.{same_octets, same_name};
+ghost use Rattle.step_history.specs.Pieces.{is_of, records_for, with_data, seconds_of, longest, rank_of, set_of, has_many};
+ghost use Rattle.forwarder_core.specs.Sets.{with_answer, with_answers, lowered_by, lowered_by_all};
+ghost use Rattle.step_rules.specs.Row.{set_ending};
 
 use dns_message::{Message, Question, Rdata, Record};
 use dns_name::Name;
@@ -38,7 +39,7 @@ pub(crate) struct RecordSet<A: Allocator = Global> {
 impl<A: Allocator> Model for RecordSet<A> {
     ghost use Rattle.std.specs.Prelude.{Some};
     ghost use Rattle.dns_name.specs.Labels.{lowered};
-    ghost use Rattle.forwarder_core.specs.Pieces.{Piece, rows};
+    ghost use Rattle.step_history.specs.Pieces.{Piece, rows};
 
     ghost Value = { Piece };
 

@@ -1,6 +1,6 @@
 //! What the forwarder remembers between steps.
 
-use crate::values::Client;
+use step_values::Client;
 use dns_message::{Header, Question};
 use std::alloc::{Allocator, Global};
 use std::marker::Model;
@@ -16,7 +16,7 @@ pub(crate) struct Waiting<A: Allocator = Global> {
 
 impl<A: Allocator> Model for Waiting<A> {
     ghost use Rattle.std.specs.Prelude.{◌<◌};
-    ghost use Rattle.forwarder_core.specs.State.{Waiting};
+    ghost use Rattle.step_rules.specs.State.{Waiting};
 
     ghost Value = { Waiting };
 

@@ -8,7 +8,7 @@ use crate::forwarder::Forwarder;
 use crate::lists::{close, list};
 use crate::next::{Change, Next};
 use crate::state::Waiting;
-use crate::values::Outcome;
+use step_values::Outcome;
 use outstanding::{Ask, Path};
 use std::alloc::{AllocError, Allocator};
 

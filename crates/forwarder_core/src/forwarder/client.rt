@@ -3,9 +3,9 @@
 ghost use Rattle.std.specs.Prelude.{◌≡◌, ℕ, ◌<◌, false, length, IfOk, Some, None};
 ghost use Rattle.outstanding.specs.Draws.{udp_draw};
 ghost use Rattle.outstanding.specs.Lists.{on_path as ask_on, of_question};
-ghost use Rattle.forwarder_core.specs.Values.{action_of};
-ghost use Rattle.forwarder_core.specs.History.{is_taken};
-ghost use Rattle.forwarder_core.specs.Row.{idle, at_once, query_by, opened, joined, unasked, admitted, must_wait, served, requested};
+ghost use Rattle.step_values.specs.Values.{action_of};
+ghost use Rattle.step_history.specs.History.{is_taken};
+ghost use Rattle.step_rules.specs.Row.{idle, at_once, query_by, opened, joined, unasked, admitted, must_wait, served, requested};
 ghost use Rattle.forwarder_core.specs.Next.{next_of, IsQuiet, CanChange};
 
 use crate::answers::{ask, failure, refusal};
@@ -14,7 +14,7 @@ use crate::lists::first_server;
 use crate::next::{Change, Next};
 use crate::request::{is_not_served, only_question, taken_header};
 use crate::state::Waiting;
-use crate::values::{Action, Client, Why};
+use step_values::{Action, Client, Why};
 use outstanding::{Ask, Path, draw};
 use plain_list::PlainList;
 use std::alloc::{AllocError, Allocator};

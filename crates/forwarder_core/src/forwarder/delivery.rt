@@ -2,7 +2,7 @@
 
 ghost use Rattle.std.specs.Prelude.{◌≡◌, IfOk, IsOk, Some};
 ghost use Rattle.dns_message.specs.Messages.{first_question, message_of};
-ghost use Rattle.forwarder_core.specs.Row.{judged, delivered, ended, given_up, read_whole, set_ending, verdict_on};
+ghost use Rattle.step_rules.specs.Row.{judged, delivered, ended, given_up, read_whole, set_ending, verdict_on};
 ghost use Rattle.outstanding.specs.Lists.{on_path as ask_on};
 ghost use Rattle.forwarder_core.specs.Next.{next_of, IsQuiet, CanChange};
 

@@ -1,12 +1,12 @@
 //! The forwarder, and its step.
 
 ghost use Rattle.std.specs.Prelude.{◌≡◌, ◌^◌, ◌≤◌, [], IfOk, IfSome, OnErr, IsOk};
-ghost use Rattle.forwarder_core.specs.Values.{event_of};
-ghost use Rattle.forwarder_core.specs.Messages.{AreOctets};
-ghost use Rattle.forwarder_core.specs.Row.{start, HandsOctets, TakesNoMemory, effective, Row};
+ghost use Rattle.step_values.specs.Values.{event_of};
+ghost use Rattle.step_history.specs.Messages.{AreOctets};
+ghost use Rattle.step_rules.specs.Row.{start, HandsOctets, TakesNoMemory, effective, Row};
 ghost use Rattle.forwarder_core.specs.Next.{IsDecided, IsDecidedQuietly, CanChange};
-ghost use Rattle.forwarder_core.specs.Runs.{StaysExplained};
-ghost use Rattle.forwarder_core.specs.Explains.{Explains};
+ghost use Rattle.step_soundness.specs.Runs.{StaysExplained};
+ghost use Rattle.step_soundness.specs.Explains.{Explains};
 
 mod change;
 mod client;
@@ -14,7 +14,7 @@ mod delivery;
 
 use crate::next::Next;
 use crate::state::Waiting;
-use crate::values::{Event, Outcome};
+use step_values::{Event, Outcome};
 use outstanding::Inquiries;
 use plain_list::PlainList;
 use std::alloc::{AllocError, Allocator, Global};
@@ -56,7 +56,7 @@ pub struct Forwarder<H, A: Allocator = Global> {
 }
 
 impl<H, A: Allocator> Model for Forwarder<H, A> {
-    ghost use Rattle.forwarder_core.specs.State.{Running, IsKept};
+    ghost use Rattle.step_rules.specs.State.{Running, IsKept};
 
     ghost Value = { Running };
 

@@ -1,7 +1,7 @@
 use Rattle.std.proofs.Common.{refl}
 use Rattle.std.proofs.lemmas.Result.{IfOk-weaker}
-use Rattle.forwarder_core.specs.Values.{action_of}
-use Rattle.forwarder_core.proofs.Messages.{fits_tcp_of, fails_tcp_of}
+use Rattle.step_values.specs.Values.{action_of}
+use Rattle.forwarder_core.proofs.TextLaws.{fits_tcp_of, fails_tcp_of}
 use Rattle.forwarder_core.proofs.answers.answer.Goals as goal
 
 pub returns-in-Ok : goal.returns-in-Ok

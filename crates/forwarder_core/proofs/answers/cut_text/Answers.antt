@@ -1,5 +1,5 @@
 use Rattle.std.proofs.lemmas.Result.{IfOk-weaker}
-use Rattle.forwarder_core.proofs.Messages.{cut_is}
+use Rattle.forwarder_core.proofs.TextLaws.{cut_is}
 use Rattle.forwarder_core.proofs.answers.cut_text.Goals as goal
 
 pub returns : goal.returns

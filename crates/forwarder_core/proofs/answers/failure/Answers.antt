@@ -1,6 +1,6 @@
 use Rattle.std.proofs.Common.{ap, [], ◌∷◌, List, ℕ}
-use Rattle.forwarder_core.specs.Values.{send_reply}
-use Rattle.forwarder_core.proofs.Messages.{error_is}
+use Rattle.step_values.specs.Values.{send_reply}
+use Rattle.forwarder_core.proofs.TextLaws.{error_is}
 use Rattle.forwarder_core.proofs.answers.failure.Goals as goal
 
 pub returns : goal.returns

@@ -1,5 +1,5 @@
 use Rattle.std.proofs.lemmas.Result.{IfOk-weaker}
-use Rattle.forwarder_core.proofs.Messages.{fits_udp, cuts_udp}
+use Rattle.forwarder_core.proofs.TextLaws.{fits_udp, cuts_udp}
 use Rattle.forwarder_core.proofs.answers.text_for_udp.Goals as goal
 
 pub returns-in-Ok : goal.returns-in-Ok

@@ -1,7 +1,7 @@
 use Rattle.std.proofs.Common.{◌∙◌, ap, sym}
 use Rattle.std.proofs.lemmas.Result.{IfOk-weaker}
-use Rattle.forwarder_core.specs.Pieces.{Piece}
-use Rattle.forwarder_core.proofs.Messages.{answered_fresh}
+use Rattle.step_history.specs.Pieces.{Piece}
+use Rattle.forwarder_core.proofs.TextLaws.{answered_fresh}
 use Rattle.forwarder_core.proofs.replies.answer_now.Goals as goal
 
 pub returns : goal.returns

@@ -1,6 +1,6 @@
 use Rattle.std.proofs.Common.{◌≡◌, [], ◌∷◌, drop}
-use Rattle.forwarder_core.specs.Values.{actions_of}
-use Rattle.forwarder_core.specs.Row.{closes, is_given}
+use Rattle.step_values.specs.Values.{actions_of}
+use Rattle.step_rules.specs.Row.{closes, is_given}
 use Rattle.forwarder_core.specs.Next.{with_replies}
 use Rattle.forwarder_core.proofs.replies.answers_to.Given as goal
 

@@ -1,7 +1,7 @@
 use Rattle.std.proofs.Common.{◌≡◌, [], ◌∷◌, drop}
-use Rattle.forwarder_core.specs.declared.values.Why.TheVariants.{Exhausted}
-use Rattle.forwarder_core.specs.Values.{actions_of}
-use Rattle.forwarder_core.specs.Row.{closes, fails}
+use Rattle.step_values.specs.declared.action.Why.TheVariants.{Exhausted}
+use Rattle.step_values.specs.Values.{actions_of}
+use Rattle.step_rules.specs.Row.{closes, fails}
 use Rattle.forwarder_core.specs.Next.{with_replies}
 use Rattle.forwarder_core.proofs.replies.failures.Given as goal
 

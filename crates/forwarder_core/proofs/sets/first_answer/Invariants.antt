@@ -1,6 +1,6 @@
 use Rattle.std.proofs.Common.{◌≡◌, drop}
 use Rattle.std.specs.List.{find}
-use Rattle.forwarder_core.specs.Pieces.{is_of}
+use Rattle.step_history.specs.Pieces.{is_of}
 use Rattle.forwarder_core.proofs.sets.first_answer.Given as goal
 
 abbrev pub invariant-loop-record : goal.invariant-loop-record

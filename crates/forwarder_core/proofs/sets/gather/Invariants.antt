@@ -1,5 +1,6 @@
 use Rattle.std.proofs.Common.{◌≡◌, [], drop}
-use Rattle.forwarder_core.specs.Pieces.{with_answers, lowered_by_all, longest}
+use Rattle.step_history.specs.Pieces.{longest}
+use Rattle.forwarder_core.specs.Sets.{with_answers, lowered_by_all}
 use Rattle.forwarder_core.proofs.sets.gather.Given as goal
 
 abbrev pub invariant-loop-record : goal.invariant-loop-record

@@ -1,4 +1,4 @@
-use Rattle.forwarder_core.proofs.Names.{told_same_name}
+use Rattle.step_soundness.proofs.CallerLemmas.{told_same_name}
 use Rattle.forwarder_core.proofs.sets.is_same_name.Goals as goal
 
 pub returns : goal.returns

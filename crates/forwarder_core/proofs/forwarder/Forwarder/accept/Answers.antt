@@ -1,6 +1,6 @@
 use Rattle.std.proofs.Common.{◌∙◌, ap, [], ◌∷◌}
-use Rattle.forwarder_core.specs.State.{Running}
-use Rattle.forwarder_core.specs.Row.{closes, is_given}
+use Rattle.step_rules.specs.State.{Running}
+use Rattle.step_rules.specs.Row.{closes, is_given}
 use Rattle.forwarder_core.specs.Next.{with_replies}
 use Rattle.forwarder_core.proofs.Deciding.{closed_is, given_frees}
 use Rattle.forwarder_core.proofs.forwarder.Forwarder.accept.Goals as goal

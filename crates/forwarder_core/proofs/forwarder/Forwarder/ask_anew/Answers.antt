@@ -1,5 +1,5 @@
 use Rattle.std.proofs.Common.{sym}
-use Rattle.forwarder_core.proofs.Listed.{drawn_fresh, none_there}
+use Rattle.step_soundness.proofs.CallerLemmas.{drawn_fresh, none_there}
 use Rattle.forwarder_core.proofs.Deciding.{fits_at}
 use Rattle.forwarder_core.proofs.forwarder.Forwarder.ask_anew.Goals as goal
 

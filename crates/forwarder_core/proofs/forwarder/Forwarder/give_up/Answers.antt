@@ -1,7 +1,7 @@
 use Rattle.std.proofs.Common.{◌∙◌, ap, [], ◌∷◌}
-use Rattle.forwarder_core.specs.declared.values.Why.TheVariants.{Exhausted}
-use Rattle.forwarder_core.specs.State.{Running}
-use Rattle.forwarder_core.specs.Row.{closes, fails}
+use Rattle.step_values.specs.declared.action.Why.TheVariants.{Exhausted}
+use Rattle.step_rules.specs.State.{Running}
+use Rattle.step_rules.specs.Row.{closes, fails}
 use Rattle.forwarder_core.specs.Next.{with_replies}
 use Rattle.forwarder_core.proofs.Deciding.{closed_is, fails_frees}
 use Rattle.forwarder_core.proofs.forwarder.Forwarder.give_up.Goals as goal

@@ -1,6 +1,6 @@
 use Rattle.std.proofs.Common.{ap}
 use Rattle.outstanding.specs.Values.{Inquiries}
-use Rattle.forwarder_core.proofs.Theorem.{start_explained}
+use Rattle.step_soundness.proofs.CallerLemmas.{start_explained}
 use Rattle.forwarder_core.proofs.forwarder.Forwarder.new.Goals as goal
 
 pub returns-clause-explained : goal.returns-clause-explained

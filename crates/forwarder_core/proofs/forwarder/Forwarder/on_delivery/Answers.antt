@@ -1,8 +1,8 @@
 use Rattle.std.proofs.Common.{◌∙◌, ap, sym, ◌+◌}
 use Rattle.std.specs.Prelude.{nat_lt}
 use Rattle.std.proofs.lemmas.Result.{IfOk-weaker}
-use Rattle.forwarder_core.specs.State.{Running}
-use Rattle.forwarder_core.specs.Row.{judged}
+use Rattle.step_rules.specs.State.{Running}
+use Rattle.step_rules.specs.Row.{judged}
 use Rattle.outstanding.specs.Lists.{on_path as ask_on}
 use Rattle.forwarder_core.proofs.Deciding.{idle_unlisted, idle_late, judged_is, verdict_is}
 use Rattle.forwarder_core.proofs.forwarder.Forwarder.on_delivery.Goals as goal

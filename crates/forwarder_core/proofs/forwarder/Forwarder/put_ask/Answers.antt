@@ -1,5 +1,5 @@
 use Rattle.std.proofs.Common.{ap}
-use Rattle.forwarder_core.specs.State.{Running}
+use Rattle.step_rules.specs.State.{Running}
 use Rattle.forwarder_core.proofs.Keeping.{kept_put}
 use Rattle.forwarder_core.proofs.forwarder.Forwarder.put_ask.Goals as goal
 

@@ -1,5 +1,5 @@
 use Rattle.std.proofs.lemmas.Result.{IfOk-weaker}
-use Rattle.forwarder_core.proofs.Runs.{row_stays}
+use Rattle.step_soundness.proofs.CallerLemmas.{row_stays}
 use Rattle.forwarder_core.proofs.forwarder.Forwarder.step.Goals as goal
 
 pub returns-clause-explained : goal.returns-clause-explained

@@ -1,5 +1,5 @@
 use Rattle.std.proofs.lemmas.Result.{IfOk-weaker}
-use Rattle.forwarder_core.specs.Values.{event_of}
+use Rattle.step_values.specs.Values.{event_of}
 use Rattle.forwarder_core.proofs.Deciding.{row_is}
 use Rattle.forwarder_core.proofs.forwarder.Forwarder.take.Goals as goal
 

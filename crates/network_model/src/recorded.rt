@@ -1,0 +1,69 @@
+//! A forwarder beside its stored history.
+
+ghost use Rattle.std.specs.Prelude.{◌≡◌, ◌∷◌, ◌++◌, [], IfOk, OnOk, OnErr, reverse};
+ghost use Rattle.step_values.specs.Values.{Outcome};
+ghost use Rattle.step_history.specs.Asked.{AsksWell};
+ghost use Rattle.step_rules.specs.Row.{Row, start};
+ghost use Rattle.step_soundness.specs.Runs.{IsSound};
+
+use forwarder_core::Forwarder;
+use std::alloc::{AllocError, Allocator, Global};
+use std::marker::Model;
+use step_values::{Handed, Step};
+use suffix_routes::Config;
+
+/// A forwarder and the steps that it has made since it was new. They are sound whenever they are seen.
+#[derive(Drop)]
+pub struct Recorded<H, A: Allocator = Global> {
+    alloc: A,
+    forwarder: Forwarder<H, A>,
+    steps: Vec<Step<A>, A>,
+}
+
+impl<H, A: Allocator> Model for Recorded<H, A> {
+    ghost use Rattle.step_soundness.specs.Runs.{IsExplained};
+    ghost use Rattle.network_model.specs.Recordings.{Recording};
+
+    ghost Value = { Recording };
+
+    ghost view = { λ r. record { running = r.forwarder; steps = r.steps.items } };
+
+    ghost invariant = { λ r. IsExplained r.forwarder.config r.steps.items r.forwarder.state };
+}
+
+impl<H: Drop, A: Allocator + Copy> Recorded<H, A> {
+    /// A new forwarder, without steps. `Err` where memory ran out.
+    pub fn new(alloc: A, config: Config<A>, hasher: H) -> Result<Recorded<H, A>, AllocError>
+        ensures { IfOk result (λ recorded. recorded ≡ record { running = record { config = config; state = start }; steps = [] }) }
+    {
+        let forwarder = Forwarder::new(alloc, config, hasher)?;
+        Ok(Recorded {
+            alloc,
+            forwarder,
+            steps: Vec::new(alloc),
+        })
+    }
+
+    /// The steps so far, the oldest first. It takes no memory.
+    pub fn steps(&self) -> &[Step<A>]
+        ensures steps { result.now ≡ self.now.steps }
+        ensures sound { IsSound self.now.running.config result.now }
+        ensures asks { AsksWell self.now.running.config (reverse result.now) }
+    {
+        self.steps.as_slice()
+    }
+
+    /// One step more: what is handed in, and what comes of it. `Err` where memory ran out, and then nothing has changed.
+    pub fn step(&mut self, handed: Handed<A>) -> Result<(), AllocError>
+        ensures ok { OnOk result ((outcome : Outcome) × (self.new.steps ≡ self.old.steps ++ record { handed = handed; outcome = outcome } ∷ [])
+            × Row self.old.running.config self.old.running.state handed outcome self.new.running.state) }
+        ensures config { self.new.running.config ≡ self.old.running.config }
+        ensures err { OnErr result (self.new ≡ self.old) }
+    {
+        self.steps.reserve(1)?;
+        let event = handed.event.copy(self.alloc)?;
+        let outcome = self.forwarder.step(handed.now, handed.words, event)?;
+        self.steps.push_reserved(Step { handed, outcome });
+        Ok(())
+    }
+}

@@ -1,0 +1,11 @@
+pub mod Names
+pub mod Messages
+pub mod History
+pub mod Pieces
+pub mod Carried
+pub mod Answers
+pub mod Queries
+pub mod Causes
+pub mod Sound
+pub mod Asked
+pub mod Laws

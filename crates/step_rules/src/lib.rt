@@ -1,0 +1,7 @@
+//! The rules of a step as one table over plain values: from a state, what a step may do and what it leaves. The worked
+//! steps are computed by it.
+#![tactic(auto)]
+
+mod laws;
+
+pub use laws::moments_do_not_fall;

@@ -1,0 +1,12 @@
+pub mod Fates
+pub mod Numbers
+pub mod Names
+pub mod QueryText
+pub mod Messages
+pub mod SetLaws
+pub mod Listed
+pub mod Asking
+pub mod Cases
+pub mod Theorem
+pub mod Runs
+pub mod CallerLemmas

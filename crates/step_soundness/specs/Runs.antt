@@ -1,0 +1,25 @@
+-- Whole runs.
+use Rattle.std.specs.Prelude.{◌≡◌, ℕ, List, [], ◌∷◌, reverse}
+use Rattle.suffix_routes.specs.Values.{Config}
+use Rattle.step_values.specs.Values.{Handed, Outcome, Step}
+use Rattle.step_rules.specs.State.{State}
+use Rattle.step_rules.specs.Row.{Row}
+use Rattle.step_history.specs.Sound.{Sound}
+use Rattle.step_soundness.specs.Explains.{Explains}
+
+-- these steps, the oldest first, are rows one after another
+abbrev pub Run : Config → State → List Step → State → Type 0
+Run c s [] s' = s' ≡ s
+Run c s (t ∷ steps) s' = (mid : State) × Row c s t.handed t.outcome mid × Run c mid steps s'
+
+-- some owners make these steps, the oldest first, sound
+abbrev pub IsSound : Config → List Step → Type 0
+IsSound c steps = (w : List (List ℕ)) × Sound c (reverse steps) w
+
+-- some owners explain the state by these steps, the oldest first
+abbrev pub IsExplained : Config → List Step → State → Type 0
+IsExplained c steps s = (w : List (List ℕ)) × Explains c (reverse steps) w s
+
+-- what explains the state before explains, with the step, the state after
+abbrev pub StaysExplained : Config → State → Handed → Outcome → State → Type 0
+StaysExplained c s h o s' = (past : List Step) (w : List (List ℕ)) → Explains c past w s → (owners : List ℕ) × Explains c (record { handed = h; outcome = o } ∷ past) (owners ∷ w) s'

@@ -1,0 +1,14 @@
+//! What a step of the forwarder is handed and what comes out of it, as values: events, actions, reasons, outcomes.
+#![tactic(auto)]
+
+mod action;
+mod event;
+mod step;
+
+pub use action::{Action, Why};
+pub use event::{Client, Event};
+pub use outstanding::Path;
+pub use step::{Handed, Outcome, Step};
+
+#[cfg(test)]
+mod tests;

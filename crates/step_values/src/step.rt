@@ -1,0 +1,72 @@
+//! A step: what is handed in, and what comes out.
+
+ghost use Rattle.std.specs.Prelude.{◌≡◌, IfOk};
+
+use crate::action::Action;
+use crate::event::Event;
+use plain_list::PlainList;
+use std::alloc::{AllocError, Allocator, Global};
+use std::marker::Model;
+
+/// What a step did.
+#[derive(Drop)]
+pub struct Outcome<A: Allocator = Global> {
+    /// In the order in which they are to be done.
+    pub actions: PlainList<Action<A>, A>,
+    /// How many entries found no memory in the cache.
+    pub unkept: u32,
+    /// A deadline or a timeout is due already.
+    pub more: bool,
+}
+
+impl<A: Allocator> Model for Outcome<A> {
+    ghost use Rattle.step_values.specs.Values.{Outcome, actions_of};
+
+    ghost Value = { Outcome };
+
+    ghost view = { λ o. record { actions = actions_of o.actions; unkept = o.unkept; more = o.more } };
+}
+
+/// What a step is handed: a moment in milliseconds, random words, and what happened.
+#[derive(Drop)]
+pub struct Handed<A: Allocator = Global> {
+    pub now: u64,
+    pub words: [u32; 8],
+    pub event: Event<A>,
+}
+
+impl<A: Allocator> Model for Handed<A> {
+    ghost use Rattle.step_values.specs.Values.{Handed, event_of};
+
+    ghost Value = { Handed };
+
+    ghost view = { λ h. record { now = h.now; words = h.words; event = event_of h.event } };
+}
+
+impl<A: Allocator + Copy> Handed<A> {
+    /// Equal values. `Err` where memory ran out.
+    pub fn copy(&self, alloc: A) -> Result<Handed<A>, AllocError>
+        ensures { IfOk result (λ handed. handed ≡ self.entry.now) }
+    {
+        Ok(Handed {
+            now: self.now,
+            words: self.words,
+            event: self.event.copy(alloc)?,
+        })
+    }
+}
+
+/// A step, with its outcome.
+#[derive(Drop)]
+pub struct Step<A: Allocator = Global> {
+    pub handed: Handed<A>,
+    pub outcome: Outcome<A>,
+}
+
+impl<A: Allocator> Model for Step<A> {
+    ghost use Rattle.step_values.specs.Values.{Step};
+
+    ghost Value = { Step };
+
+    ghost view = { λ s. record { handed = s.handed; outcome = s.outcome } };
+}
