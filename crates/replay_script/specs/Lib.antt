@@ -1,0 +1,3 @@
+pub mod Words
+pub mod Reasons
+pub mod Faults
