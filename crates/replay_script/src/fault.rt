@@ -3,6 +3,7 @@
 ghost use Rattle.std.specs.Prelude.{◌≡◌};
 ghost use Rattle.replay_script.specs.declared.fault.ReplayFault.TheVariants.{Memory};
 ghost use Rattle.replay_script.specs.Faults.{replay_fault};
+ghost use Rattle.replay_script.specs.Configs.{IsOfReading};
 
 use std::alloc::AllocError;
 use std::io;
@@ -35,6 +36,8 @@ impl From<AllocError> for ReplayFault {
 }
 
 impl From<io::Error> for ReplayFault {
+    ghost from_gives = { λ _ e. IsOfReading e };
+
     fn from(error: io::Error) -> ReplayFault {
         if error.kind() == io::ErrorKind::OutOfMemory {
             ReplayFault::Memory

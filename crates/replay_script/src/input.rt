@@ -1,6 +1,8 @@
 //! The octets of a file or of standard input, and the parts of a script.
 
-ghost use Rattle.std.specs.Prelude.{◌≡◌, ◌≤◌, IfOk, IfSome, vec_len};
+ghost use Rattle.std.specs.Prelude.{◌≡◌, ◌≤◌, Ok, IfOk, IfErr, IfSome, vec_len};
+ghost use Rattle.suffix_routes.specs.Reading.{IsReadIn};
+ghost use Rattle.replay_script.specs.Configs.{IsOfReading, IsFaultOf, IsFaultIn};
 
 use crate::fault::ReplayFault;
 use std::alloc::{Allocator, Global};
@@ -18,6 +20,7 @@ pub(crate) fn read_limited<A: Allocator, R: Read>(
 ) -> Result<Vec<u8, A>, ReplayFault>
     ensures fits { IfOk result (λ octets. vec_len octets ≤ LARGEST) }
     ensures whole { IfOk result (λ octets. IfSome (R.remaining reader.old) (λ all. octets.items ≡ all)) }
+    ensures faults { IfErr result IsOfReading }
 {
     let mut octets = Vec::new(alloc);
     let mut limited = reader.take(LARGEST as u64 + 1);
@@ -47,8 +50,14 @@ pub(crate) fn config_in<A: Allocator + Copy>(
     heap: Global,
     alloc: A,
     octets: &[u8],
-) -> Result<Config<A>, ReplayFault> {
-    let text = str::from_utf8(octets).map_err(|error| ConfigFault::Toml(error.valid_up_to()))?;
+) -> Result<Config<A>, ReplayFault>
+    ensures read { IfOk result (λ config. IsReadIn octets.now (Ok config)) }
+    ensures refused { IfErr result (IsFaultOf octets.now) }
+{
+    let text = match str::from_utf8(octets) {
+        Ok(text) => text,
+        Err(error) => return Err(ReplayFault::Config(ConfigFault::Toml(error.valid_up_to()))),
+    };
     let config = Config::read(heap, alloc, text)?;
     Ok(config)
 }
@@ -60,7 +69,10 @@ pub fn read_config<A: Allocator + Copy, R: Read>(
     heap: Global,
     alloc: A,
     reader: &mut R,
-) -> Result<Config<A>, ReplayFault> {
+) -> Result<Config<A>, ReplayFault>
+    ensures read { IfOk result (λ config. IfSome (R.remaining reader.old) (λ octets. IsReadIn octets (Ok config))) }
+    ensures refused { IfErr result (IsFaultIn (R.remaining reader.old)) }
+{
     let octets = read_limited(alloc, reader)?;
     config_in(heap, alloc, &octets)
 }
