@@ -1,6 +1,6 @@
 //! What was counted.
 
-ghost use Rattle.std.specs.Prelude.{◌≡◌, ◌<◌, ◌↔◌, ◌×◌, IsTrue};
+ghost use Rattle.std.specs.Prelude.{◌≡◌, ◌<◌, ◌↔◌, IsTrue};
 
 /// How many rows ran, and how many things were not as they have to be.
 #[derive(Clone, Copy, Debug, Default, PartialEq, Eq)]
