@@ -3,7 +3,7 @@
 use crate::commands::check;
 use crate::fault::Fault;
 use refusing_allocator::Refusing;
-use replay_script::{ReplayFault, read_config, replay_run};
+use replay_script::{ReplayFault, replay_run};
 use std::io::{ErrorKind, Read};
 use std::test::Fail;
 use std::{fs, io};
@@ -38,7 +38,7 @@ impl Read for Broken {
 }
 
 #[test]
-fn readers_and_writers_that_fail(rt: HostRuntime) -> Result<(), Fail> {
+fn readers_that_fail(rt: HostRuntime) {
     let mut printed = Vec::new(rt.alloc());
     for end in [0, 60, SCRIPT.len()] {
         let mut input = SCRIPT.get(..end).unwrap_or(SCRIPT).chain(Broken);
@@ -46,16 +46,15 @@ fn readers_and_writers_that_fail(rt: HostRuntime) -> Result<(), Fail> {
         assert_eq!(rt; ended, Err(ReplayFault::Device), "{end} octets read");
     }
     assert_eq!(rt; printed.len(), 0);
-    let ended = read_config(rt.alloc(), rt.alloc(), &mut io::repeat(b'#'));
-    assert_eq!(rt; ended.map(|_| ()), Err(ReplayFault::Device), "no end");
-    let mut room = [0u8; 82];
-    for end in [0, 81] {
-        let mut input = SCRIPT;
-        let mut writer = &mut room[..end];
-        let ended = replay_run(rt.alloc(), rt.alloc(), &mut input, &mut writer);
-        assert_eq!(rt; ended, Err(ReplayFault::Device), "{end} octets written");
-    }
-    Ok(())
+}
+
+#[test]
+fn writers_that_fail(rt: HostRuntime) {
+    let mut room = [0u8; 81];
+    let mut input = SCRIPT;
+    let mut writer = room.as_mut_slice();
+    let ended = replay_run(rt.alloc(), rt.alloc(), &mut input, &mut writer);
+    assert_eq!(rt; ended, Err(ReplayFault::Device));
 }
 
 #[test]

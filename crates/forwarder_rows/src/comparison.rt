@@ -16,11 +16,10 @@ pub(crate) fn differing_line(expected: &[u8], printed: &[u8]) -> Option<usize>
     Some(same.filter(|(octet, _)| **octet == b'\n').count())
 }
 
-/// The line of a text at a place counted from 0, for people.
+/// The line of a text at a place counted from 0, with its line feed; empty where there is none.
 pub(crate) fn line_at(text: &[u8], place: usize) -> &str {
-    let mut lines = text.split(|octet| *octet == b'\n');
-    match lines.nth(place) {
-        Some(line) => str::from_utf8(line).unwrap_or("(no text)"),
-        None => "(nothing)",
-    }
+    let mut lines = text.split_inclusive(|octet| *octet == b'\n');
+    lines
+        .nth(place)
+        .map_or("", |line| str::from_utf8(line).unwrap_or("no text"))
 }

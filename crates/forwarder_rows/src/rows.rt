@@ -160,6 +160,6 @@ fn is_told(rt: &impl Print, path: &str, expected: &[u8], text: &[u8]) -> io::Res
     let line = place.saturating_add(1);
     let wanted = line_at(expected, place);
     let given = line_at(text, place);
-    println!(rt; "{path}: line {line} differs\n  expected {wanted}\n  printed  {given}")?;
+    println!(rt; "{path}: line {line} differs\n  expected {wanted:?}\n  printed  {given:?}")?;
     Ok(false)
 }
