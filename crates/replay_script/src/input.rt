@@ -63,8 +63,8 @@ pub(crate) fn config_in<A: Allocator + Copy>(
 }
 
 /// The configuration that the reader gives; it is read to its end. `heap` is for the reading of TOML, `alloc` for all
-/// else. `Device` where reading fails or passes 16,777,216 octets, `Config` where the configuration is refused, `Memory`
-/// where memory ran out.
+/// else. `Device` where reading fails or passes 16,777,216 octets, `Config` where the configuration is refused,
+/// `Memory` where memory ran out.
 pub fn read_config<A: Allocator + Copy, R: Read>(
     heap: Global,
     alloc: A,
