@@ -1,7 +1,7 @@
 -- What a successful answer shows.
 use Rattle.std.specs.Prelude.{◌≡◌, ◌≢◌, ℕ, ◌≤◌, Bool, true, false, if◌then◌else◌, ◌==◌, ◌&&◌, nat_le, List, [], ◌∷◌, ◌++◌, length, map, Option, Some, None}
 use Rattle.std.specs.List.{flat_map}
-use Rattle.dns_message.specs.declared.header.Header.{Header}
+use Rattle.dns_message.specs.Header.{Header}
 use Rattle.dns_message.specs.Values.{Question, Record, Message}
 use Rattle.dns_message.specs.Writing.{written}
 use Rattle.dns_message.specs.Data.{name_of_rdata}

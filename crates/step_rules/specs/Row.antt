@@ -1,8 +1,8 @@
 -- One step of the forwarder, over plain values.
 use Rattle.std.specs.Prelude.{◌≡◌, ℕ, ◌+◌, ◌^◌, Bool, false, if◌then◌else◌, ◌==◌, nat_lt, nat_le, min, max, List, [], ◌∷◌, ◌++◌, length, get_or, Option, Some, None, Result, Ok, Err}
 use Rattle.std.specs.List.{filter_map}
-use Rattle.dns_message.specs.declared.header.Header.{Header}
-use Rattle.dns_message.specs.declared.fault.Fault.{Fault}
+use Rattle.dns_message.specs.Header.{Header}
+use Rattle.dns_message.specs.Fault.{Fault}
 use Rattle.dns_message.specs.Values.{Question, Message}
 use Rattle.dns_message.specs.Messages.{message_of}
 use Rattle.dns_message.specs.Writing.{written}
@@ -18,14 +18,14 @@ use Rattle.reply_match.specs.declared.verdict.Verdict.{Verdict}
 use Rattle.reply_match.specs.declared.verdict.Verdict.TheVariants.{Stranger, Truncated, Failed, Malformed, Whole}
 use Rattle.step_values.specs.Values.{Event, from_client, delivery, path_failed, tick, restart, Action, ask_udp, ask_tcp, close_udp, close_tcp, send_reply, Handed, Outcome}
 use Rattle.step_history.specs.Names.{route_of}
-use Rattle.reply_match.specs.Questions.{one_question}
+use Rattle.dns_message.specs.Questions.{one_question}
 use Rattle.reply_match.specs.Verdicts.{judge}
 use Rattle.dns_message.specs.Questions.{same_question}
 use Rattle.outstanding.specs.Draws.{udp_draw}
 use Rattle.outstanding.specs.Lists.{on_path as ask_on, of_question, without_path}
 use Rattle.outstanding.specs.Values.{Ask}
 use Rattle.dns_message.specs.Header.{header_in}
-use Rattle.step_history.specs.Messages.{AreOctets}
+use Rattle.plain_list.specs.Octets.{AreOctets}
 use Rattle.step_history.specs.Pieces.{Piece, Held, Walk, is_lame, rank_of, records_for, set_of, walk_at_set, walk}
 use Rattle.step_history.specs.History.{is_taken}
 use Rattle.step_history.specs.Answers.{full_answer, truncated}

@@ -16,7 +16,7 @@ use Rattle.step_history.specs.Pieces.{Held}
 use Rattle.step_history.specs.History.{is_restart, moment_at, Query, queries_after, unlisted, listed, takes_question, NothingAccepted, Sends}
 use Rattle.outstanding.specs.Lists.{same_path, on_path as ask_on, of_question, without_path, AreListed}
 use Rattle.outstanding.specs.Values.{Ask}
-use Rattle.outstanding.proofs.Listed.{put, left}
+use Rattle.outstanding.proofs.CallerLemmas.{listed_with_one_more as put, listed_without_path as left}
 use Rattle.step_history.specs.Carried.{CarriedInEra}
 use Rattle.step_history.specs.Queries.{query_message}
 use Rattle.step_history.specs.Sound.{among, unanswered, Owns, EachOwned, Replies, FromCache, SameAsEarlierFromCache, AsksFor, RightReply}

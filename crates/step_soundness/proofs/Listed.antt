@@ -5,7 +5,7 @@ use Rattle.std.specs.List.{list_any, AllByRecursion}
 use Rattle.std.proofs.lemmas.Bool.{cases_Bool, cond-true, cond-false, false≢true}
 use Rattle.outstanding.specs.declared.ask.Path.{Path}
 use Rattle.outstanding.specs.declared.ask.Path.TheVariants.{Udp, Tcp}
-use Rattle.outstanding.proofs.Listed.{same_path-refl, same_path-true}
+use Rattle.outstanding.proofs.CallerLemmas.{same_path_reflexive, same_path_equal}
 use Rattle.step_values.specs.Values.{Action}
 use Rattle.step_history.specs.History.{Query, on_path}
 use Rattle.outstanding.specs.Draws.{is_used, port_of, udp_draw}
@@ -16,8 +16,8 @@ use Rattle.step_rules.specs.Row.{closes}
 use Rattle.step_soundness.specs.Explains.{shown}
 
 pub closes_it : (p : Path) (more : List Action) → closes_path p (closes p ∷ more) ≡ true
-closes_it (Udp port) more = ap (λ v. v || closes_path (Udp port) more) (same_path-refl (Udp port))
-closes_it (Tcp conn) more = ap (λ v. v || closes_path (Tcp conn) more) (same_path-refl (Tcp conn))
+closes_it (Udp port) more = ap (λ v. v || closes_path (Udp port) more) (same_path_reflexive (Udp port))
+closes_it (Tcp conn) more = ap (λ v. v || closes_path (Tcp conn) more) (same_path_reflexive (Tcp conn))
 
 pub on_path-shown : (p : Path) (asks : List Ask) → on_path p (map shown asks) ≡ option_map shown (ask_on p asks)
 on_path-shown p [] = refl
@@ -33,7 +33,7 @@ ask_on-is P p (b ∷ asks) a e all = ⊎_elim
     (λ (t : same_path b.path p ≡ true).
     let is : Some b ≡ Some a = sym (cond-true (same_path b.path p) _ _ t) ∙ e in
     let same : b ≡ a = cc in
-    (sym (ap (λ (x : Ask). x.path) same) ∙ same_path-true b.path p t, subst P same all.0))
+    (sym (ap (λ (x : Ask). x.path) same) ∙ same_path_equal b.path p t, subst P same all.0))
     (λ (f : same_path b.path p ≡ false). ask_on-is P p asks a (sym (cond-false (same_path b.path p) _ _ f) ∙ e) all.1)
     (cases_Bool (same_path b.path p))
 

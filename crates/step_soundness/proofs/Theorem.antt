@@ -4,15 +4,15 @@ use Rattle.std.specs.Prelude.{option_map, ◌==◌, ◌&&◌, ◌||◌, min, max
 use Rattle.std.specs.List.{concat}
 use Rattle.std.proofs.lemmas.Bool.{and_parts, and_from, lt-ltb, ltb-true, leb-true, leb-false, le-leb, cond-true, cond-false, cond_both, eq-eqb, eqb-true, eqb-false, or_cases, false≢true}
 use Rattle.std.proofs.lemmas.List.{length-map}
-use Rattle.dns_message.specs.declared.header.Header.{Header}
-use Rattle.dns_message.specs.declared.fault.Fault.{Fault}
+use Rattle.dns_message.specs.Header.{Header}
+use Rattle.dns_message.specs.Fault.{Fault}
 use Rattle.dns_message.specs.Values.{Question, Message}
 use Rattle.dns_message.specs.Messages.{message_of}
 use Rattle.dns_message.specs.Writing.{written}
 use Rattle.suffix_routes.specs.declared.peer.Peer.{Peer}
 use Rattle.suffix_routes.specs.Values.{Config, Route, IsConfig}
 use Rattle.suffix_routes.specs.Routes.{IsRouteOf}
-use Rattle.suffix_routes.proofs.RouteLaws.{route_of-some, route_holds}
+use Rattle.suffix_routes.proofs.CallerLemmas.{route_found_is_longest, route_at_place_is_route}
 use Rattle.step_history.specs.Asked.{IsServerFor}
 use Rattle.std.specs.Prelude.{slice_get, get_or}
 use Rattle.std.proofs.lemmas.Option.{get_or_from_slice_get, slice_get-get_or}
@@ -27,14 +27,15 @@ use Rattle.reply_match.specs.declared.verdict.Verdict.TheVariants.{Stranger, Tru
 use Rattle.step_values.specs.Values.{Event, from_client, delivery, path_failed, tick, restart, Action, send_reply, Handed, Outcome, Step}
 use Rattle.step_history.specs.Names.{route_of}
 use Rattle.reply_match.specs.Peers.{same_peer}
-use Rattle.reply_match.specs.Questions.{asks_this, one_question}
+use Rattle.reply_match.specs.Questions.{asks_this}
+use Rattle.dns_message.specs.Questions.{one_question}
 use Rattle.reply_match.specs.Verdicts.{judge, judged_whole, matches}
 use Rattle.dns_message.specs.Questions.{same_question}
 use Rattle.outstanding.specs.Draws.{udp_draw}
 use Rattle.outstanding.specs.Lists.{of_question, on_path as ask_on}
 use Rattle.outstanding.specs.Values.{Ask}
 use Rattle.dns_message.specs.Header.{header_in}
-use Rattle.step_history.specs.Messages.{AreOctets}
+use Rattle.plain_list.specs.Octets.{AreOctets}
 use Rattle.step_history.specs.Pieces.{Piece, Held, Walk, is_lame, walk}
 use Rattle.step_history.specs.History.{InEra, moment_at, Query, listed, on_path, is_taken, Reads, Sends, Matches, Accepts, Carries, NothingAccepted}
 use Rattle.step_history.specs.Carried.{CarriedInEra, Justified}
@@ -43,7 +44,7 @@ use Rattle.step_history.specs.Queries.{closes_path}
 use Rattle.step_history.specs.Causes.{is_unserved, NoneAsks}
 use Rattle.step_history.specs.History.{unlisted, queries_after}
 use Rattle.outstanding.specs.Lists.{without_path}
-use Rattle.outstanding.proofs.Retries.{question_free, all_left}
+use Rattle.outstanding.proofs.CallerLemmas.{question_free_without_path as question_free, all_without_path as all_left}
 use Rattle.step_rules.specs.Row.{reply_in}
 use Rattle.std.specs.List.{cons_option, AllByRecursion}
 use Rattle.std.proofs.Common.{cond}
@@ -54,7 +55,7 @@ use Rattle.step_rules.specs.Row.{Done, gets, waits, start, idle, at_once, replie
 use Rattle.step_soundness.specs.Explains.{shown, Waits, IsReadable, Explains}
 use Rattle.step_soundness.proofs.Fates.{Fated}
 use Rattle.step_history.proofs.Since.{carried_since}
-use Rattle.dns_message.proofs.QuestionLaws.{same_question_decides}
+use Rattle.dns_message.proofs.CallerLemmas.{same_question_decides}
 use Rattle.step_soundness.proofs.Names.{same_question-sym, same_peer-true, same_peer-is, route_of-alike}
 use Rattle.step_soundness.proofs.QueryText.{query_reads}
 use Rattle.step_soundness.proofs.Messages.{spells_read, read_spells, read_header}
@@ -115,10 +116,10 @@ match_facts a from octets e =
 -- a query on this route goes to a server of it
 serves_it : (c : Config) (q : Question) (route : ℕ) → route_of c q.name ≡ Some route → IsConfig c → IsServerFor c q (server_on c route)
 serves_it c q route is config =
-    let at : IsRouteOf c.routes q.name route = route_of-some c.routes q.name route is in
+    let at : IsRouteOf c.routes q.name route = route_found_is_longest c.routes q.name route is in
     let nobody : Peer = record { ip = 0 ∷ 0 ∷ 0 ∷ 0 ∷ []; port = 0 } in
     let one : get_or c.routes route (record { suffix = []; servers = [] }) ≡ at.route = get_or_from_slice_get c.routes route at.route _ at.there in
-    let some : 1 ≤ length at.route.servers = (route_holds c.routes route at.route config.each at.there).servers.0 in
+    let some : 1 ≤ length at.route.servers = (route_at_place_is_route c.routes route at.route config.each at.there).servers.0 in
     (route, at.route, 0, is, at.there, slice_get-get_or at.route.servers 0 nobody (omega (arith, some)) ∙ ap (λ (r : Route). Some (get_or r.servers 0 nobody)) (sym one))
 
 -- what reads no reply passes over the failures

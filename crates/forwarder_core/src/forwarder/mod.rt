@@ -2,7 +2,7 @@
 
 ghost use Rattle.std.specs.Prelude.{◌≡◌, ◌^◌, ◌≤◌, [], IfOk, IfSome, OnErr, IsOk};
 ghost use Rattle.step_values.specs.Values.{event_of};
-ghost use Rattle.step_history.specs.Messages.{AreOctets};
+ghost use Rattle.plain_list.specs.Octets.{AreOctets};
 ghost use Rattle.step_rules.specs.Row.{start, HandsOctets, TakesNoMemory, effective, Row};
 ghost use Rattle.forwarder_core.specs.Next.{IsDecided, IsDecidedQuietly, CanChange};
 ghost use Rattle.step_soundness.specs.Runs.{StaysExplained};
@@ -14,11 +14,11 @@ mod delivery;
 
 use crate::next::Next;
 use crate::state::Waiting;
-use step_values::{Event, Outcome};
 use outstanding::Inquiries;
 use plain_list::PlainList;
 use std::alloc::{AllocError, Allocator, Global};
 use std::marker::Model;
+use step_values::{Event, Outcome};
 use suffix_routes::Config;
 
 /// The greatest effective moment, in milliseconds.
