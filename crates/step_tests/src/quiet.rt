@@ -91,10 +91,15 @@ fn what_matches_nothing_takes_no_memory(rt: HostRuntime) -> Result<(), Fail> {
         is_quiet(&heap, &mut forwarder, 2500, Event::Restart)?,
         "a restart"
     );
+    let mut restarted = asked(&heap)?;
+    heap.allow(1);
+    restarted.restart();
+    assert!(rt; Box::new(&heap, 0u8).is_ok(), "a restart by its call");
+    heap.allow(u64::MAX);
     let forgotten = replies(&heap)?;
     assert!(rt;
-        is_quiet(&heap, &mut forwarder, 1020, forgotten)?,
-        "after a restart"
+        is_quiet(&heap, &mut restarted, 1020, forgotten)?,
+        "a reply after it"
     );
     Ok(())
 }
