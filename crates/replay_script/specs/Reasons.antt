@@ -1,7 +1,7 @@
 -- The numbers of the reasons that printed lines tell.
 use Rattle.std.specs.Prelude.{ℕ}
-use Rattle.forwarder_core.specs.declared.values.Why.{Why}
-use Rattle.forwarder_core.specs.declared.values.Why.TheVariants.{Answered, BadFormat, BadOpcode, NotServed, NoRoute, QuestionsFull, InquiriesFull, NoPort, Exhausted, Deadline, ChainLong, TooLarge}
+use Rattle.step_values.specs.declared.action.Why.{Why}
+use Rattle.step_values.specs.declared.action.Why.TheVariants.{Answered, BadFormat, BadOpcode, NotServed, NoRoute, QuestionsFull, InquiriesFull, NoPort, Exhausted, Deadline, ChainLong, TooLarge}
 
 abbrev pub number_of : Why → ℕ
 number_of Answered = 0
