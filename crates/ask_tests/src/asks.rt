@@ -39,7 +39,7 @@ fn ask_for<'a>(
 }
 
 /// `begin` alone takes memory: it is refused one growth and granted the next, and the one that is allowed then stays
-/// unspent over all other calls.
+/// unspent over all other calls, and over a `begin` into room that there is.
 #[test]
 fn only_begin_takes_memory(rt: HostRuntime) -> Result<(), Fail> {
     let heap = Refusing::new(rt.alloc());
@@ -63,7 +63,8 @@ fn only_begin_takes_memory(rt: HostRuntime) -> Result<(), Fail> {
     let ended = inquiries.replace(Path::Udp(1024), second);
     assert_eq!(rt; ended.path, Path::Udp(1024));
     assert!(rt; inquiries.end(Path::Udp(1024)).is_none());
-    assert!(rt; inquiries.end(Path::Tcp(0)).is_some());
+    let ended = inquiries.end(Path::Tcp(0)).ok_or("the second ask")?;
+    assert!(rt; inquiries.begin(ended).is_ok(), "the room is there");
     inquiries.clear();
     assert_eq!(rt; inquiries.len(), 0);
     assert!(rt; Box::new(&heap, 0u8).is_ok(), "one growth was allowed");

@@ -5,11 +5,25 @@ use std::test::Fail;
 use suffix_routes::{Config, Limits, Peer, RouteId};
 
 /// A configuration that names as little as one may.
-const LEAST: &str = "version = 1\n[[route]]\nsuffix = \".\"\nservers = [\"192.0.2.1:53\"]\n";
+const LEAST: &str = r#"version = 1
+[[route]]
+suffix = "."
+servers = ["192.0.2.1:53"]
+"#;
 
 /// Two routes, the second for names under a suffix of the first.
-const OFFICE: &str =
-    "version = 1\nlisten = \"192.0.2.7:5353\"\n[limits]\ntries = 2\nask_ms = 100\n[[route]]\nsuffix = \"example\"\nservers = [\"192.0.2.1:53\"]\n[[route]]\nsuffix = \"corp.example\"\nservers = [\"192.0.2.8:53\", \"192.0.2.9:53\"]\n";
+const OFFICE: &str = r#"version = 1
+listen = "192.0.2.7:5353"
+[limits]
+tries = 2
+ask_ms = 100
+[[route]]
+suffix = "example"
+servers = ["192.0.2.1:53"]
+[[route]]
+suffix = "corp.example"
+servers = ["192.0.2.8:53", "192.0.2.9:53"]
+"#;
 
 /// The place of a route.
 fn place_of(route: Option<RouteId>) -> Option<usize> {

@@ -6,8 +6,14 @@ use std::test::Fail;
 use suffix_routes::{Config, ConfigFault};
 
 /// Two routes with one server each.
-const TEXT: &str =
-    "version = 1\n[[route]]\nsuffix = \".\"\nservers = [\"192.0.2.1:53\"]\n[[route]]\nsuffix = \"corp.example\"\nservers = [\"192.0.2.9:53\"]\n";
+const TEXT: &str = r#"version = 1
+[[route]]
+suffix = "."
+servers = ["192.0.2.1:53"]
+[[route]]
+suffix = "corp.example"
+servers = ["192.0.2.9:53"]
+"#;
 
 /// How many routes a configuration and its copy have together.
 fn read_and_copied(table_heap: Global, heap: &Refusing<Global>) -> Result<usize, ConfigFault> {

@@ -5,8 +5,12 @@ use std::test::Fail;
 use suffix_routes::Config;
 
 /// What a text begins with whose second route is told of.
-const ROUTE: &str =
-    "version = 1\n[[route]]\nsuffix = \".\"\nservers = [\"192.0.2.1:53\"]\n[[route]]\n";
+const ROUTE: &str = r#"version = 1
+[[route]]
+suffix = "."
+servers = ["192.0.2.1:53"]
+[[route]]
+"#;
 
 /// One text behind another.
 fn joined(heap: Global, head: &str, rest: &str) -> Result<String, AllocError> {
