@@ -13,12 +13,12 @@ ghost use Rattle.forwarder_core.specs.Texts.{fresh_records, fresh_answer, cut_an
 
 use crate::sets::RecordSet;
 use crate::state::Waiting;
-use step_values::{Action, Client, Why};
 use dns_message::{Fault, Header, Message, Question, Record, write};
 use dns_name::Name;
 use outstanding::{Ask, Path};
 use plain_list::{Octets, PlainList};
 use std::alloc::{AllocError, Allocator};
+use step_values::{Action, Client, Why};
 
 /// The most octets that UDP carries (RFC 1035 4.2.1).
 const UDP_LIMIT: usize = 512;

@@ -1,10 +1,10 @@
 //! What a step is about to do, with all the memory that it takes.
 
 use crate::state::Waiting;
-use step_values::Action;
 use outstanding::{Ask, Path};
 use plain_list::PlainList;
 use std::alloc::{Allocator, Global};
+use step_values::Action;
 
 /// What changes beside the moment.
 #[derive(Drop)]

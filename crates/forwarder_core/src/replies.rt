@@ -9,11 +9,11 @@ ghost use Rattle.forwarder_core.specs.Next.{with_reply, with_replies};
 use crate::answers::{answer, failure};
 use crate::sets::RecordSet;
 use crate::state::Waiting;
-use step_values::{Action, Why};
 use dns_message::Question;
 use outstanding::{Ask, Path};
 use plain_list::PlainList;
 use std::alloc::{AllocError, Allocator};
+use step_values::{Action, Why};
 
 /// The question waits for this one.
 pub(crate) fn is_waiting_for<A: Allocator>(question: &Question<A>, waiting: &Waiting<A>) -> bool

@@ -1,9 +1,9 @@
 //! What the forwarder remembers between steps.
 
-use step_values::Client;
 use dns_message::{Header, Question};
 use std::alloc::{Allocator, Global};
 use std::marker::Model;
+use step_values::Client;
 
 /// A question that waits for its reply.
 #[derive(Drop)]

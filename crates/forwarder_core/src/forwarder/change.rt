@@ -8,9 +8,9 @@ use crate::forwarder::Forwarder;
 use crate::lists::{close, list};
 use crate::next::{Change, Next};
 use crate::state::Waiting;
-use step_values::Outcome;
 use outstanding::{Ask, Path};
 use std::alloc::{AllocError, Allocator};
+use step_values::Outcome;
 
 impl<H: Drop, A: Allocator + Copy> Forwarder<H, A> {
     /// The moment has come.

@@ -14,10 +14,10 @@ use crate::lists::first_server;
 use crate::next::{Change, Next};
 use crate::request::{is_not_served, only_question, taken_header};
 use crate::state::Waiting;
-use step_values::{Action, Client, Why};
 use outstanding::{Ask, Path, draw};
 use plain_list::PlainList;
 use std::alloc::{AllocError, Allocator};
+use step_values::{Action, Client, Why};
 use suffix_routes::RouteId;
 
 impl<H: Drop, A: Allocator + Copy> Forwarder<H, A> {

@@ -14,11 +14,11 @@ mod delivery;
 
 use crate::next::Next;
 use crate::state::Waiting;
-use step_values::{Event, Outcome};
 use outstanding::Inquiries;
 use plain_list::PlainList;
 use std::alloc::{AllocError, Allocator, Global};
 use std::marker::Model;
+use step_values::{Event, Outcome};
 use suffix_routes::Config;
 
 /// The greatest effective moment, in milliseconds.
