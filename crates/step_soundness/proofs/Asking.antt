@@ -1,15 +1,14 @@
 -- What holds of the listed queries after one more step.
-use Rattle.std.proofs.Common.{◌≡◌, ℕ, ◌^◌, ◌≤◌, List, [], ◌∷◌, length, Bool, true, false, refl, sym, ap, ◌∙◌, subst, arith, Some}
-use Rattle.std.specs.Prelude.{map, min, max}
+use Rattle.std.proofs.Common.{◌≡◌, ℕ, ◌≤◌, List, [], ◌∷◌, length, sym, ap, ◌∙◌, subst, arith, Some}
+use Rattle.std.specs.Prelude.{map}
 use Rattle.std.specs.List.{AllByRecursion}
 use Rattle.std.proofs.lemmas.List.{length-map}
-use Rattle.std.proofs.lemmas.Bool.{cond-false, cond-true}
 use Rattle.dns_message.specs.Questions.{same_question}
 use Rattle.suffix_routes.specs.Values.{Config}
 use Rattle.outstanding.specs.Values.{Ask}
 use Rattle.outstanding.specs.Lists.{Follows, AreInTurn, AreListed}
 use Rattle.step_values.specs.Values.{Step}
-use Rattle.step_history.specs.History.{is_restart, moment_at, listed}
+use Rattle.step_history.specs.History.{listed}
 use Rattle.step_history.specs.Asked.{DiffersFrom, AreApart, AreDrawn, AsksWell}
 use Rattle.step_soundness.specs.Explains.{shown, IsReadable}
 

@@ -14,7 +14,7 @@ use Rattle.suffix_routes.specs.Values.{Config, Route, IsConfig}
 use Rattle.suffix_routes.specs.Routes.{IsRouteOf}
 use Rattle.suffix_routes.proofs.CallerLemmas.{route_found_is_longest, route_at_place_is_route}
 use Rattle.step_history.specs.Asked.{IsServerFor}
-use Rattle.std.specs.Prelude.{slice_get, get_or}
+use Rattle.std.specs.Prelude.{get_or}
 use Rattle.std.proofs.lemmas.Option.{get_or_from_slice_get, slice_get-get_or}
 use Rattle.step_values.specs.declared.event.Client.{Client}
 use Rattle.step_values.specs.declared.event.Client.TheVariants.{Udp as FromUdp, Tcp as FromTcp}

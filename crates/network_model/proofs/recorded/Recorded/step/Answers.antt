@@ -1,4 +1,4 @@
-use Rattle.std.proofs.Common.{◌≡◌, ◌∙◌, ap, sym, subst, [], ◌∷◌, ◌++◌, List}
+use Rattle.std.proofs.Common.{◌∙◌, ap, subst, [], ◌∷◌, ◌++◌, List}
 use Rattle.step_values.specs.Values.{event_of, Handed, Step}
 use Rattle.step_rules.specs.State.{Running}
 use Rattle.step_rules.specs.Row.{Row}
