@@ -1,5 +1,5 @@
-//! Tests of the step and of its runs from outside, of what no contract says: that memory is there, how much a step takes
-//! of it, and what takes none.
+//! Tests of the step and of its runs from outside, of what no contract says: that memory is there, how much of it a
+//! step takes, and what takes none.
 #![tactic(auto)]
 
 #[cfg(test)]

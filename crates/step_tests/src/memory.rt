@@ -1,5 +1,5 @@
-//! Each growth of a step is refused in turn: that step wants memory and changes nothing, and handed again with memory it
-//! does what it should.
+//! Each growth of a step is refused in turn: that step wants memory and changes nothing, and handed again with memory
+//! it does what it should.
 
 use crate::worked::{
     QUERY, QUESTION, WORDS, answer_whole, asked, config, replies, send_alone, sends,

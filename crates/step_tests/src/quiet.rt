@@ -1,5 +1,5 @@
-//! What does nothing takes no memory: of one growth that is allowed, one is left after the step. So a body that copies a
-//! stranger's octets is found even where it bears the refusal in silence.
+//! What does nothing takes no memory: of one growth that is allowed, one is left after the step. So a body that copies
+//! a stranger's octets is found even where it bears the refusal in silence.
 
 use crate::worked::{
     PATH, QUESTION, REPLY, SERVER, WORDS, answer_whole, asked, delivers, replies, sends,
