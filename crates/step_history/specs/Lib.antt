@@ -1,11 +1,13 @@
 pub mod Names
 pub mod Messages
-pub mod History
 pub mod Pieces
+pub mod History
 pub mod Carried
+pub mod Replies
 pub mod Answers
-pub mod Queries
+pub mod Draws
 pub mod Causes
 pub mod Sound
 pub mod Asked
+pub mod Accounting
 pub mod Laws

@@ -5,7 +5,7 @@ use Rattle.dns_message.specs.Values.{Message}
 use Rattle.dns_message.specs.Messages.{message_of, Spells}
 use Rattle.dns_message.specs.Header.{header_in}
 use Rattle.dns_message.proofs.WholeLaws.{of_spelled, spelled_by}
-use Rattle.step_soundness.proofs.QueryText.{header_there}
+use Rattle.step_soundness.proofs.AskText.{header_there}
 
 pub spells_read : (octets : List ℕ) (m : Message) → Spells octets m → message_of octets ≡ Ok m
 spells_read octets m spells = of_spelled octets m spells

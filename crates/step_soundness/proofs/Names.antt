@@ -58,3 +58,9 @@ same_question-sym a b e =
 -- a test that is told by the fact is this test
 pub told_same_name : (r : Bool) (a b : List (List ℕ)) → (r ≡ true → IsSame a b) × (IsSame a b → r ≡ true) → r ≡ same_name a b
 told_same_name r a b tells = told r (same_name a b) tells (same_decides a b)
+
+pub same_question-trans : (a b q : Question) → same_question a b ≡ true → same_question b q ≡ true → same_question a q ≡ true
+same_question-trans a b q one two =
+    let first = (same_question_decides a b).0 one in
+    let second = (same_question_decides b q).0 two in
+    (same_question_decides a q).1 (record { name = first.name ∙ second.name; kind = first.kind ∙ second.kind; class = first.class ∙ second.class })
