@@ -17,3 +17,4 @@ pub mod Times
 pub mod Deliveries
 pub mod Theorem
 pub mod Runs
+pub mod CallerLemmas
