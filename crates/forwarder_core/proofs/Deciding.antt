@@ -14,7 +14,8 @@ use Rattle.reply_match.specs.declared.verdict.Verdict.TheVariants.{Stranger, Who
 use Rattle.outstanding.specs.declared.ask.Path.{Path}
 use Rattle.step_values.specs.declared.action.Why.{Why}
 use Rattle.step_values.specs.declared.action.Why.TheVariants.{Deadline}
-use Rattle.step_values.specs.Values.{Event, Action, Outcome}
+use Rattle.step_values.specs.declared.action.Action.{Action as OwnedAction}
+use Rattle.step_values.specs.Values.{Event, Action, action_of, actions_of, Outcome}
 use Rattle.step_history.specs.Pieces.{Held}
 use Rattle.step_rules.specs.State.{Waiting, State}
 use Rattle.outstanding.specs.Lists.{on_path as ask_on, without_path}
@@ -25,8 +26,13 @@ use Rattle.reply_match.specs.Verdicts.{judge}
 use Rattle.forwarder_core.specs.declared.next.Preferred.{Preferred}
 use Rattle.forwarder_core.specs.declared.next.Change.TheVariants.{Nothing, Join, Close, AskAgain, Expire}
 use Rattle.forwarder_core.specs.declared.next.Next.{Next}
-use Rattle.forwarder_core.specs.Next.{left_waiting, with_preferred, changed, next_of, CanChange, IsDecided, IsDecidedQuietly, IsOutcome, with_reply, with_replies}
+use Rattle.forwarder_core.specs.Next.{left_waiting, with_preferred, without_closed, closed_path, closing_path, changed, next_of, CanChange, IsDecided, IsDecidedQuietly, IsOutcome, with_reply, with_replies}
 use Rattle.step_soundness.proofs.CallerLemmas.{ask_on-is, append_nil}
+
+-- one more action
+pub pushed : (A : Type 0) (owned : List (OwnedAction A)) (last : OwnedAction A) (actions : List Action) (action : Action) → actions_of owned ≡ actions → action_of last ≡ action → actions_of (owned ++ last ∷ []) ≡ actions ++ action ∷ []
+pushed A [] last actions action are is = (λ i. is i ∷ []) ∙ ap (λ ys. ys ++ action ∷ []) are
+pushed A (a ∷ owned) last actions action are is = ap (λ ys. action_of a ∷ ys) (pushed A owned last (actions_of owned) action refl is) ∙ ap (λ ys. ys ++ action ∷ []) are
 
 -- ---- closing an ask
 
@@ -59,9 +65,9 @@ always (a ∷ xs) = (tt, always xs)
 no_more : (n : ℕ) → n ≡ n + 0
 no_more n = omega arith
 
-pub closed_is : {A : Type 0} (n : ℕ) (path : Path) (s : State) (a : Ask) (fate : Waiting → Fate) (preferred : Option Preferred) (actions : List Action) → ask_on path s.asks ≡ Some a → actions ≡ with_replies fate (closes a.path ∷ []) s.waiting → Frees a.question fate
+pub closed_is : (A : Type 0) (n : ℕ) (path : Path) (s : State) (a : Ask) (fate : Waiting → Fate) (preferred : Option Preferred) (actions : List Action) → ask_on path s.asks ≡ Some a → actions ≡ with_replies fate (closes a.path ∷ []) s.waiting → Frees a.question fate
     → record { actions = actions; state = changed {A = A} n s (Close path preferred) } ≡ closing_step n a fate None (record s { preferred = with_preferred preferred s.preferred })
-closed_is {A} n path s a fate preferred actions on told frees = λ i. record {
+closed_is A n path s a fate preferred actions on told frees = λ i. record {
   actions = actions_are i;
   state = record { asks = asks_are i; waiting = waiting_is i; preferred = with_preferred preferred s.preferred; moment = n; tcp_asks = no_more s.tcp_asks i };
 }
@@ -98,10 +104,10 @@ all_wait : (xs : List Waiting) → still_waiting (map (λ x. waits x) xs) ≡ xs
 all_wait [] = refl
 all_wait (x ∷ xs) = ap (λ ys. x ∷ ys) (all_wait xs)
 
-pub again_is : {A : Type 0} (n : ℕ) (path : Path) (s : State) (a next : Ask) → ask_on path s.asks ≡ Some a
+pub again_is : (n : ℕ) (path : Path) (s : State) (a next : Ask) → ask_on path s.asks ≡ Some a
     → (after : State) → after ≡ record s { asks = without_path path s.asks ++ next ∷ []; moment = n; tcp_asks = s.tcp_asks + Rattle.step_rules.specs.Row.tcp_count (Some next) }
     → record { actions = closes a.path ∷ asks next ∷ []; state = after } ≡ closing_step n a (λ x. waits x) (Some next) s
-again_is {A} n path s a next on after is = λ i. record { actions = closes a.path ∷ (sym (all_silent s.waiting) i ++ asks next ∷ []); state = after_is i }
+again_is n path s a next on after is = λ i. record { actions = closes a.path ∷ (sym (all_silent s.waiting) i ++ asks next ∷ []); state = after_is i }
   where
     path_is : a.path ≡ path
     path_is = (ask_on-is (λ b. Unit {0}) path s.asks a on (always s.asks)).0
@@ -109,28 +115,39 @@ again_is {A} n path s a next on after is = λ i. record { actions = closes a.pat
     after_is : after ≡ (closing_step n a (λ x. waits x) (Some next) s).state
     after_is = is ∙ (λ i. record { asks = without_path (sym path_is i) s.asks ++ next ∷ []; waiting = sym (all_wait s.waiting) i; preferred = s.preferred; moment = n; tcp_asks = s.tcp_asks + Rattle.step_rules.specs.Row.tcp_count (Some next) })
 
+pub again_row : (A : Type 0) (n : ℕ) (path : Path) (s : State) (a next : Ask) (actions : List Action) → ask_on path s.asks ≡ Some a → actions ≡ closes a.path ∷ asks next ∷ []
+    → record { actions = actions; state = changed {A = A} n s (AskAgain path next) } ≡ closing_step n a (λ x. waits x) (Some next) s
+again_row A n path s a next actions on told = (λ i. record { actions = told i; state = changed {A = A} n s (AskAgain path next) }) ∙ again_is n path s a next on (changed {A = A} n s (AskAgain path next)) refl
+
 -- ---- a question that waits, and one that waits no more
 
 pub joined_is : (n : ℕ) (s : State) (x : Waiting) → record { actions = []; state = record s { waiting = s.waiting ++ x ∷ []; moment = n } } ≡ taking_step n x None s
 joined_is n s x = λ i. record { actions = []; state = record { asks = sym (append_nil s.asks) i; waiting = s.waiting ++ x ∷ []; preferred = s.preferred; moment = n; tcp_asks = no_more s.tcp_asks i } }
 
-abbrev pub closed_path : Option Ask → Option Path
-closed_path None = None
-closed_path (Some a) = Some a.path
-
-pub expired_is : {A : Type 0} (n : ℕ) (s : State) (x : Waiting) (others : List Waiting) (alone : Option Ask) → s.waiting ≡ x ∷ others
+pub expired_is : (A : Type 0) (n : ℕ) (s : State) (x : Waiting) (others : List Waiting) (alone : Option Ask) → s.waiting ≡ x ∷ others
     → record { actions = closing alone ++ gives_up Deadline x ∷ []; state = changed {A = A} n s (Expire (closed_path alone)) } ≡ expiry_step n x others alone s
-expired_is {A} n s x others alone first = λ i. record {
+expired_is A n s x others alone first = λ i. record {
   actions = closing alone ++ (gives_up Deadline x ∷ (sym (all_silent others) i ++ []));
   state = record { asks = asks_are alone i; waiting = waiting_is i; preferred = s.preferred; moment = n; tcp_asks = no_more s.tcp_asks i };
 }
   where
-    asks_are : (o : Option Ask) → Rattle.forwarder_core.specs.Next.without_closed (closed_path o) s.asks ≡ Rattle.step_rules.specs.Row.without_ask o s.asks ++ []
+    asks_are : (o : Option Ask) → without_closed (closed_path o) s.asks ≡ Rattle.step_rules.specs.Row.without_ask o s.asks ++ []
     asks_are None = sym (append_nil s.asks)
     asks_are (Some a) = sym (append_nil (without_path a.path s.asks))
 
     waiting_is : drop 1 s.waiting ≡ still_waiting (map (λ y. waits y) others)
     waiting_is = ap (drop 1) first ∙ sym (all_wait others)
+
+closing_is : (alone : Option Ask) → closing_path (closed_path alone) ≡ closing alone
+closing_is None = refl
+closing_is (Some a) = refl
+
+pub expired_row : (A : Type 0) (n : ℕ) (s : State) (x : Waiting) (others : List Waiting) (alone : Option Ask) (closed : Option Path) (actions : List Action) → s.waiting ≡ x ∷ others → closed ≡ closed_path alone → actions ≡ closing_path closed ++ gives_up Deadline x ∷ []
+    → record { actions = actions; state = changed {A = A} n s (Expire closed) } ≡ expiry_step n x others alone s
+expired_row A n s x others alone closed actions first is told = (λ i. record { actions = are i; state = changed {A = A} n s (Expire (is i)) }) ∙ expired_is A n s x others alone first
+  where
+    are : actions ≡ closing alone ++ gives_up Deadline x ∷ []
+    are = told ∙ ap (λ (p : Option Path). closing_path p ++ gives_up Deadline x ∷ []) is ∙ ap (λ (ys : List Action). ys ++ gives_up Deadline x ∷ []) (closing_is alone)
 
 -- ---- what was decided
 

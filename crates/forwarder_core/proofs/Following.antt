@@ -16,9 +16,14 @@ use Rattle.outstanding.proofs.Retries.{next_begins}
 use Rattle.step_history.specs.History.{is_tcp}
 use Rattle.step_history.specs.Draws.{drawn_by_tcp}
 use Rattle.step_rules.specs.State.{State, Waiting}
-use Rattle.step_rules.specs.Attempts.{peer_at, over_udp, over_tcp, ask_by, freed_by, first_ask, preferred_on}
+use Rattle.step_rules.specs.Attempts.{peer_at, over_udp, over_tcp, ask_by, freed_by, plan_of, first_ask, preferred_on}
 use Rattle.step_soundness.specs.Explains.{IsBelow}
-use Rattle.step_soundness.proofs.CallerLemmas.{IsAskBy, ask_by-some, udp-some, tcp-some, IsFresh, drawn_fresh, free_now, free_then, none_above, IsNumbered, drawn_numbered, without_shorter, still_earlier, All-weaker, All-filter}
+use Rattle.step_soundness.proofs.CallerLemmas.{IsAskBy, ask_by-some, udp-some, tcp-some, IsFresh, drawn_fresh, free_now, free_then, none_above, IsNumbered, drawn_numbered, without_shorter, still_earlier, ask_on-is, All-weaker, All-filter}
+use Rattle.retry_failover.specs.declared.Plan.{Plan}
+use Rattle.retry_failover.specs.declared.Failure.{Failure}
+use Rattle.retry_failover.specs.declared.Next.{Next}
+use Rattle.retry_failover.specs.declared.Next.TheVariants.{AskUdp, AskTcp, GiveUp}
+use Rattle.retry_failover.specs.Table.{row, after_failure}
 use Rattle.forwarder_core.specs.Kept.{IsKeptAsk, IsKept}
 use Rattle.forwarder_core.specs.Next.{tcp_count_of, CanFollow}
 
@@ -30,9 +35,9 @@ below c m k asks all = All-weaker (IsKeptAsk c m k) (λ a. IsBelow k a.path) (λ
 
 -- ---- the first ask
 
-pub first_follows : (c : Config) (n : ℕ) (words : List ℕ) (q : Question) (route : ℕ) (s : State) (i : Inquiries) (preferred : List ℕ) (a : Ask) → IsKept c i s.waiting preferred s.moment s.tcp_asks → i.asks ≡ s.asks → s.tcp_asks < 2 ^ 64
+pub first_follows : (c : Config) (n : ℕ) (words : List ℕ) (q : Question) (route : ℕ) (s : State) (i : Inquiries) (preferred : List ℕ) (a : Ask) → IsKept c i s.waiting preferred s.moment s.tcp_asks → i.asks ≡ s.asks
     → AreListed (record { capacity = c.limits.inquiries; asks = s.asks }) → s.moment ≤ n → n ≤ 2 ^ 62 → of_question q s.asks ≡ None → length s.asks < c.limits.inquiries → Some a ≡ first_ask c n words q route s → CanFollow c n s s.asks a
-first_follows c n words q route s i preferred a kept asks_are count are later small new room is = record {
+first_follows c n words q route s i preferred a kept asks_are are later small new room is = record {
   begins = record {
     path = ap (λ (p : Path). ask_on p s.asks) draw.1 ∙ free_now draw.0 s.asks fresh.free;
     question = ap (λ (z : Question). of_question z s.asks) facts.question ∙ new;
@@ -46,7 +51,7 @@ first_follows c n words q route s i preferred a kept asks_are count are later sm
     tries = let used : a.used ≡ 1 = facts.used_is in let least = kept.config.limits.tries.0 in omega (arith, used, least);
     path = subst (IsBelow (s.tcp_asks + tcp_count_of a.path)) (sym draw.1) tt;
   };
-  counted = subst (λ (p : Path). s.tcp_asks + tcp_count_of p < 2 ^ 64) (sym draw.1) (omega (arith, count));
+  counted = subst (λ (p : Path). s.tcp_asks + tcp_count_of p < 2 ^ 64) (sym draw.1) (let count = kept.counted in omega (arith, count));
 }
   where
     kept_asks : AllByRecursion (IsKeptAsk c s.moment s.tcp_asks) s.asks
@@ -124,3 +129,39 @@ kept_of c m k path asks a on all = (Rattle.step_soundness.proofs.CallerLemmas.as
 
 pub server_within : (c : Config) (m k : ℕ) (path : Path) (asks : List Ask) (a : Ask) → ask_on path asks ≡ Some a → AllByRecursion (IsKeptAsk c m k) asks → a.server < length (Rattle.step_rules.specs.Attempts.servers_in (Rattle.step_rules.specs.Attempts.group_of c a.route))
 server_within c m k path asks a on all = Rattle.step_soundness.proofs.CallerLemmas.peer_within c a.route a.server a.peer (kept_of c m k path asks a on all).server
+
+-- the listed asks, with the room of the configuration
+pub listed_within : (c : Config) (i : Inquiries) (ws : List Waiting) (ps : List ℕ) (m k : ℕ) → IsKept c i ws ps m k → AreListed i → AreListed (record { capacity = c.limits.inquiries; asks = i.asks })
+listed_within c i ws ps m k kept are = subst (λ (n : ℕ). AreListed (record { capacity = n; asks = i.asks })) kept.capacity are
+
+-- where another ask comes next, a try is left for it
+pub left_for : (plan : Plan) (f : Failure) → (after_failure plan f ≡ GiveUp → ⊥) → plan.used ≤ plan.tries → plan.used + 1 ≤ plan.tries
+left_for plan f goes_on le = by (plan.used == plan.tries) refl
+  where
+    by : (b : Bool) → (plan.used == plan.tries) ≡ b → plan.used + 1 ≤ plan.tries
+    by true t = absurd (goes_on (ap (λ (b : Bool). row b plan.tcp f plan) t))
+    by false e = let other = eqb-false plan.used plan.tries e in omega (arith, other, le)
+
+pub udp_goes_on : (r : Next) (server : ℕ) → r ≡ AskUdp server → r ≡ GiveUp → ⊥
+udp_goes_on r server e gives = let bad : GiveUp ≡ AskUdp server = sym gives ∙ e in absurd (cc)
+
+pub tcp_goes_on : (r : Next) (server : ℕ) → r ≡ AskTcp server → r ≡ GiveUp → ⊥
+tcp_goes_on r server e gives = let bad : GiveUp ≡ AskTcp server = sym gives ∙ e in absurd (cc)
+
+-- ---- the same, of what is kept
+
+pub more_left : (c : Config) (i : Inquiries) (ws : List Waiting) (ps : List ℕ) (m k : ℕ) (path : Path) (a : Ask) (f : Failure) → IsKept c i ws ps m k → ask_on path i.asks ≡ Some a → (after_failure (plan_of c a) f ≡ GiveUp → ⊥) → a.used + 1 ≤ c.limits.tries
+more_left c i ws ps m k path a f kept on goes_on = left_for (plan_of c a) f goes_on (kept_of c m k path i.asks a on kept.asks).tries
+
+module _ (c : Config) (i : Inquiries) (ws : List Waiting) (ps : List ℕ) (m k n : ℕ) (words : List ℕ) (path : Path) (a : Ask) (f : Failure) (kept : IsKept c i ws ps m k) (are : AreListed i) (later : m ≤ n) (small : n ≤ 2 ^ 62) (on : ask_on path i.asks ≡ Some a) where
+  abbrev here : State
+  here = record { asks = i.asks; waiting = ws; preferred = ps; moment = m; tcp_asks = k }
+
+  path_is : a.path ≡ path
+  path_is = (ask_on-is (IsKeptAsk c m k) path i.asks a on kept.asks).0
+
+  pub next_by_udp : (server : ℕ) → after_failure (plan_of c a) f ≡ AskUdp server → (next : Ask) → ask_by n a.question a.route server (a.used + 1) (peer_at c a.route server) (over_udp (udp_draw words i.asks (freed_by a.path))) ≡ Some next → CanFollow c n here (without_path path i.asks) next
+  next_by_udp server goes next is = udp_follows c n words path a here kept.asks (listed_within c i ws ps m k kept are) later small on path_is (more_left c i ws ps m k path a f kept on (udp_goes_on (after_failure (plan_of c a) f) server goes)) kept.counted next server is
+
+  pub next_by_tcp : (server : ℕ) → after_failure (plan_of c a) f ≡ AskTcp server → (next : Ask) → ask_by n a.question a.route server (a.used + 1) (peer_at c a.route server) (over_tcp (drawn_by_tcp words k)) ≡ Some next → CanFollow c n here (without_path path i.asks) next
+  next_by_tcp server goes next is = tcp_follows c n words path a here kept.asks (listed_within c i ws ps m k kept are) later small on path_is (more_left c i ws ps m k path a f kept on (tcp_goes_on (after_failure (plan_of c a) f) server goes)) kept.counted next server is

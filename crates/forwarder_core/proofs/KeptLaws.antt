@@ -1,8 +1,9 @@
 -- What a forwarder keeps still holds after each change.
-use Rattle.std.proofs.Common.{◌≡◌, ℕ, zero, suc, ◌+◌, ◌^◌, ◌<◌, ◌≤◌, List, [], ◌∷◌, ◌++◌, length, Bool, true, false, cond, refl, sym, ap, ◌∙◌, subst, arith, Option, Some, None}
+use Rattle.std.proofs.Common.{Vec, ◌≡◌, ℕ, zero, suc, ◌+◌, ◌^◌, ◌<◌, ◌≤◌, List, [], ◌∷◌, ◌++◌, length, Bool, true, false, cond, refl, sym, ap, ◌∙◌, subst, arith, Option, Some, None}
 use Rattle.std.specs.Prelude.{filter, not, take, drop, map, slice_set, slice_get, nat_le, ◌||◌}
 use Rattle.std.specs.List.{AllByRecursion, list_any}
-use Rattle.std.proofs.lemmas.List.{length-append}
+use Rattle.std.proofs.lemmas.List.{length-append, with_items_is}
+use Rattle.std.specs.Vec.{with_items}
 use Rattle.std.proofs.lemmas.Bool.{cond_both, cond-true, cond-false, leb-true, le-leb, cases_Bool, leb-false}
 use Rattle.suffix_routes.specs.Values.{Config, Route, IsConfig}
 use Rattle.outstanding.specs.declared.ask.Path.{Path}
@@ -63,6 +64,7 @@ kept_later c i ws ps m n k kept le small = record {
   taken = later_taken m n ws le kept.taken;
   places = kept.places;
   in_time = small;
+  counted = kept.counted;
 }
 
 -- one question more
@@ -76,12 +78,13 @@ kept_joined c i ws ws' ps m n k x kept le small room at is = subst (λ (xs : Lis
   taken = All-append (λ (y : Waiting). y.taken ≤ n) ws (x ∷ []) (later_taken m n ws le kept.taken) (omega (arith, at), tt);
   places = kept.places;
   in_time = small;
+  counted = kept.counted;
 })
 
 -- one ask more
-pub kept_asked : (c : Config) (i i' : Inquiries) (ws : List Waiting) (ps : List ℕ) (m n k j : ℕ) (listed : List Ask) (a : Ask) → IsKept c i ws ps m k → m ≤ n → n ≤ 2 ^ 62 → AllByRecursion (IsKeptAsk c m k) listed → IsKeptAsk c n (k + j) a
+pub kept_asked : (c : Config) (i i' : Inquiries) (ws : List Waiting) (ps : List ℕ) (m n k j : ℕ) (listed : List Ask) (a : Ask) → IsKept c i ws ps m k → m ≤ n → n ≤ 2 ^ 62 → AllByRecursion (IsKeptAsk c m k) listed → IsKeptAsk c n (k + j) a → k + j < 2 ^ 64
     → i' ≡ record i { asks = listed ++ a ∷ [] } → IsKept c i' ws ps n (k + j)
-kept_asked c i i' ws ps m n k j listed a kept le small all one is = subst (λ (q : Inquiries). IsKept c q ws ps n (k + j)) (sym is) (record {
+kept_asked c i i' ws ps m n k j listed a kept le small all one fits is = subst (λ (q : Inquiries). IsKept c q ws ps n (k + j)) (sym is) (record {
   config = kept.config;
   capacity = kept.capacity;
   asks = All-append (IsKeptAsk c n (k + j)) listed (a ∷ []) (later_asks c m n k j listed le all) (one, tt);
@@ -90,6 +93,7 @@ kept_asked c i i' ws ps m n k j listed a kept le small all one is = subst (λ (q
   taken = later_taken m n ws le kept.taken;
   places = kept.places;
   in_time = small;
+  counted = fits;
 })
 
 pub kept_rest : (c : Config) (m k : ℕ) (path : Path) (asks : List Ask) → AllByRecursion (IsKeptAsk c m k) asks → AllByRecursion (IsKeptAsk c m k) (without_path path asks)
@@ -106,6 +110,7 @@ kept_without c i i' ws ps m k closed kept is = subst (λ (q : Inquiries). IsKept
   taken = kept.taken;
   places = kept.places;
   in_time = kept.in_time;
+  counted = kept.counted;
 })
   where
     by : (o : Option Path) → AllByRecursion (IsKeptAsk c m k) (without_closed o i.asks)
@@ -127,6 +132,7 @@ kept_left c i ws ws' ps m k r kept is = subst (λ (xs : List Waiting). IsKept c 
       taken = All-filter (λ (x : Waiting). x.taken ≤ m) (λ x. not (waits_for a.question x)) ws kept.taken;
       places = kept.places;
       in_time = kept.in_time;
+      counted = kept.counted;
     }
 
 pub kept_dropped : (c : Config) (i : Inquiries) (ws ws' : List Waiting) (ps : List ℕ) (m k : ℕ) → IsKept c i ws ps m k → ws' ≡ drop 1 ws → IsKept c i ws' ps m k
@@ -140,6 +146,7 @@ kept_dropped c i (x ∷ ws) ws' ps m k kept is = subst (λ (xs : List Waiting). 
   taken = kept.taken.1;
   places = kept.places;
   in_time = kept.in_time;
+  counted = kept.counted;
 })
 
 -- another server is preferred
@@ -157,6 +164,7 @@ kept_preferred c i ws ps ps' m k preferred kept served is = subst (λ (qs : List
       taken = kept.taken;
       places = preferred_put c.routes ps p.route p.server kept.places (λ r there. subst (λ (o : Option Route). p.server < length (servers_in o)) there h);
       in_time = kept.in_time;
+      counted = kept.counted;
     }
 
 -- a new forwarder
@@ -171,6 +179,7 @@ kept_first c i ws ps config is none places =
       taken = tt;
       places = subst (ArePreferred c.routes) (sym places) (preferred_first c.routes config.each);
       in_time = omega arith;
+      counted = omega arith;
     }))
 
 -- ---- what is due: the first of each list tells
@@ -189,6 +198,9 @@ first_due d n x xs turn = by (nat_le (x.taken + d) n) refl
     by : (b : Bool) → nat_le (x.taken + d) n ≡ b → nat_le (x.taken + d) n ≡ (nat_le (x.taken + d) n || list_any (λ (y : Waiting). nat_le (y.taken + d) n) xs)
     by true t = t ∙ sym (ap (λ v. v || list_any (λ (y : Waiting). nat_le (y.taken + d) n) xs) t)
     by false f = f ∙ sym (ap (λ v. v || list_any (λ (y : Waiting). nat_le (y.taken + d) n) xs) f ∙ none_due d n x xs turn.0 f)
+
+pub oldest_due : (d n : ℕ) (x : Waiting) (xs ws : List Waiting) → ws ≡ x ∷ xs → AreTakenInTurn ws → nat_le (x.taken + d) n ≡ list_any (λ (y : Waiting). nat_le (y.taken + d) n) ws
+oldest_due d n x xs ws is turn = first_due d n x xs (subst AreTakenInTurn is turn) ∙ sym (ap (λ (ys : List Waiting). list_any (λ (y : Waiting). nat_le (y.taken + d) n) ys) is)
 
 none_late : (d n : ℕ) (a : Ask) (asks : List Ask) → AllByRecursion (Follows a) asks → nat_le (a.asked + d) n ≡ false → list_any (λ (b : Ask). nat_le (b.asked + d) n) asks ≡ false
 none_late d n a [] all f = refl
@@ -211,7 +223,7 @@ oldest_late d n a (b ∷ asks) there turn = let same : b ≡ a = cc in subst (λ
 
 -- ---- places
 
-pub zeros_as : (routes : List Route) (places : List ℕ) → ArePreferred routes places → map (λ (p : ℕ). 0) places ≡ map (λ (r : Route). 0) routes
+pub zeros_as : (routes : List Route) (places : List ℕ) → ArePreferred routes places → map {B = ℕ} (λ (p : ℕ). 0) places ≡ map {B = ℕ} (λ (r : Route). 0) routes
 zeros_as [] [] are = refl
 zeros_as [] (p ∷ places) are = absurd are
 zeros_as (r ∷ routes) [] are = absurd are
@@ -222,7 +234,31 @@ set_past [] i v le = refl
 set_past (x ∷ xs) zero v le = absurd (omega (arith, le))
 set_past (x ∷ xs) (suc i) v le = ap (λ ys. x ∷ ys) (set_past xs i v (omega (arith, le)))
 
-pub zeros_more : (xs : List ℕ) (i : ℕ) → i < length xs → slice_set (map (λ (p : ℕ). 0) (take i xs) ++ drop i xs) i 0 ≡ map (λ (p : ℕ). 0) (take (suc i) xs) ++ drop (suc i) xs
+zeros_more : (xs : List ℕ) (i : ℕ) → i < length xs → slice_set (map {B = ℕ} (λ (p : ℕ). 0) (take i xs) ++ drop i xs) i 0 ≡ map {B = ℕ} (λ (p : ℕ). 0) (take (suc i) xs) ++ drop (suc i) xs
 zeros_more [] i lt = absurd (omega (arith, lt))
 zeros_more (x ∷ xs) zero lt = refl
 zeros_more (x ∷ xs) (suc i) lt = ap (λ ys. 0 ∷ ys) (zeros_more xs i (omega (arith, lt)))
+
+pub zeros_step : (xs ys : List ℕ) (i : ℕ) → ys ≡ map {B = ℕ} (λ (p : ℕ). 0) (take i xs) ++ drop i xs → i < length xs → slice_set ys i 0 ≡ map {B = ℕ} (λ (p : ℕ). 0) (take (i + 1) xs) ++ drop (i + 1) xs
+zeros_step xs ys i is lt = ap (λ (zs : List ℕ). slice_set zs i 0) is ∙ zeros_more xs i lt ∙ ap (λ (n : ℕ). map {B = ℕ} (λ (p : ℕ). 0) (take n xs) ++ drop n xs) (let next : suc i ≡ i + 1 = omega arith in next)
+
+set_length : (xs : List ℕ) (i v : ℕ) → length (slice_set xs i v) ≡ length xs
+set_length [] i v = refl
+set_length (x ∷ xs) zero v = refl
+set_length (x ∷ xs) (suc i) v = let rest = set_length xs i v in omega (arith, rest)
+
+pub preferred_length : (o : Option Preferred) (ps : List ℕ) → length (with_preferred o ps) ≡ length ps
+preferred_length None ps = refl
+preferred_length (Some p) ps = set_length ps p.route p.server
+
+-- as many elements, put back into their vector
+pub put_back : {Z : Type 0} (v : Vec ℕ Z) (ws ws' : List ℕ) → ws ≡ ws' → length ws' ≡ length v.items → (with_items v ws).items ≡ ws'
+put_back v ws ws' is same = with_items_is v ws (ap (λ (xs : List ℕ). length xs) is ∙ same ∙ sym v.ok.0) ∙ is
+
+-- no asks, with this much room
+pub room_is : (i : Inquiries) (m n : ℕ) → i ≡ record { capacity = m; asks = [] } → m ≡ n → i ≡ record { capacity = n; asks = [] }
+room_is i m n is same = subst (λ (k : ℕ). i ≡ record { capacity = k; asks = [] }) same is
+
+pub none_of : (xs : List Waiting) → length xs ≡ 0 → xs ≡ []
+none_of [] e = refl
+none_of (x ∷ xs) e = absurd (omega (arith, e))

@@ -1,5 +1,5 @@
 -- What holds of a forwarder without any history.
-use Rattle.std.specs.Prelude.{◌≡◌, ℕ, ◌^◌, ◌≤◌, List, [], ◌∷◌, length, Some}
+use Rattle.std.specs.Prelude.{◌≡◌, ℕ, ◌^◌, ◌<◌, ◌≤◌, List, [], ◌∷◌, length, Some}
 use Rattle.std.specs.List.{AllByRecursion}
 use Rattle.suffix_routes.specs.Values.{Config, IsConfig}
 use Rattle.outstanding.specs.Values.{Ask, Inquiries}
@@ -29,3 +29,4 @@ pub record IsKept (c : Config) (inquiries : Inquiries) (waiting : List Waiting) 
   pub taken : AllByRecursion (λ x. x.taken ≤ moment) waiting
   pub places : ArePreferred c.routes preferred
   pub in_time : moment ≤ 2 ^ 62
+  pub counted : count < 2 ^ 64

@@ -11,7 +11,7 @@ use Rattle.step_values.specs.Values.{Event, restart, Action, actions_of, Outcome
 use Rattle.step_rules.specs.State.{Waiting, State}
 use Rattle.outstanding.specs.Lists.{on_path as ask_on, of_question, without_path, MayBegin}
 use Rattle.outstanding.specs.Values.{Ask}
-use Rattle.step_rules.specs.Row.{Done, Fate, reply_in, waits_for, is_due_at, Happens}
+use Rattle.step_rules.specs.Row.{Done, Fate, closes, reply_in, waits_for, is_due_at, Happens}
 use Rattle.step_history.specs.History.{is_tcp}
 use Rattle.forwarder_core.specs.Kept.{IsKeptAsk}
 
@@ -31,6 +31,15 @@ with_preferred (Some p) places = slice_set places p.route p.server
 abbrev pub without_closed : Option Path → List Ask → List Ask
 without_closed None listed = listed
 without_closed (Some path) listed = without_path path listed
+
+abbrev pub closed_path : Option Ask → Option Path
+closed_path None = None
+closed_path (Some a) = Some a.path
+
+-- a path that is given up, where there is one
+abbrev pub closing_path : Option Path → List Action
+closing_path None = []
+closing_path (Some path) = closes path ∷ []
 
 abbrev pub changed : {A : Type 0} → ℕ → State → Change A → State
 changed n s Nothing = record s { moment = n }

@@ -1,10 +1,10 @@
 //! What is looked up in a configuration and in the lists of a forwarder.
 
-ghost use Rattle.std.specs.Prelude.{◌≡◌, ◌<◌, ◌+◌, ◌∷◌, ◌++◌, [], length, nat_lt, nat_le, not, filter, OnOk, OnErr};
+ghost use Rattle.std.specs.Prelude.{◌≡◌, ◌<◌, ◌+◌, ◌∷◌, ◌++◌, [], length, nat_lt, nat_le, not, drop, filter, OnOk, OnErr};
 ghost use Rattle.std.specs.List.{list_any};
 ghost use Rattle.outstanding.specs.Lists.{MayBegin, on_path as ask_on, without_path};
 ghost use Rattle.step_rules.specs.Row.{waits_for, timeout_of, deadline_of};
-ghost use Rattle.forwarder_core.specs.Next.{left_waiting};
+ghost use Rattle.forwarder_core.specs.Next.{left_waiting, without_closed};
 
 use crate::replies::is_waiting_for;
 use crate::state::Waiting;
@@ -49,6 +49,24 @@ fn drop_waiting<A: Allocator>(waiting: &mut Vec<Waiting<A>, A>, question: &Quest
     ensures { waiting.new.items ≡ filter (λ x. not (waits_for question.now x)) waiting.old.items }
 {
     waiting.retain(|x| !is_waiting_for(question, x));
+}
+
+/// Ends the ask on a path, where there is one.
+pub(crate) fn end_closed<A: Allocator>(inquiries: &mut Inquiries<A>, closed: Option<Path>)
+    ensures { inquiries.new ≡ record inquiries.old { asks = without_closed closed inquiries.old.asks } }
+{
+    if let Some(path) = closed {
+        let _ended = inquiries.end(path);
+    }
+}
+
+/// The oldest question waits no more.
+pub(crate) fn drop_first<A: Allocator>(waiting: &mut Vec<Waiting<A>, A>)
+    ensures { waiting.new.items ≡ drop 1 waiting.old.items }
+{
+    if !waiting.is_empty() {
+        let _expired = waiting.remove(0);
+    }
 }
 
 /// The ask may still be answered.

@@ -3,7 +3,7 @@
 ghost use Rattle.std.specs.Prelude.{◌≡◌, ◌∷◌, [], IfOk};
 ghost use Rattle.step_values.specs.Values.{action_of, actions_of};
 ghost use Rattle.step_rules.specs.Row.{closes, answered, fails, is_given, reply_in, waits_for};
-ghost use Rattle.forwarder_core.specs.Next.{with_reply, with_replies};
+ghost use Rattle.forwarder_core.specs.Next.{closing_path, with_reply, with_replies};
 
 use crate::answers::{answer, failure};
 use crate::sets::RecordSet;
@@ -29,6 +29,20 @@ pub(crate) fn close<A: Allocator>(path: Path) -> Action<A>
         Path::Udp(port) => Action::CloseUdp { port },
         Path::Tcp(conn) => Action::CloseTcp { conn },
     }
+}
+
+/// The actions that give a path up, where there is one.
+pub(crate) fn closes<A: Allocator>(
+    alloc: A,
+    closed: Option<Path>,
+) -> Result<PlainList<Action<A>, A>, AllocError>
+    ensures { IfOk result (λ actions. actions_of actions ≡ closing_path closed) }
+{
+    let mut actions = PlainList::new(alloc);
+    if let Some(path) = closed {
+        actions.push(close(path))?;
+    }
+    Ok(actions)
 }
 
 /// Puts the failure of a question last, where it waits for this one.

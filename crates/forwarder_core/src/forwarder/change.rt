@@ -7,7 +7,7 @@ ghost use Rattle.step_rules.specs.Row.{is_due_at, deadline_of, timeout_of};
 ghost use Rattle.forwarder_core.specs.Next.{tcp_count_of, left_waiting, with_preferred, without_closed, changed, next_of, IsOutcome, CanWait, CanFollow, CanChange, IsServed};
 
 use crate::forwarder::Forwarder;
-use crate::lists::{close, is_late, is_overdue, list};
+use crate::lists::{close, drop_first, end_closed, is_late, is_overdue, list};
 use crate::next::{Change, Next, Preferred};
 use crate::state::Waiting;
 use outstanding::{Ask, Path};
@@ -115,12 +115,8 @@ impl<H: Drop, A: Allocator + Copy> Forwarder<H, A> {
         requires in_time { moment ≤ 2 ^ 62 }
         ensures { self.new ≡ record { config = self.old.config; state = record self.old.state { asks = without_closed closed self.old.state.asks; waiting = drop 1 self.old.state.waiting; moment = moment } } }
     {
-        if let Some(path) = closed {
-            let _ended = self.inquiries.end(path);
-        }
-        if !self.waiting.is_empty() {
-            let _expired = self.waiting.remove(0);
-        }
+        end_closed(&mut self.inquiries, closed);
+        drop_first(&mut self.waiting);
         self.moment = moment;
     }
 

@@ -1,7 +1,7 @@
 //! What a client's message calls for.
 
 ghost use Rattle.std.specs.Prelude.{◌≡◌, ◌^◌, ℕ, ◌<◌, ◌≤◌, false, length, IfOk, Some, None};
-ghost use Rattle.outstanding.specs.Lists.{of_question};
+ghost use Rattle.outstanding.specs.Lists.{of_question, AreListed};
 ghost use Rattle.step_rules.specs.Attempts.{first_ask};
 ghost use Rattle.step_values.specs.Values.{action_of};
 ghost use Rattle.step_history.specs.History.{is_taken};
@@ -139,6 +139,14 @@ impl<H: Drop, A: Allocator + Copy> Forwarder<H, A> {
         new_ask(self.alloc, &self.config, moment, question, attempt, drawn)
     }
 
+    /// How many asks are under way. What holds of the list of them is said here.
+    fn asks_under_way(&self) -> usize
+        ensures count { result ≡ length self.now.state.asks }
+        ensures listed { AreListed (record { capacity = self.now.config.limits.inquiries; asks = self.now.state.asks }) }
+    {
+        self.inquiries.len()
+    }
+
     /// A question of which no ask is listed.
     fn ask_anew(
         &self,
@@ -155,7 +163,7 @@ impl<H: Drop, A: Allocator + Copy> Forwarder<H, A> {
         ensures row { IfOk result (λ next. next_of moment self.now.state next ≡ row_of_new_inquiry self.now.config moment words waiting route self.now.state) }
         ensures fits { IfOk result (λ next. CanChange self.now.config moment self.now.state next.change) }
     {
-        if self.inquiries.len() >= self.config.limits.inquiries {
+        if self.asks_under_way() >= self.config.limits.inquiries {
             let action = failure(self.alloc, &waiting, Why::InquiriesFull)?;
             return self.reply(action);
         }

@@ -3,21 +3,33 @@
 ghost use Rattle.std.specs.Prelude.{◌≡◌, ◌^◌, ◌≤◌, ◌∷◌, false, IfOk, Some, drop, slice_get};
 ghost use Rattle.std.specs.List.{list_any};
 ghost use Rattle.step_rules.specs.Row.{expiry_step, left_alone, attempt, question, row_of_item, row_of_tick, is_due_at, deadline_of, timeout_of};
-ghost use Rattle.forwarder_core.specs.Next.{next_of, IsQuiet, CanChange};
+ghost use Rattle.forwarder_core.specs.Next.{closed_path, next_of, IsQuiet, CanChange};
 
 use crate::answers::failure;
 use crate::forwarder::Forwarder;
 use crate::lists::{comes_first, is_any_waiting_for, is_late, is_overdue};
 use crate::next::{Change, Next};
-use crate::replies::close;
+use crate::replies::closes;
 use crate::state::Waiting;
-use outstanding::Ask;
-use plain_list::PlainList;
+use outstanding::{Ask, Path};
 use retry_failover::Failure;
 use std::alloc::{AllocError, Allocator};
 use step_values::Why;
 
 impl<H: Drop, A: Allocator + Copy> Forwarder<H, A> {
+    /// The path of the question's ask, where no other question waits for it.
+    fn left_alone(&self, oldest: &Waiting<A>, others: &[Waiting<A>]) -> Option<Path>
+        ensures { result ≡ closed_path (left_alone oldest.now.question others.now self.now.state.asks) }
+    {
+        if is_any_waiting_for(&oldest.question, others) {
+            return None;
+        }
+        match self.inquiries.by_question(&oldest.question) {
+            Some(ask) => Some(ask.path),
+            None => None,
+        }
+    }
+
     /// The oldest question has waited as long as it may. With the last one that waits for it, an ask is closed.
     fn expire(
         &self,
@@ -29,14 +41,8 @@ impl<H: Drop, A: Allocator + Copy> Forwarder<H, A> {
         ensures row { IfOk result (λ next. next_of moment self.now.state next ≡ expiry_step moment oldest.now others.now (left_alone oldest.now.question others.now self.now.state.asks) self.now.state) }
         ensures fits { IfOk result (λ next. CanChange self.now.config moment self.now.state next.change) }
     {
-        let mut actions = PlainList::new(self.alloc);
-        let mut closed = None;
-        if !is_any_waiting_for(&oldest.question, others) {
-            if let Some(ask) = self.inquiries.by_question(&oldest.question) {
-                actions.push(close(ask.path))?;
-                closed = Some(ask.path);
-            }
-        }
+        let closed = self.left_alone(oldest, others);
+        let mut actions = closes(self.alloc, closed)?;
         let action = failure(self.alloc, oldest, Why::Deadline)?;
         actions.push(action)?;
         Ok(Next {

@@ -7,6 +7,6 @@ use Rattle.forwarder_core.proofs.forwarder.Forwarder.give_up.Goals as goal
 
 pub returns-clause-row : goal.returns-clause-row
 returns-clause-row g c =
-    closed_is {A = g.row.A.Denot} c.args.moment c.args.path c.args.self.now.state c.args.ask.now (fails c.args.why c.args.ask.now.question) None _ c.requires
+    closed_is g.row.A.Denot c.args.moment c.args.path c.args.self.now.state c.args.ask.now (fails c.args.why c.args.ask.now.question) None _ c.requires
     (c.in_ok-actions.ensures ∙ ap (with_replies (fails c.args.why c.args.ask.now.question) (closes c.args.ask.now.path ∷ [])) (c.deref.ensures.value ∙ ap (λ (r : Running). r.state.waiting) c.self.view_is))
     (fails_frees c.args.why c.args.ask.now.question)

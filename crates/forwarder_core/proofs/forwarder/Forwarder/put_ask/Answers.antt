@@ -1,4 +1,4 @@
-use Rattle.std.proofs.Common.{◌≡◌, ◌∙◌, ℕ, ◌+◌, ◌≤◌, ◌<◌, ◌∷◌, [], ◌++◌, length, sym, ap, subst, List, arith}
+use Rattle.std.proofs.Common.{◌≡◌, ◌∙◌, ℕ, ◌+◌, ◌^◌, ◌≤◌, ◌<◌, ◌∷◌, [], ◌++◌, length, sym, ap, subst, List, arith}
 use Rattle.outstanding.specs.Values.{Ask}
 use Rattle.step_rules.specs.State.{Running, Waiting}
 use Rattle.forwarder_core.specs.Kept.{IsKeptAsk, IsKept}
@@ -14,5 +14,6 @@ invariant_of-self-2 g c =
     (subst (λ (r : Running). length r.state.waiting < r.config.limits.questions) (sym c.self.view_is) c.requires.waits.room) c.requires.waits.taken
     (c.push_reserved.ensures.items ∙ ap (λ (xs : List Waiting). xs ++ c.args.waiting ∷ []) c.in_ok-reserve.ensures.items) in
     subst (λ (k : ℕ). IsKept c.self.inside.config c.list.new.inquiries c.push_reserved.new.self.items c.self.inside.preferred.items c.args.moment k) (sym c.count_tcp-count.ensures)
+    (subst (λ (a : Ask). IsKept c.self.inside.config c.list.new.inquiries c.push_reserved.new.self.items c.self.inside.preferred.items c.args.moment (c.self.inside.tcp_asks + tcp_count_of a.path)) (sym c.ask.view_is)
     (kept_asked c.self.inside.config c.self.inside.inquiries c.list.new.inquiries c.push_reserved.new.self.items c.self.inside.preferred.items c.args.moment c.args.moment c.self.inside.tcp_asks (tcp_count_of c.args.ask.path) c.self.inside.inquiries.asks c.args.ask joined
-    (omega arith) c.requires.in_time joined.asks one c.in_ok-list.ensures.ok)
+    (omega arith) c.requires.in_time joined.asks one (subst (λ (r : Running). r.state.tcp_asks + tcp_count_of c.args.ask.path < 2 ^ 64) (sym c.self.view_is) c.requires.follows.counted) c.in_ok-list.ensures.ok))
