@@ -1,11 +1,12 @@
 -- When labels are a name.
 use Rattle.std.proofs.Common.{◌≡◌, ℕ, ◌+◌, ◌<◌, ◌≤◌, List, [], ◌∷◌, ◌++◌, length, take, drop, get_or, map, Option, Some, None, Result, Ok, Err, refl, sym, ap, ◌∙◌, append_assoc, arith, inl, inr}
 use Rattle.std.proofs.lemmas.Bool.{lt-ltb, le-ltb, cases_lt}
+use Rattle.first_fault.proofs.CallerLemmas.{fault_of_part}
 use Rattle.dns_name.specs.declared.fault.NameFault.{NameFault}
-use Rattle.dns_name.specs.declared.fault.NameFault.TheVariants.{EmptyLabel, LabelLong, NameLong, BadCharacter, Memory}
+use Rattle.dns_name.specs.declared.fault.NameFault.TheVariants.{NameLong}
 use Rattle.std.specs.List.{AllByRecursion}
 use Rattle.dns_name.specs.Labels.{size_of, IsLabel, IsName, labels_of}
-use Rattle.dns_name.specs.Faults.{label_fault, fault_or, first_fault, sized, judged, named, pushed, Fails}
+use Rattle.dns_name.specs.Faults.{label_fault, fault_or, first_fault, sized, judged, named, pushed, wants_memory, Fails}
 use Rattle.dns_name.specs.Text.{written_label_fault, labels_in, name_in}
 use Rattle.std.proofs.Common.{Vec}
 use Rattle.std.proofs.lemmas.List.{take_more, map-append, take-append-drop}
@@ -81,11 +82,8 @@ refused fault_of labels front label rest e parts none fails =
 -- where a label can't be put behind those before it, the labels are no name
 pub refuses : (fault_of : FaultOf) (labels front : List (List ℕ)) (label : List ℕ) (rest : List (List ℕ)) (e : NameFault) → labels ≡ front ++ label ∷ rest → first_fault fault_of labels ≡ None
     → Fails e (pushed front label) → Fails e (judged fault_of labels)
-refuses fault_of labels front label rest EmptyLabel parts none fails = refused fault_of labels front label rest EmptyLabel parts none fails
-refuses fault_of labels front label rest LabelLong parts none fails = refused fault_of labels front label rest LabelLong parts none fails
-refuses fault_of labels front label rest NameLong parts none fails = refused fault_of labels front label rest NameLong parts none fails
-refuses fault_of labels front label rest BadCharacter parts none fails = refused fault_of labels front label rest BadCharacter parts none fails
-refuses fault_of labels front label rest Memory parts none fails = tt
+refuses fault_of labels front label rest e parts none fails =
+    fault_of_part wants_memory e (pushed front label) (judged fault_of labels) (refused fault_of labels front label rest e parts none) fails
 
 -- what pushed gives is short
 pub pushed_gives : (labels new : List (List ℕ)) (label : List ℕ) → pushed labels label ≡ Ok new → (new ≡ labels ++ label ∷ []) × (size_of new ≤ 255)

@@ -7,7 +7,7 @@ use Rattle.std.proofs.lemmas.Bool.{leb-true}
 use Rattle.std.proofs.lemmas.Bool.Decides.{Decides-eqb}
 use Rattle.std.proofs.lemmas.Slice.Eq.{slice_eq-Decides}
 use Rattle.std.specs.Char.{to_ascii_lowercase}
-use Rattle.std.proofs.lemmas.List.{drop_at, drop-map, length-map, length-append, drop-drop, drop_all, take-append-drop}
+use Rattle.std.proofs.lemmas.List.{drop_at, drop-map, length-map, length-append, length-drop, drop-drop, drop_all, take-append-drop}
 use Rattle.dns_name.specs.Labels.{octets_of, size_of, IsName, IsSame, IsUnder, same, is_under, lowered, labels_of, IsLaidOut}
 use Rattle.dns_name.proofs.LabelLaws.{labels_of-octets_of, laid_out, same_under, size_of-lowered, size_of-append, size_of-some}
 use Rattle.dns_name.proofs.KeyOf.{lowered_twice, name-lowered}
@@ -83,6 +83,14 @@ under_trans a b c ab bc =
       last = rw cut (rw drop-drop at last ∙ second.last);
     })
 
+-- an end of a name that is under a suffix is under it, as long as it has the suffix's labels
+pub end_under : (k : ℕ) (n s : List (List ℕ)) → k + length s ≤ length n → IsUnder n s → IsUnder (drop k n) s
+end_under k n s long under =
+    let ends = under_ends n s under in
+    let shorter : length (drop k n) ≡ length n - k = length-drop k n in
+    let left : k + (length (drop k n) - length s) ≡ length n - length s = omega (arith, shorter, long, ends.fewer) in
+    ends_under (drop k n) s (record { fewer = omega (arith, shorter, long); last = rw (drop-drop, left) ends.last })
+
 -- of suffixes with equally many labels there is one alone
 pub under_count : (n s t : List (List ℕ)) → IsUnder n s → IsUnder n t → length s ≡ length t → IsSame s t
 under_count n s t ns nt count =
@@ -128,6 +136,23 @@ is_under_decides n s =
           let ends = under_ends n s under in
           rw (le-leb (length s) (length n) ends.fewer, last.1 ends.last) refl,
     )
+
+-- tests that decide facts of which each follows from the other are equal
+pub equal_tests : {P Q : Type 0} (a b : Bool) → Decides a P → Decides b Q → (P → Q) → (Q → P) → a ≡ b
+equal_tests true true first second there back = refl
+equal_tests false false first second there back = refl
+equal_tests true false first second there back = absurd (let no : false ≡ true = second.1 (there (first.0 refl)) in cc)
+equal_tests false true first second there back = absurd (let no : false ≡ true = first.1 (back (second.0 refl)) in cc)
+
+-- the tests tell of names that are the same the same
+pub same_respects : (n m s t : List (List ℕ)) → IsSame n m → IsSame s t → same n s ≡ same m t
+same_respects n m s t nm st =
+    equal_tests (same n s) (same m t) (same_decides n s) (same_decides m t) (λ ns. sym nm ∙ ns ∙ st) (λ mt. nm ∙ mt ∙ sym st)
+
+pub is_under_respects : (n m s t : List (List ℕ)) → IsSame n m → IsSame s t → is_under n s ≡ is_under m t
+is_under_respects n m s t nm st =
+    equal_tests (is_under n s) (is_under m t) (is_under_decides n s) (is_under_decides m t)
+    (λ ns. under_same_names n m s t nm st ns) (λ mt. under_same_names m n t s (sym nm) (sym st) mt)
 
 -- what a call told of P, where a test decides P
 pub told : {P : Type 0} (answer test : Bool) → (answer ≡ true → P) × (P → answer ≡ true) → Decides test P → answer ≡ test

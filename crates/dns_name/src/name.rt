@@ -1,6 +1,6 @@
 //! Names: what they are made of, and how they compare.
 
-ghost use Rattle.std.specs.Prelude.{◌≡◌, ◌≤◌, ◌+◌, ◌∷◌, ◌++◌, [], length, map, OnOk, OnErr, IfErr, IsTrue, ◌↔◌, IfOk, MatchResult, Some, None};
+ghost use Rattle.std.specs.Prelude.{◌≡◌, ◌≤◌, ◌+◌, ◌∷◌, ◌++◌, [], length, map, OnOk, OnErr, IsTrue, ◌↔◌, IfOk, MatchResult, Some, None};
 ghost use Rattle.dns_name.specs.Labels.{IsLabel, IsName, IsSame, IsUnder, size_of, label_octets, labels_of, IsLaidOut, lowered, parent_of};
 ghost use Rattle.dns_name.specs.Faults.{Gives, first_fault, label_fault, named, pushed};
 

@@ -5,7 +5,7 @@ use Rattle.std.specs.declared.alloc.AllocError.{AllocError}
 use Rattle.std.proofs.lemmas.Result.{IfOk-weaker}
 use Rattle.std.specs.List.{cons_option, AllByRecursion}
 use Rattle.std.proofs.lemmas.Bool.{cond-true, cond-false}
-use Rattle.dns_message.specs.declared.fault.Fault.{Fault}
+use Rattle.dns_message.specs.Fault.{Fault}
 use Rattle.dns_message.specs.Values.{Question}
 use Rattle.dns_message.specs.Messages.{first_question}
 use Rattle.suffix_routes.specs.declared.peer.Peer.{Peer}
@@ -21,7 +21,7 @@ use Rattle.step_rules.specs.State.{Waiting, State}
 use Rattle.outstanding.specs.Lists.{on_path as ask_on, without_path}
 use Rattle.outstanding.specs.Values.{Ask}
 use Rattle.step_rules.specs.Row.{Done, Fate, gets, waits, reply_in, waiting_in, replies, still_waiting, closes, closing, closing_step, expiry_step, taking_step, idle_step, asks, gives_up, answered, waits_for, fails, is_given, timeout_of, row_of_verdict, row_of_delivery, verdict_on, Happens, HandsOctets, effective, Row}
-use Rattle.reply_match.proofs.VerdictLaws.{unread_is_stranger}
+use Rattle.reply_match.proofs.CallerLemmas.{unread_question_is_stranger}
 use Rattle.reply_match.specs.Verdicts.{judge}
 use Rattle.forwarder_core.specs.declared.next.Preferred.{Preferred}
 use Rattle.forwarder_core.specs.declared.next.Change.TheVariants.{Nothing, Join, Close, AskAgain, Expire}
@@ -189,4 +189,4 @@ whole_is_viewed a from octets whole = by (first_question octets) refl
   where
     by : (r : Result Question Fault) → first_question octets ≡ r → IsOk r
     by (Ok q) e = refl
-    by (Err fault) e = let bad : Stranger ≡ Whole = sym (unread_is_stranger a from octets fault e) ∙ whole in absurd (cc)
+    by (Err fault) e = let bad : Stranger ≡ Whole = sym (unread_question_is_stranger a from octets fault e) ∙ whole in absurd (cc)

@@ -5,14 +5,14 @@ use Rattle.std.specs.List.{AllByRecursion}
 use Rattle.std.proofs.lemmas.Bool.{eqb-false, cond-true, cond-false}
 use Rattle.dns_message.specs.Values.{Question}
 use Rattle.dns_message.specs.Questions.{same_question}
-use Rattle.dns_message.proofs.QuestionLaws.{same_question_decides}
+use Rattle.dns_message.proofs.CallerLemmas.{same_question_decides}
 use Rattle.suffix_routes.specs.Values.{Config}
 use Rattle.outstanding.specs.declared.ask.Path.{Path}
 use Rattle.outstanding.specs.declared.ask.Path.TheVariants.{Udp, Tcp}
 use Rattle.outstanding.specs.Draws.{udp_draw}
 use Rattle.outstanding.specs.Lists.{on_path as ask_on, of_question, same_path, without_path, AreListed}
 use Rattle.outstanding.specs.Values.{Ask, Inquiries}
-use Rattle.outstanding.proofs.Retries.{next_begins}
+use Rattle.outstanding.proofs.CallerLemmas.{next_may_begin as next_begins}
 use Rattle.step_history.specs.History.{is_tcp}
 use Rattle.step_history.specs.Draws.{drawn_by_tcp}
 use Rattle.step_rules.specs.State.{State, Waiting}

@@ -4,8 +4,8 @@ use Rattle.std.specs.Prelude.{nat_lt, Result, Ok, Err}
 use Rattle.std.proofs.lemmas.Bool.{cond-false, le-ltb}
 use Rattle.std.proofs.lemmas.List.{length-append}
 use Rattle.dns_name.specs.Labels.{size_of, IsName}
-use Rattle.dns_message.specs.declared.fault.Fault.{Fault}
-use Rattle.dns_message.specs.declared.header.Header.{Header}
+use Rattle.dns_message.specs.Fault.{Fault}
+use Rattle.dns_message.specs.Header.{Header}
 use Rattle.dns_message.specs.Values.{Question, Record, Message}
 use Rattle.dns_message.specs.Writing.{Place, Writing, as_is, ◌▹◌, each, octets16, pointer_or, label_text, name_text, question_text, record_text, header_text, written, written_within, place_of}
 

@@ -2,9 +2,9 @@
 use Rattle.std.proofs.Common.{◌≡◌, ℕ, ◌<◌, ◌≤◌, List, [], ◌∷◌, length, Bool, true, false, cond, refl, sym, ap, ◌∙◌, ⊎_elim, arith}
 use Rattle.std.specs.Prelude.{◌+◌, ◌-◌, ◌*◌, ◌/◌, map, nat_lt, nat_le, Ok, Err}
 use Rattle.std.proofs.lemmas.Bool.{cases_Bool, cond-true, cond-false, ltb-false, ltb-true, le-leb, leb-true}
-use Rattle.dns_message.specs.declared.header.Header.{Header}
-use Rattle.dns_message.specs.declared.fault.Fault.{Fault}
-use Rattle.dns_message.specs.declared.fault.Fault.TheVariants.{TooLarge}
+use Rattle.dns_message.specs.Header.{Header}
+use Rattle.dns_message.specs.Fault.{Fault}
+use Rattle.dns_message.specs.Fault.TheVariants.{TooLarge}
 use Rattle.dns_message.specs.Writing.{written_within}
 use Rattle.step_values.specs.declared.event.Client.{Client}
 use Rattle.step_values.specs.declared.event.Client.TheVariants.{Tcp as FromTcp}

@@ -6,7 +6,7 @@ use Rattle.std.proofs.lemmas.Bool.{cond-true, cond-false, false≢true}
 use Rattle.suffix_routes.specs.Values.{Config}
 use Rattle.outstanding.specs.Values.{Ask}
 use Rattle.outstanding.specs.Lists.{on_path as ask_on, same_path}
-use Rattle.outstanding.proofs.Listed.{same_path-refl}
+use Rattle.outstanding.proofs.CallerLemmas.{same_path_reflexive}
 use Rattle.step_rules.specs.State.{Waiting, State}
 use Rattle.step_rules.specs.Row.{idle_step, deadline_of, timeout_of, Item, question, attempt, first_item, row_of_item, row_of_tick, is_due_at}
 
@@ -39,7 +39,7 @@ tick_attempt_first c n words s x xs a first there f =
 
 -- the oldest ask is the one on its path
 pub oldest_on : (asks : List Ask) (a : Ask) → slice_get asks 0 ≡ Some a → ask_on a.path asks ≡ Some a
-oldest_on asks a there = let head = head_is asks a there in ap (ask_on a.path) head.1 ∙ cond-true (same_path a.path a.path) _ _ (same_path-refl a.path)
+oldest_on asks a there = let head = head_is asks a there in ap (ask_on a.path) head.1 ∙ cond-true (same_path a.path a.path) _ _ (same_path_reflexive a.path)
 
 or_right : (a b : Bool) → (a || b) ≡ false → b ≡ false
 or_right true b e = absurd (false≢true (sym e))

@@ -2,7 +2,7 @@
 
 ghost use Rattle.std.specs.Prelude.{◌≡◌, true, false, MatchOption, IfOk};
 ghost use Rattle.dns_message.specs.Header.{header_in};
-ghost use Rattle.reply_match.specs.Questions.{one_question};
+ghost use Rattle.dns_message.specs.Questions.{one_question};
 ghost use Rattle.step_history.specs.History.{is_taken};
 ghost use Rattle.step_history.specs.Causes.{is_unserved};
 

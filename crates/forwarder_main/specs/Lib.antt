@@ -1,3 +1,1 @@
 pub mod Statuses
-pub mod Words
-pub mod Reasons

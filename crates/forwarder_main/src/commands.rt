@@ -1,10 +1,8 @@
 //! The commands.
 
-use crate::fault::{Fault, ReplayFault};
-use crate::input::{read_config, read_limited};
-use crate::replay::replay_run;
-use std::alloc::{Allocator, Global};
-use std::io::{BufWriter, Read, Write};
+use crate::fault::Fault;
+use replay_script::{ReplayFault, read_config, replay_run};
+use std::io::{BufWriter, Write};
 use std::rt::{Env, Files};
 use std::{env, fs, io};
 
@@ -38,17 +36,7 @@ pub fn run<R: Env + Files + Input + Print + AllocGlobal>(rt: &R) -> Result<(), F
 /// `Config` where the configuration is refused, `Memory` where memory ran out.
 pub fn check<R: Files + AllocGlobal>(rt: &R, path: &str) -> Result<usize, ReplayFault> {
     let mut file = fs::open(rt, path)?;
-    route_count(rt.alloc(), rt.alloc(), &mut file)
-}
-
-/// How many routes the configuration has that the reader gives.
-pub(crate) fn route_count<A: Allocator + Copy, R: Read>(
-    heap: Global,
-    alloc: A,
-    reader: &mut R,
-) -> Result<usize, ReplayFault> {
-    let octets = read_limited(alloc, reader)?;
-    let config = read_config(heap, alloc, &octets)?;
+    let config = read_config(rt.alloc(), rt.alloc(), &mut file)?;
     Ok(config.routes().len())
 }
 

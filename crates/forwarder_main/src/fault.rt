@@ -1,33 +1,21 @@
-//! What ends a replay or the program.
+//! What ends the program.
 
 ghost use Rattle.std.specs.Prelude.{◌≡◌};
 ghost use Rattle.forwarder_main.specs.declared.fault.Fault.TheVariants.{Stopped};
-ghost use Rattle.forwarder_main.specs.declared.fault.ReplayFault.TheVariants.{Memory};
-ghost use Rattle.forwarder_main.specs.Statuses.{status_of, replay_fault};
+ghost use Rattle.forwarder_main.specs.Statuses.{status_of};
 
-use std::alloc::AllocError;
-use std::{fmt, io};
-use suffix_routes::ConfigFault;
-
-/// Why a replay stops.
-#[derive(Clone, Copy, PartialEq, Eq, Debug)]
-pub enum ReplayFault {
-    /// The configuration is refused; never for want of memory, which is `Memory`.
-    Config(ConfigFault),
-    /// The event line of this number, from 1, is refused; 0 where no line `---` ends the configuration.
-    Line(u32),
-    /// Memory ran out.
-    Memory,
-    /// Reading or writing failed, or the input passes its limit.
-    Device,
-}
+use replay_script::ReplayFault;
+use std::io;
+use thiserror::Error;
 
 /// Why the program stops.
-#[derive(Clone, Copy, PartialEq, Eq, Debug)]
+#[derive(Clone, Copy, PartialEq, Eq, Debug, Error)]
 pub enum Fault {
     /// The arguments are none that it takes.
+    #[error("usage: forwarder check FILE, replay, or serve FILE TURNS")]
     Usage,
     /// What it was told to do stopped.
+    #[error("{0}")]
     Stopped(ReplayFault),
 }
 
@@ -46,21 +34,6 @@ impl Fault {
     }
 }
 
-impl fmt::Display for Fault {
-    fn fmt<W: fmt::Write>(&self, f: &mut fmt::Formatter<W>) -> fmt::Result {
-        match self {
-            Fault::Usage => f.write_str("usage: forwarder check FILE, replay, or serve FILE TURNS"),
-            Fault::Stopped(ReplayFault::Config(fault)) => {
-                let number = fault.number();
-                write!(f, "fault {number}")
-            }
-            Fault::Stopped(ReplayFault::Line(line)) => write!(f, "line {line}"),
-            Fault::Stopped(ReplayFault::Memory) => f.write_str("memory"),
-            Fault::Stopped(ReplayFault::Device) => f.write_str("device"),
-        }
-    }
-}
-
 impl From<ReplayFault> for Fault {
     ghost from_gives = { λ fault e. e ≡ Stopped fault };
 
@@ -72,42 +45,5 @@ impl From<ReplayFault> for Fault {
 impl From<io::Error> for Fault {
     fn from(error: io::Error) -> Fault {
         Fault::Stopped(ReplayFault::from(error))
-    }
-}
-
-impl From<AllocError> for Fault {
-    ghost from_gives = { λ _ e. e ≡ Stopped Memory };
-
-    fn from(_: AllocError) -> Fault {
-        Fault::Stopped(ReplayFault::Memory)
-    }
-}
-
-impl From<AllocError> for ReplayFault {
-    ghost from_gives = { λ _ e. e ≡ Memory };
-
-    fn from(_: AllocError) -> ReplayFault {
-        ReplayFault::Memory
-    }
-}
-
-impl From<io::Error> for ReplayFault {
-    fn from(error: io::Error) -> ReplayFault {
-        if error.kind() == io::ErrorKind::OutOfMemory {
-            ReplayFault::Memory
-        } else {
-            ReplayFault::Device
-        }
-    }
-}
-
-impl From<ConfigFault> for ReplayFault {
-    ghost from_gives = { λ fault e. e ≡ replay_fault fault };
-
-    fn from(fault: ConfigFault) -> ReplayFault {
-        match fault {
-            ConfigFault::Memory => ReplayFault::Memory,
-            _ => ReplayFault::Config(fault),
-        }
     }
 }

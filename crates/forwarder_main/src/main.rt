@@ -2,15 +2,12 @@
 //! runs the events of a script and prints each action.
 #![tactic(auto)]
 
-mod actions;
 mod commands;
-mod events;
 mod fault;
-mod input;
-mod replay;
 #[cfg(test)]
 mod tests;
 
+pub use replay_script::{ReplayFault, replay_run};
 use std::process::ExitCode;
 
 fn main(rt: HostRuntime) -> ExitCode {

@@ -1,4 +1,107 @@
-mod devices;
-mod refusals;
-mod replays;
-mod rows;
+//! What no script can say: readers, writers and files that fail, refused growths, statuses and texts.
+
+use crate::commands::check;
+use crate::fault::Fault;
+use refusing_allocator::Refusing;
+use replay_script::{ReplayFault, replay_run};
+use std::io::{ErrorKind, Read};
+use std::test::Fail;
+use std::{fs, io};
+use suffix_routes::ConfigFault;
+
+const CONFIG: &[u8] = b"version = 1
+[[route]]
+suffix = \".\"
+servers = [\"192.0.2.1:53\"]
+";
+
+/// The configuration, and a question for the address of a.example.
+const SCRIPT: &[u8] = b"version = 1
+[[route]]
+suffix = \".\"
+servers = [\"192.0.2.1:53\"]
+---
+1000 client udp 10.0.0.7:40000 1234010000010000000000000161076578616d706c650000010001
+";
+
+const PRINTED: &[u8] =
+    b"1 ask-udp 1032 192.0.2.1:53 0008010000010000000000000161076578616d706c650000010001\n";
+
+/// A reader that fails.
+#[derive(Drop)]
+struct Broken;
+
+impl Read for Broken {
+    fn read(&mut self, _buffer: &mut [u8]) -> io::Result<usize> {
+        Err(io::Error::from(ErrorKind::Other))
+    }
+}
+
+#[test]
+fn readers_that_fail(rt: HostRuntime) {
+    let mut printed = Vec::new(rt.alloc());
+    for end in [0, 60, SCRIPT.len()] {
+        let mut input = SCRIPT.get(..end).unwrap_or(SCRIPT).chain(Broken);
+        let ended = replay_run(rt.alloc(), rt.alloc(), &mut input, &mut printed);
+        assert_eq!(rt; ended, Err(ReplayFault::Device), "{end} octets read");
+    }
+    assert_eq!(rt; printed.len(), 0);
+}
+
+#[test]
+fn writers_that_fail(rt: HostRuntime) {
+    let mut room = [0u8; 81];
+    let mut input = SCRIPT;
+    let mut writer = room.as_mut_slice();
+    let ended = replay_run(rt.alloc(), rt.alloc(), &mut input, &mut writer);
+    assert_eq!(rt; ended, Err(ReplayFault::Device));
+}
+
+#[test]
+fn files_are_checked(rt: HostRuntime) -> Result<(), Fail> {
+    fs::write(&rt, "one_route", CONFIG)?;
+    assert_eq!(rt; check(&rt, "one_route"), Ok(1));
+    for path in [".", "/no/such/file", "/dev/zero"] {
+        assert_eq!(rt; check(&rt, path), Err(ReplayFault::Device), "{path}");
+    }
+    Ok(())
+}
+
+#[test]
+fn each_growth_is_refused(rt: HostRuntime) -> Result<(), Fail> {
+    let heap = Refusing::new(rt.alloc());
+    let mut refused = 0u64;
+    for count in 0..1000 {
+        heap.allow(count);
+        let mut input = SCRIPT;
+        let mut printed = Vec::new(rt.alloc());
+        let ended = replay_run(rt.alloc(), &heap, &mut input, &mut printed);
+        if ended == Ok(()) {
+            assert_eq!(rt; printed.as_slice(), PRINTED);
+            break;
+        }
+        assert_eq!(rt; ended, Err(ReplayFault::Memory), "{count} granted");
+        assert!(rt; PRINTED.starts_with(&printed), "{count} granted");
+        refused = count + 1;
+    }
+    assert!(rt; 0 < refused && refused < 1000);
+    Ok(())
+}
+
+#[test]
+fn statuses_and_texts(rt: HostRuntime) -> Result<(), Fail> {
+    let usage = "usage: forwarder check FILE, replay, or serve FILE TURNS";
+    let refused = ReplayFault::Config(ConfigFault::Toml(3));
+    for (fault, status, text) in [
+        (Fault::Usage, 1, usage),
+        (Fault::from(refused), 2, "fault 1"),
+        (Fault::from(ReplayFault::Line(8192)), 3, "line 8192"),
+        (Fault::from(ReplayFault::Memory), 4, "memory"),
+        (Fault::from(ReplayFault::Device), 5, "device"),
+    ] {
+        assert_eq!(rt; fault.status(), status);
+        let told = format!(in rt.alloc(); "{fault}")?;
+        assert_eq!(rt; told.as_str(), text);
+    }
+    Ok(())
+}

@@ -1,5 +1,5 @@
 pub mod Places
 pub mod Listed
 pub mod Dues
-pub mod TestLaws
 pub mod Retries
+pub mod CallerLemmas

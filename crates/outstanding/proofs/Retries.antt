@@ -1,16 +1,15 @@
 -- One question has one ask, so the next ask for it may begin where that one ended. And a port that is drawn is free.
 use Rattle.std.proofs.Common.{◌≡◌, ℕ, ◌%◌, ◌≤◌, inl, inr, List, [], ◌∷◌, Bool, true, false, cond, refl, sym, ◌∙◌, subst, Option, Some, None}
-use Rattle.std.specs.Prelude.{not, filter, ◌==◌, ◌&&◌, ◌||◌, IfSome}
+use Rattle.std.specs.Prelude.{not, filter, ◌||◌, IfSome}
 use Rattle.std.specs.List.{find, list_any, AllByRecursion}
-use Rattle.std.proofs.lemmas.Bool.{and_parts, and_from, eqb-true, eq-eqb, false≢true, cond-false, or_cases, not-true}
+use Rattle.std.proofs.lemmas.Bool.{eqb-true, false≢true, cond-false, or_cases, not-true}
 use Rattle.std.proofs.lemmas.Option.{none-some, same_Some}
-use Rattle.dns_name.specs.Labels.{same}
-use Rattle.dns_name.proofs.NameLaws.{same_decides}
 use Rattle.dns_message.specs.Values.{Question}
 use Rattle.outstanding.specs.declared.ask.Path.{Path}
 use Rattle.outstanding.specs.declared.ask.Path.TheVariants.{Udp}
 use Rattle.outstanding.specs.Values.{Ask}
 use Rattle.dns_message.specs.Questions.{same_question}
+use Rattle.dns_message.proofs.CallerLemmas.{same_question_decides, same_question_symmetric, same_question_transitive}
 use Rattle.outstanding.specs.Lists.{same_path, on_path, of_question, without_path, Follows, AreInTurn}
 use Rattle.outstanding.specs.Draws.{port_of, is_used, is_freed, is_free, without_port, udp_draw}
 use Rattle.outstanding.specs.Laws.{NextMayBegin, EndedIsUnlisted, UnlistedStaysSo}
@@ -18,15 +17,9 @@ use Rattle.outstanding.specs.Laws.{NextMayBegin, EndedIsUnlisted, UnlistedStaysS
 -- two questions that are equal to a third are equal
 same_question-join : (a b q : Question) → same_question a q ≡ true → same_question b q ≡ true → same_question a b ≡ true
 same_question-join a b q one other =
-    let a_outer = and_parts (same a.name q.name && (a.kind == q.kind)) (a.class == q.class) one in
-    let a_inner = and_parts (same a.name q.name) (a.kind == q.kind) a_outer.0 in
-    let b_outer = and_parts (same b.name q.name && (b.kind == q.kind)) (b.class == q.class) other in
-    let b_inner = and_parts (same b.name q.name) (b.kind == q.kind) b_outer.0 in
-    and_from (same a.name b.name && (a.kind == b.kind)) (a.class == b.class)
-    (and_from (same a.name b.name) (a.kind == b.kind)
-    ((same_decides a.name b.name).1 ((same_decides a.name q.name).0 a_inner.0 ∙ sym ((same_decides b.name q.name).0 b_inner.0)))
-    (eq-eqb a.kind b.kind (eqb-true a.kind q.kind a_inner.1 ∙ sym (eqb-true b.kind q.kind b_inner.1))))
-    (eq-eqb a.class b.class (eqb-true a.class q.class a_outer.1 ∙ sym (eqb-true b.class q.class b_outer.1)))
+    let first = (same_question_decides a q).0 one in
+    let second = (same_question_decides b q).0 other in
+    (same_question_decides a b).1 (same_question_transitive a q b first (same_question_symmetric b q second))
 
 -- b has another question than a, so than the one that a has
 differs : (a b q : Question) → same_question a q ≡ true → same_question a b ≡ false → same_question b q ≡ false
@@ -84,6 +77,7 @@ none_behind : (x : Ask) (q : Question) (asks : List Ask) → same_question x.que
 none_behind x q [] one all = refl
 none_behind x q (y ∷ asks) one all = cond-false (same_question y.question q) _ _ (differs x.question y.question q one all.0.question) ∙ none_behind x q asks one all.1
 
+-- without the ask on a path, the question of that ask is not asked
 pub question_free : (path : Path) (q : Question) (asks : List Ask) (a : Ask) → AreInTurn asks → on_path path asks ≡ Some a → same_question a.question q ≡ true → of_question q (without_path path asks) ≡ None
 question_free path q [] a in_turn on one = absurd (none-some a on)
 question_free path q (x ∷ asks) a in_turn on one = by (same_path x.path path) on (λ here. question_free path q asks a in_turn.1 here one)

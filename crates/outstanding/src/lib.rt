@@ -6,8 +6,6 @@ mod ask;
 mod draws;
 mod inquiries;
 mod laws;
-#[cfg(test)]
-mod tests;
 
 pub use ask::{Ask, Path};
 pub use draws::draw;

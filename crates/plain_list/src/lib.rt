@@ -1,7 +1,7 @@
 //! A list that contracts see as its elements, in order, and nothing else: no capacity, no allocator.
 #![tactic(auto)]
 
-ghost use Rattle.std.specs.Prelude.{◌≡◌, ◌<◌, ◌∷◌, ◌++◌, [], List, length, OnOk, OnErr, IfOk};
+ghost use Rattle.std.specs.Prelude.{◌≡◌, ◌<◌, ◌∷◌, ◌++◌, [], List, OnOk, OnErr, IfOk};
 
 use std::alloc::{AllocError, Allocator, Global};
 use std::marker::Model;

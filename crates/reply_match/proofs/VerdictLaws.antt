@@ -2,18 +2,16 @@
 use Rattle.std.proofs.Common.{◌≡◌, ℕ, List, Bool, true, false, cond, refl, sym, ap, ◌∙◌, subst, Option, None}
 use Rattle.std.specs.Prelude.{◌==◌, ◌||◌, IsOk, Result, Ok, Err, slice_index}
 use Rattle.std.proofs.lemmas.Bool.{and_right, cond-true, cond-false, eq-eqb}
-use Rattle.dns_message.specs.declared.header.Header.{Header}
-use Rattle.dns_message.specs.declared.fault.Fault.{Fault}
+use Rattle.dns_message.specs.Fault.{Fault}
 use Rattle.dns_message.specs.Values.{Question, Message}
-use Rattle.dns_message.specs.Header.{header_in}
+use Rattle.dns_message.specs.Header.{Header, header_in}
 use Rattle.dns_message.specs.Messages.{first_question, message_of, QuestionIs, IsWhole}
-use Rattle.dns_message.proofs.QuestionLaws.{same_question_decides}
-use Rattle.dns_message.proofs.WholeLaws.{of_spelled, spelled_by}
+use Rattle.dns_message.proofs.CallerLemmas.{same_question_decides, spelled_message_is_read, message_read_is_spelled}
 use Rattle.suffix_routes.specs.declared.peer.Peer.{Peer}
 use Rattle.reply_match.specs.declared.verdict.Verdict.{Verdict}
 use Rattle.reply_match.specs.declared.verdict.Verdict.TheVariants.{Stranger, Truncated, Failed, Malformed, Whole}
-use Rattle.dns_message.specs.Questions.{same_question}
-use Rattle.reply_match.specs.Questions.{question_read, one_question, asks_this}
+use Rattle.dns_message.specs.Questions.{same_question, question_read, one_question}
+use Rattle.reply_match.specs.Questions.{asks_this}
 use Rattle.outstanding.specs.Values.{Ask}
 use Rattle.reply_match.specs.Verdicts.{is_reply, matches, judged_whole, judge}
 use Rattle.reply_match.specs.Laws.{StrangersDoNotMatch, WholeIsRead}
@@ -56,13 +54,13 @@ unread_is_stranger a from octets fault e = cond-false (matches a from octets) _ 
 -- ---- whole or not
 
 pub whole_told : (octets : List ℕ) → IsWhole octets → Whole ≡ judged_whole (message_of octets)
-whole_told octets whole = sym (ap judged_whole (of_spelled octets whole.0 whole.1))
+whole_told octets whole = sym (ap judged_whole (spelled_message_is_read octets whole.0 whole.1))
 
 pub malformed_told : (octets : List ℕ) → (IsWhole octets → ⊥) → Malformed ≡ judged_whole (message_of octets)
 malformed_told octets none = by (message_of octets) refl
   where
     by : (r : Result Message Fault) → message_of octets ≡ r → Malformed ≡ judged_whole r
-    by (Ok m) e = absurd (none (m, spelled_by octets m e))
+    by (Ok m) e = absurd (none (m, message_read_is_spelled octets m e))
     by (Err fault) e = refl
 
 -- ---- which verdict tells what

@@ -1,6 +1,6 @@
 -- What a delivery is to an ask.
 use Rattle.std.specs.Prelude.{ℕ, Bool, if◌then◌else◌, ◌==◌, ◌&&◌, ◌||◌, nat_le, List, length, Result, Ok, Err}
-use Rattle.dns_message.specs.declared.fault.Fault.{Fault}
+use Rattle.dns_message.specs.Fault.{Fault}
 use Rattle.dns_message.specs.Values.{Message}
 use Rattle.dns_message.specs.Header.{header_in}
 use Rattle.dns_message.specs.Messages.{message_of}
@@ -9,7 +9,8 @@ use Rattle.outstanding.specs.Values.{Ask}
 use Rattle.reply_match.specs.declared.verdict.Verdict.{Verdict}
 use Rattle.reply_match.specs.declared.verdict.Verdict.TheVariants.{Stranger, Truncated, Failed, Malformed, Whole}
 use Rattle.reply_match.specs.Peers.{same_peer}
-use Rattle.reply_match.specs.Questions.{one_question, asks_this}
+use Rattle.dns_message.specs.Questions.{one_question}
+use Rattle.reply_match.specs.Questions.{asks_this}
 
 -- a reply to a standard query, with the ask's identifier, from its server
 abbrev pub is_reply : Ask → Peer → List ℕ → Bool

@@ -4,7 +4,8 @@ ghost use Rattle.std.specs.Prelude.{◌≡◌, true, false, MatchOption};
 ghost use Rattle.dns_message.specs.Header.{header_in};
 ghost use Rattle.dns_message.specs.Messages.{message_of};
 ghost use Rattle.reply_match.specs.Peers.{same_peer};
-ghost use Rattle.reply_match.specs.Questions.{asks_this, one_question};
+ghost use Rattle.dns_message.specs.Questions.{one_question};
+ghost use Rattle.reply_match.specs.Questions.{asks_this};
 ghost use Rattle.reply_match.specs.Verdicts.{is_reply, judge, judged_whole};
 
 use crate::verdict::Verdict;

@@ -3,8 +3,6 @@
 
 mod judging;
 mod laws;
-#[cfg(test)]
-mod tests;
 mod verdict;
 
 pub use judging::judge;

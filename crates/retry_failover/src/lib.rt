@@ -9,8 +9,6 @@ ghost use Rattle.std.specs.Prelude.{◌≡◌, ◌<◌};
 ghost use Rattle.retry_failover.specs.Table.{after_failure};
 
 mod laws;
-#[cfg(test)]
-mod tests;
 
 pub use laws::{asks_are_counted, asks_take_turns, every_server_is_asked};
 

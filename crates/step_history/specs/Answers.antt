@@ -1,6 +1,6 @@
 -- What a successful answer shows.
 use Rattle.std.specs.Prelude.{◌≡◌, ◌≢◌, ℕ, ◌≤◌, Bool, true, ◌==◌, ◌&&◌, List, [], ◌∷◌, length, Option, Some, None}
-use Rattle.dns_message.specs.declared.header.Header.{Header}
+use Rattle.dns_message.specs.Header.{Header}
 use Rattle.dns_message.specs.Values.{Question}
 use Rattle.dns_message.specs.Writing.{written}
 use Rattle.dns_message.specs.Data.{name_of_rdata}

@@ -13,7 +13,7 @@ use Rattle.step_values.specs.Values.{Event, from_client, delivery, path_failed, 
 use Rattle.step_history.specs.Names.{route_of}
 use Rattle.dns_message.specs.Questions.{same_question}
 use Rattle.dns_message.specs.Header.{header_in}
-use Rattle.reply_match.specs.Questions.{one_question}
+use Rattle.dns_message.specs.Questions.{one_question}
 use Rattle.step_history.specs.Pieces.{Piece, is_lame, walk}
 
 abbrev pub is_restart_event : Event → Bool

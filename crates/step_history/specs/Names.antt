@@ -4,12 +4,6 @@ use Rattle.dns_name.specs.Labels.{same}
 use Rattle.suffix_routes.specs.Values.{Config}
 use Rattle.suffix_routes.specs.Routes.{route_of as route_among}
 
-abbrev pub same_octets : List ℕ → List ℕ → Bool
-same_octets [] [] = true
-same_octets [] (y ∷ ys) = false
-same_octets (x ∷ xs) [] = false
-same_octets (x ∷ xs) (y ∷ ys) = (x == y) && same_octets xs ys
-
 -- equal labels, letter case aside (RFC 1035 2.3.3, RFC 4343)
 abbrev pub same_name : List (List ℕ) → List (List ℕ) → Bool
 same_name a b = same a b

@@ -1,7 +1,7 @@
 -- The messages that clients get.
 use Rattle.std.specs.Prelude.{ℕ, Bool, true, false, if◌then◌else◌, nat_le, List, [], ◌∷◌, ◌++◌, length, map, Option, Some, None}
 use Rattle.std.specs.List.{flat_map}
-use Rattle.dns_message.specs.declared.header.Header.{Header}
+use Rattle.dns_message.specs.Header.{Header}
 use Rattle.dns_message.specs.Values.{Question, Record, Message}
 use Rattle.step_values.specs.declared.event.Client.{Client}
 use Rattle.step_values.specs.declared.event.Client.TheVariants.{Udp, Tcp}

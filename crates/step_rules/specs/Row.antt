@@ -2,8 +2,8 @@
 use Rattle.std.specs.Prelude.{◌≡◌, ℕ, ◌+◌, ◌-◌, ◌^◌, Bool, false, if◌then◌else◌, ◌==◌, ◌||◌, nat_lt, nat_le, min, max, List, [], ◌∷◌, ◌++◌, length, map, Option, Some, None, Result, Ok, Err}
 use Rattle.std.specs.List.{filter_map, list_any}
 use Rattle.std.specs.Prelude.{slice_set}
-use Rattle.dns_message.specs.declared.header.Header.{Header}
-use Rattle.dns_message.specs.declared.fault.Fault.{Fault}
+use Rattle.dns_message.specs.Header.{Header}
+use Rattle.dns_message.specs.Fault.{Fault}
 use Rattle.dns_message.specs.Values.{Question, Message}
 use Rattle.dns_message.specs.Messages.{message_of}
 use Rattle.dns_message.specs.Writing.{written}
@@ -24,13 +24,13 @@ use Rattle.retry_failover.specs.declared.Next.TheVariants.{AskUdp, AskTcp, GiveU
 use Rattle.retry_failover.specs.Table.{after_failure}
 use Rattle.step_values.specs.Values.{Event, from_client, delivery, path_failed, tick, restart, Action, ask_udp, ask_tcp, close_udp, close_tcp, send_reply, Handed, Outcome}
 use Rattle.step_history.specs.Names.{route_of}
-use Rattle.reply_match.specs.Questions.{one_question}
+use Rattle.dns_message.specs.Questions.{one_question}
 use Rattle.reply_match.specs.Verdicts.{judge}
 use Rattle.dns_message.specs.Questions.{same_question}
 use Rattle.outstanding.specs.Lists.{on_path as ask_on, of_question, without_path}
 use Rattle.outstanding.specs.Values.{Ask}
 use Rattle.dns_message.specs.Header.{header_in}
-use Rattle.step_history.specs.Messages.{AreOctets}
+use Rattle.plain_list.specs.Octets.{AreOctets}
 use Rattle.step_history.specs.Pieces.{Piece, Held, Walk, is_lame, rank_of, records_for, set_of, walk_at_set, walk}
 use Rattle.step_history.specs.History.{is_taken, is_tcp}
 use Rattle.step_history.specs.Replies.{full_answer, truncated, error_response}

@@ -1,6 +1,6 @@
 -- The forwarder's state as plain values.
 use Rattle.std.specs.Prelude.{ℕ, List}
-use Rattle.dns_message.specs.declared.header.Header.{Header}
+use Rattle.dns_message.specs.Header.{Header}
 use Rattle.dns_message.specs.Values.{Question}
 use Rattle.suffix_routes.specs.Values.{Config}
 use Rattle.outstanding.specs.Values.{Ask}

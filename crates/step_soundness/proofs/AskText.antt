@@ -3,8 +3,8 @@ use Rattle.std.proofs.Common.{◌≡◌, ℕ, ◌+◌, ◌^◌, ◌<◌, ◌≤�
 use Rattle.std.specs.Prelude.{◌==◌, nat_lt, Result, Ok, Err, slice_index}
 use Rattle.std.proofs.lemmas.Bool.{cases_Bool, cond-true, cond-false, ltb-false, eq-eqb}
 use Rattle.dns_name.specs.Labels.{IsName, size_of}
-use Rattle.dns_message.specs.declared.header.Header.{Header}
-use Rattle.dns_message.specs.declared.fault.Fault.{Fault}
+use Rattle.dns_message.specs.Header.{Header}
+use Rattle.dns_message.specs.Fault.{Fault}
 use Rattle.dns_message.specs.Values.{Question, Message}
 use Rattle.dns_message.specs.Numbers.{number16}
 use Rattle.dns_message.specs.Header.{header_of, header_in}
@@ -12,11 +12,11 @@ use Rattle.dns_message.specs.Records.{QuestionAt}
 use Rattle.dns_message.specs.Messages.{Spells, first_question}
 use Rattle.dns_message.specs.Writing.{Place, Writing, as_is, ◌▹◌, each, octets16, place_of, label_text, pointer_or, name_text, question_text, record_text, header_text, written}
 use Rattle.dns_message.specs.Written.{IsQuestion}
-use Rattle.dns_message.proofs.ShapeLaws.{name_is}
-use Rattle.dns_message.proofs.WholeLaws.{first_sound, first_complete}
-use Rattle.dns_message.proofs.RoundTripMessage.{message_spelled}
-use Rattle.step_history.specs.Messages.{AreOctets}
-use Rattle.reply_match.specs.Questions.{question_read}
+use Rattle.dns_message.proofs.CallerLemmas.{standing_name_is_name as name_is}
+use Rattle.dns_message.proofs.CallerLemmas.{first_question_read_stands, standing_first_question_is_read}
+use Rattle.dns_message.proofs.CallerLemmas.{written_message_is_spelled}
+use Rattle.plain_list.specs.Octets.{AreOctets}
+use Rattle.dns_message.specs.Questions.{question_read}
 use Rattle.step_history.specs.History.{Reads}
 use Rattle.step_history.specs.Draws.{ask_message}
 
@@ -101,7 +101,7 @@ read_is octets q reads = by (slice_index (header_in octets).counts 0 == 1) refl 
 
 pub read_well : (octets : List ℕ) (q : Question) → AreOctets octets → Reads octets q → IsQuestion q
 read_well octets q are reads =
-    let first = first_sound octets q (read_is octets q reads) in
+    let first = first_question_read_stands octets q (read_is octets q reads) in
     let at : QuestionAt octets 12 q first.e = first.at in
     let there : at.after + 4 ≤ length octets = at.there in
     record {
@@ -126,7 +126,7 @@ ask_reads id q question small = (reads_back, ap (λ (h : Header). h.id) there.0)
     m = ask_message id q
 
     spelled : Spells (written (ask_message id q)) (ask_message id q)
-    spelled = message_spelled (ask_message id q) (record {
+    spelled = written_message_is_spelled (ask_message id q) (record {
       id = small;
       bits = record { opcode = omega arith; z = omega arith; rcode = omega arith };
       questions = (question, tt);
@@ -142,7 +142,7 @@ ask_reads id q question small = (reads_back, ap (λ (h : Header). h.id) there.0)
     counted = ap (λ (h : Header). slice_index h.counts 0) there.0
 
     first : first_question (written (ask_message id q)) ≡ Ok q
-    first = first_complete (written (ask_message id q)) q (record {
+    first = standing_first_question_is_read (written (ask_message id q)) q (record {
       header = there.1;
       counted = let one : slice_index (header_in (written (ask_message id q))).counts 0 ≡ 1 = counted in omega (arith, one);
       e = spelled.questions.0;

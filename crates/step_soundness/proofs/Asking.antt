@@ -84,7 +84,7 @@ pub closes_one : (c : Config) (s : Step) (past : List Step) (a : Ask) → ((p : 
 closes_one c s past a only on reads q k =
     let two : Some k.ask ≡ Some (shown a) = sym k.is_listed ∙ ap (λ (p : Path). on_path p (listed past)) (only k.ask.path k.closed) ∙ on in
     let ask_is : k.ask ≡ shown a = cc in
-    let one : Some k.asked ≡ Some a.question = sym k.reads ∙ ap (λ (x : ShownAsk). Rattle.reply_match.specs.Questions.one_question x.octets) ask_is ∙ reads in
+    let one : Some k.asked ≡ Some a.question = sym k.reads ∙ ap (λ (x : ShownAsk). Rattle.dns_message.specs.Questions.one_question x.octets) ask_is ∙ reads in
     let asked_is : k.asked ≡ a.question = cc in
     ap (λ (x : Question). same_question x q) (sym asked_is) ∙ k.same
 

@@ -7,7 +7,7 @@ use Rattle.dns_message.specs.Values.{Question}
 use Rattle.suffix_routes.specs.declared.peer.Peer.{Peer}
 use Rattle.suffix_routes.specs.Values.{Config, Route, IsRoute, IsConfig}
 use Rattle.suffix_routes.specs.Routes.{IsRouteOf}
-use Rattle.suffix_routes.proofs.RouteLaws.{route_of-some}
+use Rattle.suffix_routes.proofs.CallerLemmas.{route_found_is_longest}
 use Rattle.outstanding.specs.declared.ask.Path.{Path}
 use Rattle.outstanding.specs.declared.ask.Path.TheVariants.{Udp, Tcp}
 use Rattle.outstanding.specs.Values.{Ask}
@@ -115,6 +115,6 @@ preferred_put (x ∷ routes) (p ∷ places) (suc route) server are within = (are
 -- the preferred server of a question's route
 pub preferred_peer : (c : Config) (q : Question) (route : ℕ) (places : List ℕ) → route_of c q.name ≡ Some route → ArePreferred c.routes places → (p : Peer) × (peer_at c route (get_or places route 0) ≡ Some p)
 preferred_peer c q route places on are =
-    let at : IsRouteOf c.routes q.name route = route_of-some c.routes q.name route on in
+    let at : IsRouteOf c.routes q.name route = route_found_is_longest c.routes q.name route on in
     let within = preferred_there c.routes places route are at.route at.there in
     peer_there c route (get_or places route 0) (subst (λ (o : Option Route). get_or places route 0 < length (servers_in o)) (sym at.there) within)

@@ -12,7 +12,7 @@ use Rattle.outstanding.specs.declared.ask.Path.{Path}
 use Rattle.outstanding.specs.declared.ask.Path.TheVariants.{Udp, Tcp}
 use Rattle.outstanding.specs.Lists.{same_path, without_path, AreListed}
 use Rattle.outstanding.specs.Values.{Ask}
-use Rattle.outstanding.proofs.Listed.{same_path-true}
+use Rattle.outstanding.proofs.CallerLemmas.{same_path_equal}
 use Rattle.step_values.specs.declared.action.Why.{Why}
 use Rattle.step_values.specs.Values.{Action, ask_udp, ask_tcp, close_udp, close_tcp, send_reply, SentAsk, ask_in, Handed, Step}
 use Rattle.step_history.specs.Pieces.{Held}

@@ -10,7 +10,7 @@ use Rattle.dns_message.specs.Written.{IsQuestion}
 use Rattle.dns_message.specs.Header.{header_in}
 use Rattle.suffix_routes.specs.declared.peer.Peer.{Peer}
 use Rattle.suffix_routes.specs.Values.{Config}
-use Rattle.reply_match.specs.Questions.{one_question}
+use Rattle.dns_message.specs.Questions.{one_question}
 use Rattle.outstanding.specs.declared.ask.Path.{Path}
 use Rattle.outstanding.specs.declared.ask.Path.TheVariants.{Udp, Tcp}
 use Rattle.outstanding.specs.Draws.{is_freed, udp_draw}
@@ -20,7 +20,7 @@ use Rattle.step_values.specs.declared.event.Client.{Client}
 use Rattle.step_values.specs.declared.action.Why.{Why}
 use Rattle.step_values.specs.declared.action.Why.TheVariants.{Answered, BadFormat, BadOpcode, NotServed, NoRoute, QuestionsFull, InquiriesFull, NoPort}
 use Rattle.step_values.specs.Values.{from_client, Action, send_reply, Handed, Step}
-use Rattle.step_history.specs.Messages.{AreOctets}
+use Rattle.plain_list.specs.Octets.{AreOctets}
 use Rattle.step_history.specs.Names.{route_of}
 use Rattle.step_history.specs.History.{moment_at, listed, is_taken, Look, Carries, NothingAccepted}
 use Rattle.step_history.specs.Draws.{drawn}

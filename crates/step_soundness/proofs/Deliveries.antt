@@ -4,14 +4,14 @@ use Rattle.std.specs.Prelude.{option_map, map, ◌==◌, ◌&&◌, ◌||◌, min
 use Rattle.std.specs.List.{concat, AllByRecursion}
 use Rattle.std.proofs.lemmas.Bool.{and_from, lt-ltb, ltb-true, leb-true, leb-false, le-leb, cond-true, cond-false, cond_both, eq-eqb, eqb-true, or_cases, false≢true}
 use Rattle.std.proofs.lemmas.Option.{slice_get_within}
-use Rattle.dns_message.specs.declared.header.Header.{Header}
-use Rattle.dns_message.specs.declared.fault.Fault.{Fault}
+use Rattle.dns_message.specs.Header.{Header}
+use Rattle.dns_message.specs.Fault.{Fault}
 use Rattle.dns_message.specs.Values.{Question, Message}
 use Rattle.dns_message.specs.Messages.{message_of}
 use Rattle.dns_message.specs.Writing.{written}
 use Rattle.dns_message.specs.Questions.{same_question}
 use Rattle.dns_message.specs.Header.{header_in}
-use Rattle.dns_message.proofs.QuestionLaws.{same_question_decides}
+use Rattle.dns_message.proofs.CallerLemmas.{same_question_decides}
 use Rattle.suffix_routes.specs.declared.peer.Peer.{Peer}
 use Rattle.suffix_routes.specs.Values.{Config, Route}
 use Rattle.outstanding.specs.declared.ask.Path.{Path}
@@ -20,7 +20,8 @@ use Rattle.outstanding.specs.Values.{Ask}
 use Rattle.reply_match.specs.declared.verdict.Verdict.{Verdict}
 use Rattle.reply_match.specs.declared.verdict.Verdict.TheVariants.{Stranger, Truncated, Failed, Malformed, Whole}
 use Rattle.reply_match.specs.Peers.{same_peer}
-use Rattle.reply_match.specs.Questions.{asks_this, one_question}
+use Rattle.reply_match.specs.Questions.{asks_this}
+use Rattle.dns_message.specs.Questions.{one_question}
 use Rattle.reply_match.specs.Verdicts.{judge, judged_whole, matches}
 use Rattle.retry_failover.specs.declared.Failure.TheVariants as failure
 use Rattle.step_values.specs.declared.event.Client.{Client}

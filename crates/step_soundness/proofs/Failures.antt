@@ -4,7 +4,7 @@ use Rattle.std.specs.Prelude.{◌==◌, ◌||◌, min, max, map, nat_le, slice_g
 use Rattle.std.specs.List.{concat, list_any, AllByRecursion}
 use Rattle.std.proofs.lemmas.Bool.{cond_both, cond-true, cond-false, leb-true, eqb-true, false≢true, cases_Bool}
 use Rattle.std.proofs.lemmas.List.{length-map}
-use Rattle.dns_message.specs.declared.header.Header.{Header}
+use Rattle.dns_message.specs.Header.{Header}
 use Rattle.dns_message.specs.Values.{Question}
 use Rattle.dns_message.specs.Questions.{same_question}
 use Rattle.dns_message.specs.Writing.{written}
@@ -16,8 +16,8 @@ use Rattle.outstanding.specs.declared.ask.Path.TheVariants.{Udp, Tcp}
 use Rattle.outstanding.specs.Draws.{is_freed, udp_draw}
 use Rattle.outstanding.specs.Lists.{of_question, on_path as ask_on, same_path, without_path, AreListed}
 use Rattle.outstanding.specs.Values.{Ask}
-use Rattle.outstanding.proofs.Listed.{same_path-true, same_path-refl, left}
-use Rattle.outstanding.proofs.Retries.{question_free, next_begins}
+use Rattle.outstanding.proofs.CallerLemmas.{same_path_equal, same_path_reflexive, listed_without_path as left}
+use Rattle.outstanding.proofs.CallerLemmas.{question_free_without_path as question_free, next_may_begin as next_begins}
 use Rattle.retry_failover.specs.declared.Plan.{Plan}
 use Rattle.retry_failover.specs.declared.Failure.{Failure}
 use Rattle.retry_failover.specs.declared.Failure.TheVariants as failure
@@ -119,16 +119,16 @@ module _ (c : Config) (past : List Step) (w : List (List ℕ)) (s : State) (x : 
     others_left = none_same a.question (without_path a.path s.asks) (question_free a.path a.question s.asks a x.asks_are.in_turn on (same_question-refl a.question))
       where
         same_question-refl : (q : Question) → same_question q q ≡ true
-        same_question-refl q = (Rattle.dns_message.proofs.QuestionLaws.same_question_decides q q).1 (record { name = refl; kind = refl; class = refl })
+        same_question-refl q = (Rattle.dns_message.proofs.CallerLemmas.same_question_decides q q).1 (record { name = refl; kind = refl; class = refl })
 
     abbrev pub actions_by : List Fate → Option Ask → List Action
     actions_by fates next = closing (Some a) ++ (replies fates ++ map asks (ask_list next))
 
     closes_it : (fates : List Fate) (next : Option Ask) → AllByRecursion Speaks fates → closes_path a.path (actions_by fates next) ≡ true
-    closes_it fates next speak = closes_settled a.path (Some a) fates next speak ∙ same_path-refl a.path
+    closes_it fates next speak = closes_settled a.path (Some a) fates next speak ∙ same_path_reflexive a.path
 
     only_it : (fates : List Fate) (next : Option Ask) → AllByRecursion Speaks fates → (p : Path) → closes_path p (actions_by fates next) ≡ true → p ≡ a.path
-    only_it fates next speak p closed = same_path-true p a.path (sym (closes_settled p (Some a) fates next speak) ∙ closed)
+    only_it fates next speak p closed = same_path_equal p a.path (sym (closes_settled p (Some a) fates next speak) ∙ closed)
 
     -- the step closes an ask of each equal question
     pub closes_ask : (fates : List Fate) (next : Option Ask) → AllByRecursion Speaks fates → (q : Question) → same_question a.question q ≡ true → ClosesAsk q (step (actions_by fates next)) past
@@ -247,7 +247,7 @@ module _ (c : Config) (past : List Step) (w : List (List ℕ)) (s : State) (x : 
           x.preferred (carried_on (actions_by (map (λ y. waits y) s.waiting) (Some next)))
         where
           same : same_question a.question next.question ≡ true
-          same = subst (λ (q : Question). same_question a.question q ≡ true) (sym facts.question) ((Rattle.dns_message.proofs.QuestionLaws.same_question_decides a.question a.question).1 (record { name = refl; kind = refl; class = refl }))
+          same = subst (λ (q : Question). same_question a.question q ≡ true) (sym facts.question) ((Rattle.dns_message.proofs.CallerLemmas.same_question_decides a.question a.question).1 (record { name = refl; kind = refl; class = refl }))
 
           later : AllByRecursion (λ b. b.asked ≤ next.asked) s.asks
           later = still_earlier s.moment next.asked s.asks (let at : next.asked ≡ n = facts.asked in let le = later_moment in omega (arith, at, le)) x.earlier
@@ -264,7 +264,7 @@ module _ (c : Config) (past : List Step) (w : List (List ℕ)) (s : State) (x : 
             server = (λ i. peer_at c (facts.route_is i) (facts.server_is i)) ∙ there ∙ facts.peer_is;
             before = suc tried_a.before;
             used = facts.used_is ∙ (let was : a.used ≡ suc tried_a.before = tried_a.used in omega (arith, was));
-            failed = (runs, inl (closes_ask (map (λ y. waits y) s.waiting) (Some next) (waits_speak s.waiting) a.question ((Rattle.dns_message.proofs.QuestionLaws.same_question_decides a.question a.question).1 (record { name = refl; kind = refl; class = refl })), quiet (actions_by (map (λ y. waits y) s.waiting) (Some next)), tried_a.failed));
+            failed = (runs, inl (closes_ask (map (λ y. waits y) s.waiting) (Some next) (waits_speak s.waiting) a.question ((Rattle.dns_message.proofs.CallerLemmas.same_question_decides a.question a.question).1 (record { name = refl; kind = refl; class = refl })), quiet (actions_by (map (λ y. waits y) s.waiting) (Some next)), tried_a.failed));
           }
 
       frees : (fates : List Fate) (next : Option Ask) → AllByRecursion Speaks fates → (port : ℕ) → closes_path (Udp port) (actions_by fates next) ≡ is_freed port (freed_by a.path)

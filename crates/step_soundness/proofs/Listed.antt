@@ -7,8 +7,8 @@ use Rattle.dns_message.specs.Values.{Question}
 use Rattle.dns_message.specs.Questions.{same_question}
 use Rattle.outstanding.specs.declared.ask.Path.{Path}
 use Rattle.outstanding.specs.declared.ask.Path.TheVariants.{Udp, Tcp}
-use Rattle.outstanding.proofs.Listed.{same_path-refl, same_path-true}
-use Rattle.outstanding.proofs.Retries.{ended_unlisted, unlisted_stays}
+use Rattle.outstanding.proofs.CallerLemmas.{same_path_reflexive, same_path_equal}
+use Rattle.outstanding.proofs.CallerLemmas.{ended_path_is_unlisted as ended_unlisted, unlisted_path_stays_so as unlisted_stays}
 use Rattle.step_values.specs.Values.{Action}
 use Rattle.step_history.specs.History.{ShownAsk, on_path, closes_path}
 use Rattle.outstanding.specs.Draws.{is_used, is_freed, is_free, port_of, udp_draw}
@@ -32,7 +32,7 @@ ask_on-is P p (b ∷ asks) a e all = ⊎_elim
     (λ (t : same_path b.path p ≡ true).
     let is : Some b ≡ Some a = sym (cond-true (same_path b.path p) _ _ t) ∙ e in
     let same : b ≡ a = cc in
-    (sym (ap (λ (x : Ask). x.path) same) ∙ same_path-true b.path p t, subst P same all.0))
+    (sym (ap (λ (x : Ask). x.path) same) ∙ same_path_equal b.path p t, subst P same all.0))
     (λ (f : same_path b.path p ≡ false). ask_on-is P p asks a (sym (cond-false (same_path b.path p) _ _ f) ∙ e) all.1)
     (cases_Bool (same_path b.path p))
 
@@ -174,7 +174,7 @@ own_on q (b ∷ asks) a in_turn e = ⊎_elim
     (λ (t : same_question b.question q ≡ true).
     let is : Some b ≡ Some a = sym (cond-true (same_question b.question q) _ _ t) ∙ e in
     let same : b ≡ a = cc in
-    subst (λ (z : Ask). ask_on z.path (b ∷ asks) ≡ Some z) same (cond-true (same_path b.path b.path) _ _ (same_path-refl b.path)))
+    subst (λ (z : Ask). ask_on z.path (b ∷ asks) ≡ Some z) same (cond-true (same_path b.path b.path) _ _ (same_path_reflexive b.path)))
     (λ (f : same_question b.question q ≡ false).
     let there : of_question q asks ≡ Some a = sym (cond-false (same_question b.question q) _ _ f) ∙ e in
     let follows = (of_question-is (Follows b) q asks a there in_turn.0).0 in

@@ -7,7 +7,8 @@ use Rattle.suffix_routes.specs.declared.peer.Peer.{Peer}
 use Rattle.reply_match.specs.declared.verdict.Verdict.{Verdict}
 use Rattle.reply_match.specs.declared.verdict.Verdict.TheVariants.{Stranger, Truncated, Failed, Malformed, Whole}
 use Rattle.reply_match.specs.Peers.{same_peer}
-use Rattle.reply_match.specs.Questions.{asks_this, one_question}
+use Rattle.reply_match.specs.Questions.{asks_this}
+use Rattle.dns_message.specs.Questions.{one_question}
 use Rattle.reply_match.specs.Verdicts.{judge, judged_whole, matches}
 use Rattle.dns_message.specs.Questions.{same_question}
 use Rattle.outstanding.specs.Values.{Ask}

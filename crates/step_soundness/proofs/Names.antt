@@ -3,31 +3,19 @@ use Rattle.std.proofs.Common.{◌≡◌, ℕ, List, [], ◌∷◌, Bool, true, r
 use Rattle.std.specs.Prelude.{◌==◌}
 use Rattle.std.proofs.lemmas.Bool.{and_parts, and_from, eqb-true, eq-eqb, false≢true}
 use Rattle.dns_name.specs.Labels.{IsSame}
-use Rattle.dns_name.proofs.NameLaws.{same_decides, told}
+use Rattle.dns_name.proofs.CallerLemmas.{same_decides, answer_is_test as told}
 use Rattle.dns_message.specs.Values.{Question}
 use Rattle.dns_message.specs.Messages.{IsSameQuestion}
-use Rattle.dns_message.proofs.QuestionLaws.{same_question_decides}
+use Rattle.dns_message.proofs.CallerLemmas.{same_question_decides}
 use Rattle.suffix_routes.specs.declared.peer.Peer.{Peer}
 use Rattle.suffix_routes.specs.Values.{Config}
 use Rattle.suffix_routes.specs.Routes.{route_of as route_among}
-use Rattle.suffix_routes.proofs.RouteLaws.{route_of-lowered}
-use Rattle.step_history.specs.Names.{same_octets, same_name, route_of}
+use Rattle.suffix_routes.proofs.CallerLemmas.{route_of_lowered}
+use Rattle.step_history.specs.Names.{same_name, route_of}
+use Rattle.plain_list.specs.Octets.{same_octets}
+use Rattle.plain_list.proofs.CallerLemmas.{same_octets_reflexive, same_octets_equal}
 use Rattle.reply_match.specs.Peers.{same_peer}
 use Rattle.dns_message.specs.Questions.{same_question}
-
-pub same_octets-refl : (xs : List ℕ) → same_octets xs xs ≡ true
-same_octets-refl [] = refl
-same_octets-refl (x ∷ xs) = and_from (x == x) (same_octets xs xs) (eq-eqb x x refl) (same_octets-refl xs)
-
-pub same_octets-true : (xs ys : List ℕ) → same_octets xs ys ≡ true → xs ≡ ys
-same_octets-true [] [] e = refl
-same_octets-true [] (y ∷ ys) e = absurd (false≢true e)
-same_octets-true (x ∷ xs) [] e = absurd (false≢true e)
-same_octets-true (x ∷ xs) (y ∷ ys) e =
-    let parts = and_parts (x == y) (same_octets xs ys) e in
-    let head : x ≡ y = eqb-true x y parts.0 in
-    let tail : xs ≡ ys = same_octets-true xs ys parts.1 in
-    λ i. head i ∷ tail i
 
 -- the test is the fact
 pub same_name-is : (a b : List (List ℕ)) → same_name a b ≡ true → IsSame a b
@@ -39,16 +27,16 @@ is-same_name a b e = (same_decides a b).1 e
 pub same_peer-true : (a b : Peer) → same_peer a b ≡ true → a ≡ b
 same_peer-true a b e =
     let parts = and_parts (same_octets a.ip b.ip) (a.port == b.port) e in
-    let ip : a.ip ≡ b.ip = same_octets-true a.ip b.ip parts.0 in
+    let ip : a.ip ≡ b.ip = same_octets_equal a.ip b.ip parts.0 in
     let port : a.port ≡ b.port = eqb-true a.port b.port parts.1 in
     λ i. record { ip = ip i; port = port i }
 
 pub same_peer-is : (a b : Peer) → a ≡ b → same_peer a b ≡ true
-same_peer-is a b e = subst (λ (x : Peer). same_peer a x ≡ true) e (and_from (same_octets a.ip a.ip) (a.port == a.port) (same_octets-refl a.ip) (eq-eqb a.port a.port refl))
+same_peer-is a b e = subst (λ (x : Peer). same_peer a x ≡ true) e (and_from (same_octets a.ip a.ip) (a.port == a.port) (same_octets_reflexive a.ip) (eq-eqb a.port a.port refl))
 
 -- equal names are on one route
 pub route_of-alike : (c : Config) (a b : Question) → IsSameQuestion a b → route_of c a.name ≡ route_of c b.name
-route_of-alike c a b same = sym (route_of-lowered c.routes a.name) ∙ ap (route_among c.routes) same.name ∙ route_of-lowered c.routes b.name
+route_of-alike c a b same = sym (route_of_lowered c.routes a.name) ∙ ap (route_among c.routes) same.name ∙ route_of_lowered c.routes b.name
 
 pub same_question-sym : (a b : Question) → same_question a b ≡ true → same_question b a ≡ true
 same_question-sym a b e =

@@ -11,7 +11,7 @@ use Rattle.outstanding.specs.declared.ask.Path.{Path}
 use Rattle.outstanding.specs.declared.ask.Path.TheVariants.{Udp, Tcp}
 use Rattle.outstanding.specs.Values.{Ask}
 use Rattle.outstanding.specs.Lists.{on_path as ask_on, of_question, same_path, without_path, AreListed, MayBegin}
-use Rattle.outstanding.proofs.Listed.{put}
+use Rattle.outstanding.proofs.CallerLemmas.{listed_with_one_more as put}
 use Rattle.retry_failover.specs.declared.Plan.{Plan}
 use Rattle.retry_failover.specs.declared.Failure.{Failure}
 use Rattle.retry_failover.specs.declared.Failure.TheVariants.{TimedOut, Broken, Truncated, Malformed, Rcode, Lame}
@@ -46,7 +46,7 @@ next_tried c now q a next =
     let text = ask_reads a.id q next.is_question next.small in
     record {
       question = subst IsQuestion (sym next.question) next.is_question;
-      reads = subst (λ (z : Question). Rattle.reply_match.specs.Questions.one_question (written (ask_message a.id z)) ≡ Some z) (sym next.question) text.0;
+      reads = subst (λ (z : Question). Rattle.dns_message.specs.Questions.one_question (written (ask_message a.id z)) ≡ Some z) (sym next.question) text.0;
       identifier = subst (λ (z : Question). (Rattle.dns_message.specs.Header.header_in (written (ask_message a.id z))).id ≡ a.id) (sym next.question) text.1;
       on_route = subst (λ (z : Question). route_of c z.name ≡ Some a.route) (sym next.question) next.on_route;
       server = next.server;

@@ -4,7 +4,7 @@ use Rattle.std.specs.Prelude.{min, max, map, nat_le, not}
 use Rattle.std.specs.List.{concat, list_any, AllByRecursion}
 use Rattle.std.proofs.lemmas.Bool.{cond_both, cond-true, cond-false, leb-true}
 use Rattle.std.proofs.lemmas.List.{length-map}
-use Rattle.dns_message.specs.declared.header.Header.{Header}
+use Rattle.dns_message.specs.Header.{Header}
 use Rattle.dns_message.specs.Values.{Question}
 use Rattle.dns_message.specs.Questions.{same_question}
 use Rattle.dns_message.specs.Writing.{written}
@@ -13,7 +13,7 @@ use Rattle.suffix_routes.specs.Values.{Config}
 use Rattle.outstanding.specs.declared.ask.Path.{Path}
 use Rattle.outstanding.specs.Lists.{of_question, on_path as ask_on, same_path, without_path, AreListed}
 use Rattle.outstanding.specs.Values.{Ask}
-use Rattle.outstanding.proofs.Listed.{left, same_path-refl}
+use Rattle.outstanding.proofs.CallerLemmas.{listed_without_path as left, same_path_reflexive}
 use Rattle.retry_failover.specs.declared.Failure.TheVariants as failure
 use Rattle.step_values.specs.declared.action.Why.TheVariants.{Deadline}
 use Rattle.step_values.specs.Values.{path_failed, tick, Action, Handed, Step}
@@ -177,7 +177,7 @@ module _ (c : Config) (past : List Step) (w : List (List ℕ)) (s : State) (x : 
   due_attempt : (a : Ask) (others : List Ask) → s.asks ≡ a ∷ others → T (row_of_item c n words s (attempt a))
   due_attempt a others first =
       cond_both (nat_le (timeout_of c a) n) _ _ T
-      (λ _. failures.failure_row c past w s x now words unkept more tick refl refl a (ap (ask_on a.path) first ∙ cond-true (same_path a.path a.path) _ _ (same_path-refl a.path)) no_delivery failure.TimedOut)
+      (λ _. failures.failure_row c past w s x now words unkept more tick refl refl a (ap (ask_on a.path) first ∙ cond-true (same_path a.path a.path) _ _ (same_path_reflexive a.path)) no_delivery failure.TimedOut)
       (λ _. idle_tick)
 
   item_row : (ws : List Waiting) → s.waiting ≡ ws → (listed : List Ask) → s.asks ≡ listed → T (row_of_item c n words s (first_item c ws listed))

@@ -3,3 +3,4 @@ pub mod ExcerptOf
 pub mod ReadLaws
 pub mod ReadRoutes
 pub mod PeerLaws
+pub mod CallerLemmas

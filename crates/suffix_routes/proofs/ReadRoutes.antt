@@ -12,47 +12,24 @@ use Rattle.toml.specs.Data.{Data, Members}
 use Rattle.dns_name.specs.Labels.{IsName, IsSame}
 use Rattle.dns_name.specs.Text.{name_in}
 use Rattle.dns_name.specs.declared.fault.NameFault.{NameFault}
-use Rattle.dns_name.proofs.FaultLaws.{name_in_name}
+use Rattle.dns_name.proofs.CallerLemmas.{name_in_text}
 use Rattle.suffix_routes.specs.declared.fault.ConfigFault.{ConfigFault}
 use Rattle.suffix_routes.specs.declared.fault.ConfigFault.TheVariants as fault
 use Rattle.suffix_routes.specs.declared.peer.Peer.{Peer}
 use Rattle.suffix_routes.specs.Values.{Route, IsRoute, IsWithin, HasNoSuffix, AllDiffer}
 use Rattle.suffix_routes.specs.Excerpts.{excerpt}
 use Rattle.suffix_routes.specs.Routes.{route_at}
-use Rattle.suffix_routes.specs.Reading.{◌>>=◌, Fails, required, text_in, array_in, table_in, known_keys, suffix_name, new_suffix, servers_after, counted_servers, servers_in, suffix_in, route_in, routes_after, counted_routes, routes_in}
+use Rattle.first_fault.proofs.CallerLemmas.{fault_fails, fault_before_next}
+use Rattle.suffix_routes.specs.Reading.{◌>>=◌, wants_memory, Fails, required, text_in, array_in, table_in, known_keys, suffix_name, new_suffix, servers_after, counted_servers, servers_in, suffix_in, route_in, routes_after, counted_routes, routes_in}
 use Rattle.suffix_routes.proofs.RouteLaws.{no_own}
 
 -- ---- a fault is passed on
 
 pub fails_bind : {A B : Type 0} (e : ConfigFault) (r : Result A ConfigFault) (f : A → Result B ConfigFault) → Fails e r → Fails e (r >>= f)
-fails_bind (fault.Toml a) r f is = rw is refl
-fails_bind (fault.Version a) r f is = rw is refl
-fails_bind (fault.MissingKey a) r f is = rw is refl
-fails_bind (fault.WrongKind a b) r f is = rw is refl
-fails_bind (fault.BadName a b c) r f is = rw is refl
-fails_bind (fault.BadPeer a b) r f is = rw is refl
-fails_bind (fault.Range a b) r f is = rw is refl
-fails_bind (fault.TooManyServers a b) r f is = rw is refl
-fails_bind (fault.TwiceSuffix a b) r f is = rw is refl
-fails_bind (fault.TooManyRoutes a) r f is = rw is refl
-fails_bind (fault.NoServers a) r f is = rw is refl
-fails_bind (fault.UnknownKey a b) r f is = rw is refl
-fails_bind fault.Memory r f is = tt
+fails_bind e r f fails = fault_before_next wants_memory e r f fails
 
 pub fails_of : {A : Type 0} (e : ConfigFault) (r : Result A ConfigFault) → r ≡ Err e → Fails e r
-fails_of (fault.Toml a) r is = is
-fails_of (fault.Version a) r is = is
-fails_of (fault.MissingKey a) r is = is
-fails_of (fault.WrongKind a b) r is = is
-fails_of (fault.BadName a b c) r is = is
-fails_of (fault.BadPeer a b) r is = is
-fails_of (fault.Range a b) r is = is
-fails_of (fault.TooManyServers a b) r is = is
-fails_of (fault.TwiceSuffix a b) r is = is
-fails_of (fault.TooManyRoutes a) r is = is
-fails_of (fault.NoServers a) r is = is
-fails_of (fault.UnknownKey a b) r is = is
-fails_of fault.Memory r is = tt
+fails_of e r is = fault_fails wants_memory e r is
 
 -- ---- what comes of what is there
 
@@ -117,7 +94,7 @@ suffix_is_new earlier ms suffix is =
     let name = bind_ok (suffix_name (length earlier) text.value (name_in text.value)) (λ n. new_suffix (length earlier) n (route_at earlier n)) suffix text.next in
     let parts = new_is (length earlier) name.value suffix (route_at earlier name.value) name.next in
     record {
-      name = rw (← parts.0) (name_in_name text.value name.value (name_of (length earlier) text.value (name_in text.value) name.value name.there));
+      name = rw (← parts.0) (name_in_text text.value name.value (name_of (length earlier) text.value (name_in text.value) name.value name.there));
       new = rw (← parts.0) parts.1;
     }
 

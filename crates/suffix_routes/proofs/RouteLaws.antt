@@ -7,8 +7,7 @@ use Rattle.std.specs.List.{AllByRecursion, position_or_len}
 use Rattle.std.proofs.lemmas.Option.{slice_get_within}
 use Rattle.std.proofs.lemmas.Bool.{cases_Bool, cases_lt, lt-ltb, le-ltb}
 use Rattle.dns_name.specs.Labels.{IsUnder, IsSame, lowered, same, size_of}
-use Rattle.dns_name.proofs.NameLaws.{same_count, same_decides, lowered_again, under_ends, under_same_names, under_count, under_refl, more_labels}
-use Rattle.dns_name.proofs.LabelLaws.{size_of-some, rest_under}
+use Rattle.dns_name.proofs.CallerLemmas.{same_as_many_labels, same_decides, lowered_again, ends_where_under, under_respects_same, suffixes_same, under_itself, more_labels_more_octets, size_at_least_one, longer_is_under}
 use Rattle.suffix_routes.specs.Values.{Route, IsRoute, HasNoSuffix, AllDiffer}
 use Rattle.suffix_routes.specs.Routes.{IsRouteOf, IsAnswer, route_at, place_or, route_of}
 
@@ -78,8 +77,8 @@ own_route routes name place is =
     record {
       route = found.item;
       there = found.there;
-      under = under_same_names name name name found.item.suffix refl one (under_refl name);
-      most = λ k other there under. omega (arith, (under_ends name other.suffix under).fewer, same_count name found.item.suffix one);
+      under = under_respects_same name name name found.item.suffix refl one (under_itself name);
+      most = λ k other there under. omega (arith, (ends_where_under name other.suffix under).fewer, same_as_many_labels name found.item.suffix one);
     }
 
 -- no suffix is the name itself
@@ -99,7 +98,7 @@ longer_name routes l ls None none answer = λ k other there under.
 longer_name routes l ls (Some place) none answer = record {
   route = answer.route;
   there = answer.there;
-  under = rest_under l ls answer.route.suffix answer.under;
+  under = longer_is_under l ls answer.route.suffix answer.under;
   most = λ k other there under.
       elim (under_cases l ls other.suffix under) [
         | inl one ↦ absurd (no_own routes (l ∷ ls) none k other there one)
@@ -143,7 +142,7 @@ one_place (r ∷ rs) (suc j) (suc k) a b differ at_j at_k one = ap suc (one_plac
 pub one_route : (routes : List Route) (name : Name) (j k : ℕ) → AllDiffer routes → IsRouteOf routes name j → IsRouteOf routes name k → j ≡ k
 one_route routes name j k differ a b =
     let count : length a.route.suffix ≡ length b.route.suffix = omega (arith, a.most k b.route b.there b.under, b.most j a.route a.there a.under) in
-    one_place routes j k a.route b.route differ a.there b.there (under_count name a.route.suffix b.route.suffix a.under b.under count)
+    one_place routes j k a.route b.route differ a.there b.there (suffixes_same name a.route.suffix b.route.suffix a.under b.under count)
 
 pub one_answer : (routes : List Route) (name : Name) (a b : Option ℕ) → AllDiffer routes → IsAnswer routes name a → IsAnswer routes name b → a ≡ b
 one_answer routes name None None differ a b = refl
@@ -165,12 +164,12 @@ route_of-lowered routes (l ∷ ls) = rw (at_lowered routes (l ∷ ls), route_of-
 
 -- names that are the same have one route
 pub answer_of_same : (routes : List Route) (n m : Name) (answer : Option ℕ) → IsSame n m → IsAnswer routes n answer → IsAnswer routes m answer
-answer_of_same routes n m None one answer = λ k other there under. answer k other there (under_same_names m n other.suffix other.suffix (sym one) refl under)
+answer_of_same routes n m None one answer = λ k other there under. answer k other there (under_respects_same m n other.suffix other.suffix (sym one) refl under)
 answer_of_same routes n m (Some place) one answer = record {
   route = answer.route;
   there = answer.there;
-  under = under_same_names n m answer.route.suffix answer.route.suffix one refl answer.under;
-  most = λ k other there under. answer.most k other there (under_same_names m n other.suffix other.suffix (sym one) refl under);
+  under = under_respects_same n m answer.route.suffix answer.route.suffix one refl answer.under;
+  most = λ k other there under. answer.most k other there (under_respects_same m n other.suffix other.suffix (sym one) refl under);
 }
 
 -- ---- the best of the routes before a place
@@ -190,7 +189,7 @@ BestBelow routes name i (Some place) size = BestIs routes name i place size
 no_longer : (name s t : Name) → IsUnder name s → IsUnder name t → size_of s ≤ size_of t → length s ≤ length t
 no_longer name s t us ut le =
     elim (cases_lt (length t) (length s)) [
-      | inl lt ↦ absurd (omega (arith, more_labels name s t us ut lt))
+      | inl lt ↦ absurd (omega (arith, more_labels_more_octets name s t us ut lt))
       | inr fewer ↦ fewer
     ]
 
@@ -213,7 +212,7 @@ passed_over routes name i None size r at best short = (
         | inl below ↦ best.1 k other below there under
         | inr same_place ↦
             let one = here routes i r other k same_place at there in
-            absurd (omega (arith, short (rw (← one) under), best.0, size_of-some r.suffix))
+            absurd (omega (arith, short (rw (← one) under), best.0, size_at_least_one r.suffix))
       ],
 )
 passed_over routes name i (Some place) size r at best short = record {

@@ -1,7 +1,9 @@
 -- The configuration that a table of TOML holds, else the first fault in order.
-use Rattle.std.specs.Prelude.{◌≡◌, ℕ, ◌≤◌, ℤ, pos, int_le, unsigned_abs, Bool, not, ◌==◌, nat_lt, ◌&&◌, if◌then◌else◌, List, [], ◌∷◌, ◌++◌, length, codes, option_map, Option, Some, None, Result, Ok, Err}
+use Rattle.std.specs.Prelude.{◌≡◌, ℕ, ◌≤◌, ℤ, pos, int_le, unsigned_abs, Bool, true, false, not, ◌==◌, nat_lt, ◌&&◌, if◌then◌else◌, List, [], ◌∷◌, ◌++◌, length, codes, option_map, Option, Some, None, Result, Ok, Err}
 use Rattle.std.specs.Ordering.{int_eq}
 use Rattle.std.specs.List.{find}
+use Rattle.first_fault.specs.Reading as reading
+pub use Rattle.first_fault.specs.Reading.{◌>>=◌}
 use Rattle.toml.specs.Data.{Data, Items, no_items, item, Members, no_members, member, get_member, as_str, as_integer, as_array, as_table}
 use Rattle.toml.specs.Parse.{parse_document}
 use Rattle.dns_name.specs.Text.{name_in}
@@ -21,20 +23,18 @@ use Rattle.suffix_routes.specs.Excerpts.{excerpt}
 use Rattle.suffix_routes.specs.Kinds.{kind_of}
 use Rattle.suffix_routes.specs.Routes.{route_at}
 
--- the first fault, or what comes next of what is there
-infixl 10 ◌>>=◌
-abbrev pub ◌>>=◌ : {A B : Type 0} → Result A ConfigFault → (A → Result B ConfigFault) → Result B ConfigFault
-(Ok x) >>= f = f x
-(Err e) >>= f = Err e
+-- the fault that is a want of memory
+abbrev pub wants_memory : ConfigFault → Bool
+wants_memory Memory = true
+wants_memory fault = false
 
--- What a call answered, seen by view, is the answer; of a call that ran out of memory nothing is said.
+-- What a call failed with is the answer, unless memory ran out.
 abbrev pub Fails : {Y : Type 0} → ConfigFault → Result Y ConfigFault → Type 0
-Fails Memory answer = Unit {0}
-Fails fault answer = answer ≡ Err fault
+Fails fault answer = reading.Fails wants_memory fault answer
 
+-- What a call answered, seen by view, is the answer, unless memory ran out.
 abbrev pub Gives : {X Y : Type 0} → (X → Y) → Result X ConfigFault → Result Y ConfigFault → Type 0
-Gives view (Ok x) answer = answer ≡ Ok (view x)
-Gives view (Err fault) answer = Fails fault answer
+Gives view given answer = reading.Gives wants_memory view given answer
 
 -- What a call answered, seen by view, is the answer; such a call takes no memory.
 abbrev pub Shows : {X Y : Type 0} → (X → Y) → Result X ConfigFault → Result Y ConfigFault → Type 0

@@ -21,6 +21,3 @@ pub use limits::Limits;
 pub use peer::Peer;
 pub use place::{Limit, Place};
 pub use route::{Route, RouteId};
-
-#[cfg(test)]
-mod tests;

@@ -3,7 +3,7 @@
 ghost use Rattle.std.specs.Prelude.{◌≡◌, ◌^◌, ◌≤◌, [], IfOk, IfSome, OnErr, IsOk, map};
 ghost use Rattle.suffix_routes.specs.Values.{IsConfig};
 ghost use Rattle.step_values.specs.Values.{event_of};
-ghost use Rattle.step_history.specs.Messages.{AreOctets};
+ghost use Rattle.plain_list.specs.Octets.{AreOctets};
 ghost use Rattle.step_rules.specs.Row.{start, HandsOctets, TakesNoMemory, effective, Row, is_due_at};
 ghost use Rattle.forwarder_core.specs.Next.{IsDecided, IsDecidedQuietly, CanChange};
 ghost use Rattle.step_soundness.specs.Runs.{StaysExplained};

@@ -1,6 +1,6 @@
 use Rattle.std.proofs.Common.{subst, List, ℕ}
 use Rattle.std.specs.Prelude.{Result}
-use Rattle.dns_message.specs.declared.fault.Fault.{Fault}
+use Rattle.dns_message.specs.Fault.{Fault}
 use Rattle.dns_message.specs.Reading.{Gives}
 use Rattle.forwarder_core.proofs.TextLaws.{fresh_is}
 use Rattle.forwarder_core.proofs.answers.fresh_text.Goals as goal

@@ -2,7 +2,7 @@ use Rattle.std.proofs.Common.{arith, ◌≡◌, Some, false, true, sym, ap, refl
 use Rattle.std.specs.Prelude.{slice_get}
 use Rattle.std.proofs.lemmas.Option.{slice_get_read, slice_get_within}
 use Rattle.dns_name.specs.Labels.{same}
-use Rattle.dns_name.proofs.NameLaws.{same_decides, told}
+use Rattle.dns_name.proofs.CallerLemmas.{same_decides, answer_is_test}
 use Rattle.suffix_routes.specs.Values.{Route}
 use Rattle.suffix_routes.proofs.ReadRoutes.{first_at, none_first, one_more}
 use Rattle.suffix_routes.proofs.read_route.place_of.Goals as goal
@@ -22,7 +22,7 @@ loop-place-preserved g c =
     let r = c.index-routes-place.result in
     let there : slice_get routes c.loop-place.place ≡ Some r = slice_get_read routes (length routes) c.loop-place.place r refl c.loop-place-test.true c.index-routes-place.is in
     let suffix : r.suffix ≡ c.route.inside.suffix = ap (λ (x : Route). x.suffix) (sym c.route.view_is) in
-    let answer : c.same.result ≡ same c.args.name.now c.route.inside.suffix = told c.same.result (same c.args.name.now c.route.inside.suffix) c.same.ensures (same_decides c.args.name.now c.route.inside.suffix) in
+    let answer : c.same.result ≡ same c.args.name.now c.route.inside.suffix = answer_is_test c.same.result (same c.args.name.now c.route.inside.suffix) c.same.ensures (same_decides c.args.name.now c.route.inside.suffix) in
     let fail : same c.args.name.now r.suffix ≡ false = rw suffix (sym answer ∙ c.if-same.false) in
     one_more (λ x. same c.args.name.now x.suffix) routes c.loop-place.place r c.loop-place.invariant there fail
 

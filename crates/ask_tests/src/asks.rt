@@ -1,0 +1,81 @@
+//! Asks under way: what random words draw, and the memory that the list takes.
+
+ghost use Rattle.std.specs.Prelude.{◌≡◌, IfOk};
+
+use dns_message::Question;
+use dns_name::{Name, NameFault};
+use outstanding::{Ask, Inquiries, Path, Refusal, draw};
+use refusing_allocator::Refusing;
+use std::alloc::Global;
+use std::test::Fail;
+use suffix_routes::{Peer, RouteId};
+
+/// An ask for an address of a name, of the server 192.0.2.1:53.
+fn ask_for<'a>(
+    heap: &'a Refusing<Global>,
+    name: &str,
+    path: Path,
+    asked: u64,
+) -> Result<Ask<&'a Refusing<Global>>, NameFault>
+    ensures { IfOk result (λ ask. (ask.path ≡ path) × (ask.asked ≡ asked)) }
+{
+    Ok(Ask {
+        question: Question {
+            name: Name::from_text(heap, name)?,
+            kind: 1,
+            class: 1,
+        },
+        route: RouteId { place: 0 },
+        server: 0,
+        peer: Peer {
+            ip: [192, 0, 2, 1],
+            port: 53,
+        },
+        used: 1,
+        path,
+        id: 8,
+        asked,
+    })
+}
+
+/// `begin` alone takes memory: it is refused one growth and granted the next, and the one that is allowed then stays
+/// unspent over all other calls, and over a `begin` into room that there is.
+#[test]
+fn only_begin_takes_memory(rt: HostRuntime) -> Result<(), Fail> {
+    let heap = Refusing::new(rt.alloc());
+    let first = ask_for(&heap, "a.example", Path::Udp(1024), 1000)?;
+    let second = ask_for(&heap, "A.EXAMPLE", Path::Tcp(0), 2500)?;
+    heap.allow(0);
+    let mut inquiries = Inquiries::new(&heap, 1);
+    let Err((first, refusal)) = inquiries.begin(first) else {
+        return Err(Fail::from("a refused growth"));
+    };
+    assert_eq!(rt; refusal, Refusal::Memory);
+    heap.allow(1);
+    assert!(rt; inquiries.begin(first).is_ok());
+    heap.allow(1);
+    assert_eq!(rt; draw([0; 8], &inquiries, None), None);
+    assert_eq!(rt; draw([0; 8], &inquiries, Some(1024)), Some((0, 1024)));
+    assert_eq!(rt; draw([u32::MAX; 8], &inquiries, None), Some((65535, 2047)));
+    assert_eq!(rt; inquiries.next_due(1500), Some((2500, Path::Udp(1024))));
+    assert!(rt; inquiries.by_question(&second.question).is_some());
+    assert!(rt; inquiries.by_path(Path::Udp(1024)).is_some());
+    let ended = inquiries.replace(Path::Udp(1024), second);
+    assert_eq!(rt; ended.path, Path::Udp(1024));
+    assert!(rt; inquiries.end(Path::Udp(1024)).is_none());
+    let ended = inquiries.end(Path::Tcp(0)).ok_or("the second ask")?;
+    assert!(rt; inquiries.begin(ended).is_ok(), "the room is there");
+    inquiries.clear();
+    assert_eq!(rt; inquiries.len(), 0);
+    assert!(rt; Box::new(&heap, 0u8).is_ok(), "one growth was allowed");
+    assert!(rt; Box::new(&heap, 0u8).is_err(), "and no more");
+    Ok(())
+}
+
+#[test]
+fn what_is_said_of_a_refusal(rt: HostRuntime) -> Result<(), Fail> {
+    let heap = rt.alloc();
+    let full = format!(in heap; "{}", Refusal::Full)?;
+    assert_eq!(rt; full.as_str(), "as many asks are listed as there may be");
+    Ok(())
+}

@@ -1,0 +1,107 @@
+//! A reply in octets, and what is near to one.
+
+use dns_message::Question;
+use dns_name::{Name, NameFault};
+use outstanding::{Ask, Path};
+use reply_match::{Verdict, judge};
+use std::alloc::Global;
+use std::test::Fail;
+use suffix_routes::{Peer, RouteId};
+
+/// The asked server.
+const SERVER: Peer = Peer {
+    ip: [192, 0, 2, 1],
+    port: 53,
+};
+
+/// The reply to the ask: the address of a.example is 198.51.100.5. Its header has 12 octets, its question 15.
+const REPLY: [u8; 43] =
+    *b"\x00\x08\x85\x00\x00\x01\x00\x01\x00\x00\x00\x00\x01a\x07example\x00\x00\x01\x00\x01\xc0\x0c\x00\x01\x00\x01\x00\x00\x01\x2c\x00\x04\xc6\x33\x64\x05";
+
+/// An ask for the address of a.example, with identifier 8.
+fn ask(heap: Global) -> Result<Ask, NameFault> {
+    Ok(Ask {
+        question: Question {
+            name: Name::from_text(heap, "a.example")?,
+            kind: 1,
+            class: 1,
+        },
+        route: RouteId { place: 0 },
+        server: 0,
+        peer: SERVER,
+        used: 1,
+        path: Path::Udp(1032),
+        id: 8,
+        asked: 1000,
+    })
+}
+
+#[test]
+fn one_octet_decides(rt: HostRuntime) -> Result<(), Fail> {
+    let ask = ask(rt.alloc())?;
+    for (place, octet, verdict) in [
+        (0usize, 0x00u8, Verdict::Whole),
+        (1, 0x09, Verdict::Stranger),
+        (2, 0x05, Verdict::Stranger),
+        (2, 0x8d, Verdict::Stranger),
+        (5, 0x00, Verdict::Stranger),
+        (5, 0x02, Verdict::Stranger),
+        (13, b'A', Verdict::Whole),
+        (13, b'b', Verdict::Stranger),
+        (24, 0x1c, Verdict::Stranger),
+        (26, 0x03, Verdict::Stranger),
+        (2, 0x87, Verdict::Truncated),
+        (3, 0x02, Verdict::Failed(2)),
+        (3, 0x03, Verdict::Whole),
+    ] {
+        let mut bytes = REPLY;
+        if let Some(changed) = bytes.get_mut(place) {
+            *changed = octet;
+        }
+        assert_eq!(rt; judge(&ask, SERVER, &bytes), verdict, "{octet} at {place}");
+    }
+    Ok(())
+}
+
+#[test]
+fn another_server_is_a_stranger(rt: HostRuntime) -> Result<(), Fail> {
+    let ask = ask(rt.alloc())?;
+    for (last, port) in [(2u8, 53u16), (1, 5353)] {
+        let from = Peer {
+            ip: [192, 0, 2, last],
+            port,
+        };
+        assert_eq!(rt; judge(&ask, from, &REPLY), Verdict::Stranger);
+    }
+    Ok(())
+}
+
+#[test]
+fn beginnings_of_the_reply(rt: HostRuntime) -> Result<(), Fail> {
+    let ask = ask(rt.alloc())?;
+    for octets in 0..44usize {
+        let wanted = match octets {
+            0..=26 => Verdict::Stranger,
+            27..=42 => Verdict::Malformed,
+            _ => Verdict::Whole,
+        };
+        assert_eq!(rt;
+            judge(&ask, SERVER, &REPLY[..octets]),
+            wanted,
+            "{octets} octets"
+        );
+    }
+    Ok(())
+}
+
+#[test]
+fn octets_behind_the_reply(rt: HostRuntime) -> Result<(), Fail> {
+    let heap = rt.alloc();
+    let ask = ask(heap)?;
+    let mut bytes = Vec::from_slice(heap, &REPLY)?;
+    bytes.resize(65_535, 0)?;
+    assert_eq!(rt; judge(&ask, SERVER, &bytes), Verdict::Whole);
+    bytes.push(0)?;
+    assert_eq!(rt; judge(&ask, SERVER, &bytes), Verdict::Stranger);
+    Ok(())
+}

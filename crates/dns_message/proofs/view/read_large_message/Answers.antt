@@ -1,5 +1,0 @@
-use Rattle.dns_message.proofs.ShortcutLaws.{none_known}
-use Rattle.dns_message.proofs.view.read_large_message.Goals as goal
-
-pub read_sections-requires : goal.read_sections-requires
-read_sections-requires g c = none_known c.args.bytes.now 16384

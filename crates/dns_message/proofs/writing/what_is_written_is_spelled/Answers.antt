@@ -1,5 +1,0 @@
-use Rattle.dns_message.proofs.RoundTripMessage.{message_spelled}
-use Rattle.dns_message.proofs.writing.what_is_written_is_spelled.Goals as goal
-
-pub returns : goal.returns
-returns c = λ message is counted shapes short. message_spelled message is counted shapes short

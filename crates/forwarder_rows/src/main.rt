@@ -1,0 +1,36 @@
+//! Runs each worked row of a folder, and prints what differs from its expected lines.
+#![tactic(auto)]
+
+mod comparison;
+mod folder;
+mod rows;
+mod tally;
+
+use std::process::ExitCode;
+use std::rt::{Env, Files};
+use std::{env, io};
+use tally::Tally;
+
+fn main(rt: HostRuntime) -> ExitCode {
+    match run(&rt) {
+        Ok(Some(tally)) if tally.is_well() => ExitCode::SUCCESS,
+        Ok(Some(_)) => ExitCode::FAILURE,
+        Ok(None) => {
+            let _ = eprintln!(rt; "usage: forwarder_rows FOLDER");
+            ExitCode::from(2)
+        }
+        Err(error) => {
+            let _ = eprintln!(rt; "{error}");
+            ExitCode::from(2)
+        }
+    }
+}
+
+/// Runs the rows of the folder that the only argument names; `None` where there are other arguments.
+fn run<R: Env + Files + Print + AllocGlobal + Clone + Drop>(rt: &R) -> io::Result<Option<Tally>> {
+    let mut args = env::args(rt)?.skip(1);
+    let (Some(folder), None) = (args.next(), args.next()) else {
+        return Ok(None);
+    };
+    Ok(Some(rows::run_all(rt, folder.as_str())?))
+}

@@ -1,0 +1,5 @@
+pub mod NameLaws
+pub mod EndLaws
+pub mod ShortcutLaws
+pub mod Loops
+pub mod CallerLemmas

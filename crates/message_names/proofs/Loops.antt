@@ -1,0 +1,46 @@
+-- What loops over the labels of a name keep.
+use Rattle.std.proofs.Common.{◌≡◌, ℕ, List, [], ◌∷◌, ◌++◌, map, Result, Ok, Err, refl, sym, ap, append_assoc}
+use Rattle.std.specs.Char.{to_ascii_lowercase}
+use Rattle.dns_name.specs.Labels.{IsSame}
+use Rattle.message_names.specs.declared.fault.Fault.{Fault}
+use Rattle.message_names.specs.Reading.{behind}
+use Rattle.message_names.specs.Names.{with_label, NameIs}
+
+abbrev pub with_front : List (List ℕ) → Result (List (List ℕ) × ℕ) Fault → Result (List (List ℕ) × ℕ) Fault
+with_front front (Ok n) = Ok (front ++ n.0, n.1)
+with_front front (Err fault) = Err fault
+
+pub front_more : (front : List (List ℕ)) (l : List ℕ) (r : Result (List (List ℕ) × ℕ) Fault) → with_front front (with_label l r) ≡ with_front (front ++ l ∷ []) r
+front_more front l (Ok n) = ap (λ (ls : List (List ℕ)). Ok (ls, n.1)) (sym (append_assoc front (l ∷ []) n.0))
+front_more front l (Err fault) = refl
+
+pub front_none : (r : Result (List (List ℕ) × ℕ) Fault) → with_front [] r ≡ r
+front_none (Ok n) = refl
+front_none (Err fault) = refl
+
+pub behind_label : (l : List ℕ) (r : Result (List (List ℕ) × ℕ) Fault) → behind (with_label l r) ≡ behind r
+behind_label l (Ok n) = refl
+behind_label l (Err fault) = refl
+
+-- ---- a name that is compared label by label
+
+same_first : (l m : List ℕ) (ls ms : List (List ℕ)) → IsSame (l ∷ ls) (m ∷ ms) → (map to_ascii_lowercase l ≡ map to_ascii_lowercase m) × IsSame ls ms
+same_first l m ls ms e = (cc, cc)
+
+first_same : (l m : List ℕ) (ls ms : List (List ℕ)) → map to_ascii_lowercase l ≡ map to_ascii_lowercase m → IsSame ls ms → IsSame (l ∷ ls) (m ∷ ms)
+first_same l m ls ms e f = cc
+
+pub is_first : (l m : List ℕ) (ms : List (List ℕ)) (r : Result (List (List ℕ) × ℕ) Fault) → NameIs (with_label l r) (m ∷ ms) → (map to_ascii_lowercase l ≡ map to_ascii_lowercase m) × NameIs r ms
+is_first l m ms (Ok n) is = same_first l m n.0 ms is
+is_first l m ms (Err fault) is = absurd is
+
+pub first_is : (l m : List ℕ) (ms : List (List ℕ)) (r : Result (List (List ℕ) × ℕ) Fault) → map to_ascii_lowercase l ≡ map to_ascii_lowercase m → NameIs r ms → NameIs (with_label l r) (m ∷ ms)
+first_is l m ms (Ok n) e is = first_same l m n.0 ms e is
+first_is l m ms (Err fault) e is = absurd is
+
+pub is_none : (l : List ℕ) (r : Result (List (List ℕ) × ℕ) Fault) → NameIs (with_label l r) [] → ⊥
+is_none l (Ok n) is = cc
+is_none l (Err fault) is = is
+
+pub end_is : (m : List ℕ) (ms : List (List ℕ)) (e : ℕ) → NameIs (Ok ([], e)) (m ∷ ms) → ⊥
+end_is m ms e is = cc

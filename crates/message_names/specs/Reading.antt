@@ -1,0 +1,19 @@
+-- Reading from the front, with the first fault that is met.
+use Rattle.std.specs.Prelude.{Bool, true, false, Result}
+use Rattle.first_fault.specs.Reading as reading
+pub use Rattle.first_fault.specs.Reading.{◌>>=◌, behind}
+use Rattle.message_names.specs.declared.fault.Fault.{Fault}
+use Rattle.message_names.specs.declared.fault.Fault.TheVariants.{Memory}
+
+-- the fault that is a want of memory
+abbrev pub wants_memory : Fault → Bool
+wants_memory Memory = true
+wants_memory fault = false
+
+-- What a call failed with is the answer, unless memory ran out.
+abbrev pub Fails : {Y : Type 0} → Fault → Result Y Fault → Type 0
+Fails fault answer = reading.Fails wants_memory fault answer
+
+-- What a call answered, seen by view, is the answer, unless memory ran out.
+abbrev pub Gives : {X Y : Type 0} → (X → Y) → Result X Fault → Result Y Fault → Type 0
+Gives view given answer = reading.Gives wants_memory view given answer

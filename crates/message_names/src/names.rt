@@ -1,0 +1,101 @@
+//! Names in a message, with pointers: RFC 1035 4.1.4.
+
+ghost use Rattle.std.specs.Prelude.{◌≡◌, ◌≤◌, IsOk, MatchOption, Ok, length};
+ghost use Rattle.message_names.specs.Reading.{Gives, behind};
+ghost use Rattle.message_names.specs.Shortcuts.{AreShortcuts};
+ghost use Rattle.message_names.specs.Names.{name_at, name_within, NameIs};
+
+use crate::fault::Fault;
+use crate::walk::{Bound, Next, Walk, next_label};
+use dns_name::Name;
+use std::alloc::Allocator;
+
+/// The name at a place, and the place behind it. Where pointers lead is remembered in `ends`, which may be empty.
+///
+/// `Err` is `Memory` where a growth was refused, or the first fault of the name from its front: `Short`, `LabelForm`,
+/// `Pointer` or `NameLong`.
+pub fn read_name<A: Allocator>(
+    alloc: A,
+    bytes: &[u8],
+    ends: &mut [u16],
+    offset: usize,
+) -> Result<(Name<A>, usize), Fault>
+    requires { AreShortcuts bytes.now ends.old }
+    ensures exact { Gives (λ x. x) result (name_at bytes.now offset) }
+    ensures known { AreShortcuts bytes.now ends.new }
+{
+    let mut name = Name::root(alloc);
+    let mut walk = Walk::new(bytes, Bound::whole(bytes), offset);
+    loop {
+        match next_label(bytes, ends, walk)? {
+            Next::End(end) => return Ok((name, end)),
+            Next::Label(label, after) => {
+                name.append(label)?;
+                walk = after;
+            }
+        }
+    }
+}
+
+/// The place behind the name at a place, in a run that must end before a bound. `Err` is the first fault of the name
+/// from its front. It takes no memory.
+pub fn skip_name(
+    bytes: &[u8],
+    ends: &mut [u16],
+    bound: Bound,
+    offset: usize,
+) -> Result<usize, Fault>
+    requires inside { bound.stop ≤ length bytes.now }
+    requires known { AreShortcuts bytes.now ends.old }
+    ensures exact { result ≡ behind (name_within bytes.now bound offset) }
+    ensures known { AreShortcuts bytes.now ends.new }
+{
+    let mut walk = Walk::new(bytes, bound, offset);
+    loop {
+        match next_label(bytes, ends, walk)? {
+            Next::End(end) => return Ok(end),
+            Next::Label(_, after) => walk = after,
+        }
+    }
+}
+
+/// The place behind the name at a place, which can be read. It is found in the name's own octets: a name ends behind
+/// its zero octet, or behind its first pointer, wherever that leads. It takes no memory.
+#[tactic(auto, using(crate::proofs::EndLaws::name_begins, crate::proofs::EndLaws::goes_on))]
+pub fn readable_name_end(bytes: &[u8], offset: usize) -> usize
+    requires { IsOk (name_at bytes.now offset) }
+    ensures { behind (name_at bytes.now offset) ≡ Ok result }
+{
+    let mut at = offset;
+    loop {
+        let first = bytes[at];
+        if first == 0 {
+            return at + 1;
+        }
+        if first >= 192 {
+            return at + 2;
+        }
+        at += first as usize + 1;
+    }
+}
+
+/// The place behind the name at a place, where it is this one, letter case aside (RFC 1035 2.3.3); `None` where it is
+/// another, or cannot be read. It takes no memory.
+pub fn skip_same_name<A: Allocator>(bytes: &[u8], offset: usize, name: &Name<A>) -> Option<usize>
+    ensures { MatchOption result (NameIs (name_at bytes.now offset) name.now → ⊥) (λ end. NameIs (name_at bytes.now offset) name.now × (behind (name_at bytes.now offset) ≡ Ok end)) }
+{
+    let mut walk = Walk::new(bytes, Bound::whole(bytes), offset);
+    let mut labels = name.labels();
+    loop {
+        match next_label(bytes, &mut [], walk).ok()? {
+            Next::End(end) => return labels.next().is_none().then_some(end),
+            Next::Label(label, after) => {
+                let other = labels.next()?;
+                if !label.eq_ignore_ascii_case(other) {
+                    return None;
+                }
+                walk = after;
+            }
+        }
+    }
+}

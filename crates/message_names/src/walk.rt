@@ -1,0 +1,182 @@
+//! One name in a message, label by label.
+
+ghost use Rattle.std.specs.Prelude.{◌≡◌, ◌≤◌, ◌+◌, length, take, drop, IfOk};
+ghost use Rattle.message_names.specs.Shortcuts.{AreShortcuts};
+ghost use Rattle.message_names.specs.Names.{whole, inside, step, Stays, Resumes, resume, name_within};
+
+use crate::fault::Fault;
+use crate::shortcuts::resolve;
+
+/// Where a run of labels must end, in octets from the front of the message. A run is the labels of a name that stand
+/// one behind another, with the zero octet or the pointer that ends them (RFC 1035 4.1.4).
+#[derive(Clone, Copy)]
+pub struct Bound {
+    /// No octet of the run lies here or behind.
+    pub stop: usize,
+    /// The fault where the run needs an octet that lies there.
+    pub beyond: Fault,
+}
+
+impl Bound {
+    /// The end of the message; beyond it an octet is `Short`.
+    pub fn whole(bytes: &[u8]) -> Bound
+        ensures { result ≡ whole bytes.now }
+    {
+        Bound {
+            stop: bytes.len(),
+            beyond: Fault::Short,
+        }
+    }
+
+    /// The end of a record's data; beyond it an octet is `Rdata`, also where the message goes on.
+    pub fn data(stop: usize) -> Bound
+        ensures { result ≡ inside stop }
+    {
+        Bound {
+            stop,
+            beyond: Fault::Rdata,
+        }
+    }
+}
+
+/// What stands at one place of a name.
+#[derive(Clone, Copy)]
+pub(crate) enum Step {
+    /// The name ends.
+    End,
+    /// A label of so many octets.
+    Label(usize),
+    /// A pointer to a place before the run.
+    Pointer(usize),
+}
+
+/// Where the reading of a name stands: a cursor, in octets from the front of the message.
+#[derive(Clone, Copy)]
+pub struct Walk {
+    /// The place that is read next.
+    pub offset: usize,
+    /// Where the present run of labels began.
+    pub run: usize,
+    /// The octets that the labels so far take, their lengths counted.
+    pub used: usize,
+    /// Where the present run must end.
+    pub bound: Bound,
+    /// Where the name ends in the octets, once a pointer was followed.
+    pub end: Option<usize>,
+}
+
+impl Walk {
+    /// The beginning of the name at a place. Nothing is read yet.
+    #[tactic(auto, unfolding(crate::specs::Names::resume, crate::specs::Names::name_within))]
+    pub fn new(bytes: &[u8], bound: Bound, offset: usize) -> Walk
+        ensures used { result.used ≡ 0 }
+        ensures bound { result.bound ≡ bound }
+        ensures start { resume bytes.now result ≡ name_within bytes.now bound offset }
+    {
+        Walk {
+            offset,
+            run: offset,
+            used: 0,
+            bound,
+            end: None,
+        }
+    }
+}
+
+/// What comes next in a name.
+pub enum Next<'a> {
+    /// A label of 1 to 63 octets without its length, and where the reading stands behind it.
+    Label(&'a [u8], Walk),
+    /// The name ends, and its own octets end before this place.
+    End(usize),
+}
+
+/// So many octets from a place on, where they are there.
+pub fn part(bytes: &[u8], start: usize, len: usize) -> &[u8]
+    requires { start + len ≤ length bytes.now }
+    ensures { result.now ≡ take len (drop start bytes.now) }
+{
+    let (_, rest) = bytes.split_at(start);
+    let (part, _) = rest.split_at(len);
+    part
+}
+
+/// What stands at the next place: RFC 1035 4.1.4. The order of the tests is the order of the faults.
+#[tactic(auto, unfolding(crate::specs::Names::step))]
+fn step_at(bytes: &[u8], walk: Walk) -> Result<Step, Fault>
+    requires used { walk.used ≤ 254 }
+    requires stop { walk.bound.stop ≤ length bytes.now }
+    ensures exact { result ≡ step bytes.now walk.bound walk.offset walk.run walk.used }
+    ensures stays { IfOk result (Stays bytes.now walk.bound walk.offset walk.run walk.used) }
+{
+    let at = walk.offset;
+    let Bound { stop, beyond } = walk.bound;
+    if at >= stop {
+        return Err(beyond);
+    }
+    let first = bytes[at] as usize;
+    if first == 0 {
+        return Ok(Step::End);
+    }
+    if first < 64 {
+        if stop - at - 1 < first {
+            return Err(beyond);
+        }
+        if walk.used + first > 253 {
+            return Err(Fault::NameLong);
+        }
+        return Ok(Step::Label(first));
+    }
+    if first < 192 {
+        return Err(Fault::LabelForm);
+    }
+    if stop - at < 2 {
+        return Err(beyond);
+    }
+    let target = (first - 192) * 256 + bytes[at + 1] as usize;
+    if target < walk.run {
+        Ok(Step::Pointer(target))
+    } else {
+        Err(Fault::Pointer)
+    }
+}
+
+/// The next label of a name, pointers followed; where they lead is remembered in `ends`, which may be empty. It takes
+/// no memory.
+///
+/// The fault is the first from where the walk stands (RFC 1035 4.1.4): `Short` or `Rdata` where an octet lies beyond
+/// the bound, `NameLong` where the name would have more than 255 octets, `LabelForm` where neither a label nor a
+/// pointer begins, `Pointer` where one does not lead to before the run that it ends.
+pub fn next_label<'a>(bytes: &'a [u8], ends: &mut [u16], walk: Walk) -> Result<Next<'a>, Fault>
+    requires used { walk.used ≤ 254 }
+    requires stop { walk.bound.stop ≤ length bytes.now }
+    requires known { AreShortcuts bytes.now ends.old }
+    ensures resumes { Resumes bytes.now walk result }
+    ensures known { AreShortcuts bytes.now ends.new }
+{
+    let mut walk = walk;
+    loop {
+        match step_at(bytes, walk)? {
+            Step::End => return Ok(Next::End(walk.end.unwrap_or(walk.offset + 1))),
+            Step::Label(len) => {
+                let label = part(bytes, walk.offset + 1, len);
+                let after = Walk {
+                    offset: walk.offset + 1 + len,
+                    used: walk.used + len + 1,
+                    ..walk
+                };
+                return Ok(Next::Label(label, after));
+            }
+            Step::Pointer(target) => {
+                let start = resolve(bytes, ends, target);
+                walk = Walk {
+                    offset: start,
+                    run: start,
+                    used: walk.used,
+                    bound: Bound::whole(bytes),
+                    end: Some(walk.end.unwrap_or(walk.offset + 2)),
+                };
+            }
+        }
+    }
+}

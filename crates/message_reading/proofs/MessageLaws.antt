@@ -1,0 +1,52 @@
+-- What stands in a message as a whole.
+use Rattle.std.proofs.Common.{◌≡◌, ℕ, ◌≤◌, List, length, Result, Ok, Err, refl, ◌∙◌, arith}
+use Rattle.std.specs.Prelude.{IsOk}
+use Rattle.message_names.specs.declared.fault.Fault.{Fault}
+use Rattle.message_reading.specs.Values.{Question}
+use Rattle.message_names.specs.Reading.{◌>>=◌, behind}
+use Rattle.message_names.specs.Numbers.{number16}
+use Rattle.message_reading.specs.Header.{header_in, header_of}
+use Rattle.message_reading.specs.Records.{question_at, record_at, counted}
+use Rattle.message_reading.specs.Messages.{or_short, read_of, message_at, first_question, IsViewed}
+use Rattle.message_reading.proofs.RecordLaws.{behind_bind}
+
+pub question_read : (bytes : List ℕ) (o e : ℕ) → behind (question_at bytes o) ≡ Ok e → IsOk (read_of (question_at bytes o))
+question_read bytes o e is = by_read (question_at bytes o) is
+  where
+    by_read : (r : Result (Question × ℕ) Fault) → behind r ≡ Ok e → IsOk (read_of r)
+    by_read (Ok x) is = refl
+    by_read (Err f) is = absurd cc
+
+pub question_fault : (bytes : List ℕ) (o : ℕ) (fault : Fault) → behind (question_at bytes o) ≡ Err fault → read_of (question_at bytes o) ≡ Err fault
+question_fault bytes o fault is = by_read (question_at bytes o) is
+  where
+    by_read : (r : Result (Question × ℕ) Fault) → behind r ≡ Err fault → read_of r ≡ Err fault
+    by_read (Ok x) is = absurd cc
+    by_read (Err f) is = let e : f ≡ fault = cc in cc
+
+-- ---- a message ends where its last counted record does
+
+header_there : (bytes : List ℕ) → 12 ≤ length bytes → or_short (header_of bytes) ≡ Ok (header_in bytes)
+unfolding header_of
+header_there bytes le = grind arith
+
+just : {X : Type 0} (r : Result (X × ℕ) Fault) → (behind r >>= λ e. Ok e) ≡ behind r
+just (Ok x) = refl
+just (Err f) = refl
+
+pub message_behind : (bytes : List ℕ) → 12 ≤ length bytes
+    → behind (message_at bytes) ≡ (behind (counted (question_at bytes) (number16 bytes 4) 12)
+    >>= λ questions. behind (counted (record_at bytes) (number16 bytes 6) questions)
+    >>= λ answers. behind (counted (record_at bytes) (number16 bytes 8) answers)
+    >>= λ authority. behind (counted (record_at bytes) (number16 bytes 10) authority))
+unfolding message_at
+message_behind bytes le =
+    rw (header_there bytes le)
+    (behind_bind (counted (question_at bytes) (number16 bytes 4) 12) _ _ (λ questions.
+    behind_bind (counted (record_at bytes) (number16 bytes 6) questions.1) _ _ (λ answers.
+    behind_bind (counted (record_at bytes) (number16 bytes 8) answers.1) _ _ (λ authority.
+    behind_bind (counted (record_at bytes) (number16 bytes 10) authority.1) _ (λ e. Ok e) (λ additional. refl) ∙ just (counted (record_at bytes) (number16 bytes 10) authority.1)))))
+
+pub viewed_long : (bytes : List ℕ) → IsViewed bytes → 12 ≤ length bytes
+unfolding first_question
+viewed_long bytes v = let is = v.is in grind (arith, is)

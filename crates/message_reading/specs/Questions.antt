@@ -1,0 +1,19 @@
+-- When two questions are one, and the one question of a message.
+use Rattle.std.specs.Prelude.{ℕ, Bool, if◌then◌else◌, ◌==◌, ◌&&◌, List, Option, Some, None, Result, Ok, Err, slice_index}
+use Rattle.dns_name.specs.Labels.{same}
+use Rattle.message_names.specs.declared.fault.Fault.{Fault}
+use Rattle.message_reading.specs.Values.{Question}
+use Rattle.message_reading.specs.Header.{header_in}
+use Rattle.message_reading.specs.Messages.{first_question}
+
+-- equal name, letter case aside (RFC 1035 2.3.3, RFC 4343), equal type and class
+abbrev pub same_question : Question → Question → Bool
+same_question a b = same a.name b.name && (a.kind == b.kind) && (a.class == b.class)
+
+abbrev pub question_read : Result Question Fault → Option Question
+question_read (Ok question) = Some question
+question_read (Err fault) = None
+
+-- the question of octets that count just one, where it can be read
+abbrev pub one_question : List ℕ → Option Question
+one_question octets = if slice_index (header_in octets).counts 0 == 1 then question_read (first_question octets) else None

@@ -1,0 +1,239 @@
+//! The data of records, by the shape of its type.
+
+ghost use Rattle.std.specs.Prelude.{◌≡◌, ◌≤◌, IfOk, length};
+ghost use Rattle.message_names.specs.Reading.{Gives, behind};
+ghost use Rattle.message_names.specs.Shortcuts.{AreShortcuts};
+ghost use Rattle.message_names.specs.Names.{name_within, inside};
+ghost use Rattle.message_reading.specs.Data.{octets_within, written_out, prefixed, part_at, parts_at, data_at, name_of_rdata};
+
+use crate::shape::{Part, shape_of};
+use dns_name::Name;
+use message_names::{Bound, Fault, Next, Walk, next_label, part, read_name, skip_name};
+use std::alloc::{AllocError, Allocator};
+
+/// The place behind so many octets of the data.
+#[tactic(auto, unfolding(crate::specs::Data::octets_within))]
+fn skip_octets(bytes: &[u8], stop: usize, offset: usize, count: usize) -> Result<usize, Fault>
+    ensures { result ≡ behind (octets_within bytes.now stop offset count) }
+{
+    let _ = bytes;
+    if offset > stop || stop - offset < count {
+        return Err(Fault::Rdata);
+    }
+    Ok(offset + count)
+}
+
+/// Writes a name of the data out in full behind the octets, and gives the place behind it.
+fn expand_name<A: Allocator>(
+    octets: &mut Vec<u8, A>,
+    bytes: &[u8],
+    ends: &mut [u16],
+    stop: usize,
+    offset: usize,
+) -> Result<usize, Fault>
+    requires inside { stop ≤ length bytes.now }
+    requires known { AreShortcuts bytes.now ends.old }
+    ensures exact { Gives (λ e. (octets.new.items, e)) result (prefixed octets.old.items (written_out (name_within bytes.now (inside stop) offset))) }
+    ensures known { AreShortcuts bytes.now ends.new }
+{
+    let mut walk = Walk::new(bytes, Bound::data(stop), offset);
+    loop {
+        match next_label(bytes, ends, walk)? {
+            Next::End(end) => {
+                octets.push(0)?;
+                return Ok(end);
+            }
+            Next::Label(label, after) => {
+                octets.push(label.len() as u8)?;
+                octets.extend_from_slice(label)?;
+                walk = after;
+            }
+        }
+    }
+}
+
+/// Puts some octets of the data behind the octets, and gives the place behind them.
+#[tactic(auto, unfolding(crate::specs::Data::octets_within))]
+fn read_octets<A: Allocator>(
+    octets: &mut Vec<u8, A>,
+    bytes: &[u8],
+    stop: usize,
+    offset: usize,
+    count: usize,
+) -> Result<usize, Fault>
+    requires { stop ≤ length bytes.now }
+    ensures { Gives (λ e. (octets.new.items, e)) result (prefixed octets.old.items (octets_within bytes.now stop offset count)) }
+{
+    let end = skip_octets(bytes, stop, offset, count)?;
+    octets.extend_from_slice(part(bytes, offset, count))?;
+    Ok(end)
+}
+
+/// Puts a part of the data, written out in full, behind the octets, and gives the place behind it.
+#[tactic(auto, unfolding(crate::specs::Data::text_within))]
+fn read_part<A: Allocator>(
+    octets: &mut Vec<u8, A>,
+    bytes: &[u8],
+    ends: &mut [u16],
+    stop: usize,
+    part: Part,
+    offset: usize,
+) -> Result<usize, Fault>
+    requires inside { stop ≤ length bytes.now }
+    requires known { AreShortcuts bytes.now ends.old }
+    ensures exact { Gives (λ e. (octets.new.items, e)) result (prefixed octets.old.items (part_at part bytes.now stop offset)) }
+    ensures known { AreShortcuts bytes.now ends.new }
+{
+    match part {
+        Part::Name => expand_name(octets, bytes, ends, stop, offset),
+        Part::Number16 => read_octets(octets, bytes, stop, offset, 2),
+        Part::Number32 => read_octets(octets, bytes, stop, offset, 4),
+        Part::Text => {
+            if offset >= stop {
+                return Err(Fault::Rdata);
+            }
+            read_octets(octets, bytes, stop, offset, bytes[offset] as usize + 1)
+        }
+    }
+}
+
+/// The place behind a part of the data.
+#[tactic(auto, unfolding(crate::specs::Data::text_within))]
+fn skip_part(
+    bytes: &[u8],
+    ends: &mut [u16],
+    stop: usize,
+    part: Part,
+    offset: usize,
+) -> Result<usize, Fault>
+    requires inside { stop ≤ length bytes.now }
+    requires known { AreShortcuts bytes.now ends.old }
+    ensures exact { result ≡ behind (part_at part bytes.now stop offset) }
+    ensures known { AreShortcuts bytes.now ends.new }
+{
+    match part {
+        Part::Name => skip_name(bytes, ends, Bound::data(stop), offset),
+        Part::Number16 => skip_octets(bytes, stop, offset, 2),
+        Part::Number32 => skip_octets(bytes, stop, offset, 4),
+        Part::Text => {
+            if offset >= stop {
+                return Err(Fault::Rdata);
+            }
+            skip_octets(bytes, stop, offset, bytes[offset] as usize + 1)
+        }
+    }
+}
+
+/// The parts from a place on, written out in full behind one another. They must end at `stop`.
+#[tactic(auto, using(crate::proofs::DataLaws::read_more, crate::proofs::DataLaws::read_done, crate::proofs::DataLaws::read_short))]
+fn read_parts<A: Allocator>(
+    alloc: A,
+    bytes: &[u8],
+    ends: &mut [u16],
+    stop: usize,
+    parts: &[Part],
+    offset: usize,
+) -> Result<(Vec<u8, A>, usize), Fault>
+    requires inside { stop ≤ length bytes.now }
+    requires known { AreShortcuts bytes.now ends.old }
+    ensures exact { Gives (λ x. (x.0.items, x.1)) result (parts_at parts.now bytes.now stop offset) }
+    ensures known { AreShortcuts bytes.now ends.new }
+{
+    let mut octets = Vec::new(alloc);
+    let mut at = offset;
+    for part in parts {
+        at = read_part(&mut octets, bytes, ends, stop, *part, at)?;
+    }
+    if at != stop {
+        return Err(Fault::Rdata);
+    }
+    Ok((octets, at))
+}
+
+/// The place behind the parts from a place on. They must end at `stop`.
+#[tactic(auto, using(crate::proofs::DataLaws::skip_more, crate::proofs::DataLaws::skip_fault, crate::proofs::DataLaws::skip_done, crate::proofs::DataLaws::skip_short))]
+fn skip_parts(
+    bytes: &[u8],
+    ends: &mut [u16],
+    stop: usize,
+    parts: &[Part],
+    offset: usize,
+) -> Result<usize, Fault>
+    requires inside { stop ≤ length bytes.now }
+    requires known { AreShortcuts bytes.now ends.old }
+    ensures exact { result ≡ behind (parts_at parts.now bytes.now stop offset) }
+    ensures known { AreShortcuts bytes.now ends.new }
+{
+    let mut at = offset;
+    for part in parts {
+        at = skip_part(bytes, ends, stop, *part, at)?;
+    }
+    if stop != at {
+        return Err(Fault::Rdata);
+    }
+    Ok(at)
+}
+
+/// The data of so many octets of a record of this type, names in it written out in full, and the place behind it.
+#[tactic(auto, unfolding(crate::specs::Data::data_at))]
+pub(crate) fn read_data<A: Allocator>(
+    alloc: A,
+    bytes: &[u8],
+    ends: &mut [u16],
+    kind: u16,
+    offset: usize,
+    len: usize,
+) -> Result<(Vec<u8, A>, usize), Fault>
+    requires inside { offset ≤ length bytes.now }
+    requires known { AreShortcuts bytes.now ends.old }
+    ensures exact { Gives (λ x. (x.0.items, x.1)) result (data_at kind bytes.now offset len) }
+    ensures known { AreShortcuts bytes.now ends.new }
+{
+    if bytes.len() - offset < len {
+        return Err(Fault::Short);
+    }
+    match shape_of(kind) {
+        None => Ok((
+            Vec::from_slice(alloc, part(bytes, offset, len))?,
+            offset + len,
+        )),
+        Some(shape) => read_parts(alloc, bytes, ends, offset + len, shape.parts, offset),
+    }
+}
+
+/// The place behind the data of so many octets of a record of this type.
+#[tactic(auto, unfolding(crate::specs::Data::data_at))]
+pub(crate) fn skip_data(
+    bytes: &[u8],
+    ends: &mut [u16],
+    kind: u16,
+    offset: usize,
+    len: usize,
+) -> Result<usize, Fault>
+    requires inside { offset ≤ length bytes.now }
+    requires known { AreShortcuts bytes.now ends.old }
+    ensures exact { result ≡ behind (data_at kind bytes.now offset len) }
+    ensures known { AreShortcuts bytes.now ends.new }
+{
+    if bytes.len() - offset < len {
+        return Err(Fault::Short);
+    }
+    match shape_of(kind) {
+        None => Ok(offset + len),
+        Some(shape) => skip_parts(bytes, ends, offset + len, shape.parts, offset),
+    }
+}
+
+/// The name that is all of these octets. In octets of its own no pointer leads back, so none is followed.
+#[tactic(auto, unfolding(crate::specs::Data::name_of_rdata))]
+pub fn read_only_name<A: Allocator>(alloc: A, octets: &[u8]) -> Result<Option<Name<A>>, AllocError>
+    ensures { IfOk result (λ name. name ≡ name_of_rdata octets.now) }
+{
+    match skip_name(octets, &mut [], Bound::whole(octets), 0) {
+        Ok(end) if end == octets.len() => match read_name(alloc, octets, &mut [], 0) {
+            Ok((name, _)) => Ok(Some(name)),
+            Err(_) => Err(AllocError),
+        },
+        _ => Ok(None),
+    }
+}

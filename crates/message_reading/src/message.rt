@@ -1,0 +1,155 @@
+//! Messages that own what they hold.
+
+ghost use Rattle.std.specs.Prelude.{◌≡◌, IfOk};
+ghost use Rattle.message_reading.specs.Data.{name_of_rdata};
+ghost use Rattle.message_reading.specs.Questions.{same_question};
+
+use crate::data::read_only_name;
+use crate::header::Header;
+use dns_name::Name;
+use plain_list::{Octets, PlainList};
+use std::alloc::{AllocError, Allocator, Global};
+use std::marker::Model;
+
+/// A question (RFC 1035 4.1.2).
+#[derive(Drop)]
+pub struct Question<A: Allocator = Global> {
+    pub name: Name<A>,
+    /// The type that is asked for.
+    pub kind: u16,
+    /// 1 is IN.
+    pub class: u16,
+}
+
+impl<A: Allocator> Model for Question<A> {
+    ghost use Rattle.message_reading.specs.Values.{Question};
+
+    ghost Value = { Question };
+
+    ghost view = { λ q. record { name = q.name; kind = q.kind; class = q.class } };
+}
+
+impl<A: Allocator> Question<A> {
+    /// An equal question. `Err` where memory ran out.
+    pub fn copy(&self, alloc: A) -> Result<Question<A>, AllocError>
+        ensures { IfOk result (λ copy. copy ≡ self.now) }
+    {
+        let name = self.name.copy(alloc)?;
+        Ok(Question {
+            name,
+            kind: self.kind,
+            class: self.class,
+        })
+    }
+
+    /// Equal names, ASCII letter case aside (RFC 1035 2.3.3, RFC 4343), equal types and classes. It takes no memory.
+    pub fn is_same(&self, other: &Question<A>) -> bool
+        ensures { result ≡ same_question self.now other.now }
+    {
+        self.name.same(&other.name) && self.kind == other.kind && self.class == other.class
+    }
+}
+
+/// The data of a record, with the names in it written out in full, letter case as read.
+#[derive(Drop)]
+pub struct Rdata<A: Allocator = Global> {
+    octets: Octets<A>,
+}
+
+impl<A: Allocator> Model for Rdata<A> {
+    ghost use Rattle.std.specs.Prelude.{List, ℕ};
+
+    ghost Value = { List ℕ };
+
+    ghost view = { λ r. r.octets };
+}
+
+impl<A: Allocator> Rdata<A> {
+    /// Data of these octets; it takes no memory.
+    pub fn new(octets: Vec<u8, A>) -> Rdata<A>
+        ensures { result ≡ octets.items }
+    {
+        Rdata {
+            octets: PlainList::from_vec(octets),
+        }
+    }
+
+    /// The octets of the data.
+    pub fn octets(&self) -> &[u8]
+        ensures { result.now ≡ self.now }
+    {
+        self.octets.as_slice()
+    }
+
+    /// The name that the data is, written out in full; `None` where it is none. `Err` where memory ran out.
+    pub fn name(&self, alloc: A) -> Result<Option<Name<A>>, AllocError>
+        ensures { IfOk result (λ name. name ≡ name_of_rdata self.now) }
+    {
+        read_only_name(alloc, self.octets())
+    }
+
+    /// Equal data. `Err` where memory ran out.
+    pub fn copy(&self, alloc: A) -> Result<Rdata<A>, AllocError>
+        ensures { IfOk result (λ copy. copy ≡ self.now) }
+    {
+        let octets = Octets::copied(alloc, self.octets())?;
+        Ok(Rdata { octets })
+    }
+}
+
+/// A resource record (RFC 1035 4.1.3).
+#[derive(Drop)]
+pub struct Record<A: Allocator = Global> {
+    /// The name that the record belongs to.
+    pub owner: Name<A>,
+    /// The type of the data.
+    pub kind: u16,
+    /// 1 is IN.
+    pub class: u16,
+    /// In seconds, all 32 bits as they stand in the message.
+    pub ttl: u32,
+    pub rdata: Rdata<A>,
+}
+
+impl<A: Allocator> Model for Record<A> {
+    ghost use Rattle.message_reading.specs.Values.{Record};
+
+    ghost Value = { Record };
+
+    ghost view = { λ r. record { owner = r.owner; kind = r.kind; class = r.class; ttl = r.ttl; rdata = r.rdata } };
+}
+
+impl<A: Allocator + Copy> Record<A> {
+    /// An equal record. `Err` where memory ran out.
+    pub fn copy(&self, alloc: A) -> Result<Record<A>, AllocError>
+        ensures { IfOk result (λ copy. copy ≡ self.now) }
+    {
+        let owner = self.owner.copy(alloc)?;
+        let rdata = self.rdata.copy(alloc)?;
+        Ok(Record {
+            owner,
+            kind: self.kind,
+            class: self.class,
+            ttl: self.ttl,
+            rdata,
+        })
+    }
+}
+
+/// A whole message (RFC 1035 4.1).
+#[derive(Drop)]
+pub struct Message<A: Allocator = Global> {
+    pub header: Header,
+    pub questions: PlainList<Question<A>, A>,
+    pub answers: PlainList<Record<A>, A>,
+    pub authority: PlainList<Record<A>, A>,
+    pub additional: PlainList<Record<A>, A>,
+}
+
+impl<A: Allocator> Model for Message<A> {
+    ghost use Rattle.message_reading.specs.Values.{Message};
+
+    ghost Value = { Message };
+
+    ghost view = { λ m. record { header = m.header; questions = m.questions; answers = m.answers; authority = m.authority; additional = m.additional } };
+}

@@ -1,0 +1,193 @@
+//! Questions and records, at a place of a message.
+
+ghost use Rattle.std.specs.Prelude.{◌≡◌, IsOk, Ok};
+ghost use Rattle.message_names.specs.Reading.{Gives, behind};
+ghost use Rattle.message_names.specs.Shortcuts.{AreShortcuts};
+ghost use Rattle.message_reading.specs.Records.{octets_end, question_at, record_at, counted};
+
+use crate::data::{read_data, skip_data};
+use crate::message::{Question, Rdata, Record};
+use message_names::{Bound, Fault, number16, number32, read_name, readable_name_end, skip_name};
+use plain_list::PlainList;
+use std::alloc::Allocator;
+
+/// The place behind so many octets.
+#[tactic(auto, unfolding(crate::specs::Records::octets_end))]
+pub(crate) fn skip_octets(bytes: &[u8], offset: usize, count: usize) -> Result<usize, Fault>
+    ensures { result ≡ octets_end bytes.now offset count }
+{
+    if offset > bytes.len() || bytes.len() - offset < count {
+        return Err(Fault::Short);
+    }
+    Ok(offset + count)
+}
+
+/// The question at a place, and the place behind it.
+#[tactic(auto, unfolding(crate::specs::Records::question_at, crate::specs::Records::octets_end))]
+pub(crate) fn read_question<A: Allocator>(
+    alloc: A,
+    bytes: &[u8],
+    ends: &mut [u16],
+    offset: usize,
+) -> Result<(Question<A>, usize), Fault>
+    requires { AreShortcuts bytes.now ends.old }
+    ensures exact { Gives (λ x. x) result (question_at bytes.now offset) }
+    ensures known { AreShortcuts bytes.now ends.new }
+{
+    let (name, after) = read_name(alloc, bytes, ends, offset)?;
+    let end = skip_octets(bytes, after, 4)?;
+    let kind = number16(bytes, after);
+    let class = number16(bytes, after + 2);
+    Ok((Question { name, kind, class }, end))
+}
+
+/// The place behind the question at a place.
+#[tactic(auto, using(crate::proofs::RecordLaws::question_behind))]
+pub(crate) fn skip_question(bytes: &[u8], ends: &mut [u16], offset: usize) -> Result<usize, Fault>
+    requires { AreShortcuts bytes.now ends.old }
+    ensures exact { result ≡ behind (question_at bytes.now offset) }
+    ensures known { AreShortcuts bytes.now ends.new }
+{
+    let after = skip_name(bytes, ends, Bound::whole(bytes), offset)?;
+    skip_octets(bytes, after, 4)
+}
+
+/// The record at a place, and the place behind it.
+#[tactic(auto, unfolding(crate::specs::Records::record_at, crate::specs::Records::octets_end))]
+pub(crate) fn read_record<A: Allocator + Copy>(
+    alloc: A,
+    bytes: &[u8],
+    ends: &mut [u16],
+    offset: usize,
+) -> Result<(Record<A>, usize), Fault>
+    requires { AreShortcuts bytes.now ends.old }
+    ensures exact { Gives (λ x. x) result (record_at bytes.now offset) }
+    ensures known { AreShortcuts bytes.now ends.new }
+{
+    let (owner, after) = read_name(alloc, bytes, ends, offset)?;
+    let fixed = skip_octets(bytes, after, 10)?;
+    let kind = number16(bytes, after);
+    let class = number16(bytes, after + 2);
+    let ttl = number32(bytes, after + 4);
+    let len = number16(bytes, after + 8) as usize;
+    let (octets, end) = read_data(alloc, bytes, ends, kind, fixed, len)?;
+    let rdata = Rdata::new(octets);
+    Ok((
+        Record {
+            owner,
+            kind,
+            class,
+            ttl,
+            rdata,
+        },
+        end,
+    ))
+}
+
+/// The place behind the record at a place.
+#[tactic(auto, unfolding(crate::specs::Records::octets_end), using(crate::proofs::RecordLaws::record_behind))]
+pub(crate) fn skip_record(bytes: &[u8], ends: &mut [u16], offset: usize) -> Result<usize, Fault>
+    requires { AreShortcuts bytes.now ends.old }
+    ensures exact { result ≡ behind (record_at bytes.now offset) }
+    ensures known { AreShortcuts bytes.now ends.new }
+{
+    let after = skip_name(bytes, ends, Bound::whole(bytes), offset)?;
+    let fixed = skip_octets(bytes, after, 10)?;
+    let kind = number16(bytes, after);
+    let len = number16(bytes, after + 8) as usize;
+    skip_data(bytes, ends, kind, fixed, len)
+}
+
+/// The place behind the record at a place, which can be read. No pointer is followed.
+#[tactic(auto, using(crate::proofs::EndLaws::owner_readable, crate::proofs::EndLaws::record_ends))]
+pub(crate) fn readable_record_end(bytes: &[u8], offset: usize) -> usize
+    requires { IsOk (record_at bytes.now offset) }
+    ensures { behind (record_at bytes.now offset) ≡ Ok result }
+{
+    let after = readable_name_end(bytes, offset);
+    after + 10 + number16(bytes, after + 8) as usize
+}
+
+/// So many questions from a place on, and the place behind them.
+#[tactic(auto, using(crate::proofs::Counting::read_more, crate::proofs::Counting::read_done, crate::proofs::Counting::after_none))]
+pub(crate) fn read_questions<A: Allocator + Copy>(
+    alloc: A,
+    bytes: &[u8],
+    ends: &mut [u16],
+    offset: usize,
+    count: u16,
+) -> Result<(PlainList<Question<A>, A>, usize), Fault>
+    requires { AreShortcuts bytes.now ends.old }
+    ensures exact { Gives (λ x. x) result (counted (question_at bytes.now) count offset) }
+    ensures known { AreShortcuts bytes.now ends.new }
+{
+    let mut questions = PlainList::new(alloc);
+    let mut at = offset;
+    for _ in 0..count {
+        let (question, after) = read_question(alloc, bytes, ends, at)?;
+        questions.push(question)?;
+        at = after;
+    }
+    Ok((questions, at))
+}
+
+/// So many records from a place on, and the place behind them.
+#[tactic(auto, using(crate::proofs::Counting::read_more, crate::proofs::Counting::read_done, crate::proofs::Counting::after_none))]
+pub(crate) fn read_records<A: Allocator + Copy>(
+    alloc: A,
+    bytes: &[u8],
+    ends: &mut [u16],
+    offset: usize,
+    count: u16,
+) -> Result<(PlainList<Record<A>, A>, usize), Fault>
+    requires { AreShortcuts bytes.now ends.old }
+    ensures exact { Gives (λ x. x) result (counted (record_at bytes.now) count offset) }
+    ensures known { AreShortcuts bytes.now ends.new }
+{
+    let mut records = PlainList::new(alloc);
+    let mut at = offset;
+    for _ in 0..count {
+        let (record, after) = read_record(alloc, bytes, ends, at)?;
+        records.push(record)?;
+        at = after;
+    }
+    Ok((records, at))
+}
+
+/// The place behind so many questions.
+#[tactic(auto, using(crate::proofs::Counting::skip_more, crate::proofs::Counting::skip_fault, crate::proofs::Counting::skip_done))]
+pub(crate) fn skip_questions(
+    bytes: &[u8],
+    ends: &mut [u16],
+    offset: usize,
+    count: u16,
+) -> Result<usize, Fault>
+    requires { AreShortcuts bytes.now ends.old }
+    ensures exact { result ≡ behind (counted (question_at bytes.now) count offset) }
+    ensures known { AreShortcuts bytes.now ends.new }
+{
+    let mut at = offset;
+    for _ in 0..count {
+        at = skip_question(bytes, ends, at)?;
+    }
+    Ok(at)
+}
+
+/// The place behind so many records.
+#[tactic(auto, using(crate::proofs::Counting::skip_more, crate::proofs::Counting::skip_fault, crate::proofs::Counting::skip_done))]
+pub(crate) fn skip_records(
+    bytes: &[u8],
+    ends: &mut [u16],
+    offset: usize,
+    count: u16,
+) -> Result<usize, Fault>
+    requires { AreShortcuts bytes.now ends.old }
+    ensures exact { result ≡ behind (counted (record_at bytes.now) count offset) }
+    ensures known { AreShortcuts bytes.now ends.new }
+{
+    let mut at = offset;
+    for _ in 0..count {
+        at = skip_record(bytes, ends, at)?;
+    }
+    Ok(at)
+}

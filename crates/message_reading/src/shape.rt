@@ -1,0 +1,69 @@
+//! Which types of records have data with names in it, and how that data is laid out.
+
+ghost use Rattle.std.specs.Prelude.{◌≡◌};
+ghost use Rattle.message_reading.specs.Shapes.{shape_of};
+
+use Part::{Name, Number16, Number32, Text};
+use std::marker::Model;
+
+/// A part of a record's data.
+#[derive(Clone, Copy)]
+pub enum Part {
+    /// A domain name.
+    Name,
+    /// Two octets.
+    Number16,
+    /// Four octets.
+    Number32,
+    /// A character-string: a length octet and that many octets (RFC 1035 3.3).
+    Text,
+}
+
+/// How the data of a type is laid out.
+#[derive(Drop)]
+pub struct Shape {
+    /// The parts from left to right; they fill the data.
+    pub parts: &'static [Part],
+    /// The names in it may be written with pointers (RFC 1035 3.3, RFC 3597 4).
+    pub compressed: bool,
+}
+
+impl Model for Shape {
+    ghost use Rattle.message_reading.specs.Shapes.{Shape};
+
+    ghost Value = { Shape };
+
+    ghost view = { λ s. record { parts = s.parts.now; compressed = s.compressed } };
+}
+
+/// The shape of a type's data. `None`: the data is octets of which nothing is known (RFC 3597).
+#[tactic(auto, unfolding(crate::specs::Shapes::shape_of))]
+pub fn shape_of(kind: u16) -> Option<Shape>
+    ensures { result ≡ shape_of kind }
+{
+    let (parts, compressed): (&'static [Part], bool) = match kind {
+        // NS, MD, MF, CNAME, MB, MG, MR, PTR
+        2 | 3 | 4 | 5 | 7 | 8 | 9 | 12 => (&[Name], true),
+        // SOA: MNAME, RNAME, SERIAL, REFRESH, RETRY, EXPIRE, MINIMUM
+        6 => (
+            &[Name, Name, Number32, Number32, Number32, Number32, Number32],
+            true,
+        ),
+        // MINFO
+        14 => (&[Name, Name], true),
+        // MX: preference, exchange
+        15 => (&[Number16, Name], true),
+        // RP
+        17 => (&[Name, Name], false),
+        // AFSDB, RT
+        18 | 21 => (&[Number16, Name], false),
+        // PX
+        26 => (&[Number16, Name, Name], false),
+        // SRV: priority, weight, port, target
+        33 => (&[Number16, Number16, Number16, Name], false),
+        // NAPTR: order, preference, flags, services, regular expression, replacement
+        35 => (&[Number16, Number16, Text, Text, Text, Name], false),
+        _ => return None,
+    };
+    Some(Shape { parts, compressed })
+}

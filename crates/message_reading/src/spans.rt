@@ -1,0 +1,198 @@
+//! Where the records of a message lie.
+
+ghost use Rattle.std.specs.Iterator.{YieldsFirst, item_count};
+ghost use Rattle.std.specs.Prelude.{◌≡◌, ◌≤◌, ◌∷◌, [], MatchOption, length};
+ghost use Rattle.message_names.specs.Shortcuts.{AreShortcuts};
+ghost use Rattle.message_reading.specs.Spans.{sections_of, spans_at, spans_of};
+
+use crate::records::{readable_record_end, skip_questions, skip_record};
+use message_names::{PLACES, SMALL, number16};
+use std::marker::Model;
+
+/// The number of the answer section.
+const ANSWERS: u8 = 0;
+
+/// The number of the authority section.
+const AUTHORITY: u8 = 1;
+
+/// The number of the additional section.
+const ADDITIONAL: u8 = 2;
+
+/// Where a record lies in a message, in octets from its front.
+#[derive(Clone, Copy, Debug, PartialEq, Eq)]
+pub struct Span {
+    /// The first octet of its owner's name.
+    pub start: usize,
+    /// The first octet behind its data.
+    pub end: usize,
+    /// 0 for answers, 1 for authority, 2 for additional.
+    pub section: u8,
+}
+
+/// How many records of each section are left.
+#[derive(Clone, Copy)]
+pub(crate) struct Left {
+    pub answers: u16,
+    pub authority: u16,
+    pub additional: u16,
+}
+
+/// The section of the next record, and what is left after it.
+fn next_section(left: Left) -> Option<(u8, Left)>
+    ensures { MatchOption result (sections_of left ≡ []) (λ x. sections_of left ≡ x.0 ∷ sections_of x.1) }
+{
+    if left.answers > 0 {
+        return Some((
+            ANSWERS,
+            Left {
+                answers: left.answers - 1,
+                ..left
+            },
+        ));
+    }
+    if left.authority > 0 {
+        return Some((
+            AUTHORITY,
+            Left {
+                authority: left.authority - 1,
+                ..left
+            },
+        ));
+    }
+    if left.additional > 0 {
+        return Some((
+            ADDITIONAL,
+            Left {
+                additional: left.additional - 1,
+                ..left
+            },
+        ));
+    }
+    None
+}
+
+/// How many of the counted records can be read, from a place on up to the first that can't be.
+#[tactic(auto, using(crate::proofs::SpanLaws::one_counted_here, crate::proofs::SpanLaws::none_counted_here, crate::proofs::SpanLaws::none_counted, crate::proofs::SpanLaws::sections_counted))]
+fn readable_records(bytes: &[u8], ends: &mut [u16], offset: usize, left: Left) -> usize
+    requires { AreShortcuts bytes.now ends.old }
+    ensures { result ≡ length (spans_at bytes.now (sections_of left) offset) }
+{
+    let (mut at, mut left) = (offset, left);
+    let mut count = 0;
+    while let Some((_, after)) = next_section(left) {
+        let Ok(end) = skip_record(bytes, ends, at) else {
+            return count;
+        };
+        count += 1;
+        at = end;
+        left = after;
+    }
+    count
+}
+
+/// The spans of the records that can be read, in order. It takes no memory, and each step takes as long as the octets of
+/// the owner's own name: how many can be read was counted when it was made, so no pointer is followed.
+#[derive(Drop)]
+pub struct Records<'a> {
+    bytes: &'a [u8],
+    offset: usize,
+    left: Left,
+    /// How many of those left can be read.
+    readable: usize,
+}
+
+impl<'a> Model for Records<'a> {
+    ghost use Rattle.std.specs.Prelude.{List, length, ◌≡◌};
+    ghost use Rattle.message_reading.specs.declared.spans.Span.{Span};
+
+    ghost Value = { List Span };
+
+    ghost use Rattle.message_reading.specs.Spans.{sections_of, spans_at};
+
+    ghost view = { λ r. spans_at r.bytes.now (sections_of r.left) r.offset };
+
+    ghost invariant = { λ r. r.readable ≡ length (spans_at r.bytes.now (sections_of r.left) r.offset) };
+}
+
+impl<'a> Iterator for Records<'a> {
+    type Item = Span;
+
+    ghost next_gives = { YieldsFirst (λ s. s) };
+
+    ghost remaining = { item_count (λ s. s) };
+
+    #[tactic(auto, using(crate::proofs::SpanLaws::first_readable, crate::proofs::SpanLaws::one_here_first, crate::proofs::SpanLaws::none_counted))]
+    fn next(&mut self) -> Option<Span> {
+        if self.readable == 0 {
+            return None;
+        }
+        let (section, left) = next_section(self.left)?;
+        let start = self.offset;
+        let end = readable_record_end(self.bytes, start);
+        self.offset = end;
+        self.left = left;
+        self.readable -= 1;
+        Some(Span {
+            start,
+            end,
+            section,
+        })
+    }
+}
+
+/// The spans of the records of a message, where pointers lead remembered in `ends`.
+#[tactic(auto, unfolding(crate::specs::Spans::spans_of, crate::specs::Spans::spans_at))]
+fn records_with<'a>(bytes: &'a [u8], ends: &mut [u16]) -> Records<'a>
+    requires header { 12 ≤ length bytes.now }
+    requires known { AreShortcuts bytes.now ends.old }
+    ensures { result ≡ spans_of bytes.now }
+{
+    match skip_questions(bytes, ends, 12, number16(bytes, 4)) {
+        Ok(offset) => {
+            let left = Left {
+                answers: number16(bytes, 6),
+                authority: number16(bytes, 8),
+                additional: number16(bytes, 10),
+            };
+            let readable = readable_records(bytes, ends, offset, left);
+            Records {
+                bytes,
+                offset,
+                left,
+                readable,
+            }
+        }
+        Err(_) => Records {
+            bytes,
+            offset: 12,
+            left: Left {
+                answers: 0,
+                authority: 0,
+                additional: 0,
+            },
+            readable: 0,
+        },
+    }
+}
+
+/// `records_with` of a message that may have long chains of pointers.
+#[tactic(auto, using(message_names::proofs::CallerLemmas::zeros_are_shortcuts))]
+fn records_in_large<'a>(bytes: &'a [u8]) -> Records<'a>
+    requires { 12 ≤ length bytes.now }
+    ensures { result ≡ spans_of bytes.now }
+{
+    let mut ends = [0u16; PLACES];
+    records_with(bytes, &mut ends)
+}
+
+/// The spans of the records of a message.
+#[tactic(auto, using(message_names::proofs::CallerLemmas::no_table_is_shortcuts))]
+pub(crate) fn records_in<'a>(bytes: &'a [u8]) -> Records<'a>
+    requires { 12 ≤ length bytes.now }
+    ensures { result ≡ spans_of bytes.now }
+{
+    if bytes.len() > SMALL {
+        return records_in_large(bytes);
+    }
+    records_with(bytes, &mut [])
+}

@@ -1,0 +1,204 @@
+//! A message that is looked at where it lies. Nothing here takes memory but what makes a value.
+
+ghost use Rattle.std.specs.Prelude.{◌≡◌, ◌↔◌, ◌≤◌, IsTrue, IsOk, Ok, Err, length, MatchResult, IfOk};
+ghost use Rattle.message_names.specs.Reading.{Gives, behind};
+ghost use Rattle.message_reading.specs.Header.{FitsBits};
+ghost use Rattle.message_names.specs.Shortcuts.{AreShortcuts};
+ghost use Rattle.message_reading.specs.Messages.{IsWhole, HasShapes, first_question, message_at, message_of, QuestionIs, IsViewed};
+ghost use Rattle.message_reading.specs.Spans.{spans_of};
+ghost use Rattle.message_names.specs.declared.fault.Fault.TheVariants.{Memory};
+
+use crate::header::Header;
+use crate::message::{Message, Question};
+use crate::records::{
+    read_question, read_questions, read_records, skip_octets, skip_question, skip_questions,
+    skip_records,
+};
+use crate::spans::{Records, records_in};
+use message_names::{Fault, PLACES, SMALL, number16, skip_same_name};
+use std::alloc::Allocator;
+use std::marker::Model;
+
+/// Header and first question can be read.
+#[tactic(auto, unfolding(crate::specs::Messages::first_question), using(crate::proofs::MessageLaws::question_read, crate::proofs::MessageLaws::question_fault))]
+fn check_first_question(bytes: &[u8]) -> Result<(), Fault>
+    ensures { MatchResult result (λ _. IsOk (first_question bytes.now)) (λ fault. first_question bytes.now ≡ Err fault) }
+{
+    if bytes.len() < 12 {
+        return Err(Fault::Short);
+    }
+    if number16(bytes, 4) == 0 {
+        return Err(Fault::NoQuestion);
+    }
+    skip_question(bytes, &mut [], 12)?;
+    Ok(())
+}
+
+/// The first question is this one, letter case aside.
+#[tactic(auto, unfolding(crate::specs::Messages::first_question, crate::specs::Records::question_at, crate::specs::Records::octets_end))]
+fn first_question_is<A: Allocator>(bytes: &[u8], question: &Question<A>) -> bool
+    requires { IsViewed bytes.now }
+    ensures { IsTrue result ↔ QuestionIs (first_question bytes.now) question.now }
+{
+    let Some(after) = skip_same_name(bytes, 12, &question.name) else {
+        return false;
+    };
+    let Ok(end) = skip_octets(bytes, after, 4) else {
+        return false;
+    };
+    number16(bytes, after) == question.kind && number16(bytes, end - 2) == question.class
+}
+
+/// The place behind the last counted record, where pointers lead remembered in `ends`.
+#[tactic(auto, using(crate::proofs::MessageLaws::message_behind))]
+fn skip_sections(bytes: &[u8], ends: &mut [u16]) -> Result<usize, Fault>
+    requires header { 12 ≤ length bytes.now }
+    requires known { AreShortcuts bytes.now ends.old }
+    ensures { result ≡ behind (message_at bytes.now) }
+{
+    let at = skip_questions(bytes, ends, 12, number16(bytes, 4))?;
+    let at = skip_records(bytes, ends, at, number16(bytes, 6))?;
+    let at = skip_records(bytes, ends, at, number16(bytes, 8))?;
+    skip_records(bytes, ends, at, number16(bytes, 10))
+}
+
+/// `skip_sections` of a message that may have long chains of pointers.
+#[tactic(auto, using(message_names::proofs::CallerLemmas::zeros_are_shortcuts))]
+fn skip_large_message(bytes: &[u8]) -> Result<usize, Fault>
+    requires { 12 ≤ length bytes.now }
+    ensures { result ≡ behind (message_at bytes.now) }
+{
+    let mut ends = [0u16; PLACES];
+    skip_sections(bytes, &mut ends)
+}
+
+/// The place behind the last counted record.
+#[tactic(auto, using(message_names::proofs::CallerLemmas::no_table_is_shortcuts))]
+fn skip_message(bytes: &[u8]) -> Result<usize, Fault>
+    requires { 12 ≤ length bytes.now }
+    ensures { result ≡ behind (message_at bytes.now) }
+{
+    if bytes.len() > SMALL {
+        return skip_large_message(bytes);
+    }
+    skip_sections(bytes, &mut [])
+}
+
+/// The message that the octets spell, where pointers lead remembered in `ends`.
+#[tactic(auto, unfolding(crate::specs::Messages::message_at))]
+fn read_sections<A: Allocator + Copy>(
+    alloc: A,
+    bytes: &[u8],
+    ends: &mut [u16],
+) -> Result<Message<A>, Fault>
+    requires { AreShortcuts bytes.now ends.old }
+    ensures { Gives (λ m. m) result (message_of bytes.now) }
+{
+    let Some(header) = Header::read(bytes) else {
+        return Err(Fault::Short);
+    };
+    let (questions, at) = read_questions(alloc, bytes, ends, 12, header.counts[0])?;
+    let (answers, at) = read_records(alloc, bytes, ends, at, header.counts[1])?;
+    let (authority, at) = read_records(alloc, bytes, ends, at, header.counts[2])?;
+    let (additional, _) = read_records(alloc, bytes, ends, at, header.counts[3])?;
+    Ok(Message {
+        header,
+        questions,
+        answers,
+        authority,
+        additional,
+    })
+}
+
+/// `read_sections` of a message that may have long chains of pointers.
+#[tactic(auto, using(message_names::proofs::CallerLemmas::zeros_are_shortcuts))]
+fn read_large_message<A: Allocator + Copy>(alloc: A, bytes: &[u8]) -> Result<Message<A>, Fault>
+    ensures { Gives (λ m. m) result (message_of bytes.now) }
+{
+    let mut ends = [0u16; PLACES];
+    read_sections(alloc, bytes, &mut ends)
+}
+
+/// The message that the octets spell.
+#[tactic(auto, using(message_names::proofs::CallerLemmas::no_table_is_shortcuts))]
+fn read_message<A: Allocator + Copy>(alloc: A, bytes: &[u8]) -> Result<Message<A>, Fault>
+    ensures { Gives (λ m. m) result (message_of bytes.now) }
+{
+    if bytes.len() > SMALL {
+        return read_large_message(alloc, bytes);
+    }
+    read_sections(alloc, bytes, &mut [])
+}
+
+/// A message whose header and first question can be read.
+#[derive(Drop)]
+pub struct MessageRef<'a> {
+    bytes: &'a [u8],
+}
+
+impl<'a> Model for MessageRef<'a> {
+    ghost use Rattle.std.specs.Prelude.{List, ℕ};
+    ghost use Rattle.message_reading.specs.Messages.{IsViewed};
+
+    ghost Value = { List ℕ };
+
+    ghost view = { λ m. m.bytes.now };
+
+    ghost invariant = { λ m. IsViewed m.bytes.now };
+}
+
+impl<'a> MessageRef<'a> {
+    /// Looks at octets as a message, at most 65,535 of them. `Err` is the first fault from the front: `Short` under 12
+    /// octets, `NoQuestion` where QDCOUNT is 0, else the fault of the first question. It takes no memory.
+    pub fn view(bytes: &'a [u8]) -> Result<MessageRef<'a>, Fault>
+        ensures same { IfOk result (λ message. message ≡ bytes.now) }
+        ensures exact { MatchResult result (λ _. IsOk (first_question bytes.now)) (λ fault. first_question bytes.now ≡ Err fault) }
+    {
+        check_first_question(bytes)?;
+        Ok(MessageRef { bytes })
+    }
+
+    /// The first question has this name, letter case aside, this type and this class. It takes no memory.
+    pub fn question_is<A: Allocator>(&self, question: &Question<A>) -> bool
+        ensures { IsTrue result ↔ QuestionIs (first_question self.now) question.now }
+    {
+        first_question_is(self.bytes, question)
+    }
+
+    /// The first question. `Err` is always `Memory`.
+    #[tactic(auto, unfolding(crate::specs::Messages::first_question))]
+    pub fn question<A: Allocator>(&self, alloc: A) -> Result<Question<A>, Fault>
+        ensures { MatchResult result (λ question. first_question self.now ≡ Ok question) (λ fault. fault ≡ Memory) }
+    {
+        let (question, _) = read_question(alloc, self.bytes, &mut [], 12)?;
+        Ok(question)
+    }
+
+    /// Header, counted questions and counted records can be read. It takes no memory.
+    #[tactic(auto, using(crate::proofs::MessageLaws::viewed_long, crate::proofs::WholeLaws::whole_where_read, crate::proofs::WholeLaws::read_where_whole))]
+    pub fn is_whole(&self) -> bool
+        ensures { IsTrue result ↔ IsWhole self.now }
+    {
+        skip_message(self.bytes).is_ok()
+    }
+
+    /// The spans of the records that can be read, in order. It takes no memory, and with all of them about the time of
+    /// `is_whole`, also where many names lie behind one long chain of pointers.
+    #[tactic(auto, using(crate::proofs::MessageLaws::viewed_long))]
+    pub fn records(&self) -> Records<'a>
+        ensures { result ≡ spans_of self.now }
+    {
+        records_in(self.bytes)
+    }
+
+    /// The message that the octets spell, all counted questions and records. `Err` is `Memory`, or the first fault from
+    /// the front.
+    #[tactic(auto, using(crate::proofs::ShapeLaws::read_shaped))]
+    pub fn read_whole<A: Allocator + Copy>(&self, alloc: A) -> Result<Message<A>, Fault>
+        ensures exact { Gives (λ message. message) result (message_of self.now) }
+        ensures shaped { IfOk result (λ message. HasShapes message) }
+        ensures fits { IfOk result (λ message. FitsBits message.header) }
+    {
+        read_message(alloc, self.bytes)
+    }
+}

@@ -1,0 +1,4 @@
+pub mod Fields
+pub mod Writing
+pub mod Writer
+pub mod Written

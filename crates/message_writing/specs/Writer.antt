@@ -1,0 +1,56 @@
+-- What a writer holds.
+use Rattle.std.specs.Prelude.{◌≡◌, ◌≤◌, ◌<◌, ℕ, List, [], length, Option, Some, Result, Ok, Err}
+use Rattle.std.specs.Option.{option_map}
+use Rattle.std.specs.Ordering.{nat_cmp}
+use Rattle.std.specs.Cmp.Lexicographic.{slice_cmp}
+use Rattle.std.specs.BTreeMap.{get_by}
+use Rattle.dns_name.specs.Labels.{octets_of, labels_of, IsLaidOut}
+use Rattle.message_names.specs.declared.fault.Fault.{Fault}
+use Rattle.message_names.specs.declared.fault.Fault.TheVariants.{TooLarge, Memory}
+use Rattle.message_reading.specs.declared.shape.Part.{Part}
+use Rattle.message_reading.specs.declared.shape.Part.TheVariants.{Name}
+use Rattle.message_writing.specs.Fields.{Field, named, plain, first_field}
+use Rattle.message_writing.specs.declared.writer.Writer.{Writer}
+use Rattle.message_writing.specs.Writing.{Text, Writing, place_of, pointer_to, after}
+
+-- the pointer to a name with these octets
+abbrev pub pointer_in : {A : Type 0} → Writer A → List ℕ → Option ℕ
+pointer_in w octets = get_by (λ k. slice_cmp nat_cmp octets k.now) w.pointers
+
+-- The writer holds this text: its octets, and for each name that begins at a place a pointer to the earliest one.
+pub record Holds {A : Type 0} (w : Writer A) (t : Text) : Type 0 where
+  pub octets : w.octets.items ≡ t.octets
+  pub pointers : (name : List (List ℕ)) → pointer_in w (octets_of name) ≡ option_map pointer_to (place_of t.places name)
+
+-- whatever text the one holds, the other holds that and what is written behind it
+abbrev pub Writes : {A : Type 0} → Writer A → Writer A → Writing → Type 0
+Writes old new written = (t : Text) → Holds old t → Holds new (after t written)
+
+-- the writer holds some text
+abbrev pub HoldsText : {A : Type 0} → Writer A → Type 0
+HoldsText w = (t : Text) × Holds w t
+
+-- Why something was not written whole: with it the text passes the limit, or memory ran out.
+abbrev pub Refused : {A : Type 0} → ℕ → Fault → Writer A → Writing → Type 0
+Refused limit Memory old written = Unit {0}
+Refused limit TooLarge old written = (t : Text) → Holds old t → limit < length (after t written).octets
+Refused limit fault old written = ⊥
+
+-- something of which a fact holds is written whole within the limit, or refused
+abbrev pub Puts : {A : Type 0} → ℕ → Result (Unit {0}) Fault → Writer A → Writer A → Writing → Type 0 → Type 0
+Puts limit (Ok x) old new written fact = Writes old new written × (length new.octets.items ≤ limit) × fact
+Puts limit (Err fault) old new written fact = Refused limit fault old written
+
+-- nothing was written
+abbrev pub IsEmpty : {A : Type 0} → Writer A → Type 0
+IsEmpty w = Holds w (record { octets = []; places = [] })
+
+-- a part with these octets, of a name without its zero octet
+abbrev pub field_in : Part → List ℕ → Field
+field_in Name first = named (labels_of first)
+field_in part first = plain first
+
+-- the part in front of octets is this, and those stand behind it
+pub record IsFirst (part : Part) (octets first behind : List ℕ) : Type 0 where
+  pub is : first_field part octets ≡ Some (field_in part first, behind)
+  pub laid : part ≡ Name → IsLaidOut first

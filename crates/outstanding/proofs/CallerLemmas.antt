@@ -1,0 +1,53 @@
+-- What the proofs of crates above cite of asks that are under way.
+use Rattle.std.proofs.Common.{◌≡◌, ℕ, ◌<◌, List, [], ◌∷◌, ◌++◌, length, true, Some, None}
+use Rattle.std.specs.List.{AllByRecursion}
+use Rattle.dns_message.specs.Values.{Question}
+use Rattle.dns_message.specs.Questions.{same_question}
+use Rattle.outstanding.specs.declared.ask.Path.{Path}
+use Rattle.outstanding.specs.Values.{Ask}
+use Rattle.outstanding.specs.Lists.{same_path, on_path, of_question, without_path, IsInTime, AreInTurn, AreListed, MayBegin}
+use Rattle.outstanding.specs.Laws.{NextMayBegin, EndedIsUnlisted, UnlistedStaysSo}
+use Rattle.outstanding.proofs.Listed as listed
+use Rattle.outstanding.proofs.Retries as retries
+
+-- ---- paths
+
+-- a path is the same as itself
+pub same_path_reflexive : (a : Path) → same_path a a ≡ true
+same_path_reflexive = listed.same_path-refl
+
+-- paths that are the same are equal
+pub same_path_equal : (a b : Path) → same_path a b ≡ true → a ≡ b
+same_path_equal = listed.same_path-true
+
+-- ---- lists of asks
+
+-- one ask more, where it may begin and there is room
+pub listed_with_one_more : (capacity : ℕ) (asks : List Ask) (ask : Ask) → AreInTurn asks → AllByRecursion IsInTime asks → MayBegin ask asks → length asks < capacity
+    → AreListed (record { capacity = capacity; asks = asks ++ ask ∷ [] })
+listed_with_one_more = listed.put
+
+-- the asks that are not on a path
+pub listed_without_path : (path : Path) (capacity : ℕ) (asks : List Ask) → AreListed (record { capacity = capacity; asks = asks }) → AreListed (record { capacity = capacity; asks = without_path path asks })
+listed_without_path = listed.left
+
+-- what holds of all asks holds of those that are not on a path
+pub all_without_path : (P : Ask → Type 0) (path : Path) (asks : List Ask) → AllByRecursion P asks → AllByRecursion P (without_path path asks)
+all_without_path = retries.all_left
+
+-- without the ask on a path, the question of that ask is not asked
+pub question_free_without_path : (path : Path) (question : Question) (asks : List Ask) (ask : Ask) → AreInTurn asks → on_path path asks ≡ Some ask → same_question ask.question question ≡ true
+    → of_question question (without_path path asks) ≡ None
+question_free_without_path = retries.question_free
+
+-- the path that ended is listed no more
+pub ended_path_is_unlisted : EndedIsUnlisted
+ended_path_is_unlisted = retries.ended_unlisted
+
+-- a path that is not listed stays so where another one ends
+pub unlisted_path_stays_so : UnlistedStaysSo
+unlisted_path_stays_so = retries.unlisted_stays
+
+-- the ask that comes next may be listed
+pub next_may_begin : NextMayBegin
+next_may_begin = retries.next_begins

@@ -1,0 +1,31 @@
+-- What reading a configuration tells of the octets that were read.
+use Rattle.std.specs.Prelude.{◌≡◌, ℕ, List, Option, IfSome, Err, IsUtf8, ◌⊎◌}
+use Rattle.std.specs.Str.Lossy.{utf8_valid_len}
+use Rattle.suffix_routes.specs.Reading.{IsReadIn}
+use Rattle.suffix_routes.specs.declared.fault.ConfigFault.{ConfigFault}
+use Rattle.suffix_routes.specs.declared.fault.ConfigFault.TheVariants.{Toml}
+use Rattle.replay_script.specs.declared.fault.ReplayFault.{ReplayFault}
+use Rattle.replay_script.specs.declared.fault.ReplayFault.TheVariants.{Config, Line, Memory, Device}
+
+-- octets that are refused for a fault: the first fault of their text, or the octet at which they are no text any more
+abbrev pub IsRefused : List ℕ → ConfigFault → Type 0
+IsRefused octets fault =
+    (IsUtf8 octets × IsReadIn octets (Err fault)) ⊎ ((¬ IsUtf8 octets) × (fault ≡ Toml (utf8_valid_len octets)))
+
+-- why octets give no configuration
+abbrev pub IsFaultOf : List ℕ → ReplayFault → Type 0
+IsFaultOf octets (Config fault) = IsRefused octets fault
+IsFaultOf octets Memory = Unit {0}
+IsFaultOf octets _ = ⊥
+
+-- why a reader that has these octets left gives no configuration
+abbrev pub IsFaultIn : Option (List ℕ) → ReplayFault → Type 0
+IsFaultIn left (Config fault) = IfSome left (λ octets. IsRefused octets fault)
+IsFaultIn left (Line line) = ⊥
+IsFaultIn left _ = Unit {0}
+
+-- a fault of reading alone
+abbrev pub IsOfReading : ReplayFault → Type 0
+IsOfReading Memory = Unit {0}
+IsOfReading Device = Unit {0}
+IsOfReading _ = ⊥

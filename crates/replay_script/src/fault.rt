@@ -1,0 +1,59 @@
+//! What ends a replay.
+
+ghost use Rattle.std.specs.Prelude.{◌≡◌};
+ghost use Rattle.replay_script.specs.declared.fault.ReplayFault.TheVariants.{Memory};
+ghost use Rattle.replay_script.specs.Faults.{replay_fault};
+ghost use Rattle.replay_script.specs.Configs.{IsOfReading};
+
+use std::alloc::AllocError;
+use std::io;
+use suffix_routes::ConfigFault;
+use thiserror::Error;
+
+/// Why a replay stops. Its text is what the program tells.
+#[derive(Clone, Copy, PartialEq, Eq, Debug, Error)]
+pub enum ReplayFault {
+    /// The configuration is refused; never for want of memory, which is `Memory`.
+    #[error("fault {}", .0.number())]
+    Config(ConfigFault),
+    /// The event line of this number, from 1, is refused; 0 where no line `---` ends the configuration.
+    #[error("line {0}")]
+    Line(u32),
+    /// Memory ran out.
+    #[error("memory")]
+    Memory,
+    /// Reading or writing failed, or the input passes its limit.
+    #[error("device")]
+    Device,
+}
+
+impl From<AllocError> for ReplayFault {
+    ghost from_gives = { λ _ e. e ≡ Memory };
+
+    fn from(_: AllocError) -> ReplayFault {
+        ReplayFault::Memory
+    }
+}
+
+impl From<io::Error> for ReplayFault {
+    ghost from_gives = { λ _ e. IsOfReading e };
+
+    fn from(error: io::Error) -> ReplayFault {
+        if error.kind() == io::ErrorKind::OutOfMemory {
+            ReplayFault::Memory
+        } else {
+            ReplayFault::Device
+        }
+    }
+}
+
+impl From<ConfigFault> for ReplayFault {
+    ghost from_gives = { λ fault e. e ≡ replay_fault fault };
+
+    fn from(fault: ConfigFault) -> ReplayFault {
+        match fault {
+            ConfigFault::Memory => ReplayFault::Memory,
+            _ => ReplayFault::Config(fault),
+        }
+    }
+}

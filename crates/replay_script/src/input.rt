@@ -1,0 +1,78 @@
+//! The octets of a file or of standard input, and the parts of a script.
+
+ghost use Rattle.std.specs.Prelude.{◌≡◌, ◌≤◌, Ok, IfOk, IfErr, IfSome, vec_len};
+ghost use Rattle.suffix_routes.specs.Reading.{IsReadIn};
+ghost use Rattle.replay_script.specs.Configs.{IsOfReading, IsFaultOf, IsFaultIn};
+
+use crate::fault::ReplayFault;
+use std::alloc::{Allocator, Global};
+use std::io::Read;
+use suffix_routes::{Config, ConfigFault};
+
+/// How many octets a file or standard input may have.
+pub(crate) const LARGEST: usize = 16_777_216;
+
+/// All octets that the reader has left. `Device` where reading fails or there are more than [`LARGEST`]; it reads
+/// at most one more than these. `Memory` where memory ran out.
+pub(crate) fn read_limited<A: Allocator, R: Read>(
+    alloc: A,
+    reader: &mut R,
+) -> Result<Vec<u8, A>, ReplayFault>
+    ensures fits { IfOk result (λ octets. vec_len octets ≤ LARGEST) }
+    ensures whole { IfOk result (λ octets. IfSome (R.remaining reader.old) (λ all. octets.items ≡ all)) }
+    ensures faults { IfErr result IsOfReading }
+{
+    let mut octets = Vec::new(alloc);
+    let mut limited = reader.take(LARGEST as u64 + 1);
+    limited.read_to_end(&mut octets)?;
+    if octets.len() > LARGEST {
+        return Err(ReplayFault::Device);
+    }
+    Ok(octets)
+}
+
+/// A script's configuration, and the event lines behind its first line `---`; `None` where it has no such line.
+pub(crate) fn parts(script: &[u8]) -> Option<(&[u8], &[u8])> {
+    let mut start = 0usize;
+    for line in script.split(|octet| *octet == b'\n') {
+        if line == b"---".as_slice() {
+            let config = script.get(..start)?;
+            let behind = start.saturating_add(4);
+            return Some((config, script.get(behind..).unwrap_or(&[])));
+        }
+        start = start.saturating_add(line.len()).saturating_add(1);
+    }
+    None
+}
+
+/// The configuration in these octets; octets that are no UTF-8 are no TOML.
+pub(crate) fn config_in<A: Allocator + Copy>(
+    heap: Global,
+    alloc: A,
+    octets: &[u8],
+) -> Result<Config<A>, ReplayFault>
+    ensures read { IfOk result (λ config. IsReadIn octets.now (Ok config)) }
+    ensures refused { IfErr result (IsFaultOf octets.now) }
+{
+    let text = match str::from_utf8(octets) {
+        Ok(text) => text,
+        Err(error) => return Err(ReplayFault::Config(ConfigFault::Toml(error.valid_up_to()))),
+    };
+    let config = Config::read(heap, alloc, text)?;
+    Ok(config)
+}
+
+/// The configuration that the reader gives; it is read to its end. `heap` is for the reading of TOML, `alloc` for all
+/// else. `Device` where reading fails or passes 16,777,216 octets, `Config` where the configuration is refused,
+/// `Memory` where memory ran out.
+pub fn read_config<A: Allocator + Copy, R: Read>(
+    heap: Global,
+    alloc: A,
+    reader: &mut R,
+) -> Result<Config<A>, ReplayFault>
+    ensures read { IfOk result (λ config. IfSome (R.remaining reader.old) (λ octets. IsReadIn octets (Ok config))) }
+    ensures refused { IfErr result (IsFaultIn (R.remaining reader.old)) }
+{
+    let octets = read_limited(alloc, reader)?;
+    config_in(heap, alloc, &octets)
+}

@@ -1,0 +1,13 @@
+//! Scripts of the forwarder: a configuration, a line `---`, and event lines, which run on a new forwarder and print a
+//! line for each action.
+#![tactic(auto)]
+
+mod actions;
+mod events;
+mod fault;
+mod input;
+mod replay;
+
+pub use fault::ReplayFault;
+pub use input::read_config;
+pub use replay::replay_run;

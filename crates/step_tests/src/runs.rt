@@ -1,0 +1,94 @@
+//! The worked question and its reply as a run over a list, and step by step beside the stored history.
+
+use crate::worked::{QUERY, QUESTION, WORDS, answer_whole, config, replies, send_alone, sends};
+use lru::DefaultHasher;
+use network_model::{Recorded, run_list};
+use refusing_allocator::Refusing;
+use std::alloc::{AllocError, Allocator};
+use std::test::Fail;
+use step_values::{Handed, Step};
+
+/// The question is asked at 1000.
+fn first<A: Allocator + Copy>(alloc: A) -> Result<Handed<A>, AllocError> {
+    Ok(Handed {
+        now: 1000,
+        words: WORDS,
+        event: sends(alloc, &QUESTION)?,
+    })
+}
+
+/// The reply comes at 1020.
+fn second<A: Allocator + Copy>(alloc: A) -> Result<Handed<A>, AllocError> {
+    Ok(Handed {
+        now: 1020,
+        words: WORDS,
+        event: replies(alloc)?,
+    })
+}
+
+/// The two steps: the query goes out, and the answer comes back.
+fn are_worked<A: Allocator>(steps: &[Step<A>]) -> bool {
+    match steps {
+        [asks, answers] => {
+            send_alone(asks.outcome.actions.as_slice(), &QUERY)
+                && answer_whole(answers.outcome.actions.as_slice())
+                && is_plain(asks, 1000)
+                && is_plain(answers, 1020)
+        }
+        _ => false,
+    }
+}
+
+/// The step was handed this moment; everything was kept, and nothing more is due.
+fn is_plain<A: Allocator>(step: &Step<A>, now: u64) -> bool {
+    step.handed.now == now && step.outcome.unkept == 0 && !step.outcome.more
+}
+
+#[test]
+fn a_run_over_a_list(rt: HostRuntime) -> Result<(), Fail> {
+    let heap = Refusing::new(rt.alloc());
+    let config = config(&heap)?;
+    let mut handed = Vec::new(&heap);
+    handed.push(first(&heap)?)?;
+    handed.push(second(&heap)?)?;
+    let mut refused = 0u64;
+    for count in 0..200u64 {
+        heap.allow(count);
+        let steps = run_list(&heap, &config, &handed);
+        heap.allow(u64::MAX);
+        if let Ok(steps) = steps {
+            assert!(rt; are_worked(&steps));
+            break;
+        }
+        refused = refused.saturating_add(1);
+    }
+    // The configuration takes 2 growths; a step takes one more for each of its two copies, and the first for the list.
+    assert_eq!(rt; refused, 2 + (12 + 3) + (21 + 2));
+    Ok(())
+}
+
+/// A refused step changes nothing: made again with memory, it and those before it are the worked ones.
+#[test]
+fn a_recorded_run(rt: HostRuntime) -> Result<(), Fail> {
+    let heap = Refusing::new(rt.alloc());
+    let mut refused = 0u64;
+    for count in 0..200u64 {
+        let mut recorded = Recorded::new(&heap, config(&heap)?, DefaultHasher::default())?;
+        recorded.step(first(&heap)?)?;
+        let handed = second(&heap)?;
+        heap.allow(count);
+        let outcome = recorded.step(handed);
+        heap.allow(u64::MAX);
+        if outcome.is_ok() {
+            assert!(rt; are_worked(recorded.steps()));
+            break;
+        }
+        refused = refused.saturating_add(1);
+        assert_eq!(rt; recorded.steps().len(), 1, "after {count}");
+        recorded.step(second(&heap)?)?;
+        assert!(rt; are_worked(recorded.steps()), "after {count}");
+    }
+    // Those of the step, and the copy of its event.
+    assert_eq!(rt; refused, 21 + 1);
+    Ok(())
+}

@@ -1,0 +1,130 @@
+//! A worked question with its query, reply and answer, and the events and actions that have them.
+
+use dns_name::Name;
+use forwarder_core::Forwarder;
+use lru::DefaultHasher;
+use plain_list::PlainList;
+use std::alloc::{AllocError, Allocator};
+use step_values::{Action, Client, Event, Path, Why};
+use suffix_routes::{Config, Limits, Peer, Route};
+
+pub(crate) const CLIENT: Client = Client::Udp(Peer {
+    ip: [10, 0, 0, 7],
+    port: 40000,
+});
+
+pub(crate) const SERVER: Peer = Peer {
+    ip: [192, 0, 2, 1],
+    port: 53,
+};
+
+/// The first word gives identifier 8 and port 1032, each further one the next identifier and the next port.
+pub(crate) const WORDS: [u32; 8] = [
+    524_296, 589_833, 655_370, 720_907, 786_444, 851_981, 917_518, 983_055,
+];
+
+/// The path of the query, by the first word.
+pub(crate) const PATH: Path = Path::Udp(1032);
+
+/// A question for the address of a.example. The last four octets are its type and its class.
+pub(crate) const QUESTION: [u8; 27] =
+    *b"\x12\x34\x01\x00\x00\x01\x00\x00\x00\x00\x00\x00\x01a\x07example\x00\x00\x01\x00\x01";
+
+/// The same as a query.
+pub(crate) const QUERY: [u8; 27] =
+    *b"\x00\x08\x01\x00\x00\x01\x00\x00\x00\x00\x00\x00\x01a\x07example\x00\x00\x01\x00\x01";
+
+/// The server's reply: 198.51.100.5, for 300 seconds.
+pub(crate) const REPLY: &[u8] =
+    b"\x00\x08\x85\x00\x00\x01\x00\x01\x00\x00\x00\x00\x01a\x07example\x00\x00\x01\x00\x01\xc0\x0c\x00\x01\x00\x01\x00\x00\x01\x2c\x00\x04\xc6\x33\x64\x05";
+
+/// What the client gets.
+const ANSWER: &[u8] =
+    b"\x12\x34\x81\x80\x00\x01\x00\x01\x00\x00\x00\x00\x01a\x07example\x00\x00\x01\x00\x01\xc0\x0c\x00\x01\x00\x01\x00\x00\x01\x2c\x00\x04\xc6\x33\x64\x05";
+
+/// One route, for every name, with one server.
+pub(crate) fn config<A: Allocator + Copy>(alloc: A) -> Result<Config<A>, AllocError> {
+    let mut servers = PlainList::new(alloc);
+    servers.push(SERVER)?;
+    let route = Route {
+        suffix: Name::root(alloc),
+        servers,
+    };
+    let mut routes = PlainList::new(alloc);
+    routes.push(route)?;
+    Ok(Config {
+        listen: SERVER,
+        limits: Limits::defaults(),
+        routes,
+    })
+}
+
+/// The client sends these octets.
+pub(crate) fn sends<A: Allocator + Copy>(alloc: A, bytes: &[u8]) -> Result<Event<A>, AllocError> {
+    Ok(Event::Client {
+        client: CLIENT,
+        bytes: PlainList::copied(alloc, bytes)?,
+    })
+}
+
+/// These octets come on a path to a server.
+pub(crate) fn delivers<A: Allocator + Copy>(
+    alloc: A,
+    path: Path,
+    from: Peer,
+    bytes: &[u8],
+) -> Result<Event<A>, AllocError> {
+    Ok(Event::Delivery {
+        path,
+        from,
+        bytes: PlainList::copied(alloc, bytes)?,
+    })
+}
+
+/// The server's reply comes.
+pub(crate) fn replies<A: Allocator + Copy>(alloc: A) -> Result<Event<A>, AllocError> {
+    delivers(alloc, PATH, SERVER, REPLY)
+}
+
+/// A forwarder that has sent the query.
+pub(crate) fn asked<A: Allocator + Copy>(
+    alloc: A,
+) -> Result<Forwarder<DefaultHasher, A>, AllocError> {
+    let mut forwarder = Forwarder::new(alloc, config(alloc)?, DefaultHasher::default())?;
+    let _outcome = forwarder.step(1000, WORDS, sends(alloc, &QUESTION)?)?;
+    Ok(forwarder)
+}
+
+/// The actions send these octets to the server, from the query's port, and do nothing else.
+pub(crate) fn send_alone<A: Allocator>(actions: &[Action<A>], text: &[u8]) -> bool {
+    match actions {
+        [
+            Action::AskUdp {
+                port,
+                server,
+                bytes,
+            },
+        ] => *port == 1032 && *server == SERVER && bytes.as_slice() == text,
+        _ => false,
+    }
+}
+
+/// The action replies to the client with these octets, for this reason.
+pub(crate) fn is_reply<A: Allocator>(action: &Action<A>, text: &[u8], reason: Why) -> bool {
+    match action {
+        Action::Reply { client, bytes, why } => {
+            *client == CLIENT && bytes.as_slice() == text && *why == reason
+        }
+        _ => false,
+    }
+}
+
+/// The actions close the query's port and give the client its answer, and do nothing else.
+pub(crate) fn answer_whole<A: Allocator>(actions: &[Action<A>]) -> bool {
+    match actions {
+        [Action::CloseUdp { port }, reply] => {
+            *port == 1032 && is_reply(reply, ANSWER, Why::Answered)
+        }
+        _ => false,
+    }
+}

@@ -1,0 +1,28 @@
+-- What the proofs of crates above cite of routes.
+use Rattle.std.proofs.Common.{◌≡◌, ℕ, ◌<◌, List, length, Some}
+use Rattle.std.specs.Prelude.{slice_get}
+use Rattle.std.specs.List.{AllByRecursion}
+use Rattle.dns_name.specs.Labels.{IsSame, lowered}
+use Rattle.suffix_routes.specs.Values.{Route, IsRoute}
+use Rattle.suffix_routes.specs.Routes.{IsRouteOf, route_of}
+use Rattle.suffix_routes.proofs.RouteLaws as routes
+
+-- names that are the same have the same route
+pub route_of_respects_same : (routes : List Route) (n m : List (List ℕ)) → IsSame n m → route_of routes n ≡ route_of routes m
+route_of_respects_same = routes.route_of-same
+
+-- a name and its key have the same route
+pub route_of_lowered : (routes : List Route) (name : List (List ℕ)) → route_of routes (lowered name) ≡ route_of routes name
+route_of_lowered = routes.route_of-lowered
+
+-- the route of a name is one of the routes, and its suffix is the longest that the name is under
+pub route_found_is_longest : (routes : List Route) (name : List (List ℕ)) (place : ℕ) → route_of routes name ≡ Some place → IsRouteOf routes name place
+route_found_is_longest = routes.route_of-some
+
+-- its place is within the routes
+pub route_found_within : (routes : List Route) (name : List (List ℕ)) (place : ℕ) → route_of routes name ≡ Some place → place < length routes
+route_found_within = routes.route_of-within
+
+-- each of the routes is a route, so the one at a place is
+pub route_at_place_is_route : (routes : List Route) (place : ℕ) (route : Route) → AllByRecursion IsRoute routes → slice_get routes place ≡ Some route → IsRoute route
+route_at_place_is_route = routes.route_holds
