@@ -8,7 +8,7 @@ use Rattle.step_values.specs.declared.event.Client.{Client}
 use Rattle.step_values.specs.declared.event.Client.TheVariants.{Udp, Tcp}
 use Rattle.step_values.specs.declared.action.Why.{Why}
 use Rattle.step_values.specs.declared.action.Why.TheVariants.{Answered, BadFormat, BadOpcode, NotServed, NoRoute, QuestionsFull, InquiriesFull, NoPort, Exhausted, Deadline, ChainLong, TooLarge}
-use Rattle.step_values.specs.Values.{Event, tick, Action, Step}
+use Rattle.step_values.specs.Values.{tick, Action, Step}
 use Rattle.step_history.specs.Names.{route_of}
 use Rattle.dns_message.specs.Questions.{same_question}
 use Rattle.dns_message.specs.Header.{header_in}

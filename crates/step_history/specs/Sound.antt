@@ -8,7 +8,7 @@ use Rattle.suffix_routes.specs.Values.{Config}
 use Rattle.step_values.specs.declared.event.Client.{Client}
 use Rattle.step_values.specs.declared.action.Why.{Why}
 use Rattle.step_values.specs.declared.action.Why.TheVariants.{Answered, BadFormat, BadOpcode}
-use Rattle.step_values.specs.Values.{Event, Request, request_in, Action, SentReply, reply_in_action, Step}
+use Rattle.step_values.specs.Values.{Request, request_in, Action, SentReply, reply_in_action, Step}
 use Rattle.dns_message.specs.Questions.{same_question}
 use Rattle.dns_message.specs.Header.{header_in}
 use Rattle.step_history.specs.History.{is_restart, InEra, moment_at, Look, NothingAccepted, Reads, Sends, takes_question}
