@@ -1,0 +1,4 @@
+pub mod Gathering
+pub mod PieceLaws
+pub mod WalkLaws
+pub mod ServerLaws

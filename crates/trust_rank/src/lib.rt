@@ -1,0 +1,16 @@
+//! What one reply carries for a question: record sets and denials, each with how far it is to be believed.
+#![tactic(auto)]
+
+mod denials;
+mod piece;
+mod reply;
+mod servers;
+mod sets;
+mod slot;
+mod walk;
+mod walking;
+
+pub use piece::{Body, Piece};
+pub use slot::Slot;
+pub use walk::{End, Walk};
+pub use walking::pieces;
