@@ -14,7 +14,7 @@ use Rattle.record_cache.specs.Values.{Held}
 use Rattle.record_cache.specs.Entries.{of_slot, entry_of, has_slot, without, promoted, AreApart, AreHeld}
 use Rattle.record_cache.specs.Ageing.{is_alive}
 use Rattle.record_cache.specs.Offers.{kept, outranks, is_outranked}
-use Rattle.record_cache.specs.Storing.{keyed, denied_depth, depth_of, told, denials_at, IsStored}
+use Rattle.record_cache.specs.Storing.{keyed, name_error_depth, depth_of, told, name_errors_at, IsStored}
 use Rattle.record_cache.proofs.Slots.{eq_is}
 use Rattle.record_cache.proofs.Lists as lists
 use Rattle.record_cache.proofs.Counts as counts
@@ -108,17 +108,17 @@ put_at m new h s slot is = is ∙ ap (λ t. lru_cache (put_entries eq m t h) m.c
 
 -- what is counted is counted in what was displaced or in what is left
 displaced_counts : (d n : ℕ) (h : Held) (es : List Held) → AreApart es → NoMore n es → 0 < n
-    → denials_at d es ≡ told d (depth_of (option_map (λ e. e.1) (displaced eq (lru_cache (keyed es) n) h.piece.slot h))) + denials_at d (rest n h es)
+    → name_errors_at d es ≡ told d (depth_of (option_map (λ e. e.1) (displaced eq (lru_cache (keyed es) n) h.piece.slot h))) + name_errors_at d (rest n h es)
 displaced_counts d n h es apart few some = rw (lookup_keyed h.piece.slot es)
-    ((elim (entry_of h.piece.slot es) as (λ o. entry_of h.piece.slot es ≡ o → denials_at d es ≡ told d (depth_of (option_map (λ e. e.1) (option_map_or (λ old. Some (h.piece.slot, old)) o (slice_get (keyed es) (n - 1))))) + denials_at d (rest n h es)) [
-      | None ↦ λ is. rw (get_keyed (n - 1) es, lists.without_absent h.piece.slot es is) (counts.denials_take d (n - 1) es (omega (arith, few, some)))
-      | Some old ↦ λ is. rw (room_left n h old es few is) (subst (λ o. denials_at d es ≡ told d (depth_of o) + denials_at d (without h.piece.slot es)) is (counts.denials_without d h.piece.slot es apart))
+    ((elim (entry_of h.piece.slot es) as (λ o. entry_of h.piece.slot es ≡ o → name_errors_at d es ≡ told d (depth_of (option_map (λ e. e.1) (option_map_or (λ old. Some (h.piece.slot, old)) o (slice_get (keyed es) (n - 1))))) + name_errors_at d (rest n h es)) [
+      | None ↦ λ is. rw (get_keyed (n - 1) es, lists.without_absent h.piece.slot es is) (counts.name_errors_take d (n - 1) es (omega (arith, few, some)))
+      | Some old ↦ λ is. rw (room_left n h old es few is) (subst (λ o. name_errors_at d es ≡ told d (depth_of o) + name_errors_at d (without h.piece.slot es)) is (counts.name_errors_without d h.piece.slot es apart))
     ]) refl)
 
 -- ---- what is stored
 
 abbrev Counted : List ℕ → List Held → Type 0
-Counted numbers es = (d : ℕ) → get_or numbers d 0 ≡ denials_at d es
+Counted numbers es = (d : ℕ) → get_or numbers d 0 ≡ name_errors_at d es
 
 stored : (n : ℕ) (es : List Held) (numbers : List ℕ) → n < 2 ^ 64 → AreHeld (record { capacity = n; entries = es }) → Counted numbers es → IsStored (lru_cache (keyed es) n) numbers
 stored n es numbers fits held counted = record {
@@ -160,12 +160,12 @@ module _ (m : LruCache Slot Held) (numbers : List ℕ) (is : IsStored m numbers)
   taken_list s = ap values_of (taken s) ∙ values_keyed (without s es)
 
   pub taken_told : (d : ℕ) (s : Slot) → told d (depth_of (lookup (eq s) m.entries)) ≤ get_or numbers d 0
-  taken_told d s = omega (arith, is.counted d, counts.denials_without d s es is.held.apart, ap (λ o. told d (depth_of o)) (found s))
+  taken_told d s = omega (arith, is.counted d, counts.name_errors_without d s es is.held.apart, ap (λ o. told d (depth_of o)) (found s))
 
   pub taken_stored : (s : Slot) (left : List ℕ) → ((d : ℕ) → get_or numbers d 0 ≡ told d (depth_of (lookup (eq s) m.entries)) + get_or left d 0) → IsStored (lru_cache (remove_entry (eq s) m.entries) m.cap) left
   taken_stored s left counted = rw (taken s)
       (stored m.cap (without s es) left is.fits (lists.held_without m.cap s es is.held)
-      (λ d. omega (arith, is.counted d, counted d, counts.denials_without d s es is.held.apart, ap (λ o. told d (depth_of o)) (found s))))
+      (λ d. omega (arith, is.counted d, counted d, counts.name_errors_without d s es is.held.apart, ap (λ o. told d (depth_of o)) (found s))))
 
   -- ---- an entry is promoted
 
@@ -178,7 +178,7 @@ module _ (m : LruCache Slot Held) (numbers : List ℕ) (is : IsStored m numbers)
   pub used_stored : (s : Slot) → IsStored (lru_cache (used (eq s) m.entries) m.cap) numbers
   used_stored s = rw (used_is s)
       (stored m.cap (promoted s es) numbers is.fits (lists.held_promoted m.cap s es is.held)
-      (λ d. is.counted d ∙ sym (counts.denials_promoted d s es is.held.apart)))
+      (λ d. is.counted d ∙ sym (counts.name_errors_promoted d s es is.held.apart)))
 
   -- ---- an entry is put first
 
@@ -189,22 +189,22 @@ module _ (m : LruCache Slot Held) (numbers : List ℕ) (is : IsStored m numbers)
     pub put_list : values_of (put_entries eq m h.piece.slot h) ≡ kept m.cap h es
     put_list = ap values_of put_is ∙ values_keyed (kept m.cap h es)
 
-    displaced_is : (d : ℕ) → denials_at d es ≡ told d (depth_of (old_one m h)) + denials_at d (rest m.cap h es)
-    displaced_is d = subst (λ xs. denials_at d es ≡ told d (depth_of (option_map (λ e. e.1) (displaced eq (lru_cache xs m.cap) h.piece.slot h))) + denials_at d (rest m.cap h es)) (sym is.keyed)
+    displaced_is : (d : ℕ) → name_errors_at d es ≡ told d (depth_of (old_one m h)) + name_errors_at d (rest m.cap h es)
+    displaced_is d = subst (λ xs. name_errors_at d es ≡ told d (depth_of (option_map (λ e. e.1) (displaced eq (lru_cache xs m.cap) h.piece.slot h))) + name_errors_at d (rest m.cap h es)) (sym is.keyed)
         (displaced_counts d m.cap h es is.held.apart is.held.few is.held.some)
 
     pub put_told : (d : ℕ) → told d (depth_of (old_one m h)) ≤ get_or numbers d 0
     put_told d = omega (arith, is.counted d, displaced_is d)
 
     module _ (left : List ℕ) (without_old : (d : ℕ) → get_or numbers d 0 ≡ told d (depth_of (old_one m h)) + get_or left d 0) where
-      left_is : (d : ℕ) → get_or left d 0 ≡ denials_at d (rest m.cap h es)
+      left_is : (d : ℕ) → get_or left d 0 ≡ name_errors_at d (rest m.cap h es)
       left_is d = omega (arith, is.counted d, displaced_is d, without_old d)
 
       -- one more fits the count
       pub put_fits : (d : ℕ) → get_or left d 0 + 1 < 2 ^ 64
-      put_fits d = omega (arith, left_is d, counts.denials_few d (rest m.cap h es), length-take (m.cap - 1) (without h.piece.slot es), is.held.some, is.fits)
+      put_fits d = omega (arith, left_is d, counts.name_errors_few d (rest m.cap h es), length-take (m.cap - 1) (without h.piece.slot es), is.held.some, is.fits)
 
-      pub put_stored : IsPiece h.piece → (numbers' : List ℕ) → ((d : ℕ) → get_or numbers' d 0 ≡ told d (denied_depth h) + get_or left d 0) → IsStored (lru_cache (put_entries eq m h.piece.slot h) m.cap) numbers'
+      pub put_stored : IsPiece h.piece → (numbers' : List ℕ) → ((d : ℕ) → get_or numbers' d 0 ≡ told d (name_error_depth h) + get_or left d 0) → IsStored (lru_cache (put_entries eq m h.piece.slot h) m.cap) numbers'
       put_stored piece numbers' counted = rw put_is
           (stored m.cap (kept m.cap h es) numbers' is.fits (lists.held_kept m.cap h es piece is.held)
           (λ d. rw (kept_is m.cap h es is.held.some) (omega (arith, counted d, left_is d))))

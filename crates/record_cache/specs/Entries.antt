@@ -31,13 +31,13 @@ without slot entries = filter (λ h. not (of_slot slot h)) entries
 abbrev pub promoted : Slot → List Held → List Held
 promoted slot entries = filter (of_slot slot) entries ++ without slot entries
 
--- the entry denies a name of so many labels
-abbrev pub is_denial_at : ℕ → Held → Bool
-is_denial_at depth h = is_name_error h.piece && (length h.piece.slot.key == depth)
+-- a name error of a name with so many labels
+abbrev pub is_name_error_at : ℕ → Held → Bool
+is_name_error_at depth h = is_name_error h.piece && (length h.piece.slot.key == depth)
 
--- a name of so many labels is denied
-abbrev pub has_denial : ℕ → List Held → Bool
-has_denial depth entries = list_any (is_denial_at depth) entries
+-- a name error of so many labels is there
+abbrev pub has_name_error : ℕ → List Held → Bool
+has_name_error depth entries = list_any (is_name_error_at depth) entries
 
 -- no two entries are of one slot
 abbrev pub AreApart : List Held → Type 0

@@ -13,7 +13,7 @@ use Rattle.record_cache.specs.declared.cache.Offered.TheVariants.{Kept, Outranke
 abbrev pub outranks : ℕ → Piece → Held → Bool
 outranks moment piece h = of_slot piece.slot h && (is_alive moment h && nat_lt piece.rank h.piece.rank)
 
--- the denial of a whole name is never outranked
+-- a name error is never outranked
 abbrev pub is_outranked : ℕ → Piece → List Held → Bool
 is_outranked moment piece entries = not (is_name_error piece) && list_any (outranks moment piece) entries
 

@@ -1,7 +1,7 @@
 //! The entries, in the order of their last use.
 
 ghost use Rattle.std.specs.Prelude.{◌≡◌, ◌<◌, ◌||◌, [], if◌then◌else◌, length, option_map, None, Some, IfOk, IfSome, MatchOption};
-ghost use Rattle.record_cache.specs.Entries.{AreHeld, entry_of, has_denial, has_slot, promoted, without};
+ghost use Rattle.record_cache.specs.Entries.{AreHeld, entry_of, has_name_error, has_slot, promoted, without};
 ghost use Rattle.record_cache.specs.Offers.{answer, found_room, is_outranked, kept, offered};
 ghost use Rattle.record_cache.specs.Storing.{depth_of, IsStored};
 ghost use Rattle.std.specs.Map.{values_of};
@@ -32,8 +32,8 @@ pub enum Offered {
 #[derive(Drop)]
 pub struct Cache<H: BuildHasher, A: Allocator = Global> {
     entries: LruCache<Slot, Held<A>, H, A>,
-    /// How many denials of whole names are held, by the number of labels.
-    denials: Depths,
+    /// How many name errors are held, by the number of labels.
+    name_errors: Depths,
 }
 
 impl<H: BuildHasher, A: Allocator> Model for Cache<H, A> {
@@ -45,7 +45,7 @@ impl<H: BuildHasher, A: Allocator> Model for Cache<H, A> {
 
     ghost view = { λ c. record { capacity = c.entries.cap; entries = values_of c.entries.entries } };
 
-    ghost invariant = { λ c. IsStored c.entries c.denials.counts };
+    ghost invariant = { λ c. IsStored c.entries c.name_errors.counts };
 }
 
 impl<H: BuildHasher + Drop, A: Allocator + Copy> Cache<H, A> {
@@ -59,14 +59,14 @@ impl<H: BuildHasher + Drop, A: Allocator + Copy> Cache<H, A> {
         };
         Ok(Cache {
             entries: LruCache::with_hasher(alloc, room, hasher)?,
-            denials: Depths::new(),
+            name_errors: Depths::new(),
         })
     }
 
     /// Offers a piece that was accepted at a moment, in milliseconds.
     ///
-    /// `Outranked`, where its slot has a living entry of a higher rank (RFC 2181 5.4.1), which the denial of a whole name
-    /// never minds: nothing changes. Else `NotKept`, where its lifetime is 0: the entry of its slot is removed. Else
+    /// `Outranked`, where its slot has a living entry of a higher rank (RFC 2181 5.4.1), which a name error never minds:
+    /// nothing changes. Else `NotKept`, where its lifetime is 0: the entry of its slot is removed. Else
     /// `Kept`: it goes to the front, in place of its slot's entry; or else a full cache drops its last entry. `Unkept`,
     /// where its slot has no entry and a growth was refused: nothing changes.
     pub fn offer(&mut self, piece: Piece<A>, moment: u64) -> Offered
@@ -84,14 +84,14 @@ impl<H: BuildHasher + Drop, A: Allocator + Copy> Cache<H, A> {
             self.forget(&held.slot());
             return Offered::NotKept;
         }
-        if put_first(&mut self.entries, &mut self.denials, held) {
+        if put_first(&mut self.entries, &mut self.name_errors, held) {
             Offered::Kept
         } else {
             Offered::Unkept
         }
     }
 
-    /// Whether its slot has an entry that outranks it when it is accepted; the denial of a whole name is never outranked.
+    /// Whether its slot has an entry that outranks it when it is accepted; a name error is never outranked.
     fn is_outranked(&self, held: &Held<A>) -> bool
         ensures { result ≡ is_outranked held.now.accepted held.now.piece self.now.entries }
     {
@@ -124,7 +124,7 @@ impl<H: BuildHasher + Drop, A: Allocator + Copy> Cache<H, A> {
     pub fn forget(&mut self, slot: &Slot)
         ensures { self.new ≡ record self.old { entries = without slot.now self.old.entries } }
     {
-        take_out(&mut self.entries, &mut self.denials, slot);
+        take_out(&mut self.entries, &mut self.name_errors, slot);
     }
 
     /// Removes all entries. It takes no memory.
@@ -132,7 +132,7 @@ impl<H: BuildHasher + Drop, A: Allocator + Copy> Cache<H, A> {
         ensures { self.new ≡ record self.old { entries = [] } }
     {
         self.entries.clear();
-        self.denials = Depths::new();
+        self.name_errors = Depths::new();
     }
 
     /// How many entries there are, dead ones too. `held` says what holds of them. It takes no memory.
@@ -143,12 +143,12 @@ impl<H: BuildHasher + Drop, A: Allocator + Copy> Cache<H, A> {
         self.entries.len()
     }
 
-    /// Whether the denial of a whole name with so many labels is held, alive or dead. It takes no memory, and looks at no
-    /// entry.
-    pub fn has_denial(&self, depth: usize) -> bool
-        ensures { result ≡ has_denial depth self.now.entries }
+    /// Whether a name error of a name with so many labels is held, alive or dead: where none is, no look-up for one is
+    /// needed. It takes no memory, and looks at no entry.
+    pub fn has_name_error(&self, depth: usize) -> bool
+        ensures { result ≡ has_name_error depth self.now.entries }
     {
-        self.denials.has(depth)
+        self.name_errors.has(depth)
     }
 }
 
@@ -156,21 +156,21 @@ impl<H: BuildHasher + Drop, A: Allocator + Copy> Cache<H, A> {
 /// a growth was refused, and then nothing has changed.
 fn put_first<H: BuildHasher + Drop, A: Allocator + Copy>(
     entries: &mut LruCache<Slot, Held<A>, H, A>,
-    denials: &mut Depths,
+    name_errors: &mut Depths,
     held: Held<A>,
 ) -> bool
-    requires { IsStored entries.old denials.old.counts }
-    ensures stored { IsStored entries.new denials.new.counts }
+    requires { IsStored entries.old name_errors.old.counts }
+    ensures stored { IsStored entries.new name_errors.new.counts }
     ensures list { values_of entries.new.entries ≡ (if result then kept entries.old.cap held (values_of entries.old.entries) else values_of entries.old.entries) }
     ensures capacity { entries.new.cap ≡ entries.old.cap }
     ensures room { result || has_slot held.piece.slot (values_of entries.old.entries) ≡ result }
 {
     let slot = held.slot();
-    let depth = held.denied_depth();
+    let depth = held.name_error_depth();
     match entries.push(slot, held) {
         Ok(displaced) => {
-            denials.remove(depth_of(value_of(displaced)));
-            denials.add(depth);
+            name_errors.remove(depth_of(value_of(displaced)));
+            name_errors.add(depth);
             true
         }
         Err(_) => false,
@@ -180,24 +180,24 @@ fn put_first<H: BuildHasher + Drop, A: Allocator + Copy>(
 /// Takes the entry of a slot out.
 fn take_out<H: BuildHasher + Drop, A: Allocator + Copy>(
     entries: &mut LruCache<Slot, Held<A>, H, A>,
-    denials: &mut Depths,
+    name_errors: &mut Depths,
     slot: &Slot,
 )
-    requires { IsStored entries.old denials.old.counts }
-    ensures stored { IsStored entries.new denials.new.counts }
+    requires { IsStored entries.old name_errors.old.counts }
+    ensures stored { IsStored entries.new name_errors.new.counts }
     ensures list { values_of entries.new.entries ≡ without slot.now (values_of entries.old.entries) }
     ensures capacity { entries.new.cap ≡ entries.old.cap }
 {
     let taken = entries.pop(slot);
-    denials.remove(depth_of(taken));
+    name_errors.remove(depth_of(taken));
 }
 
-/// How many labels the name has that the entry denies as a whole, if there is an entry and it does.
+/// How many labels the name of an entry has, if there is an entry and it is a name error.
 fn depth_of<A: Allocator>(held: Option<Held<A>>) -> Option<usize>
     ensures depth { result ≡ depth_of held }
     ensures few { IfSome result (λ depth. depth < 128) }
 {
-    held?.denied_depth()
+    held?.name_error_depth()
 }
 
 /// The value of a pair.

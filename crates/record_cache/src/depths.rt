@@ -1,9 +1,10 @@
-//! How many denials are held, by the number of labels of what they deny.
+//! How many name errors are held, by the number of labels of their names.
 
 ghost use Rattle.std.specs.Prelude.{◌≡◌, ◌+◌, ◌-◌, ◌<◌, ◌≤◌, ◌^◌, ℕ, Option, get_or, nat_lt, IfSome};
 ghost use Rattle.record_cache.specs.Storing.{told};
 
-/// Counts by the number of labels of a name, which is at most 127 (RFC 1035 3.1).
+/// Counts by the number of labels of a name, which has at most 127: each takes two octets at least, and the name 255 at
+/// most (RFC 1035 2.3.4).
 #[derive(Drop)]
 pub(crate) struct Depths {
     pub counts: [usize; 128],

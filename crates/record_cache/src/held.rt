@@ -2,7 +2,7 @@
 
 ghost use Rattle.std.specs.Prelude.{◌≡◌, ◌≤◌, ◌<◌, ◌*◌, ◌==◌, ◌&&◌, nat_lt, length, IfSome};
 ghost use Rattle.record_cache.specs.Ageing.{is_alive, seconds_left};
-ghost use Rattle.record_cache.specs.Storing.{denied_depth};
+ghost use Rattle.record_cache.specs.Storing.{name_error_depth};
 ghost use Rattle.trust_rank.specs.Formed.{IsPiece};
 ghost use Rattle.trust_rank.specs.Replacing.{is_name_error};
 
@@ -57,7 +57,7 @@ impl<A: Allocator> Held<A> {
         1000 * u64::from(self.piece.lifetime)
     }
 
-    /// Whether this is the denial of a whole name.
+    /// Whether this is a name error, the denial of a whole name (RFC 2308 2.1).
     pub(crate) fn is_name_error(&self) -> bool
         ensures { result ≡ is_name_error self.now.piece }
     {
@@ -71,7 +71,7 @@ impl<A: Allocator> Held<A> {
         self.piece.lifetime == 0
     }
 
-    /// Whether the entry is alive when the other one is accepted, and has a higher rank.
+    /// Whether the entry is alive when the other one is accepted, and has a higher rank (RFC 2181 5.4.1).
     pub(crate) fn outranks(&self, other: &Held<A>) -> bool
         ensures { result ≡ (is_alive other.now.accepted self.now && nat_lt other.now.piece.rank self.now.piece.rank) }
     {
@@ -86,9 +86,9 @@ impl<A: Allocator> Held<A> {
         self.piece.slot
     }
 
-    /// How many labels the name has that is denied as a whole; `None` where the piece is of one type.
-    pub(crate) fn denied_depth(&self) -> Option<usize>
-        ensures depth { result ≡ denied_depth self.now }
+    /// How many labels the name of a name error has; `None` where the piece is of one type.
+    pub(crate) fn name_error_depth(&self) -> Option<usize>
+        ensures depth { result ≡ name_error_depth self.now }
         ensures few { IfSome result (λ depth. depth < 128) }
     {
         if !self.is_name_error() {
