@@ -1,5 +1,7 @@
 //! Pieces to offer.
 
+ghost use Rattle.std.specs.Prelude.{◌≢◌, []};
+
 use dns_message::Rdata;
 use dns_name::{Name, NameFault};
 use lru::DefaultHasher;
@@ -84,7 +86,9 @@ pub(crate) fn set<A: Allocator + Copy>(alloc: A, owner: &str) -> Result<Piece<A>
     Ok(set_of(owner, rows))
 }
 
-fn set_of<A: Allocator>(owner: Name<A>, rows: PlainList<Rdata<A>, A>) -> Piece<A> {
+fn set_of<A: Allocator>(owner: Name<A>, rows: PlainList<Rdata<A>, A>) -> Piece<A>
+    requires { rows ≢ [] }
+{
     let slot = Slot {
         key: owner.key(),
         class: 1,
