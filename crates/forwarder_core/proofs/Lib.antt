@@ -1,5 +1,7 @@
 pub mod Short
 pub mod TextLaws
 pub mod SetLaws
-pub mod Keeping
 pub mod Deciding
+pub mod Following
+pub mod KeptLaws
+pub mod Ticks

@@ -13,8 +13,8 @@ use Rattle.step_values.specs.declared.action.Why.TheVariants.{Answered, TooLarge
 use Rattle.step_values.specs.Values.{Action, send_reply}
 use Rattle.step_rules.specs.Row.{failed, gives_up, answered_over, answered}
 use Rattle.step_history.specs.Carried.{ttl_at}
-use Rattle.step_history.specs.Answers.{kind_of, record_with, records_in, records_of, soa_of, rcode_of, reply_message, full_answer, truncated}
-use Rattle.step_history.specs.Sound.{rcode_of_why, error_response}
+use Rattle.step_history.specs.Replies.{kind_of, record_with, records_in, records_of, soa_of, rcode_of, reply_message, full_answer, truncated}
+use Rattle.step_history.specs.Replies.{rcode_of_why, error_response}
 use Rattle.step_history.specs.Pieces.{Body, rows, Piece, Held}
 use Rattle.step_rules.specs.State.{Waiting}
 use Rattle.forwarder_core.specs.Texts.{fresh_record, rows_in, fresh_records, fresh_answer, cut_answer}

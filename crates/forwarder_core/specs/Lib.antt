@@ -1,3 +1,4 @@
 pub mod Texts
 pub mod Sets
+pub mod Kept
 pub mod Next

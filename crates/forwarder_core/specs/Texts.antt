@@ -2,7 +2,7 @@
 use Rattle.std.specs.Prelude.{ℕ, true, false, List, [], ◌∷◌, map}
 use Rattle.dns_message.specs.Values.{Record, Message}
 use Rattle.step_history.specs.Pieces.{Body, rows, no_data, denied, Piece}
-use Rattle.step_history.specs.Answers.{kind_of, reply_message}
+use Rattle.step_history.specs.Replies.{kind_of, reply_message}
 use Rattle.step_rules.specs.State.{Waiting}
 
 -- a record of a set that came at this moment

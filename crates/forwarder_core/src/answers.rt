@@ -6,8 +6,8 @@ ghost use Rattle.dns_message.specs.Writing.{written_within};
 ghost use Rattle.dns_message.specs.Reading.{Gives};
 ghost use Rattle.dns_name.specs.Labels.{IsName};
 ghost use Rattle.step_values.specs.Values.{action_of};
-ghost use Rattle.step_history.specs.Queries.{query_message};
-ghost use Rattle.step_history.specs.Sound.{error_response, rcode_of_why};
+ghost use Rattle.step_history.specs.Draws.{ask_message};
+ghost use Rattle.step_history.specs.Replies.{error_response, rcode_of_why};
 ghost use Rattle.step_rules.specs.Row.{failed, gives_up, answered_over, asks_by};
 ghost use Rattle.forwarder_core.specs.Texts.{fresh_records, fresh_answer, cut_answer};
 
@@ -264,7 +264,7 @@ pub(crate) fn answer<A: Allocator + Copy>(
 
 /// The text of a query: RD alone, and one question (RFC 1035 4.1.1).
 fn query_text<A: Allocator + Copy>(alloc: A, query: &Ask<A>) -> Result<Octets<A>, AllocError>
-    ensures { IfOk result (λ text. text ≡ written (query_message query.now.id query.now.question)) }
+    ensures { IfOk result (λ text. text ≡ written (ask_message query.now.id query.now.question)) }
 {
     let header = Header {
         id: query.id,

@@ -3,6 +3,7 @@
 #![tactic(auto)]
 
 mod answers;
+mod attempts;
 mod forwarder;
 mod lists;
 mod next;

@@ -2,8 +2,8 @@
 
 ghost use Rattle.std.specs.Prelude.{◌≡◌, ◌==◌, ◌&&◌, [], Some, None, IfOk, MatchOption};
 ghost use Rattle.std.specs.List.{list_any, find};
-ghost use Rattle.plain_list.specs.Octets.{same_octets};
 ghost use Rattle.step_history.specs.Names.{same_name};
+ghost use Rattle.plain_list.specs.Octets.{same_octets};
 ghost use Rattle.step_history.specs.Pieces.{is_of, records_for, with_data, seconds_of, longest, rank_of, set_of, has_many};
 ghost use Rattle.forwarder_core.specs.Sets.{with_answer, with_answers, lowered_by, lowered_by_all};
 ghost use Rattle.step_rules.specs.Row.{set_ending};

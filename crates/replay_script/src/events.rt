@@ -56,24 +56,29 @@ pub(crate) fn words(line: u32) -> [u32; 8]
 }
 
 /// The event of a line: `MOMENT client udp PEER OCTETS`, `MOMENT client tcp NUMBER OCTETS`,
-/// `MOMENT reply udp PORT PEER OCTETS` or `MOMENT restart`.
+/// `MOMENT reply udp PORT PEER OCTETS`, `MOMENT reply tcp NUMBER PEER OCTETS`, `MOMENT failed udp PORT`,
+/// `MOMENT failed tcp NUMBER`, `MOMENT tick` or `MOMENT restart`.
 pub(crate) fn timed_event<A: Allocator>(alloc: A, line: &[u8]) -> Result<TimedEvent<A>, Refusal> {
     let line = str::from_utf8(line).map_err(|_| Refusal::Form)?;
     let (moment, rest) = cut(line)?;
     let moment = number(moment, 20)?;
-    if rest == "restart" {
-        return Ok(TimedEvent {
-            moment,
-            event: Event::Restart,
-        });
-    }
-    let (kind, rest) = cut(rest)?;
-    let event = match kind {
-        "client" => client_event(alloc, rest)?,
-        "reply" => reply_event(alloc, rest)?,
-        _ => return Err(Refusal::Form),
+    let event = match rest {
+        "tick" => Event::Tick,
+        "restart" => Event::Restart,
+        _ => event_of_kind(alloc, rest)?,
     };
     Ok(TimedEvent { moment, event })
+}
+
+/// An event that has more than a kind.
+fn event_of_kind<A: Allocator>(alloc: A, text: &str) -> Result<Event<A>, Refusal> {
+    let (kind, rest) = cut(text)?;
+    match kind {
+        "client" => client_event(alloc, rest),
+        "reply" => reply_event(alloc, rest),
+        "failed" => failed_event(rest),
+        _ => Err(Refusal::Form),
+    }
 }
 
 /// The first field, and what stands behind the space after it.
@@ -95,15 +100,27 @@ fn client_event<A: Allocator>(alloc: A, text: &str) -> Result<Event<A>, Refusal>
 
 fn reply_event<A: Allocator>(alloc: A, text: &str) -> Result<Event<A>, Refusal> {
     let (transport, rest) = cut(text)?;
-    if transport != "udp" {
-        return Err(Refusal::Form);
-    }
     let (at, rest) = cut(rest)?;
     let (from, digits) = cut(rest)?;
-    let path = Path::Udp(port(at)?);
+    let path = path(transport, at)?;
     let from = peer(from)?;
     let bytes = octets(alloc, digits)?;
     Ok(Event::Delivery { path, from, bytes })
+}
+
+fn failed_event<A: Allocator>(text: &str) -> Result<Event<A>, Refusal> {
+    let (transport, at) = cut(text)?;
+    let path = path(transport, at)?;
+    Ok(Event::PathFailed { path })
+}
+
+/// The path to a server: a port of UDP, or the number of a connection.
+fn path(transport: &str, at: &str) -> Result<Path, Refusal> {
+    match transport {
+        "udp" => Ok(Path::Udp(port(at)?)),
+        "tcp" => Ok(Path::Tcp(number(at, 20)?)),
+        _ => Err(Refusal::Form),
+    }
 }
 
 /// A decimal number of 1 to `most` digits that fits 64 bits.

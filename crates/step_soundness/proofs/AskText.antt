@@ -1,4 +1,4 @@
--- The text of a query reads as its identifier and question.
+-- The text of an ask reads as its identifier and question.
 use Rattle.std.proofs.Common.{◌≡◌, ℕ, ◌+◌, ◌^◌, ◌<◌, ◌≤◌, List, [], ◌∷◌, ◌++◌, length, Option, Some, None, Bool, true, false, refl, sym, ap, ◌∙◌, subst, ⊎_elim, arith, length-append}
 use Rattle.std.specs.Prelude.{◌==◌, nat_lt, Result, Ok, Err, slice_index}
 use Rattle.std.proofs.lemmas.Bool.{cases_Bool, cond-true, cond-false, ltb-false, eq-eqb}
@@ -18,7 +18,7 @@ use Rattle.dns_message.proofs.CallerLemmas.{written_message_is_spelled}
 use Rattle.plain_list.specs.Octets.{AreOctets}
 use Rattle.dns_message.specs.Questions.{question_read}
 use Rattle.step_history.specs.History.{Reads}
-use Rattle.step_history.specs.Queries.{query_message}
+use Rattle.step_history.specs.Draws.{ask_message}
 
 -- ---- it is short
 
@@ -67,10 +67,10 @@ header_short m = then_short _ (as_is (octets16 (length m.additional))) 10 2
     (then_short (as_is (octets16 m.header.id)) (as_is (octets16 _)) 2 2 (λ ps p. omega arith) (λ ps p. omega arith))
     (λ ps p. omega arith)) (λ ps p. omega arith)) (λ ps p. omega arith)) (λ ps p. omega arith)
 
-query_short : (id : ℕ) (q : Question) → IsName q.name → length (written (query_message id q)) ≤ 65535
+ask_short : (id : ℕ) (q : Question) → IsName q.name → length (written (ask_message id q)) ≤ 65535
 unfolding written
-query_short id q name =
-    let m : Message = query_message id q in
+ask_short id q name =
+    let m : Message = ask_message id q in
     let short : size_of q.name ≤ 255 = name.short in
     let all = then_short (header_text m ▹ each question_text (q ∷ []) ▹ each record_text [] ▹ each record_text []) (each record_text []) (12 + (size_of q.name + 2 + 2 + 0) + 0 + 0) 0
     (then_short (header_text m ▹ each question_text (q ∷ []) ▹ each record_text []) (each record_text []) (12 + (size_of q.name + 2 + 2 + 0) + 0) 0
@@ -99,7 +99,7 @@ read_is octets q reads = by (slice_index (header_in octets).counts 0 == 1) refl 
         let bad : None ≡ Some q = sym (ap question_read is) ∙ sym (cond-true (slice_index (header_in octets).counts 0 == 1) _ _ e) ∙ reads in
         absurd (cc)
 
-read_well : (octets : List ℕ) (q : Question) → AreOctets octets → Reads octets q → IsQuestion q
+pub read_well : (octets : List ℕ) (q : Question) → AreOctets octets → Reads octets q → IsQuestion q
 read_well octets q are reads =
     let first = first_question_read_stands octets q (read_is octets q reads) in
     let at : QuestionAt octets 12 q first.e = first.at in
@@ -118,39 +118,36 @@ header_there octets h e = ⊎_elim
     (λ (f : nat_lt (length octets) 12 ≡ false). let is : Some (header_in octets) ≡ Some h = sym (cond-false (nat_lt (length octets) 12) _ _ f) ∙ e in let same : header_in octets ≡ h = cc in (same, ltb-false (length octets) 12 f))
     (cases_Bool (nat_lt (length octets) 12))
 
-pub query_reads : (id : ℕ) (octets : List ℕ) (q : Question) → AreOctets octets → Reads octets q → id < 2 ^ 16
-    → Reads (written (query_message id q)) q × ((header_in (written (query_message id q))).id ≡ id)
-query_reads id octets q are reads small = (reads_back, ap (λ (h : Header). h.id) there.0)
+pub ask_reads : (id : ℕ) (q : Question) → IsQuestion q → id < 2 ^ 16
+    → Reads (written (ask_message id q)) q × ((header_in (written (ask_message id q))).id ≡ id)
+ask_reads id q question small = (reads_back, ap (λ (h : Header). h.id) there.0)
   where
     m : Message
-    m = query_message id q
+    m = ask_message id q
 
-    question : IsQuestion q
-    question = read_well octets q are reads
-
-    spelled : Spells (written (query_message id q)) (query_message id q)
-    spelled = written_message_is_spelled (query_message id q) (record {
+    spelled : Spells (written (ask_message id q)) (ask_message id q)
+    spelled = written_message_is_spelled (ask_message id q) (record {
       id = small;
       bits = record { opcode = omega arith; z = omega arith; rcode = omega arith };
       questions = (question, tt);
       answers = tt;
       authority = tt;
       additional = tt;
-    }) refl (record { answers = tt; authority = tt; additional = tt }) (query_short id q question.name)
+    }) refl (record { answers = tt; authority = tt; additional = tt }) (ask_short id q question.name)
 
-    there : (header_in (written (query_message id q)) ≡ (query_message id q).header) × (12 ≤ length (written (query_message id q)))
-    there = header_there (written (query_message id q)) (query_message id q).header spelled.header
+    there : (header_in (written (ask_message id q)) ≡ (ask_message id q).header) × (12 ≤ length (written (ask_message id q)))
+    there = header_there (written (ask_message id q)) (ask_message id q).header spelled.header
 
-    counted : slice_index (header_in (written (query_message id q))).counts 0 ≡ 1
+    counted : slice_index (header_in (written (ask_message id q))).counts 0 ≡ 1
     counted = ap (λ (h : Header). slice_index h.counts 0) there.0
 
-    first : first_question (written (query_message id q)) ≡ Ok q
-    first = standing_first_question_is_read (written (query_message id q)) q (record {
+    first : first_question (written (ask_message id q)) ≡ Ok q
+    first = standing_first_question_is_read (written (ask_message id q)) q (record {
       header = there.1;
-      counted = let one : slice_index (header_in (written (query_message id q))).counts 0 ≡ 1 = counted in omega (arith, one);
+      counted = let one : slice_index (header_in (written (ask_message id q))).counts 0 ≡ 1 = counted in omega (arith, one);
       e = spelled.questions.0;
       at = spelled.questions.1;
     })
 
-    reads_back : Reads (written (query_message id q)) q
-    reads_back = cond-true (slice_index (header_in (written (query_message id q))).counts 0 == 1) _ _ (eq-eqb (slice_index (header_in (written (query_message id q))).counts 0) 1 counted) ∙ ap question_read first
+    reads_back : Reads (written (ask_message id q)) q
+    reads_back = cond-true (slice_index (header_in (written (ask_message id q))).counts 0 == 1) _ _ (eq-eqb (slice_index (header_in (written (ask_message id q))).counts 0) 1 counted) ∙ ap question_read first
