@@ -48,7 +48,7 @@ first_follows c n words q route s i preferred a kept asks_are are later small ne
   kept = record {
     earlier = let at : a.asked ≡ n = facts.asked in omega (arith, at);
     server = (λ j. peer_at c (facts.route_is j) (facts.server_is j)) ∙ facts.peer_is;
-    tries = let used : a.used ≡ 1 = facts.used_is in let least = kept.config.limits.tries.0 in omega (arith, used, least);
+    tries = let used : a.used ≡ 1 = facts.used_is in let least = kept.config.limits.tries.0 in (omega (arith, used), omega (arith, used, least));
     path = subst (IsBelow (s.tcp_asks + tcp_count_of a.path)) (sym draw.1) tt;
   };
   counted = subst (λ (p : Path). s.tcp_asks + tcp_count_of p < 2 ^ 64) (sym draw.1) (let count = kept.counted in omega (arith, count));
@@ -83,7 +83,7 @@ module _ (c : Config) (n : ℕ) (words : List ℕ) (path : Path) (a : Ask) (s : 
     kept = record {
       earlier = let at : next.asked ≡ n = facts.asked in omega (arith, at);
       server = (λ j. peer_at c (facts.route_is j) (facts.server_is j)) ∙ facts.peer_is;
-      tries = let used : next.used ≡ a.used + 1 = facts.used_is in omega (arith, used, more);
+      tries = let used : next.used ≡ a.used + 1 = facts.used_is in (omega (arith, used), omega (arith, used, more));
       path = new_below;
     };
     counted = counted;
@@ -151,7 +151,7 @@ tcp_goes_on r server e gives = let bad : GiveUp ≡ AskTcp server = sym gives �
 -- ---- the same, of what is kept
 
 pub more_left : (c : Config) (i : Inquiries) (ws : List Waiting) (ps : List ℕ) (m k : ℕ) (path : Path) (a : Ask) (f : Failure) → IsKept c i ws ps m k → ask_on path i.asks ≡ Some a → (after_failure (plan_of c a) f ≡ GiveUp → ⊥) → a.used + 1 ≤ c.limits.tries
-more_left c i ws ps m k path a f kept on goes_on = left_for (plan_of c a) f goes_on (kept_of c m k path i.asks a on kept.asks).tries
+more_left c i ws ps m k path a f kept on goes_on = left_for (plan_of c a) f goes_on (kept_of c m k path i.asks a on kept.asks).tries.1
 
 module _ (c : Config) (i : Inquiries) (ws : List Waiting) (ps : List ℕ) (m k n : ℕ) (words : List ℕ) (path : Path) (a : Ask) (f : Failure) (kept : IsKept c i ws ps m k) (are : AreListed i) (later : m ≤ n) (small : n ≤ 2 ^ 62) (on : ask_on path i.asks ≡ Some a) where
   abbrev here : State

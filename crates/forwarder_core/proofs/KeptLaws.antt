@@ -1,6 +1,6 @@
 -- What a forwarder keeps still holds after each change.
 use Rattle.std.proofs.Common.{Vec, ◌≡◌, ℕ, zero, suc, ◌+◌, ◌^◌, ◌<◌, ◌≤◌, List, [], ◌∷◌, ◌++◌, length, Bool, true, false, cond, refl, sym, ap, ◌∙◌, subst, arith, Option, Some, None}
-use Rattle.std.specs.Prelude.{filter, not, take, drop, map, slice_set, slice_get, nat_le, ◌||◌}
+use Rattle.std.specs.Prelude.{filter, not, option_map, min, take, drop, map, slice_set, slice_get, nat_le, ◌||◌}
 use Rattle.std.specs.List.{AllByRecursion, list_any}
 use Rattle.std.proofs.lemmas.List.{length-append, with_items_is}
 use Rattle.std.specs.Vec.{with_items}
@@ -8,15 +8,18 @@ use Rattle.std.proofs.lemmas.Bool.{cond_both, cond-true, cond-false, leb-true, l
 use Rattle.suffix_routes.specs.Values.{Config, Route, IsConfig}
 use Rattle.outstanding.specs.declared.ask.Path.{Path}
 use Rattle.outstanding.specs.declared.ask.Path.TheVariants.{Udp, Tcp}
-use Rattle.outstanding.specs.Lists.{same_path, without_path, on_path as ask_on, Follows, AreInTurn}
+use Rattle.outstanding.specs.Lists.{same_path, without_path, on_path as ask_on, AreInTurn, AreListed}
+use Rattle.outstanding.specs.Due as due
 use Rattle.outstanding.specs.Values.{Ask, Inquiries}
 use Rattle.step_rules.specs.State.{Waiting}
 use Rattle.step_rules.specs.Attempts.{group_of, servers_in}
-use Rattle.step_rules.specs.Row.{waits_for}
+use Rattle.step_rules.specs.Row.{waits_for, deadline_of, timeout_of}
+use Rattle.step_rules.specs.Progress.{AreTakenInTurn, IsTry, lesser, least, IsInOrder}
+use Rattle.step_rules.proofs.CallerLemmas.{first_due, first_late, first_deadline}
 use Rattle.step_soundness.specs.Explains.{IsBelow, ArePreferred}
 use Rattle.step_soundness.proofs.CallerLemmas.{All-append, All-filter, All-weaker, preferred_first, preferred_put}
 use Rattle.forwarder_core.specs.declared.next.Preferred.{Preferred}
-use Rattle.forwarder_core.specs.Kept.{IsKeptAsk, AreTakenInTurn, IsKept}
+use Rattle.forwarder_core.specs.Kept.{IsKeptAsk, IsKept}
 use Rattle.forwarder_core.specs.Next.{left_waiting, with_preferred, without_closed, tcp_count_of, CanWait, CanFollow, IsServed}
 
 -- ---- asks, later
@@ -184,42 +187,39 @@ kept_first c i ws ps config is none places =
 
 -- ---- what is due: the first of each list tells
 
-none_due : (d n : ℕ) (x : Waiting) (xs : List Waiting) → AllByRecursion (λ y. x.taken ≤ y.taken) xs → nat_le (x.taken + d) n ≡ false → list_any (λ (y : Waiting). nat_le (y.taken + d) n) xs ≡ false
-none_due d n x [] all f = refl
-none_due d n x (y ∷ xs) all f = by (nat_le (y.taken + d) n) refl (none_due d n x xs all.1 f)
-  where
-    by : (b : Bool) → nat_le (y.taken + d) n ≡ b → list_any (λ (z : Waiting). nat_le (z.taken + d) n) xs ≡ false → (nat_le (y.taken + d) n || list_any (λ (z : Waiting). nat_le (z.taken + d) n) xs) ≡ false
-    by true t rest = absurd (let less = leb-true (y.taken + d) n t in let more = leb-false (x.taken + d) n f in let order : x.taken ≤ y.taken = all.0 in omega (arith, less, more, order))
-    by false e rest = ap (λ v. v || list_any (λ (z : Waiting). nat_le (z.taken + d) n) xs) e ∙ rest
-
-pub first_due : (d n : ℕ) (x : Waiting) (xs : List Waiting) → AreTakenInTurn (x ∷ xs) → nat_le (x.taken + d) n ≡ list_any (λ (y : Waiting). nat_le (y.taken + d) n) (x ∷ xs)
-first_due d n x xs turn = by (nat_le (x.taken + d) n) refl
-  where
-    by : (b : Bool) → nat_le (x.taken + d) n ≡ b → nat_le (x.taken + d) n ≡ (nat_le (x.taken + d) n || list_any (λ (y : Waiting). nat_le (y.taken + d) n) xs)
-    by true t = t ∙ sym (ap (λ v. v || list_any (λ (y : Waiting). nat_le (y.taken + d) n) xs) t)
-    by false f = f ∙ sym (ap (λ v. v || list_any (λ (y : Waiting). nat_le (y.taken + d) n) xs) f ∙ none_due d n x xs turn.0 f)
-
 pub oldest_due : (d n : ℕ) (x : Waiting) (xs ws : List Waiting) → ws ≡ x ∷ xs → AreTakenInTurn ws → nat_le (x.taken + d) n ≡ list_any (λ (y : Waiting). nat_le (y.taken + d) n) ws
 oldest_due d n x xs ws is turn = first_due d n x xs (subst AreTakenInTurn is turn) ∙ sym (ap (λ (ys : List Waiting). list_any (λ (y : Waiting). nat_le (y.taken + d) n) ys) is)
-
-none_late : (d n : ℕ) (a : Ask) (asks : List Ask) → AllByRecursion (Follows a) asks → nat_le (a.asked + d) n ≡ false → list_any (λ (b : Ask). nat_le (b.asked + d) n) asks ≡ false
-none_late d n a [] all f = refl
-none_late d n a (y ∷ asks) all f = by (nat_le (y.asked + d) n) refl (none_late d n a asks all.1 f)
-  where
-    by : (b : Bool) → nat_le (y.asked + d) n ≡ b → list_any (λ (z : Ask). nat_le (z.asked + d) n) asks ≡ false → (nat_le (y.asked + d) n || list_any (λ (z : Ask). nat_le (z.asked + d) n) asks) ≡ false
-    by true t rest = absurd (let less = leb-true (y.asked + d) n t in let more = leb-false (a.asked + d) n f in let order : a.asked ≤ y.asked = all.0.asked in omega (arith, less, more, order))
-    by false e rest = ap (λ v. v || list_any (λ (z : Ask). nat_le (z.asked + d) n) asks) e ∙ rest
-
-pub first_late : (d n : ℕ) (a : Ask) (asks : List Ask) → AreInTurn (a ∷ asks) → nat_le (a.asked + d) n ≡ list_any (λ (b : Ask). nat_le (b.asked + d) n) (a ∷ asks)
-first_late d n a asks turn = by (nat_le (a.asked + d) n) refl
-  where
-    by : (b : Bool) → nat_le (a.asked + d) n ≡ b → nat_le (a.asked + d) n ≡ (nat_le (a.asked + d) n || list_any (λ (y : Ask). nat_le (y.asked + d) n) asks)
-    by true t = t ∙ sym (ap (λ v. v || list_any (λ (y : Ask). nat_le (y.asked + d) n) asks) t)
-    by false f = f ∙ sym (ap (λ v. v || list_any (λ (y : Ask). nat_le (y.asked + d) n) asks) f ∙ none_late d n a asks turn.0 f)
 
 pub oldest_late : (d n : ℕ) (a : Ask) (asks : List Ask) → slice_get asks 0 ≡ Some a → AreInTurn asks → nat_le (a.asked + d) n ≡ list_any (λ (b : Ask). nat_le (b.asked + d) n) asks
 oldest_late d n a [] there turn = absurd (cc)
 oldest_late d n a (b ∷ asks) there turn = let same : b ≡ a = cc in subst (λ (x : Ask). nat_le (x.asked + d) n ≡ list_any (λ (y : Ask). nat_le (y.asked + d) n) (b ∷ asks)) same (first_late d n b asks turn)
+
+-- the oldest question has the least deadline
+pub oldest_deadline : (c : Config) (x : Waiting) (xs ws : List Waiting) → ws ≡ x ∷ xs → AreTakenInTurn ws → least (map (deadline_of c) ws) ≡ Some (deadline_of c x)
+oldest_deadline c x xs ws is turn = ap (λ (ys : List Waiting). least (map (deadline_of c) ys)) is ∙ first_deadline c x xs (subst AreTakenInTurn is turn)
+
+-- an ask that is due first, as a moment alone
+sooner_one : (p : ℕ × Path) (o : Option (ℕ × Path)) → option_map (λ d. d.0) (due.sooner p o) ≡ Some (lesser p.0 (option_map (λ d. d.0) o))
+sooner_one p None = refl
+sooner_one p (Some q) = by (nat_le p.0 q.0) refl
+  where
+    by : (b : Bool) → nat_le p.0 q.0 ≡ b → option_map (λ d. d.0) (cond (nat_le p.0 q.0) (Some p) (Some q)) ≡ Some (min p.0 q.0)
+    by true t = ap (option_map (λ (d : ℕ × Path). d.0)) (cond-true (nat_le p.0 q.0) (Some p) (Some q) t) ∙ sym (ap (λ (m : ℕ). Some m) (Rattle.std.proofs.Math.Nat.min-eq_left (leb-true p.0 q.0 t)))
+    by false f = ap (option_map (λ (d : ℕ × Path). d.0)) (cond-false (nat_le p.0 q.0) (Some p) (Some q) f) ∙ sym (ap (λ (m : ℕ). Some m) (Rattle.std.proofs.Math.Nat.min-eq_right (let less = leb-false p.0 q.0 f in omega (arith, less))))
+
+pub timeouts_least : (c : Config) (asks : List Ask) → option_map (λ d. d.0) (due.next_due c.limits.ask_ms asks) ≡ least (map (timeout_of c) asks)
+timeouts_least c [] = refl
+timeouts_least c (a ∷ asks) = sooner_one (due.due_of c.limits.ask_ms a) (due.next_due c.limits.ask_ms asks) ∙ ap (λ (o : Option ℕ). Some (lesser (timeout_of c a) o)) (timeouts_least c asks)
+
+-- both lists are in order
+pub kept_in_order : (c : Config) (i : Inquiries) (ws : List Waiting) (ps : List ℕ) (m k : ℕ) → IsKept c i ws ps m k → AreListed i → IsInOrder c (record { asks = i.asks; waiting = ws; preferred = ps; moment = m; tcp_asks = k })
+kept_in_order c i ws ps m k kept are = record {
+  asks = are.in_turn;
+  tries = All-weaker (IsKeptAsk c m k) (IsTry c) (λ a h. h.tries) i.asks kept.asks;
+  few_asks = let few = are.few in let room = kept.capacity in omega (arith, few, room);
+  waiting = kept.in_turn;
+  few_waiting = kept.few;
+}
 
 -- ---- places
 

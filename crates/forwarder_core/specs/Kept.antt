@@ -5,19 +5,15 @@ use Rattle.suffix_routes.specs.Values.{Config, IsConfig}
 use Rattle.outstanding.specs.Values.{Ask, Inquiries}
 use Rattle.step_rules.specs.State.{Waiting}
 use Rattle.step_rules.specs.Attempts.{peer_at}
+use Rattle.step_rules.specs.Progress.{AreTakenInTurn, IsTry}
 use Rattle.step_soundness.specs.Explains.{IsBelow, ArePreferred}
 
 -- a listed ask went to the server at its place, as one of the tries that an inquiry has, over a path that was given
 pub record IsKeptAsk (c : Config) (moment count : ℕ) (a : Ask) : Type 0 where
   pub earlier : a.asked ≤ moment
   pub server : peer_at c a.route a.server ≡ Some a.peer
-  pub tries : a.used ≤ c.limits.tries
+  pub tries : IsTry c a
   pub path : IsBelow count a.path
-
--- the moments of taking don't fall along the list
-abbrev pub AreTakenInTurn : List Waiting → Type 0
-AreTakenInTurn [] = Unit {0}
-AreTakenInTurn (x ∷ xs) = AllByRecursion (λ y. x.taken ≤ y.taken) xs × AreTakenInTurn xs
 
 -- both lists are within their limits and in the order of time, no moment is past the effective one, and each preferred server is one of its group
 pub record IsKept (c : Config) (inquiries : Inquiries) (waiting : List Waiting) (preferred : List ℕ) (moment count : ℕ) : Type 0 where

@@ -1,10 +1,11 @@
 //! The forwarder, and its step.
 
-ghost use Rattle.std.specs.Prelude.{◌≡◌, ◌^◌, ◌≤◌, [], IfOk, IfSome, OnErr, IsOk, map};
+ghost use Rattle.std.specs.Prelude.{◌≡◌, ◌^◌, ◌≤◌, ◌<◌, ◌+◌, ◌*◌, [], IfOk, IfSome, OnErr, IsOk, map};
 ghost use Rattle.suffix_routes.specs.Values.{IsConfig};
 ghost use Rattle.step_values.specs.Values.{event_of};
 ghost use Rattle.plain_list.specs.Octets.{AreOctets};
 ghost use Rattle.step_rules.specs.Row.{start, HandsOctets, TakesNoMemory, effective, Row, is_due_at};
+ghost use Rattle.step_rules.specs.Progress.{left_to_do, ServesSomething, next_due, IsInOrder};
 ghost use Rattle.forwarder_core.specs.Next.{IsDecided, IsDecidedQuietly, CanChange};
 ghost use Rattle.step_soundness.specs.Runs.{StaysExplained};
 ghost use Rattle.step_soundness.specs.Explains.{Explains};
@@ -94,6 +95,13 @@ impl<H, A: Allocator> Model for Forwarder<H, A> {
 }
 
 impl<H: Drop, A: Allocator + Copy> Forwarder<H, A> {
+    /// Both lists are in the order of time and within their limits.
+    fn check_order(&self)
+        ensures { IsInOrder self.now.config self.now.state }
+    {
+        let _asks = self.inquiries.len();
+    }
+
     /// What an event calls for; nothing where it is a restart.
     fn decide(
         &self,
@@ -208,8 +216,26 @@ impl<H: Drop, A: Allocator + Copy> Forwarder<H, A> {
         // nothing due and a restart never want memory.
         ensures no_memory { TakesNoMemory self.old.config (effective now self.old.state) self.old.state (event_of event) → IsOk result }
         ensures err { OnErr result (self.new ≡ self.old) }
+        // What is left to do is bounded, and falls with each step that serves something: so ticks, while more is due,
+        // come to an end.
+        ensures bounded { left_to_do self.old.config self.old.state ≤ self.old.config.limits.questions + self.old.config.limits.inquiries * self.old.config.limits.tries }
+        ensures less { ServesSomething self.old.config (effective now self.old.state) self.old.state (event_of event) → IfOk result (λ outcome. left_to_do self.old.config self.new.state < left_to_do self.old.config self.old.state) }
     {
         check_octets(&event);
+        self.check_order();
         self.take(now, words, &event)
+    }
+
+    /// The least moment, in milliseconds, at which a tick serves something: the deadline of a waiting question, or the
+    /// moment from which an ask is past its time. `None` exactly where nothing waits and no ask is listed. It takes no
+    /// memory, and looks at the oldest of each list alone.
+    pub fn next_due(&self) -> Option<u64>
+        ensures { result ≡ next_due self.now.config self.now.state }
+    {
+        match (self.first_deadline(), self.first_timeout()) {
+            (Some(deadline), Some(timeout)) => Some(deadline.min(timeout)),
+            (Some(deadline), None) => Some(deadline),
+            (None, timeout) => timeout,
+        }
     }
 }

@@ -1,8 +1,9 @@
 //! What the passing of time calls for: the oldest question or the oldest ask is served, where it is due.
 
-ghost use Rattle.std.specs.Prelude.{◌≡◌, ◌^◌, ◌≤◌, ◌∷◌, false, IfOk, Some, drop, slice_get};
+ghost use Rattle.std.specs.Prelude.{◌≡◌, ◌^◌, ◌≤◌, ◌∷◌, false, IfOk, Some, drop, map, slice_get};
 ghost use Rattle.std.specs.List.{list_any};
 ghost use Rattle.step_rules.specs.Row.{expiry_step, left_alone, attempt, question, row_of_item, row_of_tick, is_due_at, deadline_of, timeout_of};
+ghost use Rattle.step_rules.specs.Progress.{least};
 ghost use Rattle.forwarder_core.specs.Next.{closed_path, next_of, IsQuiet, CanChange};
 
 use crate::answers::failure;
@@ -110,6 +111,24 @@ impl<H: Drop, A: Allocator + Copy> Forwarder<H, A> {
                     self.on_attempt(moment, words, ask)
                 }
             }
+        }
+    }
+
+    /// The deadline of the oldest question, in milliseconds.
+    pub(crate) fn first_deadline(&self) -> Option<u64>
+        ensures { result ≡ least (map (deadline_of self.now.config) self.now.state.waiting) }
+    {
+        let (oldest, _) = self.waiting.split_first()?;
+        Some(oldest.taken + self.config.limits.deadline_ms)
+    }
+
+    /// The moment from which the oldest ask is past its time, in milliseconds.
+    pub(crate) fn first_timeout(&self) -> Option<u64>
+        ensures { result ≡ least (map (timeout_of self.now.config) self.now.state.asks) }
+    {
+        match self.inquiries.next_due(self.config.limits.ask_ms) {
+            Some((due, _)) => Some(due),
+            None => None,
         }
     }
 }
