@@ -1,5 +1,5 @@
 -- What is left to do falls with each step that serves something; the first of each list tells what is due.
-use Rattle.std.proofs.Common.{◌≡◌, ℕ, suc, ◌+◌, ◌-◌, ◌*◌, ◌<◌, ◌≤◌, List, [], ◌∷◌, ◌++◌, length, Bool, true, false, cond, refl, sym, ap, ◌∙◌, subst, arith, ◌⊎◌, inl, inr, Option, Some, None}
+use Rattle.std.proofs.Common.{◌≡◌, ℕ, suc, ◌+◌, ◌*◌, ◌<◌, ◌≤◌, List, [], ◌∷◌, ◌++◌, length, Bool, true, false, cond, refl, sym, ap, ◌∙◌, subst, arith, ◌⊎◌, inl, inr, Option, Some, None}
 use Rattle.std.specs.Prelude.{nat_le, ◌||◌, ◌==◌, not, map, min, IsSome}
 use Rattle.std.specs.List.{list_any, cons_option, AllByRecursion}
 use Rattle.std.proofs.lemmas.Bool.{cond_both, cond-true, cond-false, leb-true, leb-false, le-leb, eqb-false, false≢true}
@@ -18,11 +18,11 @@ use Rattle.retry_failover.specs.declared.Plan.{Plan}
 use Rattle.retry_failover.specs.declared.Next.{Next}
 use Rattle.retry_failover.specs.declared.Next.TheVariants.{AskUdp, AskTcp, GiveUp}
 use Rattle.retry_failover.specs.Table.{row, after_failure}
-use Rattle.step_values.specs.Values.{Event, from_client, delivery, path_failed, tick, restart, Action, Handed, Outcome}
+use Rattle.step_values.specs.Values.{Event, from_client, delivery, path_failed, tick, restart}
 use Rattle.step_history.specs.History.{is_tcp}
 use Rattle.step_rules.specs.State.{Waiting, State}
 use Rattle.step_rules.specs.Attempts.{ask_by, plan_of, next_ask}
-use Rattle.step_rules.specs.Row.{Done, Fate, waits, waiting_in, still_waiting, ask_list, without_ask, closing_step, expiry_step, row_of_attempt, row_of_next, row_of_failure, row_of_failed_path, deadline_of, timeout_of, Item, question, attempt, nothing, first_item, left_alone, row_of_item, row_of_tick, is_due_at, Happens, effective, Row}
+use Rattle.step_rules.specs.Row.{Done, Fate, waits, waiting_in, still_waiting, ask_list, without_ask, closing_step, expiry_step, row_of_attempt, row_of_next, row_of_failure, row_of_failed_path, deadline_of, timeout_of, Item, question, attempt, first_item, left_alone, row_of_item, row_of_tick, is_due_at, Happens, effective}
 use Rattle.step_rules.specs.Progress.{tries_left, all_tries_left, left_to_do, ServesSomething, due_moments, lesser, least, next_due, AreTakenInTurn, IsTry, IsInOrder}
 use Rattle.step_rules.specs.Laws.{LessIsLeft, LeftIsBounded, MoreIsServed, has_come, NextDueTells}
 
@@ -93,9 +93,9 @@ module _ (c : Config) (n : ℕ) (words : List ℕ) (a : Ask) (s : State) (on : a
 
   failure_less : (f : Failure) → Less (row_of_failure c n words a f s)
   failure_less f = next_less (after_failure (plan_of c a) f) (λ on_next.
-    let other = eqb-false a.used c.limits.tries (goes_on (a.used == c.limits.tries) (is_tcp a.path) f (plan_of c a) on_next) in
-    let le = tries.1 in
-    omega (arith, other, le))
+      let other = eqb-false a.used c.limits.tries (goes_on (a.used == c.limits.tries) (is_tcp a.path) f (plan_of c a) on_next) in
+      let le = tries.1 in
+      omega (arith, other, le))
 
 -- ---- the order of the lists
 

@@ -1,11 +1,11 @@
 -- What is known of an ask that comes next.
-use Rattle.std.proofs.Common.{◌≡◌, ℕ, zero, suc, ◌<◌, ◌≤◌, List, [], ◌∷◌, length, refl, sym, ap, ◌∙◌, subst, arith, Option, Some, None}
-use Rattle.std.specs.Prelude.{map, get_or, slice_get, slice_set, option_map}
+use Rattle.std.proofs.Common.{◌≡◌, ℕ, zero, suc, ◌<◌, List, [], ◌∷◌, length, refl, sym, ap, subst, arith, Option, Some, None}
+use Rattle.std.specs.Prelude.{map, get_or, slice_get, slice_set}
 use Rattle.std.specs.List.{AllByRecursion}
 use Rattle.std.proofs.lemmas.Option.{slice_get_within, slice_get-get_or}
 use Rattle.dns_message.specs.Values.{Question}
 use Rattle.suffix_routes.specs.declared.peer.Peer.{Peer}
-use Rattle.suffix_routes.specs.Values.{Config, Route, IsRoute, IsConfig}
+use Rattle.suffix_routes.specs.Values.{Config, Route, IsRoute}
 use Rattle.suffix_routes.specs.Routes.{IsRouteOf}
 use Rattle.suffix_routes.proofs.CallerLemmas.{route_found_is_longest}
 use Rattle.outstanding.specs.declared.ask.Path.{Path}

@@ -1,7 +1,7 @@
 -- What each kind of step leaves explained.
 use Rattle.std.proofs.Common.{◌≡◌, ℕ, suc, ◌+◌, ◌<◌, ◌≤◌, List, [], ◌∷◌, ◌++◌, length, Bool, true, false, cond, refl, sym, ap, ◌∙◌, subst, inl, inr, arith, Option, Some, None}
 use Rattle.std.specs.Prelude.{filter, map, not, ◌==◌, ◌||◌}
-use Rattle.std.specs.List.{concat, cons_option, list_any, AllByRecursion}
+use Rattle.std.specs.List.{concat, cons_option, AllByRecursion}
 use Rattle.std.proofs.lemmas.List.{map-append, length-append}
 use Rattle.std.proofs.lemmas.Bool.{cond-true, cond-false, ne_eqb, false≢true, eq-eqb}
 use Rattle.dns_message.specs.Values.{Question}
@@ -12,9 +12,8 @@ use Rattle.outstanding.specs.declared.ask.Path.{Path}
 use Rattle.outstanding.specs.declared.ask.Path.TheVariants.{Udp, Tcp}
 use Rattle.outstanding.specs.Lists.{same_path, without_path, AreListed}
 use Rattle.outstanding.specs.Values.{Ask}
-use Rattle.outstanding.proofs.CallerLemmas.{same_path_equal}
 use Rattle.step_values.specs.declared.action.Why.{Why}
-use Rattle.step_values.specs.Values.{Action, ask_udp, ask_tcp, close_udp, close_tcp, send_reply, SentAsk, ask_in, Handed, Step}
+use Rattle.step_values.specs.Values.{Action, ask_udp, ask_tcp, close_udp, close_tcp, send_reply, Handed, Step}
 use Rattle.step_history.specs.Pieces.{Held}
 use Rattle.step_history.specs.History.{is_restart, moment_at, ShownAsk, asks_after, unlisted, listed, is_tcp, tcp_asks_in, tcp_asks, closes_path, takes_question, NothingAccepted, Sends}
 use Rattle.step_history.specs.Carried.{CarriedInEra}

@@ -1,12 +1,10 @@
 -- A client's message leaves explained what was explained.
-use Rattle.std.proofs.Common.{◌≡◌, ◌⊎◌, ℕ, ◌+◌, ◌^◌, ◌<◌, ◌≤◌, List, [], ◌∷◌, ◌++◌, length, Bool, true, false, refl, sym, ap, ◌∙◌, subst, inl, inr, arith, Option, Some, None}
-use Rattle.std.specs.Prelude.{◌==◌, min, max, map, nat_le}
+use Rattle.std.proofs.Common.{◌≡◌, ℕ, ◌+◌, ◌^◌, ◌≤◌, List, [], ◌∷◌, ◌++◌, length, Bool, true, false, refl, sym, ap, ◌∙◌, subst, inl, inr, arith, Option, Some, None}
+use Rattle.std.specs.Prelude.{◌==◌, min, max, nat_le}
 use Rattle.std.specs.List.{concat, AllByRecursion}
 use Rattle.std.proofs.lemmas.Bool.{cond_both, eqb-true, eqb-false}
 use Rattle.std.proofs.lemmas.List.{length-map}
 use Rattle.dns_message.specs.Values.{Question}
-use Rattle.dns_message.specs.Writing.{written}
-use Rattle.dns_message.specs.Written.{IsQuestion}
 use Rattle.dns_message.specs.Header.{header_in}
 use Rattle.suffix_routes.specs.declared.peer.Peer.{Peer}
 use Rattle.suffix_routes.specs.Values.{Config}
@@ -14,7 +12,7 @@ use Rattle.dns_message.specs.Questions.{one_question}
 use Rattle.outstanding.specs.declared.ask.Path.{Path}
 use Rattle.outstanding.specs.declared.ask.Path.TheVariants.{Udp, Tcp}
 use Rattle.outstanding.specs.Draws.{is_freed, udp_draw}
-use Rattle.outstanding.specs.Lists.{of_question, on_path as ask_on, AreListed}
+use Rattle.outstanding.specs.Lists.{of_question, on_path as ask_on}
 use Rattle.outstanding.specs.Values.{Ask}
 use Rattle.step_values.specs.declared.event.Client.{Client}
 use Rattle.step_values.specs.declared.action.Why.{Why}
@@ -25,11 +23,11 @@ use Rattle.step_history.specs.Names.{route_of}
 use Rattle.step_history.specs.History.{moment_at, listed, is_taken, Look, Carries, NothingAccepted}
 use Rattle.step_history.specs.Draws.{drawn}
 use Rattle.step_history.specs.Causes.{is_unserved}
-use Rattle.step_history.specs.Sound.{unanswered, RightReply, IsAnswer, Replies}
+use Rattle.step_history.specs.Sound.{unanswered, RightReply, Replies}
 use Rattle.step_rules.specs.State.{Waiting, State}
-use Rattle.step_rules.specs.Attempts.{peer_at, over_udp, ask_by, preferred_on, first_ask}
+use Rattle.step_rules.specs.Attempts.{peer_at, over_udp, preferred_on, first_ask}
 use Rattle.step_rules.specs.Row.{Done, reply_step, gives_up, asks, ask_list, tcp_count, is_due_at, row_of_opening, row_of_new_inquiry, row_of_inquiry, row_of_route, row_of_question, row_of_request}
-use Rattle.step_soundness.specs.Explains.{shown, Waits, Tried, IsBelow, Explains}
+use Rattle.step_soundness.specs.Explains.{shown, Waits, IsBelow, Explains}
 use Rattle.step_soundness.proofs.Fates.{All-append}
 use Rattle.step_soundness.proofs.AskText.{read_well}
 use Rattle.step_soundness.proofs.Asking.{still_earlier}

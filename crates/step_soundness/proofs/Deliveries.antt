@@ -1,9 +1,8 @@
 -- A delivery leaves explained what was explained.
-use Rattle.std.proofs.Common.{◌≡◌, ◌⊎◌, ℕ, ◌+◌, ◌^◌, ◌<◌, ◌≤◌, List, [], ◌∷◌, ◌++◌, length, Bool, true, false, cond, refl, sym, ap, ◌∙◌, subst, inl, inr, ⊎_elim, arith, Option, Some, None}
+use Rattle.std.proofs.Common.{◌≡◌, ◌⊎◌, ℕ, ◌+◌, ◌^◌, ◌<◌, ◌≤◌, List, [], ◌∷◌, ◌++◌, length, Bool, true, false, refl, sym, ap, ◌∙◌, subst, inl, inr, ⊎_elim, arith, Option, Some, None}
 use Rattle.std.specs.Prelude.{option_map, map, ◌==◌, ◌&&◌, ◌||◌, min, max, nat_le, nat_lt, Result, Ok, Err}
 use Rattle.std.specs.List.{concat, AllByRecursion}
 use Rattle.std.proofs.lemmas.Bool.{and_from, lt-ltb, ltb-true, leb-true, leb-false, le-leb, cond-true, cond-false, cond_both, eq-eqb, eqb-true, or_cases, false≢true}
-use Rattle.std.proofs.lemmas.Option.{slice_get_within}
 use Rattle.dns_message.specs.Header.{Header}
 use Rattle.dns_message.specs.Fault.{Fault}
 use Rattle.dns_message.specs.Values.{Question, Message}
@@ -19,28 +18,26 @@ use Rattle.outstanding.specs.Lists.{on_path as ask_on}
 use Rattle.outstanding.specs.Values.{Ask}
 use Rattle.reply_match.specs.declared.verdict.Verdict.{Verdict}
 use Rattle.reply_match.specs.declared.verdict.Verdict.TheVariants.{Stranger, Truncated, Failed, Malformed, Whole}
-use Rattle.reply_match.specs.Peers.{same_peer}
 use Rattle.reply_match.specs.Questions.{asks_this}
 use Rattle.dns_message.specs.Questions.{one_question}
 use Rattle.reply_match.specs.Verdicts.{judge, judged_whole, matches}
 use Rattle.retry_failover.specs.declared.Failure.TheVariants as failure
 use Rattle.step_values.specs.declared.event.Client.{Client}
 use Rattle.step_values.specs.declared.event.Client.TheVariants.{Udp as FromUdp, Tcp as FromTcp}
-use Rattle.step_values.specs.declared.action.Why.TheVariants.{Answered, TooLarge}
-use Rattle.step_values.specs.Values.{delivery, Delivered, Action, send_reply, Handed, Step}
+use Rattle.step_values.specs.declared.action.Why.TheVariants.{TooLarge}
+use Rattle.step_values.specs.Values.{delivery, Delivered, Action, Step}
 use Rattle.step_history.specs.Names.{route_of}
 use Rattle.step_history.specs.Pieces.{Piece, Held, Walk, is_lame, walk}
 use Rattle.step_history.specs.History.{InEra, Look, moment_at, ShownAsk, listed, on_path, Sends, Matches, Accepts, Carries, NothingAccepted}
 use Rattle.step_history.specs.Carried.{CarriedInEra, Justified}
 use Rattle.step_history.specs.Answers.{Chain}
 use Rattle.step_history.specs.Replies.{full_answer, truncated, sized_for, error_response}
-use Rattle.step_history.specs.Sound.{unanswered}
 use Rattle.step_rules.specs.State.{Waiting, State}
 use Rattle.step_rules.specs.Row.{Done, Fate, gets, waits, answered_over, answered, waits_for, is_given, end_piece, timeout_of, row_of_end, row_of_message, row_of_verdict, row_of_delivery}
 use Rattle.step_soundness.specs.Explains.{shown, Waits, Tried, ArePreferred, Explains}
 use Rattle.step_history.proofs.Since.{carried_since}
 use Rattle.step_soundness.proofs.Fates.{Fated}
-use Rattle.step_soundness.proofs.Names.{same_question-sym, same_peer-is, route_of-alike}
+use Rattle.step_soundness.proofs.Names.{same_peer-is, route_of-alike}
 use Rattle.step_soundness.proofs.Messages.{spells_read, read_spells, read_header}
 use Rattle.step_soundness.proofs.SetLaws.{EndsAtSet, ends_at_set, end_piece_is, end_piece_at, set_ends, set_route}
 use Rattle.step_soundness.proofs.Listed.{on_path-shown, ask_on-is, shown_from}

@@ -1,8 +1,8 @@
 -- A failed attempt, a failed path and the passing of time leave explained what was explained.
-use Rattle.std.proofs.Common.{◌≡◌, ◌⊎◌, ℕ, zero, suc, ◌+◌, ◌-◌, ◌%◌, ◌^◌, ◌<◌, ◌≤◌, List, [], ◌∷◌, ◌++◌, length, Bool, true, false, cond, refl, sym, ap, ◌∙◌, subst, inl, inr, arith, Option, Some, None}
+use Rattle.std.proofs.Common.{◌≡◌, ◌⊎◌, ℕ, zero, suc, ◌+◌, ◌-◌, ◌^◌, ◌<◌, ◌≤◌, List, [], ◌∷◌, ◌++◌, length, Bool, true, false, cond, refl, sym, ap, ◌∙◌, subst, inl, inr, arith, Option, Some, None}
 use Rattle.std.specs.Prelude.{◌==◌, ◌||◌, min, max, map, nat_le, slice_get, get_or}
 use Rattle.std.specs.List.{concat, list_any, AllByRecursion}
-use Rattle.std.proofs.lemmas.Bool.{cond_both, cond-true, cond-false, leb-true, eqb-true, false≢true, cases_Bool}
+use Rattle.std.proofs.lemmas.Bool.{cond_both, cond-false, eqb-true}
 use Rattle.std.proofs.lemmas.List.{length-map}
 use Rattle.dns_message.specs.Header.{Header}
 use Rattle.dns_message.specs.Values.{Question}
@@ -14,39 +14,36 @@ use Rattle.suffix_routes.specs.Values.{Config}
 use Rattle.outstanding.specs.declared.ask.Path.{Path}
 use Rattle.outstanding.specs.declared.ask.Path.TheVariants.{Udp, Tcp}
 use Rattle.outstanding.specs.Draws.{is_freed, udp_draw}
-use Rattle.outstanding.specs.Lists.{of_question, on_path as ask_on, same_path, without_path, AreListed}
+use Rattle.outstanding.specs.Lists.{on_path as ask_on, same_path, without_path}
 use Rattle.outstanding.specs.Values.{Ask}
 use Rattle.outstanding.proofs.CallerLemmas.{same_path_equal, same_path_reflexive, listed_without_path as left}
 use Rattle.outstanding.proofs.CallerLemmas.{question_free_without_path as question_free, next_may_begin as next_begins}
-use Rattle.retry_failover.specs.declared.Plan.{Plan}
 use Rattle.retry_failover.specs.declared.Failure.{Failure}
-use Rattle.retry_failover.specs.declared.Failure.TheVariants as failure
 use Rattle.retry_failover.specs.declared.Next.{Next}
 use Rattle.retry_failover.specs.declared.Next.TheVariants.{AskUdp, AskTcp, GiveUp}
-use Rattle.retry_failover.specs.Table.{next_server, row, after_failure}
+use Rattle.retry_failover.specs.Table.{next_server, after_failure}
 use Rattle.step_values.specs.declared.action.Why.{Why}
-use Rattle.step_values.specs.declared.action.Why.TheVariants.{NoPort, Exhausted, Deadline}
-use Rattle.step_values.specs.Values.{Event, tick, request_in, Action, send_reply, Handed, Step}
+use Rattle.step_values.specs.declared.action.Why.TheVariants.{NoPort, Exhausted}
+use Rattle.step_values.specs.Values.{Event, request_in, Action, Handed, Step}
 use Rattle.step_history.specs.Pieces.{Held}
-use Rattle.step_history.specs.Names.{route_of}
 use Rattle.step_history.specs.History.{is_restart_event, is_taken_request, moment_at, listed, tcp_asks, on_path, closes_path, takes_question, Look, NothingAccepted}
 use Rattle.step_history.specs.Carried.{CarriedInEra}
 use Rattle.step_history.specs.Draws.{drawn, drawn_by_tcp}
-use Rattle.step_history.specs.Causes.{ClosesAsk, LastFailed, NoneAsks, NoPathIsFree}
+use Rattle.step_history.specs.Causes.{ClosesAsk, LastFailed, NoneAsks}
 use Rattle.step_history.specs.Asked.{IsDrawn}
 use Rattle.step_history.specs.Sound.{unanswered, RightReply, FromCache, AsksIn}
 use Rattle.step_history.specs.Replies.{error_response}
 use Rattle.step_rules.specs.State.{Waiting, State}
-use Rattle.step_rules.specs.Attempts.{group_of, servers_in, peer_at, over_udp, over_tcp, ask_by, freed_by, plan_of, next_ask}
+use Rattle.step_rules.specs.Attempts.{peer_at, over_udp, over_tcp, freed_by, plan_of, next_ask}
 use Rattle.step_rules.specs.Row.{Done, Fate, gets, waits, gives_up, waits_for, fails, asks, asks_by, ask_list, tcp_count, closing, replies, closing_step, settling_step, expiry_step, without_ask, is_due_at, row_of_attempt, row_of_next, row_of_failure, row_of_failed_path, deadline_of, timeout_of, Item, question, attempt, nothing, first_item, left_alone, row_of_item, row_of_tick}
 use Rattle.step_soundness.specs.Explains.{shown, Waits, Tried, IsBelow, ArePreferred, Explains}
 use Rattle.step_soundness.proofs.Names.{same_question-sym, same_question-trans}
 use Rattle.step_soundness.proofs.Fates.{All-append, All-filter, Fated, fates_in, fated, fated_fates, fated_numbers, fated_each}
-use Rattle.step_soundness.proofs.Asking.{still_earlier, closes_one, others_tried_on, none_asks, all_tried_on, closes_none}
+use Rattle.step_soundness.proofs.Asking.{still_earlier, closes_one, others_tried_on, none_asks}
 use Rattle.step_soundness.proofs.Attempts.{IsAskBy, ask_by-some, ask_by-none, udp-some, udp-none, tcp-some, tcp-none, peer_within, peer_there}
-use Rattle.step_soundness.proofs.Listed.{on_path-shown, ask_on-is, of_question-is, drawn-shown, IsFresh, drawn_fresh, free_then, none_above, IsNumbered, drawn_numbered, drawn_last, without_shorter, none_same}
+use Rattle.step_soundness.proofs.Listed.{on_path-shown, ask_on-is, drawn-shown, drawn_fresh, free_then, none_above, drawn_numbered, drawn_last, without_shorter, none_same}
 use Rattle.step_soundness.proofs.Nexts.{IsNext, next_tried, next_right, MayFollow, listed_next, all_below, append_nil, gave_up, asked_next, asked_again}
-use Rattle.step_soundness.proofs.Cases.{OwnsReply, AreFated, Speaks, step_of, AskedAt, IsRightNext, waits_later, each_later, listed_settled, closes_settled, idle_explained, settled_explained}
+use Rattle.step_soundness.proofs.Cases.{OwnsReply, Speaks, step_of, AskedAt, IsRightNext, waits_later, listed_settled, closes_settled, idle_explained, settled_explained}
 use Rattle.step_history.proofs.Moments.{moment_small}
 
 -- what closes an ask of a question closes one of each equal question

@@ -2,7 +2,7 @@
 use Rattle.std.proofs.Common.{◌≡◌, ℕ, ◌+◌, ◌-◌, ◌%◌, ◌^◌, ◌<◌, ◌≤◌, List, [], ◌∷◌, length, Bool, true, false, cond, refl, sym, ap, ◌∙◌, subst, ⊎_elim, arith, Option, Some, None}
 use Rattle.std.specs.Prelude.{map, option_map, get_or, not, ◌==◌, ◌&&◌, ◌||◌}
 use Rattle.std.specs.List.{list_any, AllByRecursion}
-use Rattle.std.proofs.lemmas.Bool.{cases_Bool, cond-true, cond-false, false≢true, eqb-true, eqb-false, ne_eqb, cond_both}
+use Rattle.std.proofs.lemmas.Bool.{cases_Bool, cond-true, cond-false, false≢true, eqb-true, ne_eqb, cond_both}
 use Rattle.dns_message.specs.Values.{Question}
 use Rattle.dns_message.specs.Questions.{same_question}
 use Rattle.outstanding.specs.declared.ask.Path.{Path}
@@ -14,7 +14,7 @@ use Rattle.step_history.specs.History.{ShownAsk, on_path, closes_path}
 use Rattle.outstanding.specs.Draws.{is_used, is_freed, is_free, port_of, udp_draw}
 use Rattle.outstanding.specs.Lists.{on_path as ask_on, of_question, same_path, without_path, Follows, AreInTurn}
 use Rattle.outstanding.specs.Values.{Ask}
-use Rattle.step_history.specs.Draws.{is_busy, drawn, drawn_by_tcp}
+use Rattle.step_history.specs.Draws.{drawn, drawn_by_tcp}
 use Rattle.step_rules.specs.Attempts.{freed_by}
 use Rattle.step_soundness.specs.Explains.{shown, IsBelow}
 

@@ -1,15 +1,14 @@
 -- What a verdict rests on.
-use Rattle.std.proofs.Common.{◌≡◌, ℕ, ◌+◌, ◌≤◌, List, [], ◌∷◌, length, Bool, true, false, refl, sym, ap, ◌∙◌, arith, Option, Some, None}
+use Rattle.std.proofs.Common.{◌≡◌, ℕ, ◌+◌, ◌≤◌, List, length, Bool, true, false, refl, sym, ◌∙◌, arith, Option, Some, None}
 use Rattle.std.specs.Prelude.{◌==◌, ◌&&◌, ◌||◌, nat_le}
 use Rattle.std.proofs.lemmas.Bool.{and_parts, leb-true, le-leb, cond-true, cond-false, eqb-true, false≢true}
 use Rattle.dns_message.specs.Values.{Question}
 use Rattle.suffix_routes.specs.declared.peer.Peer.{Peer}
-use Rattle.reply_match.specs.declared.verdict.Verdict.{Verdict}
-use Rattle.reply_match.specs.declared.verdict.Verdict.TheVariants.{Stranger, Truncated, Failed, Malformed, Whole}
+use Rattle.reply_match.specs.declared.verdict.Verdict.TheVariants.{Stranger, Truncated, Failed, Whole}
 use Rattle.reply_match.specs.Peers.{same_peer}
 use Rattle.reply_match.specs.Questions.{asks_this}
 use Rattle.dns_message.specs.Questions.{one_question}
-use Rattle.reply_match.specs.Verdicts.{judge, judged_whole, matches}
+use Rattle.reply_match.specs.Verdicts.{judge, matches}
 use Rattle.dns_message.specs.Questions.{same_question}
 use Rattle.outstanding.specs.Values.{Ask}
 use Rattle.dns_message.specs.Header.{header_in}

@@ -1,6 +1,5 @@
 -- An ask that comes next is tried, right, listed and numbered as it should be.
-use Rattle.std.proofs.Common.{◌≡◌, ℕ, suc, zero, ◌+◌, ◌%◌, ◌^◌, ◌<◌, ◌≤◌, List, [], ◌∷◌, ◌++◌, length, Bool, true, false, refl, sym, ap, ◌∙◌, subst, arith, Option, Some, None}
-use Rattle.std.specs.Prelude.{not, ◌==◌, filter}
+use Rattle.std.proofs.Common.{◌≡◌, ℕ, suc, ◌+◌, ◌^◌, ◌<◌, List, [], ◌∷◌, ◌++◌, length, Bool, true, false, refl, sym, ap, subst, arith, Option, Some, None}
 use Rattle.std.specs.List.{AllByRecursion}
 use Rattle.dns_message.specs.Values.{Question}
 use Rattle.dns_message.specs.Questions.{same_question}
@@ -10,21 +9,20 @@ use Rattle.suffix_routes.specs.Values.{Config}
 use Rattle.outstanding.specs.declared.ask.Path.{Path}
 use Rattle.outstanding.specs.declared.ask.Path.TheVariants.{Udp, Tcp}
 use Rattle.outstanding.specs.Values.{Ask}
-use Rattle.outstanding.specs.Lists.{on_path as ask_on, of_question, same_path, without_path, AreListed, MayBegin}
+use Rattle.outstanding.specs.Lists.{AreListed, MayBegin}
 use Rattle.outstanding.proofs.CallerLemmas.{listed_with_one_more as put}
 use Rattle.retry_failover.specs.declared.Plan.{Plan}
 use Rattle.retry_failover.specs.declared.Failure.{Failure}
 use Rattle.retry_failover.specs.declared.Failure.TheVariants.{TimedOut, Broken, Truncated, Malformed, Rcode, Lame}
-use Rattle.retry_failover.specs.declared.Next.{Next}
 use Rattle.retry_failover.specs.declared.Next.TheVariants.{AskUdp, AskTcp, GiveUp}
 use Rattle.retry_failover.specs.Table.{next_server, row}
 use Rattle.step_values.specs.Values.{Step}
 use Rattle.step_history.specs.Names.{route_of}
 use Rattle.step_history.specs.Draws.{ask_message}
 use Rattle.step_history.specs.Causes.{LastFailed}
-use Rattle.step_history.specs.Asked.{IsDrawn, AsksRight}
+use Rattle.step_history.specs.Asked.{IsDrawn}
 use Rattle.step_rules.specs.Attempts.{peer_at}
-use Rattle.step_rules.specs.Row.{ask_list, tcp_count, without_ask}
+use Rattle.step_rules.specs.Row.{ask_list}
 use Rattle.step_soundness.specs.Explains.{Tried, IsBelow}
 use Rattle.step_soundness.proofs.AskText.{ask_reads}
 use Rattle.step_soundness.proofs.Attempts.{serves}

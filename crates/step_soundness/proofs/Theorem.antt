@@ -1,11 +1,10 @@
 -- A row leaves explained what was explained.
 use Rattle.std.proofs.Common.{◌≡◌, ℕ, ◌^◌, List, [], ◌∷◌, Bool, refl, sym, subst, arith}
-use Rattle.std.specs.Prelude.{min, max, map}
+use Rattle.std.specs.Prelude.{min, max}
 use Rattle.suffix_routes.specs.Values.{Config, IsConfig}
-use Rattle.outstanding.specs.Lists.{on_path as ask_on}
 use Rattle.step_values.specs.Values.{Event, from_client, delivery, path_failed, tick, restart, Handed, Outcome, Step}
 use Rattle.step_rules.specs.State.{State}
-use Rattle.step_rules.specs.Row.{Done, start, is_due_at, row_of_request, row_of_delivery, row_of_failed_path, row_of_tick, Happens, HandsOctets, Row}
+use Rattle.step_rules.specs.Row.{Done, start, is_due_at, Happens, HandsOctets, Row}
 use Rattle.step_soundness.specs.Explains.{Explains}
 use Rattle.step_soundness.proofs.Attempts.{preferred_first}
 use Rattle.step_soundness.proofs.Cases.{step_of, restart_explained}

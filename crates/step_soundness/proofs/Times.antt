@@ -1,33 +1,29 @@
 -- A failed path and the passing of time leave explained what was explained.
 use Rattle.std.proofs.Common.{◌≡◌, ℕ, ◌+◌, ◌^◌, ◌<◌, ◌≤◌, List, [], ◌∷◌, ◌++◌, length, Bool, true, false, cond, refl, sym, ap, ◌∙◌, subst, inl, inr, arith, Option, Some, None}
 use Rattle.std.specs.Prelude.{min, max, map, nat_le, not}
-use Rattle.std.specs.List.{concat, list_any, AllByRecursion}
-use Rattle.std.proofs.lemmas.Bool.{cond_both, cond-true, cond-false, leb-true}
+use Rattle.std.specs.List.{list_any, AllByRecursion}
+use Rattle.std.proofs.lemmas.Bool.{cond_both, cond-true, leb-true}
 use Rattle.std.proofs.lemmas.List.{length-map}
 use Rattle.dns_message.specs.Header.{Header}
-use Rattle.dns_message.specs.Values.{Question}
-use Rattle.dns_message.specs.Questions.{same_question}
 use Rattle.dns_message.specs.Writing.{written}
-use Rattle.dns_message.specs.Header.{header_in}
 use Rattle.suffix_routes.specs.Values.{Config}
 use Rattle.outstanding.specs.declared.ask.Path.{Path}
-use Rattle.outstanding.specs.Lists.{of_question, on_path as ask_on, same_path, without_path, AreListed}
+use Rattle.outstanding.specs.Lists.{of_question, on_path as ask_on, same_path, AreListed}
 use Rattle.outstanding.specs.Values.{Ask}
 use Rattle.outstanding.proofs.CallerLemmas.{listed_without_path as left, same_path_reflexive}
 use Rattle.retry_failover.specs.declared.Failure.TheVariants as failure
 use Rattle.step_values.specs.declared.action.Why.TheVariants.{Deadline}
-use Rattle.step_values.specs.Values.{path_failed, tick, Action, Handed, Step}
+use Rattle.step_values.specs.Values.{path_failed, tick, Action, Step}
 use Rattle.step_history.specs.History.{moment_at, NothingAccepted}
-use Rattle.step_history.specs.Sound.{unanswered}
 use Rattle.step_history.specs.Replies.{error_response}
 use Rattle.step_rules.specs.State.{Waiting, State}
 use Rattle.step_rules.specs.Row.{Done, Fate, gets, waits, gives_up, asks, ask_list, closing, replies, settling_step, expiry_step, without_ask, is_due_at, row_of_failure, row_of_failed_path, deadline_of, timeout_of, Item, question, attempt, nothing, first_item, left_alone, row_of_item, row_of_tick, waits_for}
-use Rattle.step_soundness.specs.Explains.{shown, Waits, Tried, IsBelow, Explains}
-use Rattle.step_soundness.proofs.Fates.{All-filter, Fated, fates_in, numbers_in, fated, fated_fates, fated_numbers}
+use Rattle.step_soundness.specs.Explains.{Waits, Tried, IsBelow, Explains}
+use Rattle.step_soundness.proofs.Fates.{All-filter, fates_in, fated, fated_fates, fated_numbers}
 use Rattle.step_soundness.proofs.Asking.{all_tried_on, closes_none}
 use Rattle.step_soundness.proofs.Listed.{ask_on-is, own_on}
 use Rattle.step_soundness.proofs.Nexts.{listed_next, all_below, append_nil}
-use Rattle.step_soundness.proofs.Cases.{OwnsReply, AreFated, Speaks, step_of, is_given_up, closes_settled, waits_later, settled_explained}
+use Rattle.step_soundness.proofs.Cases.{OwnsReply, AreFated, Speaks, step_of, closes_settled, waits_later, settled_explained}
 use Rattle.step_soundness.proofs.Failures as failures
 
 -- the ask on a path is the one on its own path

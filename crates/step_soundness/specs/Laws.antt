@@ -1,5 +1,5 @@
 -- The theorem, as statements over plain values.
-use Rattle.std.specs.Prelude.{ℕ, List, [], ◌∷◌, reverse}
+use Rattle.std.specs.Prelude.{List, [], reverse}
 use Rattle.suffix_routes.specs.Values.{Config, IsConfig}
 use Rattle.step_values.specs.Values.{Handed, Outcome, Step}
 use Rattle.step_history.specs.Asked.{AsksWell}
