@@ -1,5 +1,5 @@
 -- One step of the forwarder, over plain values.
-use Rattle.std.specs.Prelude.{◌≡◌, ℕ, ◌+◌, ◌-◌, ◌^◌, Bool, false, if◌then◌else◌, ◌==◌, ◌||◌, nat_lt, nat_le, min, max, List, [], ◌∷◌, ◌++◌, length, map, Option, Some, None, Result, Ok, Err}
+use Rattle.std.specs.Prelude.{◌≡◌, ℕ, ◌+◌, ◌^◌, Bool, false, if◌then◌else◌, ◌==◌, ◌||◌, nat_lt, nat_le, min, max, List, [], ◌∷◌, ◌++◌, length, map, Option, Some, None, Result, Ok, Err}
 use Rattle.std.specs.List.{filter_map, list_any}
 use Rattle.std.specs.Prelude.{slice_set}
 use Rattle.dns_message.specs.Header.{Header}
