@@ -10,10 +10,10 @@ use Rattle.retry_failover.specs.declared.Failure.TheVariants.{Truncated}
 use Rattle.step_values.specs.declared.event.Client.{Client}
 use Rattle.step_values.specs.declared.event.Client.TheVariants.{Udp as FromUdp}
 use Rattle.step_values.specs.declared.action.Why.TheVariants.{Exhausted, Deadline}
-use Rattle.step_values.specs.Values.{ask_udp, ask_tcp, close_udp, send_reply}
+use Rattle.step_values.specs.Values.{restart, ask_udp, ask_tcp, close_udp, send_reply}
 use Rattle.step_rules.specs.State.{Waiting, State}
 use Rattle.step_rules.specs.Attempts.{first_ask}
-use Rattle.step_rules.specs.Row.{is_due_at, idle_step, preferring, row_of_failure, row_of_tick, start}
+use Rattle.step_rules.specs.Row.{Done, Happens, is_due_at, idle_step, preferring, row_of_failure, row_of_tick, start}
 
 abbrev first : Peer
 first = record { ip = 192 ∷ 0 ∷ 2 ∷ 1 ∷ []; port = 53 }
@@ -110,3 +110,7 @@ due = (refl, refl, refl, refl)
 kept : let after = preferring (record ask { server = 1 }) (start config) in
     (first_ask config 3000 words address 1 after ≡ Some (record ask { server = 1; peer = second; asked = 3000 })) × (first_ask config 3000 words address 0 after ≡ Some (record ask { route = 0; peer = second; asked = 3000 }))
 kept = (refl, refl)
+
+-- a restart forgets it
+forgotten : (d : Done) → Happens config 9000 words (preferring (record ask { server = 1 }) (start config)) restart d → d ≡ record { actions = []; state = start config }
+forgotten d h = h
