@@ -1,17 +1,23 @@
--- Worked histories, computed: which questions are served, which moments count, until when an ask is open, and whose server an ask goes to.
+-- Worked histories, computed: which questions are served, which moments count, until when an ask is open, when more is due, whose server an ask goes to, and when all tries have failed.
 use Rattle.std.proofs.Common.{◌≡◌, ℕ, ◌<◌, List, [], ◌∷◌, zero, suc, Some, true, false, refl, sym, ap, subst, arith}
 use Rattle.std.specs.Prelude.{slice_get}
+use Rattle.std.proofs.lemmas.Bool.{true≢false}
 use Rattle.suffix_routes.specs.declared.peer.Peer.{Peer}
 use Rattle.suffix_routes.specs.Values.{Config, Route, default_limits}
 use Rattle.suffix_routes.specs.Routes.{route_of}
 use Rattle.dns_message.specs.Values.{Question}
+use Rattle.dns_message.specs.Names.{step as name_step, walk_in, name_within}
+use Rattle.dns_message.specs.Records.{octets_end, question_at}
+use Rattle.dns_message.specs.Messages.{first_question}
+use Rattle.dns_message.specs.Questions.{same_question}
 use Rattle.outstanding.specs.declared.ask.Path.TheVariants.{Udp}
 use Rattle.step_values.specs.declared.event.Client.{Client}
 use Rattle.step_values.specs.declared.event.Client.TheVariants.{Udp as FromUdp}
-use Rattle.step_values.specs.Values.{from_client, delivery, restart, ask_udp, Step}
+use Rattle.step_values.specs.Values.{from_client, delivery, tick, restart, ask_udp, close_udp, Step}
 use Rattle.step_history.specs.History.{moment_at, ShownAsk, listed, Matches}
-use Rattle.step_history.specs.Asked.{IsServerFor}
-use Rattle.step_history.specs.Causes.{is_unserved}
+use Rattle.step_history.specs.Accounting.{is_due}
+use Rattle.step_history.specs.Asked.{IsRightAsk, IsServerFor}
+use Rattle.step_history.specs.Causes.{is_unserved, AllTriesFailed}
 
 -- ---- which questions are served
 
@@ -103,3 +109,44 @@ of_another_route h =
     none : (k : ℕ) → slice_get (other_server ∷ []) k ≡ Some server → ⊥
     none zero is = let same : other_server ≡ server = cc in let port : 5353 ≡ 53 = ap (λ (p : Peer). p.port) same in omega (arith, port)
     none (suc k) is = absurd cc
+
+-- ---- what is due
+
+-- at this moment time passes, and nothing is done
+abbrev passes : ℕ → Step
+passes now = record { handed = record { now = now; words = words; event = tick }; outcome = record { actions = []; unkept = 0; more = false } }
+
+-- a question may wait for so many milliseconds
+abbrev patient_for : ℕ → Config
+patient_for deadline = record config { limits = record default_limits { deadline_ms = deadline } }
+
+-- an ask is due after 1,500 milliseconds
+ask_is_due : (is_due config (passes 2499 ∷ asked ∷ []) [] ≡ false) × (is_due config (passes 2500 ∷ asked ∷ []) [] ≡ true)
+ask_is_due = (refl, refl)
+
+-- a question at its deadline, unless it owns a reply
+question_is_due : (is_due (patient_for 500) (passes 1499 ∷ asked ∷ []) [] ≡ false) × (is_due (patient_for 500) (passes 1500 ∷ asked ∷ []) [] ≡ true) × (is_due (patient_for 500) (passes 1500 ∷ asked ∷ []) (0 ∷ []) ≡ false)
+question_is_due = (refl, refl, refl)
+
+-- ---- when all tries have failed
+
+-- its time is over, and its server is asked once more, from another port
+abbrev asked_again : Step
+asked_again = record { handed = record { now = 2500; words = words; event = tick }; outcome = record { actions = close_udp 1032 ∷ ask_udp 1040 other_server (with_identifier 16) ∷ []; unkept = 0; more = false } }
+
+-- an ask whose path is given up behind it is none
+given_up_at_once : IsRightAsk config asked_again (asked ∷ []) (Some (record { path = Udp 1040; server = other_server; octets = with_identifier 16 })) (close_udp 1040 ∷ []) → ⊥
+given_up_at_once h = true≢false h.1
+
+-- each question has one try
+abbrev one_try : Config
+one_try = record config { limits = record default_limits { tries = 1 } }
+
+-- a question that is still asked has not failed
+still_asked : AllTriesFailed (record { config = one_try; asked = asked; before = []; now = asked_again ∷ asked ∷ [] }) (with_identifier 7) → ⊥
+unfolding first_question question_at octets_end name_within walk_in name_step
+still_asked h =
+    let reads : Some address ≡ Some h.question = h.reads in
+    let same : address ≡ h.question = cc in
+    let other : same_question address h.question ≡ false = h.none_left.0 address refl in
+    true≢false (subst (λ (q : Question). same_question address q ≡ false) (sym same) other)
