@@ -1,5 +1,6 @@
 pub mod Short
 pub mod TextLaws
+pub mod SpellingLaws
 pub mod SetLaws
 pub mod Deciding
 pub mod Following

@@ -10,6 +10,7 @@ mod next;
 mod replies;
 mod request;
 mod sets;
+mod spelled;
 mod state;
 
 pub use forwarder::Forwarder;

@@ -3,10 +3,12 @@
 ghost use Rattle.std.specs.Prelude.{◌≡◌, ◌∷◌, [], IfOk};
 ghost use Rattle.step_values.specs.Values.{action_of, actions_of};
 ghost use Rattle.step_rules.specs.Row.{closes, answered, fails, is_given, reply_in, waits_for};
+ghost use Rattle.forwarder_core.specs.Texts.{fresh_records};
 ghost use Rattle.forwarder_core.specs.Next.{closing_path, with_reply, with_replies};
 
-use crate::answers::{answer, failure};
+use crate::answers::failure;
 use crate::sets::RecordSet;
+use crate::spelled::Answers;
 use crate::state::Waiting;
 use dns_message::Question;
 use outstanding::{Ask, Path};
@@ -81,33 +83,37 @@ pub(crate) fn failures<A: Allocator + Copy>(
 
 /// The reply with a set that came at this moment, all of its lifetime left.
 fn answer_now<A: Allocator + Copy>(
-    alloc: A,
+    answers: &mut Answers<A>,
     set: &RecordSet<A>,
     now: u64,
     waiting: &Waiting<A>,
 ) -> Result<Action<A>, AllocError>
-    ensures { IfOk result (λ action. action_of action ≡ answered now (record { piece = set.now; accepted = now }) waiting.now) }
+    requires { answers.old ≡ fresh_records set.now }
+    ensures same { answers.new ≡ answers.old }
+    ensures reply { IfOk result (λ action. action_of action ≡ answered now (record { piece = set.now; accepted = now }) waiting.now) }
 {
     let _now = now;
     let _rdata = &set.rdata;
-    answer(alloc, waiting, set)
+    answers.reply(waiting)
 }
 
 /// Puts the answer of a question last, where it waits for this one.
 fn put_answer<A: Allocator + Copy>(
-    alloc: A,
     actions: &mut PlainList<Action<A>, A>,
     question: &Question<A>,
+    answers: &mut Answers<A>,
     set: &RecordSet<A>,
     now: u64,
     waiting: &Waiting<A>,
 ) -> Result<(), AllocError>
-    ensures { IfOk result (λ _. actions_of actions.new ≡ with_reply (actions_of actions.old) (reply_in (is_given now (record { piece = set.now; accepted = now }) question.now waiting.now))) }
+    requires { answers.old ≡ fresh_records set.now }
+    ensures same { answers.new ≡ answers.old }
+    ensures put { IfOk result (λ _. actions_of actions.new ≡ with_reply (actions_of actions.old) (reply_in (is_given now (record { piece = set.now; accepted = now }) question.now waiting.now))) }
 {
     if !is_waiting_for(question, waiting) {
         return Ok(());
     }
-    let action = answer_now(alloc, set, now, waiting)?;
+    let action = answer_now(answers, set, now, waiting)?;
     actions.push(action)
 }
 
@@ -121,10 +127,11 @@ pub(crate) fn answers_to<A: Allocator + Copy>(
 ) -> Result<PlainList<Action<A>, A>, AllocError>
     ensures { IfOk result (λ actions. actions_of actions ≡ with_replies (is_given now (record { piece = set.now; accepted = now }) query.now.question) (closes query.now.path ∷ []) waiting.now) }
 {
+    let mut answers = Answers::new(alloc, set)?;
     let mut actions = PlainList::new(alloc);
     actions.push(close(query.path))?;
     for x in waiting {
-        put_answer(alloc, &mut actions, &query.question, set, now, x)?;
+        put_answer(&mut actions, &query.question, &mut answers, set, now, x)?;
     }
     Ok(actions)
 }

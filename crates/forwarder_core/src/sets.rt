@@ -70,7 +70,8 @@ fn seconds_from(ttl: u32) -> u32
     if ttl >= 1 << 31 { 0 } else { ttl }
 }
 
-fn is_same_octets(a: &[u8], b: &[u8]) -> bool
+/// Equal octets in the same order.
+pub(crate) fn is_same_octets(a: &[u8], b: &[u8]) -> bool
     ensures { result ≡ same_octets a.now b.now }
 {
     a == b

@@ -19,8 +19,8 @@ after-requires g c = subst (λ (p : Plan). p.server < p.servers) (sym c.plan-pla
 pub retry-requires-clause-tries : goal.retry-requires-clause-tries
 retry-requires-clause-tries g c =
     let more = more_left c.self.inside.config c.self.inside.inquiries c.self.inside.waiting.items c.self.inside.preferred.items c.self.inside.moment c.self.inside.tcp_asks c.args.path c.args.ask.now c.args.failure c.self.invariant
-        (subst (λ (r : Running). ask_on c.args.path r.state.asks ≡ Some c.args.ask.now) (sym c.self.view_is) c.requires.on)
-        (udp_goes_on _ c.in-AskUdp.server (ap (λ (p : Plan). after_failure p c.args.failure) (sym c.plan-plan.ensures) ∙ sym c.in-AskUdp.ensures)) in
+    (subst (λ (r : Running). ask_on c.args.path r.state.asks ≡ Some c.args.ask.now) (sym c.self.view_is) c.requires.on)
+    (udp_goes_on _ c.in-AskUdp.server (ap (λ (p : Plan). after_failure p c.args.failure) (sym c.plan-plan.ensures) ∙ sym c.in-AskUdp.ensures)) in
     let most = c.self.invariant.config.limits.tries.1 in omega (arith, more, most)
 
 pub retry-requires-clause-follows : goal.retry-requires-clause-follows
@@ -35,8 +35,8 @@ retry-requires-clause-follows g c =
 pub retry-requires-in-AskTcp-clause-tries : goal.retry-requires-in-AskTcp-clause-tries
 retry-requires-in-AskTcp-clause-tries g c =
     let more = more_left c.self.inside.config c.self.inside.inquiries c.self.inside.waiting.items c.self.inside.preferred.items c.self.inside.moment c.self.inside.tcp_asks c.args.path c.args.ask.now c.args.failure c.self.invariant
-        (subst (λ (r : Running). ask_on c.args.path r.state.asks ≡ Some c.args.ask.now) (sym c.self.view_is) c.requires.on)
-        (tcp_goes_on _ c.in-AskTcp.server (ap (λ (p : Plan). after_failure p c.args.failure) (sym c.plan-plan.ensures) ∙ sym c.in-AskTcp.ensures)) in
+    (subst (λ (r : Running). ask_on c.args.path r.state.asks ≡ Some c.args.ask.now) (sym c.self.view_is) c.requires.on)
+    (tcp_goes_on _ c.in-AskTcp.server (ap (λ (p : Plan). after_failure p c.args.failure) (sym c.plan-plan.ensures) ∙ sym c.in-AskTcp.ensures)) in
     let most = c.self.invariant.config.limits.tries.1 in omega (arith, more, most)
 
 pub retry-requires-in-AskTcp-clause-follows : goal.retry-requires-in-AskTcp-clause-follows

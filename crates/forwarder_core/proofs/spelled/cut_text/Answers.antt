@@ -1,6 +1,6 @@
 use Rattle.std.proofs.lemmas.Result.{IfOk-weaker}
 use Rattle.forwarder_core.proofs.TextLaws.{cut_is}
-use Rattle.forwarder_core.proofs.answers.cut_text.Goals as goal
+use Rattle.forwarder_core.proofs.spelled.cut_text.Goals as goal
 
 pub returns : goal.returns
 returns g c =
