@@ -94,6 +94,10 @@ end_of (Some e) read = ending e read
 unfoldable pub resume : List ℕ → Walk → Result (List (List ℕ) × ℕ) Fault
 resume bytes w = end_of w.end (walk_in (steps_left w.run w.used) bytes w.bound w.offset w.run w.used)
 
+-- the beginning of the name that a pointer leads to, behind labels of so many octets
+abbrev pub behind_labels : List ℕ → ℕ → ℕ → Walk
+behind_labels bytes o used = record { offset = o; run = o; used = used; bound = whole bytes; end = None }
+
 pub record Advances (bytes label : List ℕ) (w v : Walk) : Type 0 where
   pub read : resume bytes w ≡ with_label label (resume bytes v)
   pub is_label : IsLabel label

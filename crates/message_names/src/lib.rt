@@ -5,6 +5,7 @@ mod fault;
 mod names;
 mod numbers;
 mod shortcuts;
+mod sizes;
 mod walk;
 
 pub use fault::Fault;

@@ -3,10 +3,12 @@
 ghost use Rattle.std.specs.Prelude.{◌≡◌, ◌≤◌, IsOk, MatchOption, Ok, length};
 ghost use Rattle.message_names.specs.Reading.{Gives, behind};
 ghost use Rattle.message_names.specs.Shortcuts.{AreShortcuts};
+ghost use Rattle.message_names.specs.Sizes.{AreSizes};
 ghost use Rattle.message_names.specs.Names.{name_at, name_within, NameIs};
 
 use crate::fault::Fault;
-use crate::walk::{Bound, Next, Walk, next_label};
+use crate::sizes::size_of_name;
+use crate::walk::{Bound, Next, Step, Walk, next_label, step_at};
 use dns_name::Name;
 use std::alloc::Allocator;
 
@@ -37,24 +39,35 @@ pub fn read_name<A: Allocator>(
     }
 }
 
-/// The place behind the name at a place, in a run that must end before a bound. `Err` is the first fault of the name
-/// from its front. It takes no memory.
+/// The place behind the name at a place, in a run that must end before a bound. The octets of the names that pointers
+/// lead to are remembered in `sizes`, which may be empty. `Err` is the first fault of the name from its front. It takes
+/// no memory.
 pub fn skip_name(
     bytes: &[u8],
-    ends: &mut [u16],
+    sizes: &mut [u8],
     bound: Bound,
     offset: usize,
 ) -> Result<usize, Fault>
     requires inside { bound.stop ≤ length bytes.now }
-    requires known { AreShortcuts bytes.now ends.old }
+    requires known { AreSizes bytes.now sizes.old }
     ensures exact { result ≡ behind (name_within bytes.now bound offset) }
-    ensures known { AreShortcuts bytes.now ends.new }
+    ensures known { AreSizes bytes.now sizes.new }
 {
     let mut walk = Walk::new(bytes, bound, offset);
     loop {
-        match next_label(bytes, ends, walk)? {
-            Next::End(end) => return Ok(end),
-            Next::Label(_, after) => walk = after,
+        match step_at(bytes, walk)? {
+            Step::End => return Ok(walk.offset + 1),
+            Step::Label(len) => {
+                walk = Walk {
+                    offset: walk.offset + 1 + len,
+                    used: walk.used + len + 1,
+                    ..walk
+                };
+            }
+            Step::Pointer(target) => {
+                size_of_name(bytes, sizes, target, walk.used)?;
+                return Ok(walk.offset + 2);
+            }
         }
     }
 }

@@ -3,6 +3,7 @@
 ghost use Rattle.std.specs.Prelude.{◌≡◌, ◌≤◌, IfOk, length};
 ghost use Rattle.message_names.specs.Reading.{Gives, behind};
 ghost use Rattle.message_names.specs.Shortcuts.{AreShortcuts};
+ghost use Rattle.message_names.specs.Sizes.{AreSizes};
 ghost use Rattle.message_names.specs.Names.{name_within, inside};
 ghost use Rattle.message_reading.specs.Data.{octets_within, written_out, prefixed, part_at, parts_at, data_at, name_of_rdata};
 
@@ -101,18 +102,18 @@ fn read_part<A: Allocator>(
 #[tactic(auto, unfolding(crate::specs::Data::text_within))]
 fn skip_part(
     bytes: &[u8],
-    ends: &mut [u16],
+    sizes: &mut [u8],
     stop: usize,
     part: Part,
     offset: usize,
 ) -> Result<usize, Fault>
     requires inside { stop ≤ length bytes.now }
-    requires known { AreShortcuts bytes.now ends.old }
+    requires known { AreSizes bytes.now sizes.old }
     ensures exact { result ≡ behind (part_at part bytes.now stop offset) }
-    ensures known { AreShortcuts bytes.now ends.new }
+    ensures known { AreSizes bytes.now sizes.new }
 {
     match part {
-        Part::Name => skip_name(bytes, ends, Bound::data(stop), offset),
+        Part::Name => skip_name(bytes, sizes, Bound::data(stop), offset),
         Part::Number16 => skip_octets(bytes, stop, offset, 2),
         Part::Number32 => skip_octets(bytes, stop, offset, 4),
         Part::Text => {
@@ -154,19 +155,19 @@ fn read_parts<A: Allocator>(
 #[tactic(auto, using(crate::proofs::DataLaws::skip_more, crate::proofs::DataLaws::skip_fault, crate::proofs::DataLaws::skip_done, crate::proofs::DataLaws::skip_short))]
 fn skip_parts(
     bytes: &[u8],
-    ends: &mut [u16],
+    sizes: &mut [u8],
     stop: usize,
     parts: &[Part],
     offset: usize,
 ) -> Result<usize, Fault>
     requires inside { stop ≤ length bytes.now }
-    requires known { AreShortcuts bytes.now ends.old }
+    requires known { AreSizes bytes.now sizes.old }
     ensures exact { result ≡ behind (parts_at parts.now bytes.now stop offset) }
-    ensures known { AreShortcuts bytes.now ends.new }
+    ensures known { AreSizes bytes.now sizes.new }
 {
     let mut at = offset;
     for part in parts {
-        at = skip_part(bytes, ends, stop, *part, at)?;
+        at = skip_part(bytes, sizes, stop, *part, at)?;
     }
     if stop != at {
         return Err(Fault::Rdata);
@@ -205,22 +206,22 @@ pub(crate) fn read_data<A: Allocator>(
 #[tactic(auto, unfolding(crate::specs::Data::data_at))]
 pub(crate) fn skip_data(
     bytes: &[u8],
-    ends: &mut [u16],
+    sizes: &mut [u8],
     kind: u16,
     offset: usize,
     len: usize,
 ) -> Result<usize, Fault>
     requires inside { offset ≤ length bytes.now }
-    requires known { AreShortcuts bytes.now ends.old }
+    requires known { AreSizes bytes.now sizes.old }
     ensures exact { result ≡ behind (data_at kind bytes.now offset len) }
-    ensures known { AreShortcuts bytes.now ends.new }
+    ensures known { AreSizes bytes.now sizes.new }
 {
     if bytes.len() - offset < len {
         return Err(Fault::Short);
     }
     match shape_of(kind) {
         None => Ok(offset + len),
-        Some(shape) => skip_parts(bytes, ends, offset + len, shape.parts, offset),
+        Some(shape) => skip_parts(bytes, sizes, offset + len, shape.parts, offset),
     }
 }
 

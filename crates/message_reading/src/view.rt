@@ -4,6 +4,7 @@ ghost use Rattle.std.specs.Prelude.{◌≡◌, ◌↔◌, ◌≤◌, IsTrue, IsO
 ghost use Rattle.message_names.specs.Reading.{Gives, behind};
 ghost use Rattle.message_reading.specs.Header.{FitsBits};
 ghost use Rattle.message_names.specs.Shortcuts.{AreShortcuts};
+ghost use Rattle.message_names.specs.Sizes.{AreSizes};
 ghost use Rattle.message_reading.specs.Messages.{IsWhole, HasShapes, first_question, message_at, message_of, QuestionIs, IsViewed};
 ghost use Rattle.message_reading.specs.Spans.{spans_of};
 ghost use Rattle.message_names.specs.declared.fault.Fault.TheVariants.{Memory};
@@ -49,31 +50,31 @@ fn first_question_is<A: Allocator>(bytes: &[u8], question: &Question<A>) -> bool
     number16(bytes, after) == question.kind && number16(bytes, end - 2) == question.class
 }
 
-/// The place behind the last counted record, where pointers lead remembered in `ends`.
+/// The place behind the last counted record, with the octets of the names that pointers lead to remembered in `sizes`.
 #[tactic(auto, using(crate::proofs::MessageLaws::message_behind))]
-fn skip_sections(bytes: &[u8], ends: &mut [u16]) -> Result<usize, Fault>
+fn skip_sections(bytes: &[u8], sizes: &mut [u8]) -> Result<usize, Fault>
     requires header { 12 ≤ length bytes.now }
-    requires known { AreShortcuts bytes.now ends.old }
+    requires known { AreSizes bytes.now sizes.old }
     ensures { result ≡ behind (message_at bytes.now) }
 {
-    let at = skip_questions(bytes, ends, 12, number16(bytes, 4))?;
-    let at = skip_records(bytes, ends, at, number16(bytes, 6))?;
-    let at = skip_records(bytes, ends, at, number16(bytes, 8))?;
-    skip_records(bytes, ends, at, number16(bytes, 10))
+    let at = skip_questions(bytes, sizes, 12, number16(bytes, 4))?;
+    let at = skip_records(bytes, sizes, at, number16(bytes, 6))?;
+    let at = skip_records(bytes, sizes, at, number16(bytes, 8))?;
+    skip_records(bytes, sizes, at, number16(bytes, 10))
 }
 
-/// `skip_sections` of a message that may have long chains of pointers.
-#[tactic(auto, using(message_names::proofs::CallerLemmas::zeros_are_shortcuts))]
+/// `skip_sections` of a message that may have many pointers to one name.
+#[tactic(auto, using(message_names::proofs::CallerLemmas::zeros_are_sizes))]
 fn skip_large_message(bytes: &[u8]) -> Result<usize, Fault>
     requires { 12 ≤ length bytes.now }
     ensures { result ≡ behind (message_at bytes.now) }
 {
-    let mut ends = [0u16; PLACES];
-    skip_sections(bytes, &mut ends)
+    let mut sizes = [0u8; PLACES];
+    skip_sections(bytes, &mut sizes)
 }
 
 /// The place behind the last counted record.
-#[tactic(auto, using(message_names::proofs::CallerLemmas::no_table_is_shortcuts))]
+#[tactic(auto, using(message_names::proofs::CallerLemmas::no_table_is_sizes))]
 fn skip_message(bytes: &[u8]) -> Result<usize, Fault>
     requires { 12 ≤ length bytes.now }
     ensures { result ≡ behind (message_at bytes.now) }
@@ -183,7 +184,7 @@ impl<'a> MessageRef<'a> {
     }
 
     /// The spans of the records that can be read, in order. It takes no memory, and with all of them about the time of
-    /// `is_whole`, also where many names lie behind one long chain of pointers.
+    /// `is_whole`, also where many pointers lead to one name.
     #[tactic(auto, using(crate::proofs::MessageLaws::viewed_long))]
     pub fn records(&self) -> Records<'a>
         ensures { result ≡ spans_of self.now }
