@@ -39,13 +39,6 @@ error_is h header why rcode qs text header_is code is =
     ∙ reply_counts h false rcode qs []
     ∙ ap (λ (n : ℕ). written (reply_message h false n qs [] [])) code
 
--- the text of a cut answer
-pub cut_is : (header : Header) (x : Waiting) (text : List ℕ)
-    → header ≡ record { id = x.header.id; qr = true; opcode = x.header.opcode; aa = false; tc = true; rd = x.header.rd; ra = true; z = 0; rcode = 0; counts = 0 ∷ 0 ∷ 0 ∷ 0 ∷ [] }
-    → text ≡ written (record { header = header; questions = x.question ∷ []; answers = []; authority = []; additional = [] })
-    → text ≡ written (cut_answer x)
-cut_is header x text header_is is = is ∙ (λ i. written (record { header = header_is i; questions = x.question ∷ []; answers = []; authority = []; additional = [] })) ∙ reply_counts x.header true 0 (x.question ∷ []) []
-
 -- ---- a set that came at this moment has all of its lifetime left
 
 left_whole : (n lifetime : ℕ) → (n + 1000 * lifetime - n) / 1000 ≡ lifetime
