@@ -1,8 +1,8 @@
 -- Texts of answers to questions that are spelled alike, and what is sent of them.
-use Rattle.std.proofs.Common.{◌≡◌, ℕ, ◌<◌, ◌≤◌, ◌+◌, List, [], ◌∷◌, ◌++◌, length, length-append, length-drop, drop, take, Bool, true, false, cond, refl, sym, ap, ◌∙◌, subst, ⊎_elim, arith, Option, Some, None}
+use Rattle.std.proofs.Common.{◌≡◌, ℕ, ◌<◌, ◌≤◌, List, [], ◌∷◌, ◌++◌, length, length-append, length-drop, take, Bool, true, false, cond, refl, sym, ap, ◌∙◌, subst, ⊎_elim, arith, Option, Some, None}
 use Rattle.std.specs.Prelude.{nat_lt, nat_le, not, Ok, Err, ◌==◌, ◌&&◌}
 use Rattle.std.specs.List.{AllByRecursion, find}
-use Rattle.std.proofs.lemmas.Bool.{cases_Bool, cases_lt, cond-true, cond-false, ltb-false, ltb-true, le-leb, leb-true, and_parts, eqb-true, false≢true}
+use Rattle.std.proofs.lemmas.Bool.{cases_Bool, cases_lt, cond-true, cond-false, ltb-false, ltb-true, le-leb, leb-true, and_parts, eqb-true}
 use Rattle.dns_name.specs.Labels.{octets_of, labels_of}
 use Rattle.dns_name.proofs.CallerLemmas.{labels_of_octets}
 use Rattle.plain_list.proofs.CallerLemmas.{same_octets_equal}

@@ -1,24 +1,16 @@
 -- The texts of answers and failures, as they are written.
-use Rattle.std.proofs.Common.{◌≡◌, ℕ, ◌<◌, ◌≤◌, List, [], ◌∷◌, length, Bool, true, false, cond, refl, sym, ap, ◌∙◌, ⊎_elim, arith}
-use Rattle.std.specs.Prelude.{◌+◌, ◌-◌, ◌*◌, ◌/◌, map, nat_lt, nat_le, Ok, Err}
-use Rattle.std.proofs.lemmas.Bool.{cases_Bool, cond-true, cond-false, ltb-false, ltb-true, le-leb, leb-true}
+use Rattle.std.proofs.Common.{◌≡◌, ℕ, List, [], ◌∷◌, Bool, true, false, refl, sym, ap, ◌∙◌, arith}
+use Rattle.std.specs.Prelude.{◌+◌, ◌-◌, ◌*◌, ◌/◌, map}
 use Rattle.dns_message.specs.Header.{Header}
-use Rattle.dns_message.specs.Fault.{Fault}
-use Rattle.dns_message.specs.Fault.TheVariants.{TooLarge}
-use Rattle.dns_message.specs.Writing.{written_within}
-use Rattle.step_values.specs.declared.event.Client.{Client}
-use Rattle.step_values.specs.declared.event.Client.TheVariants.{Tcp as FromTcp}
 use Rattle.step_values.specs.declared.action.Why.{Why}
-use Rattle.step_values.specs.declared.action.Why.TheVariants.{Answered, TooLarge as TooLargeWhy}
-use Rattle.step_values.specs.Values.{Action, send_reply}
-use Rattle.step_rules.specs.Row.{failed, gives_up, answered_over, answered}
+use Rattle.step_rules.specs.Row.{answered_over, answered}
 use Rattle.step_history.specs.Carried.{ttl_at}
 use Rattle.step_history.specs.Replies.{kind_of, record_with, records_in, records_of, soa_of, rcode_of, reply_message, full_answer, truncated}
 use Rattle.step_history.specs.Replies.{rcode_of_why, error_response}
 use Rattle.step_history.specs.Pieces.{Body, rows, Piece, Held}
 use Rattle.step_rules.specs.State.{Waiting}
 use Rattle.forwarder_core.specs.Texts.{fresh_record, rows_in, fresh_records, fresh_answer, cut_answer}
-use Rattle.dns_message.specs.Values.{Question, Record, Message}
+use Rattle.dns_message.specs.Values.{Question, Record}
 use Rattle.dns_message.specs.Writing.{written}
 
 -- the text has the counts of the lists, whatever the header says

@@ -1,6 +1,5 @@
-use Rattle.std.proofs.Common.{refl, ◌∙◌}
-use Rattle.std.proofs.lemmas.Result.{IfOk-weaker}
-use Rattle.forwarder_core.proofs.SpellingLaws.{spelled_whole, spelled_cut}
+use Rattle.std.proofs.Common.{refl}
+use Rattle.forwarder_core.proofs.SpellingLaws.{spelled_whole}
 use Rattle.forwarder_core.proofs.spelled.spell.Goals as goal
 
 pub returns-in-Some-clause-spelled : goal.returns-in-Some-clause-spelled
