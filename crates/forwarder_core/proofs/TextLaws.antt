@@ -9,7 +9,8 @@ use Rattle.step_history.specs.Replies.{kind_of, record_with, records_in, records
 use Rattle.step_history.specs.Replies.{rcode_of_why, error_response}
 use Rattle.step_history.specs.Pieces.{Body, rows, Piece, Held}
 use Rattle.step_rules.specs.State.{Waiting}
-use Rattle.forwarder_core.specs.Texts.{fresh_record, rows_in, fresh_records, fresh_answer, cut_answer}
+use Rattle.forwarder_core.specs.Texts.{fresh_record, rows_in, fresh_records, cut_answer}
+use Rattle.forwarder_core.specs.Spelling.{answer_to}
 use Rattle.dns_message.specs.Values.{Question, Record}
 use Rattle.dns_message.specs.Writing.{written}
 
@@ -41,7 +42,7 @@ fresh_each n p [] = refl
 fresh_each n p (octets ∷ sets) = λ i. record { owner = p.owner; kind = kind_of p.slot.kind; class = p.slot.class; ttl = left_whole n p.lifetime i; rdata = octets } ∷ fresh_each n p sets i
 
 pub answered_fresh : (n : ℕ) (p : Piece) (x : Waiting) (sets : List (List ℕ)) → p.body ≡ rows sets
-    → answered_over x.client x (written (fresh_answer x p)) (written (cut_answer x)) ≡ answered n (record { piece = p; accepted = n }) x
+    → answered_over x.client x (written (answer_to x (fresh_records p))) (written (cut_answer x)) ≡ answered n (record { piece = p; accepted = n }) x
 answered_fresh n p x sets e = λ i. answered_over x.client x (written (full i)) (written (cut i))
   where
     held : Held
@@ -53,7 +54,7 @@ answered_fresh n p x sets e = λ i. answered_over x.client x (written (full i)) 
     records_are : fresh_records p ≡ records_of held n
     records_are = ap (map (fresh_record p)) in_rows ∙ sym (fresh_each n p sets) ∙ ap (records_in held n) (sym e)
 
-    full : fresh_answer x p ≡ full_answer x.header x.question [] held n
+    full : answer_to x (fresh_records p) ≡ full_answer x.header x.question [] held n
     full = λ i. reply_message x.header false ((sym (ap rcode_of e)) i) (x.question ∷ []) (records_are i) ((sym (ap (λ (b : Body). soa_of b (ttl_at held n)) e)) i)
 
     cut : cut_answer x ≡ truncated x.header x.question held

@@ -17,6 +17,7 @@ empty_header = record { id = 0; qr = false; opcode = 0; aa = false; tc = false; 
 abbrev pub message_with : Header → List Question → List Record → Message
 message_with h qs records = record { header = h; questions = qs; answers = records; authority = []; additional = [] }
 
+-- a message of that form, under an empty header
 abbrev pub IsAnswer : Message → Type 0
 IsAnswer m = m ≡ message_with empty_header m.questions m.answers
 
