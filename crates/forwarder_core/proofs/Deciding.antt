@@ -24,7 +24,7 @@ use Rattle.step_rules.specs.Row.{Done, Fate, gets, waits, reply_in, waiting_in, 
 use Rattle.reply_match.proofs.CallerLemmas.{unread_question_is_stranger}
 use Rattle.reply_match.specs.Verdicts.{judge}
 use Rattle.forwarder_core.specs.declared.next.Preferred.{Preferred}
-use Rattle.forwarder_core.specs.declared.next.Change.TheVariants.{Nothing, Join, Close, AskAgain, Expire}
+use Rattle.forwarder_core.specs.declared.next.Change.TheVariants.{Nothing, Close, AskAgain, Expire}
 use Rattle.forwarder_core.specs.declared.next.Next.{Next}
 use Rattle.forwarder_core.specs.Next.{left_waiting, with_preferred, without_closed, closed_path, closing_path, changed, next_of, CanChange, IsDecided, IsDecidedQuietly, IsOutcome, with_reply, with_replies}
 use Rattle.step_soundness.proofs.CallerLemmas.{ask_on-is, append_nil}

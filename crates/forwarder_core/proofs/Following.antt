@@ -1,8 +1,8 @@
 -- An ask that comes next may be listed.
-use Rattle.std.proofs.Common.{◌≡◌, ℕ, ◌+◌, ◌-◌, ◌^◌, ◌<◌, ◌≤◌, List, [], ◌∷◌, length, Bool, true, false, cond, refl, sym, ap, ◌∙◌, subst, arith, Option, Some, None}
+use Rattle.std.proofs.Common.{◌≡◌, ℕ, ◌+◌, ◌-◌, ◌^◌, ◌<◌, ◌≤◌, List, length, Bool, true, false, refl, sym, ap, ◌∙◌, subst, arith, Option, Some, None}
 use Rattle.std.specs.Prelude.{◌==◌, not}
 use Rattle.std.specs.List.{AllByRecursion}
-use Rattle.std.proofs.lemmas.Bool.{eqb-false, cond-true, cond-false}
+use Rattle.std.proofs.lemmas.Bool.{eqb-false, cond-true}
 use Rattle.dns_message.specs.Values.{Question}
 use Rattle.dns_message.specs.Questions.{same_question}
 use Rattle.dns_message.proofs.CallerLemmas.{same_question_decides}
@@ -13,7 +13,6 @@ use Rattle.outstanding.specs.Draws.{udp_draw}
 use Rattle.outstanding.specs.Lists.{on_path as ask_on, of_question, same_path, without_path, AreListed}
 use Rattle.outstanding.specs.Values.{Ask, Inquiries}
 use Rattle.outstanding.proofs.CallerLemmas.{next_may_begin as next_begins}
-use Rattle.step_history.specs.History.{is_tcp}
 use Rattle.step_history.specs.Draws.{drawn_by_tcp}
 use Rattle.step_rules.specs.State.{State, Waiting}
 use Rattle.step_rules.specs.Attempts.{peer_at, over_udp, over_tcp, ask_by, freed_by, plan_of, first_ask, preferred_on}

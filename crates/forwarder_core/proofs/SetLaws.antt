@@ -1,5 +1,5 @@
 -- One pass over a section gathers the set, and what ends a walk is that set.
-use Rattle.std.proofs.Common.{◌≡◌, ℕ, List, [], ◌∷◌, Bool, true, false, cond, refl, sym, ap, ◌∙◌, subst, ⊎_elim, Option, Some, None}
+use Rattle.std.proofs.Common.{◌≡◌, ℕ, List, [], ◌∷◌, true, false, cond, refl, sym, ap, ◌∙◌, subst, ⊎_elim, Option, Some, None}
 use Rattle.std.specs.Prelude.{min, ◌==◌, ◌&&◌}
 use Rattle.std.specs.List.{find}
 use Rattle.std.proofs.lemmas.Bool.{cases_Bool, cond-true, cond-false}

@@ -1,8 +1,8 @@
 -- Texts of answers to questions that are spelled alike, and what is sent of them.
-use Rattle.std.proofs.Common.{◌≡◌, ℕ, ◌<◌, ◌≤◌, ◌+◌, List, [], ◌∷◌, ◌++◌, length, length-append, length-drop, drop, take, Bool, true, false, cond, refl, sym, ap, ◌∙◌, subst, ⊎_elim, arith, Option, Some, None}
-use Rattle.std.specs.Prelude.{nat_lt, nat_le, Ok, Err, IfSome, ◌==◌, ◌&&◌}
-use Rattle.std.specs.Option.{option_map}
-use Rattle.std.proofs.lemmas.Bool.{cases_Bool, cases_lt, cond-true, cond-false, ltb-false, ltb-true, le-leb, leb-true, and_parts, eqb-true, false≢true}
+use Rattle.std.proofs.Common.{◌≡◌, ℕ, ◌<◌, ◌≤◌, List, [], ◌∷◌, ◌++◌, length, length-append, length-drop, take, Bool, true, false, cond, refl, sym, ap, ◌∙◌, subst, ⊎_elim, arith, Option, Some, None}
+use Rattle.std.specs.Prelude.{nat_lt, nat_le, not, Ok, Err, ◌==◌, ◌&&◌}
+use Rattle.std.specs.List.{AllByRecursion, find}
+use Rattle.std.proofs.lemmas.Bool.{cases_Bool, cases_lt, cond-true, cond-false, ltb-false, ltb-true, le-leb, leb-true, and_parts, eqb-true}
 use Rattle.dns_name.specs.Labels.{octets_of, labels_of}
 use Rattle.dns_name.proofs.CallerLemmas.{labels_of_octets}
 use Rattle.plain_list.proofs.CallerLemmas.{same_octets_equal}
@@ -11,16 +11,13 @@ use Rattle.dns_message.specs.Fault.{Fault}
 use Rattle.dns_message.specs.Fault.TheVariants.{TooLarge}
 use Rattle.dns_message.specs.Values.{Question, Record, Message}
 use Rattle.dns_message.specs.Writing.{◌▹◌, written, written_within}
-use Rattle.suffix_routes.specs.declared.peer.Peer.{Peer}
-use Rattle.step_values.specs.declared.event.Client.{Client}
-use Rattle.step_values.specs.declared.event.Client.TheVariants.{Udp as FromUdp, Tcp as FromTcp}
-use Rattle.step_values.specs.declared.action.Why.TheVariants.{Answered, TooLarge as TooLargeWhy}
-use Rattle.step_values.specs.Values.{Action, send_reply}
-use Rattle.step_rules.specs.Row.{failed, gives_up, answered_over}
 use Rattle.step_rules.specs.State.{Waiting}
 use Rattle.forwarder_core.specs.declared.spelled.Spelled.{Spelled}
+use Rattle.step_soundness.proofs.CallerLemmas.{All-append}
 use Rattle.forwarder_core.proofs.TextLaws.{reply_counts}
-use Rattle.forwarder_core.specs.Spelling.{empty_header, message_with, answer_to, answer_text, fitting, with_front, IsSpelled, IsAnswer, answer_header, same_spelling, are_alike, is_for}
+use Rattle.step_history.specs.Replies.{reply_message}
+use Rattle.forwarder_core.specs.Texts.{cut_answer}
+use Rattle.forwarder_core.specs.Spelling.{empty_header, message_with, answer_to, answer_text, fitting, with_front, IsSpelled, sized, answer_header, same_spelling, are_alike, is_for}
 
 -- ---- what fits
 
@@ -59,6 +56,18 @@ fitting_is limit full text e = ⊎_elim
     (λ (f : nat_le (length full) limit ≡ false). let bad : None ≡ Some text = sym (cond-false (nat_le (length full) limit) _ _ f) ∙ e in absurd (cc))
     (cases_Bool (nat_le (length full) limit))
 
+fitting_within : (limit : ℕ) (full text : List ℕ) → fitting limit full ≡ Some text → nat_le (length full) limit ≡ true
+fitting_within limit full text e = ⊎_elim
+    (λ (over : limit < length full). let bad : None ≡ Some text = sym (fits_not limit full over) ∙ e in absurd (cc))
+    (λ (within : length full ≤ limit). le-leb (length full) limit within)
+    (cases_lt limit (length full))
+
+fitting_over : (limit : ℕ) (full : List ℕ) → fitting limit full ≡ None → nat_le (length full) limit ≡ false
+fitting_over limit full e = ⊎_elim
+    (λ (over : limit < length full). not_leb (length full) limit over)
+    (λ (within : length full ≤ limit). let bad : Some full ≡ None = sym (fits limit full within) ∙ e in absurd (cc))
+    (cases_lt limit (length full))
+
 -- ---- identifier and flags alone differ
 
 front_is : (h : Header) (qs : List Question) (records : List Record) → written (message_with h qs records) ≡ with_front h (written (message_with empty_header qs records))
@@ -76,40 +85,25 @@ pub text_some : (q : Question) (records : List Record) → 4 ≤ length (answer_
 unfolding written ◌▹◌
 text_some q records = omega arith
 
--- the answer to a question is what is kept for it, behind its own identifier and flags
-answer_is : (x : Waiting) (records : List Record) → with_front (answer_header x.header) (answer_text x.question records) ≡ written (answer_to x records)
-answer_is x records = sym (front_is (answer_header x.header) (x.question ∷ []) records) ∙ reply_counts x.header false 0 (x.question ∷ []) records
+-- the answer to a question is the text for it, behind its own identifier and flags
+answer_is : (x : Waiting) (cut : Bool) (records : List Record) → with_front (answer_header x.header cut) (answer_text x.question records) ≡ written (reply_message x.header cut 0 (x.question ∷ []) records [])
+answer_is x cut records = sym (front_is (answer_header x.header cut) (x.question ∷ []) records) ∙ reply_counts x.header cut 0 (x.question ∷ []) records
 
-fitting_with : (limit : ℕ) (h : Header) (text : List ℕ) → 4 ≤ length text → option_map (with_front h) (fitting limit text) ≡ fitting limit (with_front h text)
-fitting_with limit h text some = ⊎_elim
-    (λ (over : limit < length text).
-    let long = as_long h text some in
-    ap (option_map (with_front h)) (fits_not limit text over) ∙ sym (fits_not limit (with_front h text) (omega (arith, over, long))))
-    (λ (within : length text ≤ limit).
-    let long = as_long h text some in
-    ap (option_map (with_front h)) (fits limit text within) ∙ sym (fits limit (with_front h text) (omega (arith, within, long))))
-    (cases_lt limit (length text))
+-- and as long
+answer_long : (x : Waiting) (records : List Record) → length (written (answer_to x records)) ≡ length (answer_text x.question records)
+answer_long x records = ap (λ (text : List ℕ). length text) (sym (answer_is x false records)) ∙ as_long (answer_header x.header false) (answer_text x.question records) (text_some x.question records)
 
--- what is kept for a question, with the header of its request, is the answer that fits
-pub answer_fits : {A : Type 0} (limit : ℕ) (x : Waiting) (records : List Record) (s : Spelled A) (own : Option (List ℕ)) → s ≡ record { question = Some x.question; text = fitting limit (answer_text x.question records) }
-    → own ≡ option_map (with_front (answer_header x.header)) s.text → own ≡ fitting limit (written (answer_to x records))
-answer_fits {A = A} limit x records s own kept is =
-    is
-    ∙ ap (λ (t : Spelled A). option_map (with_front (answer_header x.header)) t.text) kept
-    ∙ fitting_with limit (answer_header x.header) (answer_text x.question records) (text_some x.question records)
-    ∙ ap (fitting limit) (answer_is x records)
+sized_of : (limit : ℕ) (x : Waiting) (records : List Record) (whole : Bool) (text : List ℕ) → whole ≡ nat_le (length (written (answer_to x records))) limit
+    → text ≡ cond whole (answer_text x.question records) (answer_text x.question [])
+    → (whole, with_front (answer_header x.header (not whole)) text) ≡ sized limit (written (answer_to x records)) (written (cut_answer x))
+sized_of limit x records true text is e =
+    ap (λ (t : List ℕ). (true, t)) (ap (with_front (answer_header x.header false)) e ∙ answer_is x false records)
+    ∙ ap (λ (v : Bool). (v, cond v (written (answer_to x records)) (written (cut_answer x)))) is
+sized_of limit x records false text is e =
+    ap (λ (t : List ℕ). (false, t)) (ap (with_front (answer_header x.header true)) e ∙ answer_is x true [])
+    ∙ ap (λ (v : Bool). (v, cond v (written (answer_to x records)) (written (cut_answer x)))) is
 
-some_front : (limit : ℕ) (q : Question) (records : List Record) (text : Option (List ℕ)) → text ≡ fitting limit (answer_text q records) → IfSome text (λ octets. 4 ≤ length octets)
-some_front limit q records None is = tt
-some_front limit q records (Some octets) is =
-    let same = fitting_is limit (answer_text q records) octets (sym is) in
-    subst (λ (xs : List ℕ). 4 ≤ length xs) (sym same) (text_some q records)
-
--- a text that is kept has identifier and flags
-pub kept_some : {A : Type 0} (limit : ℕ) (q : Question) (records : List Record) (s : Spelled A) → s ≡ record { question = Some q; text = fitting limit (answer_text q records) } → IfSome s.text (λ octets. 4 ≤ length octets)
-kept_some {A = A} limit q records s kept = some_front limit q records s.text (ap (λ (t : Spelled A). t.text) kept)
-
--- ---- what is kept
+-- ---- texts that are kept
 
 same_names : (a b : List (List ℕ)) → same_spelling a b ≡ true → a ≡ b
 same_names a b e = sym (labels_of_octets a) ∙ ap labels_of (same_octets_equal (octets_of a) (octets_of b) e) ∙ labels_of_octets b
@@ -120,14 +114,81 @@ alike_equal a b e =
     let inner = and_parts (same_spelling a.name b.name) (a.kind == b.kind) outer.0 in
     λ i. record { name = same_names a.name b.name inner.0 i; kind = eqb-true a.kind b.kind inner.1 i; class = eqb-true a.class b.class outer.1 i }
 
-kept_for : (q : Question) (kept : Option Question) → is_for q kept ≡ true → kept ≡ Some q
-kept_for q None e = absurd (false≢true e)
-kept_for q (Some kept) e = ap (λ (x : Question). Some x) (alike_equal kept q e)
+-- what is sent of the text for a question
+pub sized_is : {A : Type 0} (limit : ℕ) (x : Waiting) (records : List Record) (s : Spelled A) (sent : Bool × List ℕ) → s.question ≡ x.question → IsSpelled limit records s
+    → sent ≡ (s.whole, with_front (answer_header x.header (not s.whole)) s.text) → sent ≡ sized limit (written (answer_to x records)) (written (cut_answer x))
+sized_is limit x records s sent same spelled is =
+    is
+    ∙ sized_of limit x records s.whole s.text
+    (spelled.whole ∙ ap (λ (q : Question). nat_le (length (answer_text q records)) limit) same ∙ ap (λ (n : ℕ). nat_le n limit) (sym (answer_long x records)))
+    (spelled.text ∙ ap (λ (q : Question). cond s.whole (answer_text q records) (answer_text q [])) same)
 
--- a text that is kept for this question
-pub spelled_before : {A : Type 0} (limit : ℕ) (records : List Record) (q : Question) (s : Spelled A) (told : Bool) → IsSpelled limit records s → told ≡ is_for q s.question → told ≡ true
-    → s ≡ record { question = Some q; text = fitting limit (answer_text q records) }
-spelled_before limit records q s told spelled is e =
-    let kept : s.question ≡ Some q = kept_for q s.question (sym is ∙ e) in
-    let text : s.text ≡ fitting limit (answer_text q records) = spelled q kept in
-    λ i. record { question = kept i; text = text i }
+some_either : (whole : Bool) (q : Question) (records : List Record) → 4 ≤ length (cond whole (answer_text q records) (answer_text q []))
+some_either true q records = text_some q records
+some_either false q records = text_some q []
+
+-- it has identifier and flags
+pub spelled_some : {A : Type 0} (limit : ℕ) (records : List Record) (s : Spelled A) → IsSpelled limit records s → 4 ≤ length s.text
+spelled_some limit records s spelled = subst (λ (text : List ℕ). 4 ≤ length text) (sym spelled.text) (some_either s.whole s.question records)
+
+-- a text that is found is for the question
+found_for : {A : Type 0} (q : Question) (texts : List (Spelled A)) (s : Spelled A) → find (is_for q) texts ≡ Some s → s.question ≡ q
+found_for q [] s e = absurd (cc)
+found_for {A = A} q (t ∷ ts) s e = ⊎_elim
+    (λ (yes : is_for q t ≡ true).
+    let is : Some t ≡ Some s = sym (cond-true (is_for q t) _ _ yes) ∙ e in
+    let same : t ≡ s = cc in
+    sym (ap (λ (u : Spelled A). u.question) same) ∙ alike_equal t.question q yes)
+    (λ (no : is_for q t ≡ false). found_for q ts s (sym (cond-false (is_for q t) _ _ no) ∙ e))
+    (cases_Bool (is_for q t))
+
+found_spelled : {A : Type 0} (limit : ℕ) (records : List Record) (q : Question) (texts : List (Spelled A)) (s : Spelled A) → AllByRecursion (IsSpelled limit records) texts → find (is_for q) texts ≡ Some s → IsSpelled limit records s
+found_spelled limit records q [] s all e = absurd (cc)
+found_spelled {A = A} limit records q (t ∷ ts) s all e = ⊎_elim
+    (λ (yes : is_for q t ≡ true).
+    let is : Some t ≡ Some s = sym (cond-true (is_for q t) _ _ yes) ∙ e in
+    let same : t ≡ s = cc in
+    subst (λ (u : Spelled A). IsSpelled limit records u) same all.0)
+    (λ (no : is_for q t ≡ false). found_spelled limit records q ts s all.1 (sym (cond-false (is_for q t) _ _ no) ∙ e))
+    (cases_Bool (is_for q t))
+
+pub found : {A : Type 0} (limit : ℕ) (records : List Record) (q : Question) (texts slice : List (Spelled A)) (s : Spelled A) → AllByRecursion (IsSpelled limit records) texts → slice ≡ texts → find (is_for q) slice ≡ Some s
+    → (s.question ≡ q) × IsSpelled limit records s
+found limit records q texts slice s all same e =
+    let here = subst (AllByRecursion (IsSpelled limit records)) (sym same) all in (found_for q slice s e, found_spelled limit records q slice s here e)
+
+-- a text that was written: the answer fits
+pub spelled_whole : {A : Type 0} (limit : ℕ) (records : List Record) (q : Question) (s : Spelled A) (text : Option (List ℕ)) → s.question ≡ q → s.whole ≡ true → text ≡ fitting limit (answer_text q records) → text ≡ Some s.text → IsSpelled limit records s
+spelled_whole limit records q s text same whole is some =
+    let fit : fitting limit (answer_text q records) ≡ Some s.text = sym is ∙ some in
+    let bounds = fitting_within limit (answer_text q records) s.text fit in
+    record {
+      whole = whole ∙ sym (ap (λ (r : Question). nat_le (length (answer_text r records)) limit) same ∙ bounds);
+      text = fitting_is limit (answer_text q records) s.text fit ∙ ap (λ (r : Question). answer_text r records) (sym same) ∙ ap (λ (v : Bool). cond v (answer_text s.question records) (answer_text s.question [])) (sym whole);
+    }
+
+-- or the question stands alone
+pub spelled_cut : {A : Type 0} (limit : ℕ) (records : List Record) (q : Question) (s : Spelled A) (text : Option (List ℕ)) → s.question ≡ q → s.whole ≡ false → text ≡ fitting limit (answer_text q records) → text ≡ None → s.text ≡ answer_text q [] → IsSpelled limit records s
+spelled_cut limit records q s text same whole is none alone =
+    let over = fitting_over limit (answer_text q records) (sym is ∙ none) in
+    record {
+      whole = whole ∙ sym (ap (λ (r : Question). nat_le (length (answer_text r records)) limit) same ∙ over);
+      text = alone ∙ ap (λ (r : Question). answer_text r []) (sym same) ∙ ap (λ (v : Bool). cond v (answer_text s.question records) (answer_text s.question [])) (sym whole);
+    }
+
+-- and one more text
+pub spelled_put : {A : Type 0} (limit : ℕ) (records : List Record) (texts after : List (Spelled A)) (s : Spelled A) → AllByRecursion (IsSpelled limit records) texts → IsSpelled limit records s → after ≡ texts ++ s ∷ [] → AllByRecursion (IsSpelled limit records) after
+spelled_put limit records texts after s all one put = subst (AllByRecursion (IsSpelled limit records)) (sym put) (All-append (IsSpelled limit records) texts (s ∷ []) all (one, tt))
+
+-- ---- what is sent
+
+pub sent_whole : (limit : ℕ) (full cut text : List ℕ) (sent : Bool × List ℕ) → sent ≡ sized limit full cut → text ≡ sent.1 → sent.0 ≡ true → Some text ≡ fitting limit full
+sent_whole limit full cut text sent is same whole =
+    let first : nat_le (length full) limit ≡ true = sym (ap (λ (r : Bool × List ℕ). r.0) is) ∙ whole in
+    let second : text ≡ cond (nat_le (length full) limit) full cut = same ∙ ap (λ (r : Bool × List ℕ). r.1) is in
+    ap (λ (t : List ℕ). Some t) (second ∙ cond-true (nat_le (length full) limit) full cut first) ∙ sym (cond-true (nat_le (length full) limit) (Some full) None first)
+
+pub sent_cut : (limit : ℕ) (full cut : List ℕ) (sent : Bool × List ℕ) → sent ≡ sized limit full cut → sent.0 ≡ false → None ≡ fitting limit full
+sent_cut limit full cut sent is part =
+    let first : nat_le (length full) limit ≡ false = sym (ap (λ (r : Bool × List ℕ). r.0) is) ∙ part in
+    sym (cond-false (nat_le (length full) limit) (Some full) None first)

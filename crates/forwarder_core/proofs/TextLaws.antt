@@ -1,24 +1,17 @@
 -- The texts of answers and failures, as they are written.
-use Rattle.std.proofs.Common.{◌≡◌, ℕ, ◌<◌, ◌≤◌, List, [], ◌∷◌, length, Bool, true, false, cond, refl, sym, ap, ◌∙◌, ⊎_elim, arith}
-use Rattle.std.specs.Prelude.{◌+◌, ◌-◌, ◌*◌, ◌/◌, map, nat_lt, nat_le, Ok, Err}
-use Rattle.std.proofs.lemmas.Bool.{cases_Bool, cond-true, cond-false, ltb-false, ltb-true, le-leb, leb-true}
+use Rattle.std.proofs.Common.{◌≡◌, ℕ, List, [], ◌∷◌, Bool, true, false, refl, sym, ap, ◌∙◌, arith}
+use Rattle.std.specs.Prelude.{◌+◌, ◌-◌, ◌*◌, ◌/◌, map}
 use Rattle.dns_message.specs.Header.{Header}
-use Rattle.dns_message.specs.Fault.{Fault}
-use Rattle.dns_message.specs.Fault.TheVariants.{TooLarge}
-use Rattle.dns_message.specs.Writing.{written_within}
-use Rattle.step_values.specs.declared.event.Client.{Client}
-use Rattle.step_values.specs.declared.event.Client.TheVariants.{Tcp as FromTcp}
 use Rattle.step_values.specs.declared.action.Why.{Why}
-use Rattle.step_values.specs.declared.action.Why.TheVariants.{Answered, TooLarge as TooLargeWhy}
-use Rattle.step_values.specs.Values.{Action, send_reply}
-use Rattle.step_rules.specs.Row.{failed, gives_up, answered_over, answered}
+use Rattle.step_rules.specs.Row.{answered_over, answered}
 use Rattle.step_history.specs.Carried.{ttl_at}
 use Rattle.step_history.specs.Replies.{kind_of, record_with, records_in, records_of, soa_of, rcode_of, reply_message, full_answer, truncated}
 use Rattle.step_history.specs.Replies.{rcode_of_why, error_response}
 use Rattle.step_history.specs.Pieces.{Body, rows, Piece, Held}
 use Rattle.step_rules.specs.State.{Waiting}
-use Rattle.forwarder_core.specs.Texts.{fresh_record, rows_in, fresh_records, fresh_answer, cut_answer}
-use Rattle.dns_message.specs.Values.{Question, Record, Message}
+use Rattle.forwarder_core.specs.Texts.{fresh_record, rows_in, fresh_records, cut_answer}
+use Rattle.forwarder_core.specs.Spelling.{answer_to}
+use Rattle.dns_message.specs.Values.{Question, Record}
 use Rattle.dns_message.specs.Writing.{written}
 
 -- the text has the counts of the lists, whatever the header says
@@ -39,13 +32,6 @@ error_is h header why rcode qs text header_is code is =
     ∙ reply_counts h false rcode qs []
     ∙ ap (λ (n : ℕ). written (reply_message h false n qs [] [])) code
 
--- the text of a cut answer
-pub cut_is : (header : Header) (x : Waiting) (text : List ℕ)
-    → header ≡ record { id = x.header.id; qr = true; opcode = x.header.opcode; aa = false; tc = true; rd = x.header.rd; ra = true; z = 0; rcode = 0; counts = 0 ∷ 0 ∷ 0 ∷ 0 ∷ [] }
-    → text ≡ written (record { header = header; questions = x.question ∷ []; answers = []; authority = []; additional = [] })
-    → text ≡ written (cut_answer x)
-cut_is header x text header_is is = is ∙ (λ i. written (record { header = header_is i; questions = x.question ∷ []; answers = []; authority = []; additional = [] })) ∙ reply_counts x.header true 0 (x.question ∷ []) []
-
 -- ---- a set that came at this moment has all of its lifetime left
 
 left_whole : (n lifetime : ℕ) → (n + 1000 * lifetime - n) / 1000 ≡ lifetime
@@ -56,7 +42,7 @@ fresh_each n p [] = refl
 fresh_each n p (octets ∷ sets) = λ i. record { owner = p.owner; kind = kind_of p.slot.kind; class = p.slot.class; ttl = left_whole n p.lifetime i; rdata = octets } ∷ fresh_each n p sets i
 
 pub answered_fresh : (n : ℕ) (p : Piece) (x : Waiting) (sets : List (List ℕ)) → p.body ≡ rows sets
-    → answered_over x.client x (written (fresh_answer x p)) (written (cut_answer x)) ≡ answered n (record { piece = p; accepted = n }) x
+    → answered_over x.client x (written (answer_to x (fresh_records p))) (written (cut_answer x)) ≡ answered n (record { piece = p; accepted = n }) x
 answered_fresh n p x sets e = λ i. answered_over x.client x (written (full i)) (written (cut i))
   where
     held : Held
@@ -68,7 +54,7 @@ answered_fresh n p x sets e = λ i. answered_over x.client x (written (full i)) 
     records_are : fresh_records p ≡ records_of held n
     records_are = ap (map (fresh_record p)) in_rows ∙ sym (fresh_each n p sets) ∙ ap (records_in held n) (sym e)
 
-    full : fresh_answer x p ≡ full_answer x.header x.question [] held n
+    full : answer_to x (fresh_records p) ≡ full_answer x.header x.question [] held n
     full = λ i. reply_message x.header false ((sym (ap rcode_of e)) i) (x.question ∷ []) (records_are i) ((sym (ap (λ (b : Body). soa_of b (ttl_at held n)) e)) i)
 
     cut : cut_answer x ≡ truncated x.header x.question held

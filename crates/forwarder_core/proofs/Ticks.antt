@@ -1,5 +1,5 @@
 -- Which item a tick serves first.
-use Rattle.std.proofs.Common.{◌≡◌, ℕ, List, [], ◌∷◌, Bool, true, false, refl, sym, ap, ◌∙◌, subst, Some}
+use Rattle.std.proofs.Common.{◌≡◌, ℕ, List, [], ◌∷◌, Bool, true, false, refl, sym, ap, ◌∙◌, Some}
 use Rattle.std.specs.Prelude.{nat_le, slice_get, ◌||◌}
 use Rattle.std.specs.List.{list_any}
 use Rattle.std.proofs.lemmas.Bool.{cond-true, cond-false, false≢true}
@@ -8,7 +8,7 @@ use Rattle.outstanding.specs.Values.{Ask}
 use Rattle.outstanding.specs.Lists.{on_path as ask_on, same_path}
 use Rattle.outstanding.proofs.CallerLemmas.{same_path_reflexive}
 use Rattle.step_rules.specs.State.{Waiting, State}
-use Rattle.step_rules.specs.Row.{idle_step, deadline_of, timeout_of, Item, question, attempt, first_item, row_of_item, row_of_tick, is_due_at}
+use Rattle.step_rules.specs.Row.{idle_step, deadline_of, timeout_of, question, attempt, first_item, row_of_item, row_of_tick, is_due_at}
 
 pub tick_idle : (c : Config) (n : ℕ) (words : List ℕ) (s : State) → s.waiting ≡ [] → s.asks ≡ [] → idle_step n s ≡ row_of_tick c n words s
 tick_idle c n words s none no_ask = λ i. row_of_item c n words s (first_item c (sym none i) (sym no_ask i))

@@ -9,7 +9,7 @@ use Rattle.forwarder_core.specs.declared.next.Change.TheVariants.{Nothing, Join,
 use Rattle.forwarder_core.specs.declared.next.Next.{Next}
 use Rattle.step_values.specs.Values.{Event, restart, Action, actions_of, Outcome}
 use Rattle.step_rules.specs.State.{Waiting, State}
-use Rattle.outstanding.specs.Lists.{on_path as ask_on, of_question, without_path, MayBegin}
+use Rattle.outstanding.specs.Lists.{on_path as ask_on, without_path, MayBegin}
 use Rattle.outstanding.specs.Values.{Ask}
 use Rattle.step_rules.specs.Row.{Done, Fate, closes, reply_in, waits_for, is_due_at, Happens}
 use Rattle.step_history.specs.History.{is_tcp}

@@ -117,6 +117,24 @@ fn put_answer<A: Allocator + Copy>(
     actions.push(action)
 }
 
+/// Puts the answers of those questions last that wait for this one, in their order.
+fn put_answers<A: Allocator + Copy>(
+    actions: &mut PlainList<Action<A>, A>,
+    question: &Question<A>,
+    answers: &mut Answers<A>,
+    set: &RecordSet<A>,
+    now: u64,
+    waiting: &[Waiting<A>],
+) -> Result<(), AllocError>
+    requires { answers.old ≡ fresh_records set.now }
+    ensures { IfOk result (λ _. actions_of actions.new ≡ with_replies (is_given now (record { piece = set.now; accepted = now }) question.now) (actions_of actions.old) waiting.now) }
+{
+    for x in waiting {
+        put_answer(actions, question, answers, set, now, x)?;
+    }
+    Ok(())
+}
+
 /// The query is closed, and each question that waits for it is answered with the set that came at this moment.
 pub(crate) fn answers_to<A: Allocator + Copy>(
     alloc: A,
@@ -130,8 +148,13 @@ pub(crate) fn answers_to<A: Allocator + Copy>(
     let mut answers = Answers::new(alloc, set)?;
     let mut actions = PlainList::new(alloc);
     actions.push(close(query.path))?;
-    for x in waiting {
-        put_answer(&mut actions, &query.question, &mut answers, set, now, x)?;
-    }
+    put_answers(
+        &mut actions,
+        &query.question,
+        &mut answers,
+        set,
+        now,
+        waiting,
+    )?;
     Ok(actions)
 }

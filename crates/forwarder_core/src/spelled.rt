@@ -1,13 +1,13 @@
 //! The answers with one set: its records are made once, and a text is written once for questions that are spelled
 //! alike, since the answers to them differ in identifier and flags alone (RFC 1035 4.1.1).
 
-ghost use Rattle.std.specs.Prelude.{◌≡◌, ◌≤◌, ◌<◌, IfOk, IfSome, OnOk, OnErr, Some, None, if◌then◌else◌, nat_le, length};
-ghost use Rattle.std.specs.Option.{option_map};
+ghost use Rattle.std.specs.Prelude.{◌≡◌, ◌≤◌, ◌<◌, IfOk, MatchOption, not, Some, None, if◌then◌else◌, nat_le, length};
+ghost use Rattle.std.specs.List.{AllByRecursion, find};
 ghost use Rattle.dns_message.specs.Writing.{written};
 ghost use Rattle.step_values.specs.Values.{action_of};
 ghost use Rattle.step_rules.specs.Row.{answered_over};
 ghost use Rattle.forwarder_core.specs.Texts.{fresh_records, cut_answer};
-ghost use Rattle.forwarder_core.specs.Spelling.{empty_header, answer_header, answer_to, answer_text, same_spelling, are_alike, is_for, IsAnswer, IsSpelled, fitting, with_front};
+ghost use Rattle.forwarder_core.specs.Spelling.{empty_header, answer_header, answer_to, answer_text, same_spelling, are_alike, is_for, IsAnswer, IsSpelled, fitting, sized, with_front};
 
 use crate::answers::{failure, header_text, one_question, question_text, reply_header};
 use crate::sets::{RecordSet, is_same_octets};
@@ -25,13 +25,14 @@ const UDP_LIMIT: usize = 512;
 /// The most octets that TCP carries (RFC 1035 4.2.2).
 const TCP_LIMIT: usize = 65_535;
 
-/// The text of the answer to a question as it is spelled, under an empty header.
+/// The text for a question as it is spelled, under an empty header.
 #[derive(Drop)]
 pub(crate) struct Spelled<A: Allocator = Global> {
-    /// The question for which the text was written, if one was.
-    question: Option<Question<A>>,
-    /// There is none where it passes the limit.
-    text: Option<Octets<A>>,
+    question: Question<A>,
+    /// The answer is within the limit.
+    whole: bool,
+    /// The answer, or the question alone where that passes the limit.
+    text: Octets<A>,
 }
 
 /// The answers with a set that came at this moment. Contracts see its records.
@@ -40,10 +41,10 @@ pub(crate) struct Answers<A: Allocator = Global> {
     alloc: A,
     /// The records under an empty header, behind the question for which a text was written last.
     message: Message<A>,
-    /// The text that was written last for UDP.
-    udp: Spelled<A>,
-    /// The text that was written last for TCP.
-    tcp: Spelled<A>,
+    /// The texts for UDP.
+    udp: PlainList<Spelled<A>, A>,
+    /// The texts for TCP.
+    tcp: PlainList<Spelled<A>, A>,
 }
 
 impl<A: Allocator> Model for Answers<A> {
@@ -96,16 +97,6 @@ fn fresh_records<A: Allocator + Copy>(
     Ok(records)
 }
 
-/// No text was written yet.
-fn nothing_spelled<A: Allocator>() -> Spelled<A>
-    ensures { result ≡ record { question = None; text = None } }
-{
-    Spelled {
-        question: None,
-        text: None,
-    }
-}
-
 /// The names are equal, letter case included.
 fn is_same_spelling<A: Allocator>(a: &Name<A>, b: &Name<A>) -> bool
     ensures { result ≡ same_spelling a.now b.now }
@@ -120,14 +111,19 @@ fn is_alike<A: Allocator>(a: &Question<A>, b: &Question<A>) -> bool
     is_same_spelling(&a.name, &b.name) && a.kind == b.kind && a.class == b.class
 }
 
-/// The text was written for this question.
-fn is_spelled_for<A: Allocator>(spelled: &Spelled<A>, question: &Question<A>) -> bool
-    ensures { result ≡ is_for question.now spelled.now.question }
+/// The text for this question, if it was written.
+fn find_spelled<'a, A: Allocator>(
+    texts: &'a [Spelled<A>],
+    question: &Question<A>,
+) -> Option<&'a Spelled<A>>
+    ensures { MatchOption result (find (is_for question.now) texts.now ≡ None) (λ s. find (is_for question.now) texts.now ≡ Some s.now) }
 {
-    match &spelled.question {
-        Some(kept) => is_alike(kept, question),
-        None => false,
+    for spelled in texts {
+        if is_alike(&spelled.question, question) {
+            return Some(spelled);
+        }
     }
+    None
 }
 
 /// The text of a message, where it has at most `limit` octets.
@@ -147,33 +143,54 @@ fn text_within<A: Allocator + Copy>(
     }
 }
 
-/// Writes the text for this question, unless it is there already. An `Err` changes no text.
+/// The text of the answer to this question, under the message's header, where it has at most `limit` octets.
+fn whole_text<A: Allocator + Copy>(
+    alloc: A,
+    message: &mut Message<A>,
+    question: &Question<A>,
+    limit: usize,
+) -> Result<Option<Octets<A>>, AllocError>
+    requires limit { limit ≤ 65535 }
+    requires bare { IsAnswer message.old }
+    ensures bare { IsAnswer message.new }
+    ensures records { message.new.answers ≡ message.old.answers }
+    ensures text { IfOk result (λ text. text ≡ fitting limit (answer_text question.now message.old.answers)) }
+{
+    message.questions = one_question(alloc, question)?;
+    text_within(alloc, message, limit)
+}
+
+/// The text for this question.
 fn spell<A: Allocator + Copy>(
     alloc: A,
     message: &mut Message<A>,
-    spelled: &mut Spelled<A>,
     question: &Question<A>,
     limit: usize,
-) -> Result<(), AllocError>
+) -> Result<Spelled<A>, AllocError>
     requires limit { limit ≤ 65535 }
     requires bare { IsAnswer message.old }
-    requires spelled { IsSpelled limit message.old.answers spelled.old }
     ensures bare { IsAnswer message.new }
     ensures records { message.new.answers ≡ message.old.answers }
-    ensures ok { OnOk result (spelled.new ≡ record { question = Some question.now; text = fitting limit (answer_text question.now message.old.answers) }) }
-    ensures err { OnErr result (spelled.new ≡ spelled.old) }
+    ensures question { IfOk result (λ s. s.question ≡ question.now) }
+    ensures spelled { IfOk result (IsSpelled limit message.old.answers) }
 {
-    if is_spelled_for(spelled, question) {
-        return Ok(());
-    }
-    message.questions = one_question(alloc, question)?;
-    let text = text_within(alloc, message, limit)?;
     let own = question.copy(alloc)?;
-    *spelled = Spelled {
-        question: Some(own),
-        text,
-    };
-    Ok(())
+    let whole = whole_text(alloc, message, question, limit)?;
+    match whole {
+        Some(text) => Ok(Spelled {
+            question: own,
+            whole: true,
+            text,
+        }),
+        None => {
+            let text = question_text(alloc, empty_header(), question)?;
+            Ok(Spelled {
+                question: own,
+                whole: false,
+                text,
+            })
+        }
+    }
 }
 
 /// The octets of a text behind the identifier and the flags of this header.
@@ -195,52 +212,44 @@ fn under_header<A: Allocator + Copy>(
     Ok(Octets::from_vec(octets))
 }
 
-/// The text as the answer to this request, where there is one.
+/// What is sent to this request: the text under its own header, with TC where that is the question alone.
 fn text_to<A: Allocator + Copy>(
     alloc: A,
     request: &Header,
-    text: &Option<Octets<A>>,
-) -> Result<Option<Octets<A>>, AllocError>
+    spelled: &Spelled<A>,
+) -> Result<(bool, Octets<A>), AllocError>
     requires opcode { request.now.opcode < 16 }
-    requires some { IfSome text.now (λ octets. 4 ≤ length octets) }
-    ensures { IfOk result (λ own. own ≡ option_map (with_front (answer_header request.now)) text.now) }
+    requires some { 4 ≤ length spelled.now.text }
+    ensures { IfOk result (λ r. r ≡ (spelled.now.whole, with_front (answer_header request.now (not spelled.now.whole)) spelled.now.text)) }
 {
-    match text {
-        Some(text) => {
-            let header = reply_header(request, false, 0);
-            let own = under_header(alloc, header, text.as_slice())?;
-            Ok(Some(own))
-        }
-        None => Ok(None),
-    }
+    let header = reply_header(request, !spelled.whole, 0);
+    let text = under_header(alloc, header, spelled.text.as_slice())?;
+    Ok((spelled.whole, text))
 }
 
-/// The answer to a question, where it has at most `limit` octets.
+/// The answer to a question where it has at most `limit` octets, else the question alone with TC; and which of them.
 fn answer_within<A: Allocator + Copy>(
     alloc: A,
     message: &mut Message<A>,
-    spelled: &mut Spelled<A>,
+    texts: &mut PlainList<Spelled<A>, A>,
     waiting: &Waiting<A>,
     limit: usize,
-) -> Result<Option<Octets<A>>, AllocError>
+) -> Result<(bool, Octets<A>), AllocError>
     requires limit { limit ≤ 65535 }
     requires bare { IsAnswer message.old }
-    requires spelled { IsSpelled limit message.old.answers spelled.old }
+    requires spelled { AllByRecursion (IsSpelled limit message.old.answers) texts.old }
     ensures bare { IsAnswer message.new }
     ensures records { message.new.answers ≡ message.old.answers }
-    ensures spelled { IsSpelled limit message.old.answers spelled.new }
-    ensures text { IfOk result (λ text. text ≡ fitting limit (written (answer_to waiting.now message.old.answers))) }
+    ensures spelled { AllByRecursion (IsSpelled limit message.old.answers) texts.new }
+    ensures text { IfOk result (λ r. r ≡ sized limit (written (answer_to waiting.now message.old.answers)) (written (cut_answer waiting.now))) }
 {
-    spell(alloc, message, spelled, &waiting.question, limit)?;
-    text_to(alloc, &waiting.header, &spelled.text)
-}
-
-/// The question alone, with TC.
-fn cut_text<A: Allocator + Copy>(alloc: A, waiting: &Waiting<A>) -> Result<Octets<A>, AllocError>
-    ensures { IfOk result (λ text. text ≡ written (cut_answer waiting.now)) }
-{
-    let header = reply_header(&waiting.header, true, 0);
-    question_text(alloc, header, &waiting.question)
+    if let Some(spelled) = find_spelled(texts.as_slice(), &waiting.question) {
+        return text_to(alloc, &waiting.header, spelled);
+    }
+    let spelled = spell(alloc, message, &waiting.question, limit)?;
+    let sent = text_to(alloc, &waiting.header, &spelled)?;
+    texts.push(spelled)?;
+    Ok(sent)
 }
 
 impl<A: Allocator + Copy> Answers<A> {
@@ -258,8 +267,8 @@ impl<A: Allocator + Copy> Answers<A> {
                 authority: PlainList::new(alloc),
                 additional: PlainList::new(alloc),
             },
-            udp: nothing_spelled(),
-            tcp: nothing_spelled(),
+            udp: PlainList::new(alloc),
+            tcp: PlainList::new(alloc),
         })
     }
 
@@ -268,16 +277,14 @@ impl<A: Allocator + Copy> Answers<A> {
         ensures same { self.new ≡ self.old }
         ensures text { IfOk result (λ text. text ≡ (if nat_le (length (written (answer_to waiting.now self.old))) 512 then written (answer_to waiting.now self.old) else written (cut_answer waiting.now))) }
     {
-        match answer_within(
+        let (_, text) = answer_within(
             self.alloc,
             &mut self.message,
             &mut self.udp,
             waiting,
             UDP_LIMIT,
-        )? {
-            Some(text) => Ok(text),
-            None => cut_text(self.alloc, waiting),
-        }
+        )?;
+        Ok(text)
     }
 
     /// The answer over TCP, where it has at most 65,535 octets (RFC 1035 4.2.2).
@@ -285,13 +292,17 @@ impl<A: Allocator + Copy> Answers<A> {
         ensures same { self.new ≡ self.old }
         ensures text { IfOk result (λ text. text ≡ fitting 65535 (written (answer_to waiting.now self.old))) }
     {
-        answer_within(
+        let (whole, text) = answer_within(
             self.alloc,
             &mut self.message,
             &mut self.tcp,
             waiting,
             TCP_LIMIT,
-        )
+        )?;
+        if !whole {
+            return Ok(None);
+        }
+        Ok(Some(text))
     }
 
     /// The reply to a question: over TCP what passes 65,535 octets is a failure.

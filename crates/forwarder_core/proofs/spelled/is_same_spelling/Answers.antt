@@ -1,4 +1,4 @@
-use Rattle.std.proofs.Common.{◌≡◌, ◌∙◌, ap, sym, List, ℕ}
+use Rattle.std.proofs.Common.{◌≡◌, ◌∙◌, ap, sym}
 use Rattle.dns_name.specs.Labels.{octets_of}
 use Rattle.plain_list.specs.Octets.{same_octets}
 use Rattle.forwarder_core.proofs.spelled.is_same_spelling.Goals as goal

@@ -1,5 +1,6 @@
-use Rattle.forwarder_core.proofs.SpellingLaws.{spelled_before}
+use Rattle.std.proofs.Common.{refl}
+use Rattle.forwarder_core.proofs.SpellingLaws.{spelled_whole}
 use Rattle.forwarder_core.proofs.spelled.spell.Goals as goal
 
-pub returns-then-is_spelled_for-clause-ok : goal.returns-then-is_spelled_for-clause-ok
-returns-then-is_spelled_for-clause-ok g c = spelled_before c.args.limit c.args.message.now.answers c.args.question.now c.args.spelled.now c.is_spelled_for.result c.requires.spelled c.is_spelled_for.ensures c.if-is_spelled_for.true
+pub returns-in-Some-clause-spelled : goal.returns-in-Some-clause-spelled
+returns-in-Some-clause-spelled g c = spelled_whole c.args.limit c.args.message.now.answers c.args.question.now _ c.in_ok-whole.whole c.in_ok-own.ensures refl c.in_ok-whole.ensures.text c.in-Some.is

@@ -1,5 +1,5 @@
 use Rattle.std.proofs.Common.{◌∙◌, ap, [], ◌∷◌, ◌++◌}
-use Rattle.step_values.specs.Values.{actions_of, action_of}
+use Rattle.step_values.specs.Values.{actions_of}
 use Rattle.step_rules.specs.Row.{closes}
 use Rattle.outstanding.specs.Values.{Ask}
 use Rattle.forwarder_core.proofs.Deciding.{again_row}

@@ -1,5 +1,4 @@
-use Rattle.std.proofs.Common.{◌≡◌, ◌∙◌, ◌≤◌, ◌<◌, length, sym, ap, subst, refl, None, arith, Some}
-use Rattle.suffix_routes.specs.Values.{Config}
+use Rattle.std.proofs.Common.{◌≡◌, ◌∙◌, ◌≤◌, length, sym, ap, subst, refl, None, arith}
 use Rattle.outstanding.specs.Lists.{of_question, AreListed}
 use Rattle.step_rules.specs.State.{Running, Waiting}
 use Rattle.step_rules.specs.Attempts.{first_ask}

@@ -1,4 +1,4 @@
-use Rattle.std.proofs.Common.{◌∙◌, ap, [], ◌∷◌, ◌++◌}
+use Rattle.std.proofs.Common.{◌∙◌, ap}
 use Rattle.step_values.specs.Values.{actions_of}
 use Rattle.step_rules.specs.Row.{left_alone}
 use Rattle.forwarder_core.proofs.Deciding.{expired_row, pushed}

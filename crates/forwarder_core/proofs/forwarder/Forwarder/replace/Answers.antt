@@ -1,4 +1,4 @@
-use Rattle.std.proofs.Common.{◌≡◌, ℕ, ◌+◌, ◌^◌, ◌<◌, ◌≤◌, sym, subst}
+use Rattle.std.proofs.Common.{ℕ, ◌+◌, ◌^◌, ◌<◌, ◌≤◌, sym, subst}
 use Rattle.step_rules.specs.State.{Running}
 use Rattle.outstanding.specs.Lists.{without_path}
 use Rattle.outstanding.specs.Values.{Ask}
