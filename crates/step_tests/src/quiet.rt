@@ -1,11 +1,11 @@
 //! What calls for nothing takes no memory: of one growth that is allowed, one is left after the step. So a body that
 //! copies a stranger's octets is found even where it bears the refusal in silence.
 
-use crate::worked::{PATH, QUESTION, REPLY, SERVER, WORDS, asked, delivers, replies, sends};
+use crate::worked::{PATH, REPLY, SERVER, WORDS, asked, delivers, sends};
 use forwarder_core::Forwarder;
 use lru::DefaultHasher;
 use refusing_allocator::Refusing;
-use std::alloc::{AllocError, Global};
+use std::alloc::{AllocError, Allocator, Global};
 use std::test::Fail;
 use step_values::{Event, Path};
 use suffix_routes::Peer;
@@ -24,54 +24,82 @@ fn is_quiet<'a>(
     Ok(is_left && outcome?.actions.as_slice().is_empty())
 }
 
+/// An event whose octets stand in the table.
+#[derive(Clone, Copy)]
+enum Row {
+    Sends(&'static [u8]),
+    Delivers(Path, Peer, &'static [u8]),
+    Fails(Path),
+    Tick,
+    Restart,
+}
+
+/// The same reply with another identifier, and with another type.
+const OTHER_IDENTIFIER: &[u8] =
+    b"\x00\x09\x85\x00\x00\x01\x00\x01\x00\x00\x00\x00\x01a\x07example\x00\x00\x01\x00\x01\xc0\x0c\x00\x01\x00\x01\x00\x00\x01\x2c\x00\x04\xc6\x33\x64\x05";
+
+const OTHER_TYPE: &[u8] =
+    b"\x00\x08\x85\x00\x00\x01\x00\x01\x00\x00\x00\x00\x01a\x07example\x00\x00\x1c\x00\x01\xc0\x0c\x00\x01\x00\x01\x00\x00\x01\x2c\x00\x04\xc6\x33\x64\x05";
+
+const OTHER_PORT: Peer = Peer {
+    ip: [192, 0, 2, 1],
+    port: 5353,
+};
+
+/// What comes once the query was sent at 1000, with its moment. The query may be answered for 1,500 milliseconds, and an
+/// earlier moment counts as the latest one.
+const ROWS: [(u64, Row); 15] = [
+    (1001, Row::Sends(REPLY)),
+    (
+        1002,
+        Row::Sends(b"\x12\x34\x01\x00\x00\x01\x00\x00\x00\x00\x00"),
+    ),
+    (1003, Row::Delivers(PATH, SERVER, OTHER_IDENTIFIER)),
+    (1003, Row::Delivers(PATH, SERVER, OTHER_TYPE)),
+    (1003, Row::Delivers(PATH, OTHER_PORT, REPLY)),
+    (1003, Row::Delivers(Path::Udp(1033), SERVER, REPLY)),
+    (1004, Row::Fails(Path::Udp(1033))),
+    (1004, Row::Fails(Path::Tcp(1032))),
+    (2499, Row::Tick),
+    (0, Row::Tick),
+    (2500, Row::Delivers(PATH, SERVER, REPLY)),
+    (2500, Row::Restart),
+    (2500, Row::Delivers(PATH, SERVER, REPLY)),
+    (2500, Row::Fails(PATH)),
+    (9000, Row::Tick),
+];
+
+/// The event of a row.
+fn event<A: Allocator + Copy>(alloc: A, row: Row) -> Result<Event<A>, AllocError> {
+    match row {
+        Row::Sends(bytes) => sends(alloc, bytes),
+        Row::Delivers(path, from, bytes) => delivers(alloc, path, from, bytes),
+        Row::Fails(path) => Ok(Event::PathFailed { path }),
+        Row::Tick => Ok(Event::Tick),
+        Row::Restart => Ok(Event::Restart),
+    }
+}
+
 #[test]
 fn what_calls_for_nothing_takes_no_memory(rt: HostRuntime) -> Result<(), Fail> {
     let heap = Refusing::new(rt.alloc());
     let mut forwarder = asked(&heap)?;
-    let elsewhere = Peer {
-        ip: [192, 0, 2, 1],
-        port: 5353,
-    };
-    let mut other_identifier = REPLY;
-    other_identifier[1] = 9;
-    let mut other_type = REPLY;
-    other_type[24] = 28;
-    // The query may be answered for 1,500 milliseconds, and an earlier moment counts as the latest one.
-    for (row, (now, event)) in [
-        (1001, sends(&heap, &REPLY)?),
-        (1002, sends(&heap, &QUESTION[..11])?),
-        (1003, delivers(&heap, PATH, SERVER, &other_identifier)?),
-        (1003, delivers(&heap, PATH, SERVER, &other_type)?),
-        (1003, delivers(&heap, PATH, elsewhere, &REPLY)?),
-        (1003, delivers(&heap, Path::Udp(1033), SERVER, &REPLY)?),
-        (
-            1004,
-            Event::PathFailed {
-                path: Path::Udp(1033),
-            },
-        ),
-        (
-            1004,
-            Event::PathFailed {
-                path: Path::Tcp(1032),
-            },
-        ),
-        (2499, Event::Tick),
-        (0, Event::Tick),
-        (2500, replies(&heap)?),
-        (2500, Event::Restart),
-        (2500, replies(&heap)?),
-        (2500, Event::PathFailed { path: PATH }),
-        (9000, Event::Tick),
-    ]
-    .into_iter()
-    .enumerate()
-    {
-        assert!(rt; is_quiet(&heap, &mut forwarder, now, event)?, "row {row}");
+    for (number, (now, row)) in ROWS.iter().enumerate() {
+        let event = event(&heap, *row)?;
+        assert!(rt;
+            is_quiet(&heap, &mut forwarder, *now, event)?,
+            "row {number}"
+        );
     }
-    let mut restarted = asked(&heap)?;
+    Ok(())
+}
+
+#[test]
+fn a_restart_by_its_call_takes_no_memory(rt: HostRuntime) -> Result<(), Fail> {
+    let heap = Refusing::new(rt.alloc());
+    let mut forwarder = asked(&heap)?;
     heap.allow(1);
-    restarted.restart();
-    assert!(rt; Box::new(&heap, 0u8).is_ok(), "a restart by its call");
+    forwarder.restart();
+    assert!(rt; Box::new(&heap, 0u8).is_ok());
     Ok(())
 }

@@ -35,8 +35,8 @@ pub(crate) const QUERY: [u8; 27] =
     *b"\x00\x08\x01\x00\x00\x01\x00\x00\x00\x00\x00\x00\x01a\x07example\x00\x00\x01\x00\x01";
 
 /// The server's reply: 198.51.100.5, for 300 seconds.
-pub(crate) const REPLY: [u8; 43] =
-    *b"\x00\x08\x85\x00\x00\x01\x00\x01\x00\x00\x00\x00\x01a\x07example\x00\x00\x01\x00\x01\xc0\x0c\x00\x01\x00\x01\x00\x00\x01\x2c\x00\x04\xc6\x33\x64\x05";
+pub(crate) const REPLY: &[u8] =
+    b"\x00\x08\x85\x00\x00\x01\x00\x01\x00\x00\x00\x00\x01a\x07example\x00\x00\x01\x00\x01\xc0\x0c\x00\x01\x00\x01\x00\x00\x01\x2c\x00\x04\xc6\x33\x64\x05";
 
 /// What the client gets.
 const ANSWER: &[u8] =
@@ -83,7 +83,7 @@ pub(crate) fn delivers<A: Allocator + Copy>(
 
 /// The server's reply comes.
 pub(crate) fn replies<A: Allocator + Copy>(alloc: A) -> Result<Event<A>, AllocError> {
-    delivers(alloc, PATH, SERVER, &REPLY)
+    delivers(alloc, PATH, SERVER, REPLY)
 }
 
 /// A forwarder that has sent the query.
