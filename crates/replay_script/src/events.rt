@@ -1,17 +1,18 @@
 //! Event lines of a script, read as moments and events.
 
-ghost use Rattle.std.specs.Prelude.{◌≡◌, ◌≤◌};
+ghost use Rattle.std.specs.Prelude.{◌≡◌, ◌≤◌, IfOk};
 ghost use Rattle.replay_script.specs.declared.events.Refusal.TheVariants.{Memory};
 ghost use Rattle.replay_script.specs.Words.{words_of};
 
-use forwarder_core::{Client, Event, Path};
+use crate::fault::ReplayFault;
+use forwarder_core::{Client, Event, Handed, Path};
 use hex::FromHexError;
 use plain_list::{Octets, PlainList};
 use std::alloc::{AllocError, Allocator};
 use suffix_routes::Peer;
 
 /// How many event lines a script may have.
-pub(crate) const MOST_LINES: u32 = 8191;
+pub const MOST_LINES: u32 = 8191;
 
 /// Why a line gives no event.
 #[derive(Clone, Copy, PartialEq, Eq, Debug)]
@@ -53,6 +54,22 @@ pub(crate) fn words(line: u32) -> [u32; 8]
         (first + 6) * 65537,
         (first + 7) * 65537,
     ]
+}
+
+/// What the event line of this number hands over. `Line` where it has none of the forms, `Memory` where memory ran out.
+pub fn handed_by<A: Allocator>(alloc: A, number: u32, line: &[u8]) -> Result<Handed<A>, ReplayFault>
+    requires { number ≤ MOST_LINES }
+    ensures words { IfOk result (λ handed. handed.words ≡ words_of number) }
+{
+    match timed_event(alloc, line) {
+        Ok(timed) => Ok(Handed {
+            now: timed.moment,
+            words: words(number),
+            event: timed.event,
+        }),
+        Err(Refusal::Form) => Err(ReplayFault::Line(number)),
+        Err(Refusal::Memory) => Err(ReplayFault::Memory),
+    }
 }
 
 /// The event of a line: `MOMENT client udp PEER OCTETS`, `MOMENT client tcp NUMBER OCTETS`,
