@@ -32,7 +32,7 @@ rows_with kind kept octets all one =
     cond_both (list_any (same_octets octets) kept) kept (kept ++ octets ∷ []) (AreRows kind) (λ _. all)
     (λ _. record { some = some_end kept octets; shaped = shaped_end kind kept octets all.shaped one })
 
-abbrev HaveShape : ℕ → List Record → Type 0
+abbrev pub HaveShape : ℕ → List Record → Type 0
 HaveShape kind records = AllByRecursion (λ (r : Record). IsShaped kind r.rdata) records
 
 rows_with_all : (kind : ℕ) (kept : List (List ℕ)) (records : List Record) → AreRows kind kept → HaveShape kind records → AreRows kind (with_all_data kept records)
@@ -42,7 +42,7 @@ rows_with_all kind kept (r ∷ records) all each = rows_with_all kind (with_data
 pub kind_of_set : (q : Question) (r : Record) → is_of q r ≡ true → r.kind ≡ q.kind
 kind_of_set q r e = eqb-true r.kind q.kind (and_parts (r.kind == q.kind) (r.class == q.class) (and_parts ((r.kind == q.kind) && (r.class == q.class)) (same r.owner q.name) e).0).0
 
-set_shape : (q : Question) (records : List Record) → AreShaped records → HaveShape q.kind (records_for q records)
+pub set_shape : (q : Question) (records : List Record) → AreShaped records → HaveShape q.kind (records_for q records)
 set_shape q [] all = tt
 set_shape q (r ∷ records) all =
     cond_both (is_of q r) (r ∷ records_for q records) (records_for q records) (HaveShape q.kind)
@@ -52,6 +52,14 @@ set_shape q (r ∷ records) all =
 lifetime_short : (most : ℕ) (records : List Record) → lifetime_within most records ≤ most
 lifetime_short most [] = omega arith
 lifetime_short most (r ∷ records) = omega (arith, lifetime_short (min most (seconds_of r.ttl)) records)
+
+-- a set is a piece
+pub set_with_is_piece : (rank route : ℕ) (first : Record) (others : List Record) (kind : ℕ) → first.kind ≡ kind → IsShaped kind first.rdata → HaveShape kind others → IsPiece (set_with rank route first others)
+set_with_is_piece rank route first others kind is one all = record {
+  key = refl;
+  body = subst (λ (k : ℕ). AreRows k (with_all_data (first.rdata ∷ []) others)) (sym is) (rows_with_all kind (first.rdata ∷ []) others (record { some = some_end [] first.rdata; shaped = (one, tt) }) all);
+  lifetime = omega (arith, lifetime_short (min longest (seconds_of first.ttl)) others);
+}
 
 -- what one pass gathers is a piece
 pub gathered_is_piece : (rank route : ℕ) (first : Record) (q : Question) (others : List Record) (class kind : ℕ) (owner key : List (List ℕ)) (sets : List (List ℕ)) (lifetime : ℕ) → kind ≡ first.kind → key ≡ lowered owner
