@@ -1,0 +1,8 @@
+pub mod Values
+pub mod Sets
+pub mod Gathering
+pub mod Denials
+pub mod Walks
+pub mod Replacing
+pub mod Formed
+pub mod Laws

@@ -1,0 +1,30 @@
+-- When a piece takes the place of another one: RFC 2181 5.4, RFC 8020 2. History and cache both go by it.
+use Rattle.std.specs.Prelude.{ℕ, Bool, true, false, not, if◌then◌else◌, ◌==◌, ◌&&◌, ◌||◌, nat_le, Option, Some, None, is_none}
+use Rattle.dns_name.specs.Labels.{same, is_under}
+use Rattle.trust_rank.specs.declared.slot.Slot.{Slot}
+use Rattle.trust_rank.specs.Values.{Piece}
+
+abbrev pub same_kind : Option ℕ → Option ℕ → Bool
+same_kind None None = true
+same_kind None (Some b) = false
+same_kind (Some a) None = false
+same_kind (Some a) (Some b) = a == b
+
+-- equal names, letter case aside, equal classes and types
+abbrev pub same_slot : Slot → Slot → Bool
+same_slot a b = same a.key b.key && (a.class == b.class) && same_kind a.kind b.kind
+
+-- the denial of a whole name (NXDOMAIN, RFC 2308 2.1), which has no type
+abbrev pub is_name_error : Piece → Bool
+is_name_error p = is_none p.slot.kind
+
+-- a set or NODATA of the class of p, at or under its name: so the name of p is there (RFC 8020 2)
+abbrev pub shows_name : Piece → Piece → Bool
+shows_name q p = not (is_name_error q) && (q.slot.class == p.slot.class) && is_under q.slot.key p.slot.key
+
+-- q takes the place of p: of p's slot, at a rank that is not lower; of a name error, one of its slot at any rank, and
+-- what shows its name
+abbrev pub takes_place_of : Piece → Piece → Bool
+takes_place_of q p =
+    if is_name_error p then same_slot q.slot p.slot || shows_name q p
+    else same_slot q.slot p.slot && nat_le p.rank q.rank

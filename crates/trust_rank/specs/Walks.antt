@@ -1,0 +1,196 @@
+-- The walk of a reply, from the asked name along its aliases: RFC 1034 3.6.2 and 5.3.3, RFC 2181 5.4.1 and 10.1, RFC 2308 2.
+use Rattle.std.specs.Prelude.{ℕ, zero, suc, Bool, true, false, not, if◌then◌else◌, ◌==◌, ◌&&◌, nat_lt, List, [], ◌∷◌, ◌++◌, length, Option, Some, None, is_none}
+use Rattle.std.specs.List.{list_any}
+use Rattle.dns_name.specs.Labels.{same, is_under}
+use Rattle.dns_message.specs.Values.{Question, Record, Message}
+use Rattle.dns_message.specs.Data.{name_of_rdata}
+use Rattle.suffix_routes.specs.Values.{Config}
+use Rattle.suffix_routes.specs.Routes.{route_of}
+use Rattle.trust_rank.specs.declared.reply.Met.{Met as OwnedMet}
+use Rattle.trust_rank.specs.declared.reply.Met.TheVariants as owned
+use Rattle.trust_rank.specs.Values.{Body, rows, no_data, denied, Piece, End, found, ends_no_data, ends_denied, elsewhere, lame, Walk, Reply, reply_of}
+use Rattle.trust_rank.specs.Sets.{records_for, set_of, set_with}
+use Rattle.trust_rank.specs.Denials.{soa_for, no_data_with, name_error_with}
+
+-- ---- one name of the walk
+
+-- What a reply has at a name: nothing that counts, so that it has to be asked for; the asked set; a denial of the type or
+-- of the name; an alias, and the name that it leads to; or what makes the whole reply lame.
+pub data Met : Type 0 where
+  met_nothing : Met
+  met_set : Piece → Met
+  met_no_data : Piece → Met
+  met_name_error : Piece → Met
+  met_alias : Piece → List (List ℕ) → Met
+  met_lame : Met
+
+abbrev pub is_place : Option ℕ → ℕ → Bool
+is_place None route = false
+is_place (Some place) route = place == route
+
+-- the name is on the route that was asked
+abbrev pub is_on_route : Reply → List (List ℕ) → Bool
+is_on_route r name = is_place (route_of r.config.routes name) r.route
+
+-- what the asked name's own server tells of that name is believed most (RFC 2181 5.4.1)
+abbrev pub rank_at : Reply → List (List ℕ) → ℕ
+rank_at r name = if r.is_authoritative && same name r.question.name then 3 else 1
+
+-- the question for this type at this name
+abbrev pub at_name : Reply → ℕ → List (List ℕ) → Question
+at_name r kind name = record { name = name; kind = kind; class = r.question.class }
+
+-- the set of this type that the answer section has at the name
+abbrev pub answer_set : Reply → ℕ → List (List ℕ) → Option Piece
+answer_set r kind name = set_of (rank_at r name) r.route (records_for (at_name r kind name) r.answers)
+
+-- the CNAME set at the name; a question for CNAME follows none (RFC 1034 3.6.2)
+abbrev pub alias_set : Reply → List (List ℕ) → Option Piece
+alias_set r name = if r.question.kind == 5 then None else answer_set r 5 name
+
+abbrev pub has_many : Body → Bool
+has_many (rows each) = nat_lt 1 (length each)
+has_many (no_data soa) = false
+has_many (denied soa) = false
+
+-- the name that an alias leads to: that of its one record
+abbrev pub target_of : Body → Option (List (List ℕ))
+target_of (rows []) = None
+target_of (rows (octets ∷ [])) = name_of_rdata octets
+target_of (rows (octets ∷ other ∷ more)) = None
+target_of (no_data soa) = None
+target_of (denied soa) = None
+
+abbrev pub is_name_server : Record → Bool
+is_name_server s = s.kind == 2
+
+-- the authority section has name servers and the reply is not authoritative: others are to be asked (RFC 2308 2.2)
+abbrev pub is_referral : Reply → Bool
+is_referral r = not r.is_authoritative && list_any is_name_server r.authority
+
+abbrev pub name_error_at : Reply → List (List ℕ) → Piece
+name_error_at r name = name_error_with (rank_at r name) r.route name r.question.class (soa_for name r.question.class r.authority)
+
+abbrev pub no_data_at : Reply → List (List ℕ) → Piece
+no_data_at r name = no_data_with (rank_at r name) r.route name r.question.class r.question.kind (soa_for name r.question.class r.authority)
+
+-- where neither the asked set nor an alias stands at the name, which may be the first of the walk: a name error by the
+-- response code; behind an alias with no SOA the name has to be asked for; a referral with no SOA is lame; else NODATA
+abbrev pub denial_met : Reply → Bool → List (List ℕ) → Bool → Met
+denial_met r is_first name lacks_soa =
+    if r.rcode == 3 then met_name_error (name_error_at r name)
+    else (if lacks_soa && not is_first then met_nothing
+    else (if lacks_soa && is_referral r then met_lame
+    else met_no_data (no_data_at r name)))
+
+abbrev pub denial_at : Reply → Bool → List (List ℕ) → Met
+denial_at r is_first name = denial_met r is_first name (is_none (soa_for name r.question.class r.authority))
+
+-- a CNAME set of more than one record is lame (RFC 2181 10.1)
+abbrev pub leads : Piece → Option (List (List ℕ)) → Met
+leads p None = met_lame
+leads p (Some target) = met_alias p target
+
+abbrev pub alias_or : Option Piece → Met → Met
+alias_or None other = other
+alias_or (Some p) other = leads p (target_of p.body)
+
+abbrev pub set_met : ℕ → Piece → Met
+set_met kind p = if (kind == 5) && has_many p.body then met_lame else met_set p
+
+abbrev pub set_or : ℕ → Option Piece → Met → Met
+set_or kind None other = other
+set_or kind (Some p) other = set_met kind p
+
+-- what the reply has at a name: first that holds
+abbrev pub met_at : Reply → Bool → List (List ℕ) → Met
+met_at r is_first name =
+    if is_on_route r name
+    then set_or r.question.kind (answer_set r r.question.kind name) (alias_or (alias_set r name) (denial_at r is_first name))
+    else met_nothing
+
+abbrev pub met_of : {A : Type 0} → OwnedMet A → Met
+met_of owned.Nothing = met_nothing
+met_of (owned.Set p) = met_set p
+met_of (owned.NoData p) = met_no_data p
+met_of (owned.NameError p) = met_name_error p
+met_of (owned.Alias p target) = met_alias p target
+met_of owned.Lame = met_lame
+
+-- ---- the walk
+
+-- no walk takes more aliases; that bound is of this project
+abbrev pub most_aliases : ℕ
+most_aliases = 8
+
+abbrev pub ending : List Piece → End → Walk
+ending pieces end = record { pieces = pieces; authority = []; end = end }
+
+-- a lame reply carries nothing
+abbrev pub lame_walk : Walk
+lame_walk = ending [] lame
+
+abbrev pub is_lame : End → Bool
+is_lame lame = true
+is_lame found = false
+is_lame ends_no_data = false
+is_lame ends_denied = false
+is_lame (elsewhere name) = false
+
+-- an alias, and the walk from the name that it leads to
+abbrev pub behind : Piece → Walk → Walk
+behind alias w = if is_lame w.end then lame_walk else record { pieces = alias ∷ w.pieces; authority = w.authority; end = w.end }
+
+abbrev pub go_on : (List (List ℕ) → Walk) → List (List ℕ) → Met → Walk
+go_on rest name met_nothing = ending [] (elsewhere name)
+go_on rest name (met_set p) = ending (p ∷ []) found
+go_on rest name (met_no_data p) = ending (p ∷ []) ends_no_data
+go_on rest name (met_name_error p) = ending (p ∷ []) ends_denied
+go_on rest name (met_alias p target) = behind p (rest target)
+go_on rest name met_lame = lame_walk
+
+-- the walk from a name on, which may be the first, and on which so many aliases may be taken
+unfoldable pub walk_from : Reply → ℕ → Bool → List (List ℕ) → Walk
+walk_from r zero is_first name = ending [] (elsewhere name)
+walk_from r (suc left) is_first name = go_on (λ target. walk_from r left false target) name (met_at r is_first name)
+
+-- ---- the name servers of the authority section
+
+-- an NS record of the question's class, whose owner is at or above the asked name and on the route
+abbrev pub is_server_for : Reply → Record → Bool
+is_server_for r s = is_name_server s && (s.class == r.question.class) && is_under r.question.name s.owner && is_on_route r s.owner
+
+-- a piece has this owner
+abbrev pub has_owner : List (List ℕ) → Piece → Bool
+has_owner name p = same p.owner name
+
+-- the NS set that begins with this record
+abbrev pub servers_with : Reply → Record → List Record → Piece
+servers_with r first others = set_with 2 r.route first (records_for (record { name = first.owner; kind = first.kind; class = first.class }) others)
+
+-- the record fits, and its owner has no piece yet
+abbrev pub begins_set : Reply → List Piece → Record → Bool
+begins_set r carried first = is_server_for r first && not (list_any (has_owner first.owner) carried)
+
+-- the NS set that begins with the first record, if one does
+abbrev pub servers_at : Reply → List Piece → Record → List Record → List Piece
+servers_at r carried first others = if begins_set r carried first then servers_with r first others ∷ [] else []
+
+-- those sets, in the order of the section
+unfoldable pub servers_from : Reply → List Piece → List Record → List Piece
+servers_from r carried [] = []
+servers_from r carried (s ∷ records) = servers_at r carried s records ++ servers_from r (carried ++ servers_at r carried s records) records
+
+-- an authoritative reply that is not lame carries them
+abbrev pub carries_servers : Reply → End → Bool
+carries_servers r end = r.is_authoritative && not (is_lame end)
+
+abbrev pub with_servers : Reply → Walk → Walk
+with_servers r w =
+    if carries_servers r w.end
+    then record { pieces = w.pieces; authority = servers_from r w.pieces r.authority; end = w.end }
+    else w
+
+-- what a message carries as the reply to a question that was asked on a route, and how its walk ends
+abbrev pub walk_of : Config → Message → Question → ℕ → Walk
+walk_of c m q route = with_servers (reply_of c m q route) (walk_from (reply_of c m q route) most_aliases true q.name)

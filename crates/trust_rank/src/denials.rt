@@ -1,0 +1,141 @@
+//! Denials, with the SOA of the zone: RFC 2308 2, 3 and 5.
+
+ghost use Rattle.std.specs.Prelude.{◌≡◌, Some, None, IfOk, MatchOption, length, ◌≤◌};
+ghost use Rattle.std.specs.Option.{IfSome};
+ghost use Rattle.dns_name.specs.Labels.{is_under};
+ghost use Rattle.dns_message.specs.Messages.{AreShaped};
+ghost use Rattle.trust_rank.specs.Denials.{is_soa_for, soa_for, minimum_of, denial_lifetime, no_data_with, name_error_with};
+ghost use Rattle.trust_rank.specs.Formed.{IsSoa};
+
+use crate::piece::{Body, Piece};
+use crate::sets::{SetKey, Source, seconds_from};
+use crate::slot::Slot;
+use byteorder::{BigEndian, ByteOrder};
+use dns_message::Record;
+use dns_name::Name;
+use std::alloc::{AllocError, Allocator};
+
+/// The longest lifetime of a denial, in seconds: three hours.
+const LONGEST_DENIAL: u32 = 10_800;
+
+/// The type SOA.
+const SOA: u16 = 6;
+
+/// The name is at or under the other, ASCII letter case aside.
+pub(crate) fn is_name_under<A: Allocator>(name: &Name<A>, suffix: &Name<A>) -> bool
+    ensures { result ≡ is_under name.now suffix.now }
+{
+    name.is_under(suffix)
+}
+
+/// The record is an SOA of the class whose owner is at or above the name.
+fn is_soa_for<A: Allocator>(record: &Record<A>, name: &Name<A>, class: u16) -> bool
+    ensures { result ≡ is_soa_for name.now class record.now }
+{
+    record.kind == SOA && record.class == class && is_name_under(name, &record.owner)
+}
+
+/// The first SOA record of the authority section that fits a denial at the name.
+fn find_soa<'a, A: Allocator>(
+    name: &Name<A>,
+    class: u16,
+    authority: &'a [Record<A>],
+) -> Option<&'a Record<A>>
+    ensures { MatchOption result (soa_for name.now class authority.now ≡ None) (λ soa. soa_for name.now class authority.now ≡ Some soa.now) }
+{
+    for record in authority {
+        if is_soa_for(record, name, class) {
+            return Some(record);
+        }
+    }
+    None
+}
+
+/// A copy of the SOA record that a denial at the name holds.
+pub(crate) fn soa_for<A: Allocator + Copy>(
+    alloc: A,
+    name: &Name<A>,
+    class: u16,
+    authority: &[Record<A>],
+) -> Result<Option<Record<A>>, AllocError>
+    requires { AreShaped authority.now }
+    ensures found { IfOk result (λ soa. soa ≡ soa_for name.now class authority.now) }
+    ensures soa { IfOk result (λ soa. IfSome soa IsSoa) }
+{
+    match find_soa(name, class, authority) {
+        None => Ok(None),
+        Some(soa) => Ok(Some(soa.copy(alloc)?)),
+    }
+}
+
+/// MINIMUM, the last field of an SOA's data, in seconds (RFC 1035 3.3.13, RFC 2308 4).
+fn minimum_from(rdata: &[u8]) -> u32
+    requires { 4 ≤ length rdata.now }
+    ensures { result ≡ minimum_of rdata.now }
+{
+    BigEndian::read_u32(&rdata[rdata.len() - 4..])
+}
+
+/// How long a denial with this SOA lives, in seconds: the least of the SOA's TTL, its MINIMUM and three hours (RFC 2308
+/// 5); with no SOA it is used once and not kept.
+fn lifetime_with<A: Allocator>(soa: &Option<Record<A>>) -> u32
+    requires { IfSome soa.now IsSoa }
+    ensures { result ≡ denial_lifetime soa.now }
+{
+    let Some(soa) = soa else {
+        return 0;
+    };
+    seconds_from(soa.ttl)
+        .min(minimum_from(soa.rdata.octets()))
+        .min(LONGEST_DENIAL)
+}
+
+/// NODATA: the name has no records of this type (RFC 2308 2.2).
+pub(crate) fn no_data<A: Allocator + Copy>(
+    alloc: A,
+    source: Source,
+    denied: &SetKey<'_, A>,
+    soa: Option<Record<A>>,
+) -> Result<Piece<A>, AllocError>
+    requires { IfSome soa IsSoa }
+    ensures { IfOk result (λ p. p ≡ no_data_with source.rank source.route denied.now.name denied.now.class denied.now.kind soa) }
+{
+    let owner = denied.name.copy(alloc)?;
+    Ok(Piece {
+        slot: Slot {
+            key: owner.key(),
+            class: denied.class,
+            kind: Some(denied.kind),
+        },
+        owner,
+        lifetime: lifetime_with(&soa),
+        body: Body::NoData(soa),
+        rank: source.rank,
+        route: source.route,
+    })
+}
+
+/// A name error: the name is not there (RFC 2308 2.1), nor is any name under it (RFC 8020 2).
+pub(crate) fn name_error<A: Allocator + Copy>(
+    alloc: A,
+    source: Source,
+    denied: &SetKey<'_, A>,
+    soa: Option<Record<A>>,
+) -> Result<Piece<A>, AllocError>
+    requires { IfSome soa IsSoa }
+    ensures { IfOk result (λ p. p ≡ name_error_with source.rank source.route denied.now.name denied.now.class soa) }
+{
+    let owner = denied.name.copy(alloc)?;
+    Ok(Piece {
+        slot: Slot {
+            key: owner.key(),
+            class: denied.class,
+            kind: None,
+        },
+        owner,
+        lifetime: lifetime_with(&soa),
+        body: Body::Denied(soa),
+        rank: source.rank,
+        route: source.route,
+    })
+}

@@ -1,0 +1,18 @@
+//! What one reply carries for a question: record sets and denials, each with how far it is to be believed.
+#![tactic(auto)]
+
+mod denials;
+mod laws;
+mod piece;
+mod reply;
+mod servers;
+mod sets;
+mod slot;
+mod walk;
+mod walking;
+
+pub use laws::{servers_fit, walk_leads};
+pub use piece::{Body, Piece};
+pub use slot::Slot;
+pub use walk::{End, Walk};
+pub use walking::pieces;

@@ -1,0 +1,106 @@
+//! Record sets and denials, as one reply carried them.
+
+ghost use Rattle.std.specs.Prelude.{◌≡◌, IfOk};
+ghost use Rattle.trust_rank.specs.Values.{body_of};
+
+use crate::slot::Slot;
+use dns_message::{Rdata, Record};
+use dns_name::Name;
+use plain_list::PlainList;
+use std::alloc::{AllocError, Allocator, Global};
+use std::marker::Model;
+use suffix_routes::RouteId;
+
+/// What a piece tells.
+#[derive(Drop)]
+pub enum Body<A: Allocator = Global> {
+    /// The data of a record set (RFC 2181 5), in the order of the reply, none of it twice.
+    Rows(PlainList<Rdata<A>, A>),
+    /// NODATA: the name has no records of the type (RFC 2308 2.2); and the SOA, where the reply had one.
+    NoData(Option<Record<A>>),
+    /// A name error: the name is not there (RFC 2308 2.1); and the SOA, where the reply had one.
+    Denied(Option<Record<A>>),
+}
+
+/// A record set or a denial, which lives and dies as one.
+#[derive(Drop)]
+pub struct Piece<A: Allocator = Global> {
+    /// The name, spelled as in the first record of a set.
+    pub owner: Name<A>,
+    /// What it tells of; its key is the owner's.
+    pub slot: Slot,
+    pub body: Body<A>,
+    /// In seconds, a week at most.
+    pub lifetime: u32,
+    /// 3, 2 or 1, from the most to the least trustworthy (RFC 2181 5.4.1).
+    pub rank: u8,
+    /// The route of the ask that it answered.
+    pub route: RouteId,
+}
+
+impl<A: Allocator> Model for Piece<A> {
+    ghost use Rattle.trust_rank.specs.Values.{Piece, body_of};
+    ghost use Rattle.trust_rank.specs.Formed.{IsPiece};
+
+    ghost Value = { Piece };
+
+    ghost view = { λ p. record { owner = p.owner; slot = p.slot; body = body_of p.body; lifetime = p.lifetime; rank = p.rank; route = p.route } };
+
+    ghost invariant = { λ p. IsPiece (record { owner = p.owner; slot = p.slot; body = body_of p.body; lifetime = p.lifetime; rank = p.rank; route = p.route }) };
+}
+
+impl<A: Allocator + Copy> Piece<A> {
+    /// An equal piece. `Err` where memory ran out.
+    pub fn copy(&self, alloc: A) -> Result<Piece<A>, AllocError>
+        ensures { IfOk result (λ copy. copy ≡ self.now) }
+    {
+        Ok(Piece {
+            owner: self.owner.copy(alloc)?,
+            slot: self.slot,
+            body: self.body.copy(alloc)?,
+            lifetime: self.lifetime,
+            rank: self.rank,
+            route: self.route,
+        })
+    }
+}
+
+impl<A: Allocator + Copy> Body<A> {
+    /// An equal body. `Err` where memory ran out.
+    pub fn copy(&self, alloc: A) -> Result<Body<A>, AllocError>
+        ensures { IfOk result (λ copy. body_of copy ≡ body_of self.now) }
+    {
+        match self {
+            Body::Rows(rows) => Ok(Body::Rows(copy_of_rows(alloc, rows.as_slice())?)),
+            Body::NoData(soa) => Ok(Body::NoData(copy_of_soa(alloc, soa)?)),
+            Body::Denied(soa) => Ok(Body::Denied(copy_of_soa(alloc, soa)?)),
+        }
+    }
+}
+
+/// Copies of the data, in its order.
+fn copy_of_rows<A: Allocator + Copy>(
+    alloc: A,
+    rows: &[Rdata<A>],
+) -> Result<PlainList<Rdata<A>, A>, AllocError>
+    ensures { IfOk result (λ copy. copy ≡ rows.now) }
+{
+    let mut copy = PlainList::new(alloc);
+    for row in rows {
+        copy.push(row.copy(alloc)?)?;
+    }
+    Ok(copy)
+}
+
+/// A copy of the record, where there is one.
+fn copy_of_soa<A: Allocator + Copy>(
+    alloc: A,
+    soa: &Option<Record<A>>,
+) -> Result<Option<Record<A>>, AllocError>
+    ensures { IfOk result (λ copy. copy ≡ soa.now) }
+{
+    match soa {
+        None => Ok(None),
+        Some(soa) => Ok(Some(soa.copy(alloc)?)),
+    }
+}

@@ -1,0 +1,230 @@
+//! A message as the reply to a question, and what it has at one name of the walk: RFC 1034 3.6.2, RFC 2308 2.
+
+ghost use Rattle.std.specs.Prelude.{◌≡◌, IfOk};
+ghost use Rattle.std.specs.List.{list_any};
+ghost use Rattle.std.specs.Option.{IfSome};
+ghost use Rattle.trust_rank.specs.Denials.{soa_for};
+ghost use Rattle.trust_rank.specs.Formed.{IsSoa};
+ghost use Rattle.trust_rank.specs.Walks.{is_on_route, rank_at, at_name, answer_set, alias_set, has_many, target_of, is_referral, name_error_at, no_data_at, denial_at, leads, set_met, met_at, is_name_server, met_of};
+
+use crate::denials::{name_error, no_data, soa_for};
+use crate::piece::{Body, Piece};
+use crate::sets::{SetKey, Source, is_same_name, set_among};
+use dns_message::Record;
+use dns_name::Name;
+use std::alloc::{AllocError, Allocator};
+use std::marker::Model;
+use suffix_routes::{Config, RouteId};
+
+/// The type NS.
+const NS: u16 = 2;
+
+/// The type CNAME.
+const CNAME: u16 = 5;
+
+/// The response code of a name error.
+const NAME_ERROR: u8 = 3;
+
+/// A reply, as far as the walk looks at it. The data of its records is of their shapes.
+#[derive(Drop)]
+pub(crate) struct Reply<'a, A: Allocator> {
+    pub config: &'a Config<A>,
+    /// The route that was asked.
+    pub route: RouteId,
+    /// The asked name.
+    pub name: &'a Name<A>,
+    /// The asked type.
+    pub kind: u16,
+    /// The asked class.
+    pub class: u16,
+    /// AA is set.
+    pub is_authoritative: bool,
+    pub rcode: u8,
+    pub answers: &'a [Record<A>],
+    pub authority: &'a [Record<A>],
+}
+
+impl<'a, A: Allocator> Model for Reply<'a, A> {
+    ghost use Rattle.trust_rank.specs.Values.{Reply};
+    ghost use Rattle.trust_rank.specs.Formed.{AreShapedSections};
+
+    ghost Value = { Reply };
+
+    ghost view = { λ r. record { config = r.config.now; route = r.route; question = record { name = r.name.now; kind = r.kind; class = r.class }; is_authoritative = r.is_authoritative; rcode = r.rcode; answers = r.answers.now; authority = r.authority.now } };
+
+    ghost invariant = { λ r. AreShapedSections r.answers.now r.authority.now };
+}
+
+/// What a reply has at a name.
+#[derive(Drop)]
+pub(crate) enum Met<A: Allocator> {
+    /// Nothing that counts: the name has to be asked for.
+    Nothing,
+    /// The set that was asked for.
+    Set(Piece<A>),
+    /// A denial of the type.
+    NoData(Piece<A>),
+    /// A denial of the name.
+    NameError(Piece<A>),
+    /// An alias, and the name that it leads to.
+    Alias(Piece<A>, Name<A>),
+    /// What makes the whole reply lame.
+    Lame,
+}
+
+impl<'a, A: Allocator + Copy> Reply<'a, A> {
+    /// The name is on the route that was asked.
+    pub fn is_on_route(&self, name: &Name<A>) -> bool
+        ensures { result ≡ is_on_route self.now name.now }
+    {
+        match self.config.route_of(name) {
+            None => false,
+            Some(route) => route.place == self.route.place,
+        }
+    }
+
+    /// How far a piece at the name is to be believed: what the asked name's own server tells of that name most.
+    fn source_at(&self, name: &Name<A>) -> Source
+        ensures rank { result.rank ≡ rank_at self.now name.now }
+        ensures route { result.route ≡ self.now.route }
+    {
+        let is_own = self.is_authoritative && is_same_name(name, self.name);
+        Source {
+            rank: if is_own { 3 } else { 1 },
+            route: self.route,
+        }
+    }
+
+    /// The asked class and this type, at the name.
+    fn at_name<'n>(&self, kind: u16, name: &'n Name<A>) -> SetKey<'n, A>
+        ensures { result ≡ at_name self.now kind name.now }
+    {
+        SetKey {
+            name,
+            kind,
+            class: self.class,
+        }
+    }
+
+    /// The set of this type that the answer section has at the name.
+    fn answer_set(&self, alloc: A, kind: u16, name: &Name<A>) -> Result<Option<Piece<A>>, AllocError>
+        ensures { IfOk result (λ s. s ≡ answer_set self.now kind name.now) }
+    {
+        set_among(alloc, self.source_at(name), self.answers, &self.at_name(kind, name))
+    }
+
+    /// The CNAME set at the name. A question for CNAME follows none.
+    fn alias_set(&self, alloc: A, name: &Name<A>) -> Result<Option<Piece<A>>, AllocError>
+        ensures { IfOk result (λ s. s ≡ alias_set self.now name.now) }
+    {
+        if self.kind == CNAME {
+            return Ok(None);
+        }
+        self.answer_set(alloc, CNAME, name)
+    }
+
+    /// The SOA that a denial at the name holds.
+    fn soa_for(&self, alloc: A, name: &Name<A>) -> Result<Option<Record<A>>, AllocError>
+        ensures found { IfOk result (λ soa. soa ≡ soa_for name.now self.now.question.class self.now.authority) }
+        ensures soa { IfOk result (λ soa. IfSome soa IsSoa) }
+    {
+        soa_for(alloc, name, self.class, self.authority)
+    }
+
+    /// The authority section has name servers, and the reply is not authoritative: others are to be asked.
+    fn is_referral(&self) -> bool
+        ensures { result ≡ is_referral self.now }
+    {
+        !self.is_authoritative && has_name_servers(self.authority)
+    }
+
+    /// What the reply has at a name where it has neither the asked set nor an alias.
+    fn met_denial(&self, alloc: A, is_first: bool, name: &Name<A>) -> Result<Met<A>, AllocError>
+        ensures { IfOk result (λ met. met_of met ≡ denial_at self.now is_first name.now) }
+    {
+        let soa = self.soa_for(alloc, name)?;
+        let source = self.source_at(name);
+        let denied = self.at_name(self.kind, name);
+        if self.rcode == NAME_ERROR {
+            return Ok(Met::NameError(name_error(alloc, source, &denied, soa)?));
+        }
+        if soa.is_none() && !is_first {
+            return Ok(Met::Nothing);
+        }
+        if soa.is_none() && self.is_referral() {
+            return Ok(Met::Lame);
+        }
+        Ok(Met::NoData(no_data(alloc, source, &denied, soa)?))
+    }
+
+    /// What the reply has at a name, which may be the first of the walk: the asked set, else an alias, else a denial.
+    pub fn met_at(&self, alloc: A, is_first: bool, name: &Name<A>) -> Result<Met<A>, AllocError>
+        ensures { IfOk result (λ met. met_of met ≡ met_at self.now is_first name.now) }
+    {
+        if !self.is_on_route(name) {
+            return Ok(Met::Nothing);
+        }
+        if let Some(set) = self.answer_set(alloc, self.kind, name)? {
+            return Ok(set_met(self.kind, set));
+        }
+        if let Some(alias) = self.alias_set(alloc, name)? {
+            return alias_met(alloc, alias);
+        }
+        self.met_denial(alloc, is_first, name)
+    }
+}
+
+pub(crate) fn is_name_server<A: Allocator>(record: &Record<A>) -> bool
+    ensures { result ≡ is_name_server record.now }
+{
+    record.kind == NS
+}
+
+fn has_name_servers<A: Allocator>(records: &[Record<A>]) -> bool
+    ensures { result ≡ list_any is_name_server records.now }
+{
+    records.iter().any(|record| is_name_server(record))
+}
+
+/// A set of more than one record.
+fn has_many<A: Allocator>(piece: &Piece<A>) -> bool
+    ensures { result ≡ has_many piece.now.body }
+{
+    match &piece.body {
+        Body::Rows(rows) => rows.as_slice().len() > 1,
+        _ => false,
+    }
+}
+
+/// The asked set ends the walk; a CNAME set of more than one record is lame.
+fn set_met<A: Allocator>(kind: u16, set: Piece<A>) -> Met<A>
+    ensures { met_of result ≡ set_met kind set }
+{
+    if kind == CNAME && has_many(&set) {
+        return Met::Lame;
+    }
+    Met::Set(set)
+}
+
+/// The name that an alias leads to: that of its one record.
+fn target_of<A: Allocator + Copy>(alloc: A, piece: &Piece<A>) -> Result<Option<Name<A>>, AllocError>
+    ensures { IfOk result (λ target. target ≡ target_of piece.now.body) }
+{
+    let Body::Rows(rows) = &piece.body else {
+        return Ok(None);
+    };
+    match rows.as_slice() {
+        [data] => data.name(alloc),
+        _ => Ok(None),
+    }
+}
+
+/// An alias leads on; a CNAME set of more than one record is lame.
+fn alias_met<A: Allocator + Copy>(alloc: A, alias: Piece<A>) -> Result<Met<A>, AllocError>
+    ensures { IfOk result (λ met. met_of met ≡ leads alias (target_of alias.body)) }
+{
+    match target_of(alloc, &alias)? {
+        None => Ok(Met::Lame),
+        Some(target) => Ok(Met::Alias(alias, target)),
+    }
+}

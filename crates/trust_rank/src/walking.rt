@@ -1,0 +1,134 @@
+//! The walk of a reply, from the asked name along its aliases: RFC 1034 3.6.2 and 5.3.3.
+
+ghost use Rattle.std.specs.Prelude.{◌≡◌, true, [], ◌∷◌, ◌++◌, IfOk};
+ghost use Rattle.dns_message.specs.Messages.{HasShapes};
+ghost use Rattle.trust_rank.specs.Walks.{most_aliases, ending, is_lame, walk_from, carries_servers, with_servers, walk_of};
+ghost use Rattle.trust_rank.specs.Values.{end_of};
+
+use crate::piece::Piece;
+use crate::reply::{Met, Reply};
+use crate::servers::servers_beside;
+use crate::walk::{End, Walk};
+use dns_message::{Message, Question};
+use plain_list::PlainList;
+use std::alloc::{AllocError, Allocator};
+use suffix_routes::{Config, RouteId};
+
+/// No walk takes more aliases.
+const MOST_ALIASES: u8 = 8;
+
+/// These pieces, and no name servers.
+fn ending<A: Allocator + Copy>(alloc: A, pieces: PlainList<Piece<A>, A>, end: End<A>) -> Walk<A>
+    ensures { result ≡ ending pieces (end_of end) }
+{
+    Walk {
+        pieces,
+        authority: PlainList::new(alloc),
+        end,
+    }
+}
+
+/// These pieces and a last one.
+fn ending_with<A: Allocator + Copy>(
+    alloc: A,
+    mut pieces: PlainList<Piece<A>, A>,
+    last: Piece<A>,
+    end: End<A>,
+) -> Result<Walk<A>, AllocError>
+    ensures { IfOk result (λ w. w ≡ ending (pieces ++ last ∷ []) (end_of end)) }
+{
+    pieces.push(last)?;
+    Ok(ending(alloc, pieces, end))
+}
+
+/// The walk from the asked name along the aliases of the answer section.
+fn walk_from<A: Allocator + Copy>(alloc: A, reply: &Reply<'_, A>) -> Result<Walk<A>, AllocError>
+    ensures { IfOk result (λ w. w ≡ walk_from reply.now most_aliases true reply.now.question.name) }
+{
+    let mut pieces = PlainList::new(alloc);
+    let mut name = reply.name.copy(alloc)?;
+    let mut is_first = true;
+    for _ in 0..MOST_ALIASES {
+        match reply.met_at(alloc, is_first, &name)? {
+            Met::Nothing => return Ok(ending(alloc, pieces, End::Elsewhere(name))),
+            Met::Set(set) => return ending_with(alloc, pieces, set, End::Found),
+            Met::NoData(denial) => return ending_with(alloc, pieces, denial, End::NoData),
+            Met::NameError(denial) => return ending_with(alloc, pieces, denial, End::Denied),
+            Met::Lame => return Ok(ending(alloc, PlainList::new(alloc), End::Lame)),
+            Met::Alias(alias, target) => {
+                pieces.push(alias)?;
+                name = target;
+                is_first = false;
+            }
+        }
+    }
+    Ok(ending(alloc, pieces, End::Elsewhere(name)))
+}
+
+fn is_lame<A: Allocator>(end: &End<A>) -> bool
+    ensures { result ≡ is_lame (end_of end.now) }
+{
+    matches!(end, End::Lame)
+}
+
+/// The reply is authoritative, and its walk not lame.
+fn carries_servers<A: Allocator>(reply: &Reply<'_, A>, end: &End<A>) -> bool
+    ensures { result ≡ carries_servers reply.now (end_of end.now) }
+{
+    reply.is_authoritative && !is_lame(end)
+}
+
+/// The walk, with the name servers of the authority section.
+fn with_servers<A: Allocator + Copy>(
+    alloc: A,
+    reply: &Reply<'_, A>,
+    walk: Walk<A>,
+) -> Result<Walk<A>, AllocError>
+    ensures { IfOk result (λ w. w ≡ with_servers reply.now walk) }
+{
+    if !carries_servers(reply, &walk.end) {
+        return Ok(walk);
+    }
+    let authority = servers_beside(alloc, reply, walk.pieces.as_slice())?;
+    let Walk { pieces, end, .. } = walk;
+    Ok(Walk {
+        pieces,
+        authority,
+        end,
+    })
+}
+
+/// What a reply to the question carries, and how the walk from the asked name ends; the question was asked on the route.
+///
+/// At each name, first that holds: the name is not on the route, so it has to be asked for; the answer section has the
+/// asked set; it has an alias (RFC 1034 3.6.2), of which eight at most are taken; the response code denies the name (RFC
+/// 2308 2.1); an alias was taken and no SOA of the authority section fits, so the name has to be asked for; none was
+/// taken, none fits and the reply is a referral, which is lame; else the type is denied (RFC 2308 2.2). More than one
+/// alias at a name is lame (RFC 2181 10.1). An authoritative reply carries the NS sets of its authority section too, of
+/// the question's class, whose owner is at or above the asked name, on the route, and has no other piece.
+///
+/// Whatever the records are, this takes time in proportion to n log n for n of them. `Err` where memory ran out.
+pub fn pieces<A: Allocator + Copy>(
+    alloc: A,
+    message: &Message<A>,
+    question: &Question<A>,
+    route: RouteId,
+    config: &Config<A>,
+) -> Result<Walk<A>, AllocError>
+    requires { HasShapes message.now }
+    ensures { IfOk result (λ walk. walk ≡ walk_of config.now message.now question.now route) }
+{
+    let reply = Reply {
+        config,
+        route,
+        name: &question.name,
+        kind: question.kind,
+        class: question.class,
+        is_authoritative: message.header.aa,
+        rcode: message.header.rcode,
+        answers: message.answers.as_slice(),
+        authority: message.authority.as_slice(),
+    };
+    let walk = walk_from(alloc, &reply)?;
+    with_servers(alloc, &reply, walk)
+}
