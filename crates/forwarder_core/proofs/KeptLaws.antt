@@ -1,18 +1,18 @@
 -- What a forwarder keeps still holds after each change.
 use Rattle.std.proofs.Common.{Vec, ◌≡◌, ℕ, zero, suc, ◌+◌, ◌^◌, ◌<◌, ◌≤◌, List, [], ◌∷◌, ◌++◌, length, Bool, true, false, cond, refl, sym, ap, ◌∙◌, subst, arith, Option, Some, None}
-use Rattle.std.specs.Prelude.{filter, not, option_map, min, take, drop, map, slice_set, slice_get, nat_le, ◌||◌}
+use Rattle.std.specs.Prelude.{filter, not, option_map, min, take, drop, map, slice_set, slice_get, nat_le}
 use Rattle.std.specs.List.{AllByRecursion, list_any}
 use Rattle.std.proofs.lemmas.List.{length-append, with_items_is}
 use Rattle.std.specs.Vec.{with_items}
-use Rattle.std.proofs.lemmas.Bool.{cond_both, leb-true, leb-false}
+use Rattle.std.proofs.lemmas.Bool.{cond_both, leb-true, leb-false, cond-true, cond-false}
 use Rattle.suffix_routes.specs.Values.{Config, Route, IsConfig}
 use Rattle.outstanding.specs.declared.ask.Path.{Path}
 use Rattle.outstanding.specs.declared.ask.Path.TheVariants.{Udp, Tcp}
-use Rattle.outstanding.specs.Lists.{same_path, without_path, on_path as ask_on, AreInTurn, AreListed}
+use Rattle.outstanding.specs.Lists.{same_path, without_path, AreInTurn, AreListed}
 use Rattle.outstanding.specs.Due as due
 use Rattle.outstanding.specs.Values.{Ask, Inquiries}
 use Rattle.step_rules.specs.State.{Waiting}
-use Rattle.step_rules.specs.Attempts.{group_of, servers_in}
+use Rattle.step_rules.specs.Attempts.{servers_in}
 use Rattle.step_rules.specs.Row.{waits_for, deadline_of, timeout_of}
 use Rattle.step_rules.specs.Progress.{AreTakenInTurn, IsTry, lesser, least, IsInOrder}
 use Rattle.step_rules.proofs.CallerLemmas.{first_due, first_late, first_deadline}
@@ -20,7 +20,7 @@ use Rattle.step_soundness.specs.Explains.{IsBelow, ArePreferred}
 use Rattle.step_soundness.proofs.CallerLemmas.{All-append, All-filter, All-weaker, preferred_first, preferred_put}
 use Rattle.forwarder_core.specs.declared.next.Preferred.{Preferred}
 use Rattle.forwarder_core.specs.Kept.{IsKeptAsk, IsKept}
-use Rattle.forwarder_core.specs.Next.{left_waiting, with_preferred, without_closed, tcp_count_of, CanWait, CanFollow, IsServed}
+use Rattle.forwarder_core.specs.Next.{left_waiting, with_preferred, without_closed, IsServed}
 
 -- ---- asks, later
 

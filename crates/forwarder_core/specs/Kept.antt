@@ -1,5 +1,5 @@
 -- What holds of a forwarder without any history.
-use Rattle.std.specs.Prelude.{◌≡◌, ℕ, ◌^◌, ◌<◌, ◌≤◌, List, [], ◌∷◌, length, Some}
+use Rattle.std.specs.Prelude.{◌≡◌, ℕ, ◌^◌, ◌<◌, ◌≤◌, List, length, Some}
 use Rattle.std.specs.List.{AllByRecursion}
 use Rattle.suffix_routes.specs.Values.{Config, IsConfig}
 use Rattle.outstanding.specs.Values.{Ask, Inquiries}

@@ -1,6 +1,5 @@
 use Rattle.std.proofs.Common.{◌+◌, ◌∙◌, ap, sym, Some}
 use Rattle.std.specs.Prelude.{map}
-use Rattle.suffix_routes.specs.Values.{Config}
 use Rattle.step_rules.specs.State.{Running, Waiting}
 use Rattle.step_rules.specs.Row.{deadline_of}
 use Rattle.step_rules.specs.Progress.{least}
