@@ -1,1 +1,5 @@
 pub mod Recordings
+pub mod Wire
+pub mod Events
+pub mod Serving
+pub mod Handing
