@@ -23,11 +23,11 @@ use Rattle.network_model.proofs.Quiet.{IsIdle, quiet_tick, quiet_path}
 
 -- ---- one after another
 
-run_append : (c : Config) (s m s' : State) (xs ys : List Step) → Run c s xs m → Run c m ys s' → Run c s (xs ++ ys) s'
+pub run_append : (c : Config) (s m s' : State) (xs ys : List Step) → Run c s xs m → Run c m ys s' → Run c s (xs ++ ys) s'
 run_append c s m s' [] ys first more = subst (λ (t : State). Run c t ys s') first more
 run_append c s m s' (x ∷ xs) ys first more = (first.0, first.1, run_append c first.0 m s' xs ys first.2 more)
 
-all_append : (xs ys : List Taken) → AllByRecursion PutsItsActions xs → AllByRecursion PutsItsActions ys → AllByRecursion PutsItsActions (xs ++ ys)
+pub all_append : (xs ys : List Taken) → AllByRecursion PutsItsActions xs → AllByRecursion PutsItsActions ys → AllByRecursion PutsItsActions (xs ++ ys)
 all_append [] ys first more = more
 all_append (x ∷ xs) ys first more = (first.0, all_append xs ys first.1 more)
 

@@ -1,3 +1,6 @@
 pub mod Telling
 pub mod Quiet
 pub mod Handling
+pub mod Framing
+pub mod Turns
+pub mod Storing

@@ -3,3 +3,5 @@ pub mod Wire
 pub mod Events
 pub mod Serving
 pub mod Handing
+pub mod Streams
+pub mod Scripts
