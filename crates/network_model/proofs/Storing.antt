@@ -1,5 +1,6 @@
 -- A wire in memory stores one thing more of what it tells.
 use Rattle.std.proofs.Common.{◌≡◌, ◌∙◌, refl, sym, ap, subst, ℕ, List, [], ◌∷◌, ◌++◌, append-nil, Option, Some, None, Bool, true, false, cond}
+use Rattle.std.specs.Prelude.{IfSome}
 use Rattle.network_model.specs.Wire.{Arrival, Put, Told, ◌then◌, TellsMore}
 use Rattle.network_model.specs.Scripts.{stored}
 
@@ -16,3 +17,8 @@ stores true a a' p p' m m' w w' more ea ep em ew now is =
     some_is : (s t : Told) → Some s ≡ Some t → s ≡ t
     some_is s t e = cc
 stores false a a' p p' m m' w w' more ea ep em ew now is = absurd (cc)
+
+-- what is stored of the puts is what is told of them
+pub shows : (tells : Bool) (a : List (Option Arrival)) (p : List Put) (m : List ℕ) (w : List (List ℕ)) (xs : List Put) (o : Option Told) → stored tells a p m w ≡ o → xs ≡ p → IfSome o (λ (told : Told). xs ≡ told.puts)
+shows true a p m w xs o is same = subst (λ (v : Option Told). IfSome v (λ (told : Told). xs ≡ told.puts)) is same
+shows false a p m w xs o is same = subst (λ (v : Option Told). IfSome v (λ (told : Told). xs ≡ told.puts)) is tt
