@@ -1,9 +1,9 @@
 -- The frames of a stream, served one after another.
-use Rattle.std.proofs.Common.{◌≡◌, ◌∙◌, refl, sym, ap, subst, ℕ, ◌+◌, ◌<◌, List, [], ◌∷◌, ◌++◌, length, append_assoc, append-nil, Option, Some, None, Result, Ok, Err, arith}
+use Rattle.std.proofs.Common.{◌≡◌, ◌∙◌, refl, sym, ap, subst, ℕ, ◌<◌, List, [], ◌∷◌, ◌++◌, length, append_assoc, append-nil, Some, None, Result, Ok, Err, arith}
 use Rattle.std.specs.Prelude.{map, OnOk}
 use Rattle.std.specs.declared.alloc.AllocError.{AllocError}
 use Rattle.std.proofs.lemmas.List.{length-append, map-append}
-use Rattle.tcp_frames.specs.Frames.{framed, Leads, IsUnfinished, Takes, Feeds, frames_of, unfinished_of}
+use Rattle.tcp_frames.specs.Frames.{framed, Leads, Takes, frames_of, unfinished_of}
 use Rattle.tcp_frames.specs.Runs.{fed, took}
 use Rattle.tcp_frames.specs.Laws.{CutDoesNotMatter, AllFramesAreTaken}
 use Rattle.step_values.specs.Values.{Event}
@@ -48,7 +48,7 @@ frames_more law sender stream rest message further x y z e more is so_far takes 
       frames = so_far.frames ∙ ap (λ (xs : List (List ℕ)). so_far.done ++ xs) frames ∙ sym (append_assoc so_far.done (message ∷ []) (frames_of further));
       unfinished = so_far.unfinished ∙ ap unfinished_of (sym (append-nil rest)) ∙ keeps.unfinished;
       served = subst (λ (events : List Event). AreChains events (so_far.chains ++ h.chain ∷ [])) (sym (map-append (message_from sender) so_far.done (message ∷ [])))
-        (chains_more (map (message_from sender) so_far.done) so_far.chains (message_from sender message) h.chain so_far.served (subst (λ (event : Event). IsChain (Some event) h.chain) is h.is_chain));
+          (chains_more (map (message_from sender) so_far.done) so_far.chains (message_from sender message) h.chain so_far.served (subst (λ (event : Event). IsChain (Some event) h.chain) is h.is_chain));
       does = subst (λ (taken : List Taken). Does x taken z) (sym (joined_more so_far.chains h.chain)) (does_more x y z (joined so_far.chains) h.chain so_far.does h.does);
     }
 

@@ -1,24 +1,24 @@
 -- What the parts of a turn do, put together.
 use Rattle.std.proofs.Common.{◌≡◌, ◌∙◌, refl, sym, ap, subst, ℕ, zero, suc, ◌+◌, ◌*◌, ◌<◌, ◌≤◌, ◌⊎◌, inl, inr, List, [], ◌∷◌, ◌++◌, length, append_assoc, append-nil, Option, Some, None, Bool, true, false, arith}
 use Rattle.std.specs.Prelude.{option_map, map, IsSome}
-use Rattle.std.specs.List.{filter_map, AllByRecursion}
+use Rattle.std.specs.List.{AllByRecursion}
 use Rattle.std.proofs.lemmas.List.{length-append}
 use Rattle.std.proofs.lemmas.List.Elements.{filter_map-append}
 use Rattle.outstanding.specs.declared.ask.Path.{Path}
 use Rattle.outstanding.specs.Values.{Ask}
 use Rattle.outstanding.specs.Lists.{on_path as ask_on}
 use Rattle.suffix_routes.specs.Values.{Config}
-use Rattle.step_values.specs.Values.{Event, from_client, delivery, path_failed, tick, restart, Action, Handed, Outcome, Step}
+use Rattle.step_values.specs.Values.{Event, from_client, delivery, path_failed, tick, restart, Outcome, Step}
 use Rattle.step_rules.specs.State.{State, Running}
-use Rattle.step_rules.specs.Row.{Row, is_due_at, effective, at_moment}
+use Rattle.step_rules.specs.Row.{Row, is_due_at, effective}
 use Rattle.step_rules.specs.Progress.{left_to_do, ServesSomething}
 use Rattle.step_soundness.specs.Runs.{Run}
 use Rattle.network_model.specs.declared.counts.Served.{Served}
-use Rattle.network_model.specs.Wire.{Told, Put, silence, ◌then◌, TellsMore, moment_was, words_were}
-use Rattle.network_model.specs.Events.{Taken, PutsItsActions, step_in, steps_in, failed_of, more_in, tells_more, joined, IsChain, AreTicks}
-use Rattle.network_model.specs.Serving.{Standing, Does, Adds, left, told_of, told_of_all, lost_in, refused_of, refused_in}
+use Rattle.network_model.specs.Wire.{Told, Put, ◌then◌, TellsMore, moment_was, words_were}
+use Rattle.network_model.specs.Events.{Taken, PutsItsActions, step_in, steps_in, failed_of, more_in, joined, IsChain, AreTicks}
+use Rattle.network_model.specs.Serving.{Standing, Does, Adds, left, told_of_all, lost_in, refused_in}
 use Rattle.network_model.specs.Handing.{told_of_puts, Puts, most_left, IsOwn, StepsDown, Hands, HandsOn, Ticks}
-use Rattle.network_model.proofs.Telling.{then_silence, tells_nothing, tells_on, told_append, adds_none, adds_more, lost_append, refused_append}
+use Rattle.network_model.proofs.Telling.{tells_nothing, tells_on, told_append, adds_none, adds_more, lost_append, refused_append}
 use Rattle.network_model.proofs.Quiet.{IsIdle, quiet_tick, quiet_path}
 
 -- ---- one after another
@@ -47,7 +47,7 @@ pub does_more : (x y z : Standing) (xs ys : List Taken) → Does x xs y → Does
 does_more x y z xs ys first more = record {
   config = more.config ∙ first.config;
   run = subst (λ (steps : List Step). Run x.running.config x.running.state steps z.running.state) (sym (filter_map-append step_in xs ys))
-    (run_append x.running.config x.running.state y.running.state z.running.state (steps_in xs) (steps_in ys) first.run (subst (λ (c : Config). Run c y.running.state (steps_in ys) z.running.state) first.config more.run));
+      (run_append x.running.config x.running.state y.running.state z.running.state (steps_in xs) (steps_in ys) first.run (subst (λ (c : Config). Run c y.running.state (steps_in ys) z.running.state) first.config more.run));
   puts = all_append xs ys first.puts more.puts;
   told = subst (λ (t : Told). TellsMore x.told t z.told) (sym (told_append xs ys)) (tells_on x.told y.told z.told (told_of_all xs) (told_of_all ys) first.told more.told);
   lost = λ le. let sum = lost_append xs ys in let both = adds_more x.counts.lost y.counts.lost z.counts.lost (lost_in xs) (lost_in ys) first.lost more.lost le in omega (arith, sum, both);
@@ -189,7 +189,7 @@ hands_again event more path failed further x y z so_far h = record {
   first = so_far.first;
   others = so_far.others ++ h.taken ∷ [];
   opens = λ rest next. subst (λ (taken : List Taken). IsChain (Some event) (so_far.first ∷ taken)) (sym (append_assoc so_far.others (h.taken ∷ []) rest))
-    (so_far.opens (h.taken ∷ rest) (h.event_is, subst (λ (o : Option Path). IsChain (option_map path_failed o) rest) h.failed_is next));
+      (so_far.opens (h.taken ∷ rest) (h.event_is, subst (λ (o : Option Path). IsChain (option_map path_failed o) rest) h.failed_is next));
   more_is = so_far.more_is;
   does = does_more x y z (so_far.first ∷ so_far.others) (h.taken ∷ []) so_far.does h.does;
   bounded = so_far.bounded;

@@ -4,3 +4,4 @@ pub mod Handling
 pub mod Framing
 pub mod Turns
 pub mod Storing
+pub mod Worked

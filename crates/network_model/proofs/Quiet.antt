@@ -1,15 +1,15 @@
 -- A tick with nothing due and the failure of a path without an ask do nothing.
-use Rattle.std.proofs.Common.{◌≡◌, ◌∙◌, refl, sym, ap, subst, ℕ, ◌<◌, List, [], ◌∷◌, Bool, true, false, cond, Option, Some, None}
-use Rattle.std.specs.Prelude.{nat_le, ◌||◌, if◌then◌else◌}
+use Rattle.std.proofs.Common.{◌≡◌, ◌∙◌, refl, ap, ℕ, List, [], ◌∷◌, Bool, true, false, cond, Option, None}
+use Rattle.std.specs.Prelude.{nat_le, ◌||◌}
 use Rattle.std.specs.List.{list_any}
 use Rattle.std.proofs.lemmas.Bool.{cond_both}
 use Rattle.suffix_routes.specs.Values.{Config}
 use Rattle.outstanding.specs.declared.ask.Path.{Path}
 use Rattle.outstanding.specs.Values.{Ask}
 use Rattle.outstanding.specs.Lists.{on_path as ask_on}
-use Rattle.step_values.specs.Values.{path_failed, tick, Handed, Action, Outcome}
+use Rattle.step_values.specs.Values.{path_failed, tick, Outcome}
 use Rattle.step_rules.specs.State.{Waiting, State}
-use Rattle.step_rules.specs.Row.{Done, Row, idle_step, at_moment, deadline_of, timeout_of, Item, question, attempt, first_item, row_of_item, row_of_tick, row_of_failed_path, is_due_at, effective}
+use Rattle.step_rules.specs.Row.{Done, Row, idle_step, at_moment, deadline_of, timeout_of, question, attempt, first_item, row_of_item, row_of_failed_path, is_due_at, effective}
 
 -- nothing is done, and nothing but the moment is new
 pub record IsIdle (n : ℕ) (s : State) (o : Outcome) (s' : State) : Type 0 where

@@ -1,7 +1,7 @@
 -- A wire in memory stores one thing more of what it tells.
-use Rattle.std.proofs.Common.{◌≡◌, ◌∙◌, refl, sym, ap, subst, ℕ, List, [], ◌∷◌, ◌++◌, append-nil, Option, Some, None, Bool, true, false, cond}
+use Rattle.std.proofs.Common.{◌≡◌, ◌∙◌, refl, sym, subst, ℕ, List, ◌++◌, Option, Some, None, Bool, true, false}
 use Rattle.std.specs.Prelude.{IfSome}
-use Rattle.network_model.specs.Wire.{Arrival, Put, Told, ◌then◌, TellsMore}
+use Rattle.network_model.specs.Wire.{Arrival, Put, Told, TellsMore}
 use Rattle.network_model.specs.Scripts.{stored}
 
 pub tells_by_none : (o : Option Told) (more : Told) (new : Option Told) → new ≡ None → TellsMore o more new

@@ -1,13 +1,13 @@
 -- What a wire tells grows, and a count that grows stays at its last value.
-use Rattle.std.proofs.Common.{◌≡◌, ◌∙◌, refl, sym, ap, ℕ, ◌+◌, ◌≤◌, List, [], ◌∷◌, ◌++◌, append_assoc, append-nil, Option, Some, None, Bool, true, false, arith}
+use Rattle.std.proofs.Common.{◌≡◌, ◌∙◌, refl, sym, ap, ℕ, ◌+◌, List, [], ◌∷◌, ◌++◌, append_assoc, append-nil, Option, Some, None, false, arith}
 use Rattle.std.specs.Prelude.{option_map, map}
 use Rattle.std.proofs.lemmas.List.{map-append}
 use Rattle.outstanding.specs.declared.ask.Path.{Path}
 use Rattle.step_values.specs.Values.{SentAsk, Action}
 use Rattle.network_model.specs.declared.counts.Served.{Served}
-use Rattle.network_model.specs.Wire.{Told, Put, silence, ◌then◌, TellsMore, arrived}
+use Rattle.network_model.specs.Wire.{Told, Put, silence, ◌then◌, TellsMore}
 use Rattle.network_model.specs.Events.{Taken, later, refused_path, failed_of}
-use Rattle.network_model.specs.Serving.{Adds, capped, told_of, told_of_all, lost_by, lost_in, refused_by, refused_of, refused_in}
+use Rattle.network_model.specs.Serving.{Adds, told_of, told_of_all, lost_in, refused_by, refused_of, refused_in}
 use Rattle.network_model.specs.Handing.{told_of_puts, Puts}
 
 -- ---- what is told

@@ -1,5 +1,5 @@
 -- Turns, one after another.
-use Rattle.std.proofs.Common.{◌≡◌, ◌∙◌, refl, sym, ap, subst, ℕ, suc, ◌+◌, ◌*◌, ◌-◌, ◌^◌, ◌<◌, ◌≤◌, List, [], ◌∷◌, ◌++◌, length, drop, append_assoc, append-nil, Option, Some, None, Result, Ok, Err, Bool, true, false, cond, arith}
+use Rattle.std.proofs.Common.{◌≡◌, ◌∙◌, refl, sym, ap, subst, ℕ, ◌+◌, ◌*◌, ◌<◌, List, [], ◌∷◌, ◌++◌, length, drop, append_assoc, append-nil, Option, Some, None, Ok, Err, Bool, true, false, cond, arith}
 use Rattle.std.specs.Prelude.{map, min, ◌==◌}
 use Rattle.std.specs.List.{filter_map, AllByRecursion}
 use Rattle.std.specs.declared.alloc.AllocError.{AllocError}
@@ -7,21 +7,20 @@ use Rattle.std.proofs.lemmas.List.{length-append, map-append}
 use Rattle.std.proofs.lemmas.List.Elements.{filter_map-append}
 use Rattle.tcp_frames.specs.Frames.{frames_within, frames_of, unfinished_of}
 use Rattle.tcp_frames.specs.Laws.{PiecesContinue}
-use Rattle.suffix_routes.specs.declared.peer.Peer.{Peer}
 use Rattle.suffix_routes.specs.Values.{Config}
 use Rattle.outstanding.specs.declared.ask.Path.TheVariants.{Udp, Tcp}
 use Rattle.step_values.specs.Values.{Event, Step}
-use Rattle.step_rules.specs.State.{State, Running}
+use Rattle.step_rules.specs.State.{Running}
 use Rattle.step_soundness.specs.Runs.{Run}
 use Rattle.network_model.specs.declared.counts.Served.{Served}
 use Rattle.network_model.specs.declared.streams.Streams.{Streams}
-use Rattle.network_model.specs.Wire.{Arrival, nothing, client_datagram, client_stream, client_closed, server_datagram, server_stream, path_gone, Told, silence, ◌then◌, TellsMore, arrived}
-use Rattle.network_model.specs.Events.{Taken, PutsItsActions, step_in, steps_in, joined, AreChains, AreTicks, Turn, taken_in_turn, taken_in, client_message, server_message, client_octets, server_octets, client_octets_with, server_octets_with, completed, events_of, IsTurn, IsCutShort, AreTurns}
-use Rattle.network_model.specs.Serving.{Standing, Does, Adds, capped, told_of_all, told_in_turn, told_in, lost_in, refused_in, missed_by, missed_in, Ends, Serves}
-use Rattle.network_model.specs.Handing.{most_left, Ticks}
-use Rattle.network_model.specs.Streams.{left_on, events_by, client_left_with, server_left_with, Follows, Tracks, ServesEvents, Arrives, TakesArrival, StopsShort, MakesTurn, TakesTurn}
+use Rattle.network_model.specs.Wire.{Arrival, nothing, client_datagram, client_stream, client_closed, server_datagram, server_stream, path_gone, Told, ◌then◌, TellsMore, arrived}
+use Rattle.network_model.specs.Events.{Taken, PutsItsActions, step_in, steps_in, joined, AreChains, Turn, taken_in_turn, taken_in, client_message, server_message, client_octets, server_octets, client_octets_with, server_octets_with, completed, events_of, IsTurn, IsCutShort, AreTurns}
+use Rattle.network_model.specs.Serving.{Standing, Does, Adds, capped, told_of_all, told_in_turn, told_in, lost_in, refused_in, missed_by, missed_in, Serves}
+use Rattle.network_model.specs.Handing.{Ticks}
+use Rattle.network_model.specs.Streams.{left_on, events_by, client_left_with, server_left_with, Follows, Tracks, Arrives, TakesArrival, TakesTurn}
 use Rattle.network_model.proofs.Telling.{then_then, then_silence, tells_nothing, tells_on, adds_none, adds_more, lost_append, refused_append}
-use Rattle.network_model.proofs.Handling.{run_append, all_append, does_nothing, does_more}
+use Rattle.network_model.proofs.Handling.{run_append, all_append, does_more}
 
 -- ---- one turn
 
@@ -161,7 +160,7 @@ does_turn x y m z turns t so_far arrives does =
     record {
       config = does.config ∙ config;
       run = subst (λ (steps : List Step). Run x.running.config x.running.state steps z.running.state) (sym (ap steps_in taken ∙ filter_map-append step_in (taken_in turns) (taken_in_turn t)))
-        (run_append x.running.config x.running.state y.running.state z.running.state (steps_in (taken_in turns)) (steps_in (taken_in_turn t)) so_far.run (subst (λ (c : Config). Run c y.running.state (steps_in (taken_in_turn t)) z.running.state) so_far.config last));
+          (run_append x.running.config x.running.state y.running.state z.running.state (steps_in (taken_in turns)) (steps_in (taken_in_turn t)) so_far.run (subst (λ (c : Config). Run c y.running.state (steps_in (taken_in_turn t)) z.running.state) so_far.config last));
       puts = subst (AllByRecursion PutsItsActions) (sym taken) (all_append (taken_in turns) (taken_in_turn t) so_far.puts does.puts);
       told = subst (λ (more : Told). TellsMore x.told more z.told) (sym (told_more turns t)) (tells_on x.told y.told z.told (told_in turns) (told_in_turn t) so_far.told (tells_on y.told m.told z.told (arrived t.arrival) (told_of_all (taken_in_turn t)) arrives.told does.told));
       lost = λ le.

@@ -1,13 +1,13 @@
 -- What `serve` does over a wire.
-use Rattle.std.specs.Prelude.{◌≡◌, ℕ, ◌+◌, ◌-◌, ◌^◌, ◌<◌, ◌≤◌, Bool, true, false, if◌then◌else◌, min, List, [], ◌∷◌, ◌++◌, length, map, Option, Some, None, Result, Ok, Err}
+use Rattle.std.specs.Prelude.{◌≡◌, ℕ, ◌+◌, ◌-◌, ◌^◌, ◌≤◌, Bool, true, false, if◌then◌else◌, min, List, [], ◌∷◌, ◌++◌, length, map, Option, Some, None, Result, Ok, Err}
 use Rattle.std.specs.List.{AllByRecursion}
 use Rattle.std.specs.declared.alloc.AllocError.{AllocError}
-use Rattle.step_values.specs.Values.{Action, ask_in, SentAsk, Outcome}
+use Rattle.step_values.specs.Values.{ask_in, SentAsk, Outcome}
 use Rattle.step_rules.specs.State.{Running}
 use Rattle.step_rules.specs.Progress.{left_to_do}
 use Rattle.step_soundness.specs.Runs.{Run}
 use Rattle.network_model.specs.declared.counts.Served.{Served}
-use Rattle.network_model.specs.Wire.{Arrival, Put, Told, silence, ◌then◌, TellsMore, arrived, moment_was, words_were}
+use Rattle.network_model.specs.Wire.{Arrival, Put, Told, silence, ◌then◌, TellsMore, arrived}
 use Rattle.network_model.specs.Events.{Taken, PutsItsActions, steps_in, Turn, taken_in_turn, taken_in, AreTurns, IsCutShort}
 
 -- ---- what a wire is told of

@@ -1,11 +1,9 @@
 -- What is left unfinished of the streams, and the events that an arrival completes.
-use Rattle.std.specs.Prelude.{◌≡◌, ℕ, suc, ◌+◌, ◌≤◌, Bool, true, if◌then◌else◌, ◌==◌, List, [], ◌∷◌, ◌++◌, length, map, Option, Some, None, unwrap_or, Result, OnOk, OnErr}
+use Rattle.std.specs.Prelude.{◌≡◌, ℕ, suc, ◌≤◌, true, if◌then◌else◌, ◌==◌, List, [], ◌∷◌, ◌++◌, length, map, Option, Some, None, unwrap_or, Result, OnOk, OnErr}
 use Rattle.std.specs.Ordering.{nat_cmp}
 use Rattle.std.specs.BTreeMap.{BTreeMap, get}
 use Rattle.std.specs.declared.alloc.AllocError.{AllocError}
 use Rattle.tcp_frames.specs.Frames.{frames_of, unfinished_of}
-use Rattle.suffix_routes.specs.declared.peer.Peer.{Peer}
-use Rattle.outstanding.specs.declared.ask.Path.{Path}
 use Rattle.outstanding.specs.declared.ask.Path.TheVariants.{Udp, Tcp}
 use Rattle.step_values.specs.declared.event.Client.TheVariants as client
 use Rattle.step_values.specs.Values.{Event, from_client, delivery, path_failed}

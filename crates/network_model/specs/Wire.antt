@@ -1,5 +1,5 @@
 -- What a wire gives and takes, as plain values, and what it tells of it.
-use Rattle.std.specs.Prelude.{◌≡◌, ℕ, Bool, List, [], ◌∷◌, ◌++◌, Option, Some, None, Result, Ok, Err, is_ok}
+use Rattle.std.specs.Prelude.{◌≡◌, ℕ, Bool, List, [], ◌∷◌, ◌++◌, Option, Some, None, Result, Ok, Err}
 use Rattle.suffix_routes.specs.declared.peer.Peer.{Peer}
 use Rattle.outstanding.specs.declared.ask.Path.{Path}
 use Rattle.step_values.specs.Values.{Action}
@@ -50,7 +50,6 @@ abbrev pub silence : Told
 silence = record { arrivals = []; puts = []; moments = []; words = [] }
 
 infixr 20 ◌then◌
-
 abbrev pub ◌then◌ : Told → Told → Told
 a then b = record { arrivals = a.arrivals ++ b.arrivals; puts = a.puts ++ b.puts; moments = a.moments ++ b.moments; words = a.words ++ b.words }
 

@@ -48,7 +48,14 @@ fn serve_arrival<H: Drop, A: Allocator + Copy, W: Wire<A>>(
         Arrival::ClientStream { conn, bytes } => {
             let mut reader = take_out(alloc, &mut streams.clients, conn);
             let sender = Sender::FromClient(conn);
-            serve_piece(wire, forwarder, counts, &mut reader, sender, bytes.as_slice())?;
+            serve_piece(
+                wire,
+                forwarder,
+                counts,
+                &mut reader,
+                sender,
+                bytes.as_slice(),
+            )?;
             put_in(&mut streams.clients, conn, reader)?;
         }
         Arrival::ClientClosed { conn } => {
@@ -56,12 +63,24 @@ fn serve_arrival<H: Drop, A: Allocator + Copy, W: Wire<A>>(
         }
         Arrival::ServerDatagram { port, from, bytes } => {
             let path = Path::Udp(port);
-            hand_on(wire, forwarder, counts, Event::Delivery { path, from, bytes });
+            hand_on(
+                wire,
+                forwarder,
+                counts,
+                Event::Delivery { path, from, bytes },
+            );
         }
         Arrival::ServerStream { conn, from, bytes } => {
             let mut reader = take_out(alloc, &mut streams.servers, conn);
             let sender = Sender::FromServer(conn, from);
-            serve_piece(wire, forwarder, counts, &mut reader, sender, bytes.as_slice())?;
+            serve_piece(
+                wire,
+                forwarder,
+                counts,
+                &mut reader,
+                sender,
+                bytes.as_slice(),
+            )?;
             put_in(&mut streams.servers, conn, reader)?;
         }
         Arrival::PathGone { path } => {

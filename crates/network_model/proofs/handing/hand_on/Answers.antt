@@ -1,7 +1,7 @@
 use Rattle.std.proofs.Common.{subst, Option}
 use Rattle.outstanding.specs.declared.ask.Path.{Path}
 use Rattle.step_values.specs.Values.{event_of}
-use Rattle.network_model.proofs.Handling.{HandsSoFar, hands_first, hands_again, hands_on, fails_less}
+use Rattle.network_model.proofs.Handling.{HandsSoFar, hands_again, hands_on}
 use Rattle.network_model.proofs.handing.hand_on.Goals as goal
 
 pub loop-failed-preserved : goal.loop-failed-preserved

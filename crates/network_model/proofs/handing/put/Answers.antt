@@ -1,5 +1,4 @@
-use Rattle.std.proofs.Common.{◌∷◌, [], refl, ap, true, false, Option, arith}
-use Rattle.outstanding.specs.declared.ask.Path.{Path}
+use Rattle.std.proofs.Common.{◌∷◌, [], refl, ap, true, false, arith}
 use Rattle.step_values.specs.Values.{action_of, ask_in}
 use Rattle.network_model.specs.Events.{later}
 use Rattle.network_model.proofs.Telling.{adds_none, refused_ask, refused_other}

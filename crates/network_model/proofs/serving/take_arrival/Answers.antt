@@ -1,7 +1,5 @@
-use Rattle.std.proofs.Common.{refl, Some, None, arith}
-use Rattle.network_model.specs.Wire.{arrival_of}
+use Rattle.std.proofs.Common.{refl, None}
 use Rattle.network_model.proofs.Framing.{events_nothing}
-use Rattle.network_model.proofs.Telling.{adds_none}
 use Rattle.network_model.proofs.serving.take_arrival.Goals as goal
 
 pub returns-in-Err : goal.returns-in-Err
