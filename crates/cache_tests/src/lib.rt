@@ -1,0 +1,18 @@
+//! Tests of the cache from outside: against a plain list, with many names, with refused growths, by depths, and as time
+//! passes.
+#![tactic(auto)]
+
+#[cfg(test)]
+mod ageing;
+#[cfg(test)]
+mod agreement;
+#[cfg(test)]
+mod depths;
+#[cfg(test)]
+mod many;
+#[cfg(test)]
+mod memory;
+#[cfg(test)]
+mod plain;
+#[cfg(test)]
+mod samples;

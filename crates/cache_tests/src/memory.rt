@@ -1,0 +1,120 @@
+//! Refused growths.
+
+use crate::samples::Denial;
+use dns_name::NameFault;
+use lru::DefaultHasher;
+use record_cache::{Cache, Offered};
+use refusing_allocator::Refusing;
+use std::alloc::Global;
+use std::test::Fail;
+
+/// Offers a denial with so many growths granted, its own octets aside.
+fn offer_within<'a>(
+    heap: &'a Refusing<Global>,
+    growths: u64,
+    cache: &mut Cache<DefaultHasher, &'a Refusing<Global>>,
+    denial: Denial<'_>,
+    moment: u64,
+) -> Result<Offered, NameFault> {
+    let piece = denial.piece(heap)?;
+    heap.allow(growths);
+    let answer = cache.offer(piece, moment);
+    heap.allow(u64::MAX);
+    Ok(answer)
+}
+
+#[test]
+fn each_growth_of_a_new_cache_is_refused(rt: HostRuntime) {
+    let heap = Refusing::new(rt.alloc());
+    let mut refused = 0u64;
+    for count in 0..100u64 {
+        heap.allow(count);
+        if Cache::new(&heap, 2, DefaultHasher::default()).is_ok() {
+            break;
+        }
+        refused = refused.saturating_add(1);
+    }
+    assert_eq!(rt;
+        refused,
+        6,
+        "those of the table, and the two ends of the order"
+    );
+}
+
+/// A second name is offered with so many growths granted: what came of it, and whether the cache is as it has to be then.
+fn second_within(heap: &Refusing<Global>, growths: u64) -> Result<(Offered, bool), Fail> {
+    let mut cache = Cache::new(heap, 2, DefaultHasher::default())?;
+    let first = Denial::of("a.example", None);
+    let second = Denial::of("b.c.example", None);
+    first.offer(heap, &mut cache, 1000)?;
+    let answer = offer_within(heap, growths, &mut cache, second, 2000)?;
+    let kept = answer == Offered::Kept;
+    let right = cache.peek(&first.slot(heap)?).is_some()
+        && cache.peek(&second.slot(heap)?).is_some() == kept
+        && cache.len() == 1 + usize::from(kept)
+        && cache.has_name_error(3) == kept;
+    Ok((answer, right))
+}
+
+#[test]
+fn each_growth_of_an_offer_at_a_new_slot_is_refused(rt: HostRuntime) -> Result<(), Fail> {
+    let heap = Refusing::new(rt.alloc());
+    let mut refused = 0u64;
+    for count in 0..100u64 {
+        let (answer, right) = second_within(&heap, count)?;
+        assert!(rt; right, "with {count} granted");
+        if answer == Offered::Kept {
+            break;
+        }
+        assert_eq!(rt; answer, Offered::Unkept);
+        refused = refused.saturating_add(1);
+    }
+    assert_eq!(rt; refused, 1, "the entry");
+    Ok(())
+}
+
+#[test]
+fn offers_at_a_slot_that_is_there_take_no_memory(rt: HostRuntime) -> Result<(), Fail> {
+    let heap = Refusing::new(rt.alloc());
+    let mut cache = Cache::new(&heap, 2, DefaultHasher::default())?;
+    let first = Denial::of("a.example", Some(1));
+    first.offer(&heap, &mut cache, 1000)?;
+    for (rank, lifetime, answer) in [
+        (1u8, 300u16, Offered::Outranked),
+        (3, 300, Offered::Kept),
+        (3, 0, Offered::NotKept),
+        (3, 0, Offered::NotKept),
+        (3, 300, Offered::Unkept),
+    ] {
+        let next = Denial {
+            owner: "A.Example",
+            kind: Some(1),
+            lifetime,
+            rank,
+        };
+        let told = offer_within(&heap, 0, &mut cache, next, 2000)?;
+        assert_eq!(rt; told, answer, "rank {rank} and {lifetime} seconds");
+    }
+    Ok(())
+}
+
+/// One growth is granted, and stays unspent over all calls that take none.
+#[test]
+fn other_calls_take_no_memory(rt: HostRuntime) -> Result<(), Fail> {
+    let heap = Refusing::new(rt.alloc());
+    let mut cache = Cache::new(&heap, 2, DefaultHasher::default())?;
+    let first = Denial::of("a.example", Some(1));
+    let slot = first.slot(&heap)?;
+    first.offer(&heap, &mut cache, 1000)?;
+    heap.allow(1);
+    cache.promote(&slot);
+    assert!(rt; cache.peek(&slot).is_some());
+    assert_eq!(rt; cache.len(), 1);
+    assert!(rt; !cache.has_name_error(2));
+    cache.forget(&slot);
+    assert_eq!(rt; cache.len(), 0);
+    cache.clear();
+    assert!(rt; Box::new(&heap, 0u8).is_ok(), "one growth was granted");
+    assert!(rt; Box::new(&heap, 0u8).is_err(), "and no more");
+    Ok(())
+}

@@ -1,0 +1,101 @@
+//! Pieces to offer.
+
+use dns_message::Rdata;
+use dns_name::{Name, NameFault};
+use lru::DefaultHasher;
+use plain_list::PlainList;
+use record_cache::{Cache, Offered};
+use std::alloc::Allocator;
+use std::test::Fail;
+use suffix_routes::RouteId;
+use trust_rank::{Body, Piece, Slot};
+
+/// A denial without SOA: of a type (NODATA), or of the whole name (a name error) where there is none.
+#[derive(Clone, Copy)]
+pub(crate) struct Denial<'a> {
+    pub owner: &'a str,
+    pub kind: Option<u16>,
+    /// In seconds.
+    pub lifetime: u16,
+    pub rank: u8,
+}
+
+impl<'a> Denial<'a> {
+    /// Of a type and an hour.
+    pub(crate) fn of(owner: &'a str, kind: Option<u16>) -> Denial<'a> {
+        Denial {
+            owner,
+            kind,
+            lifetime: 3600,
+            rank: 3,
+        }
+    }
+
+    pub(crate) fn slot<A: Allocator + Copy>(self, alloc: A) -> Result<Slot, NameFault> {
+        Ok(Slot {
+            key: Name::from_text(alloc, self.owner)?.key(),
+            class: 1,
+            kind: self.kind,
+        })
+    }
+
+    pub(crate) fn piece<A: Allocator + Copy>(self, alloc: A) -> Result<Piece<A>, NameFault> {
+        let owner = Name::from_text(alloc, self.owner)?;
+        Ok(piece_of(owner, self.kind, self.lifetime, self.rank))
+    }
+
+    /// Offers it at a moment.
+    pub(crate) fn offer<A: Allocator + Copy>(
+        self,
+        alloc: A,
+        cache: &mut Cache<DefaultHasher, A>,
+        moment: u64,
+    ) -> Result<Offered, NameFault> {
+        Ok(cache.offer(self.piece(alloc)?, moment))
+    }
+}
+
+fn piece_of<A: Allocator>(owner: Name<A>, kind: Option<u16>, lifetime: u16, rank: u8) -> Piece<A> {
+    let slot = Slot {
+        key: owner.key(),
+        class: 1,
+        kind,
+    };
+    let body = match kind {
+        Some(_) => Body::NoData(None),
+        None => Body::Denied(None),
+    };
+    Piece {
+        owner,
+        slot,
+        body,
+        lifetime: u32::from(lifetime),
+        rank,
+        route: RouteId { place: 0 },
+    }
+}
+
+/// The addresses of a name: one of them, for five minutes.
+pub(crate) fn set<A: Allocator + Copy>(alloc: A, owner: &str) -> Result<Piece<A>, Fail> {
+    let owner = Name::from_text(alloc, owner)?;
+    let data = Vec::from_slice(alloc, b"\xc6\x33\x64\x05")?;
+    let mut rows = PlainList::new(alloc);
+    rows.push(Rdata::new(data))?;
+    Ok(set_of(owner, rows))
+}
+
+fn set_of<A: Allocator>(owner: Name<A>, rows: PlainList<Rdata<A>, A>) -> Piece<A> {
+    let slot = Slot {
+        key: owner.key(),
+        class: 1,
+        kind: Some(1),
+    };
+    Piece {
+        owner,
+        slot,
+        body: Body::Rows(rows),
+        lifetime: 300,
+        rank: 3,
+        route: RouteId { place: 0 },
+    }
+}

@@ -1,0 +1,5 @@
+pub mod Slots
+pub mod Lists
+pub mod Counts
+pub mod Stored
+pub mod Keeping

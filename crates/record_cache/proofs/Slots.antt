@@ -1,0 +1,96 @@
+-- Slots: the test of the definitions and that of the code are true exactly where two slots are one.
+use Rattle.std.proofs.Common.{◌≡◌, ℕ, ◌+◌, ◌-◌, Bool, true, false, ◌&&◌, ◌==◌, nat_eq, List, [], ◌∷◌, length, replicate, Option, None, Some, refl, sym, ap, arith, length-append}
+use Rattle.std.specs.Bool.{Decides}
+use Rattle.std.specs.Option.{option_eq}
+use Rattle.std.specs.Cmp.{first_so, second_so}
+use Rattle.std.specs.Cmp.Lexicographic.{pointwise, pointwise_decides, bytes_decides}
+use Rattle.std.proofs.lemmas.Bool.Decides.{Decides-eqb, same_from_decides}
+use Rattle.std.proofs.lemmas.List.{take_at}
+use Rattle.dns_name.specs.Key.{key_octets, key_len, padded}
+use Rattle.dns_name.specs.Labels.{octets_of, size_of, labels_of}
+use Rattle.dns_name.proofs.CallerLemmas.{labels_of_octets}
+use Rattle.trust_rank.specs.declared.slot.Slot.{Slot}
+use Rattle.trust_rank.specs.Replacing.{same_kind}
+use Rattle.trust_rank.specs.contracts.slot.SlotPartialEq.TheImpl.{eq-value}
+use Rattle.record_cache.specs.Entries.{is_slot}
+
+both : (s t : Bool) → s ≡ true → t ≡ true → (s && t) ≡ true
+both true true h k = refl
+both true false h k = k
+both false t h k = h
+
+-- ---- the test of the definitions
+
+labels_decide : (a b : List (List ℕ)) → Decides (pointwise (pointwise nat_eq) a b) (a ≡ b)
+labels_decide = pointwise_decides bytes_decides
+
+kinds_decide : (a b : Option ℕ) → Decides (same_kind a b) (a ≡ b)
+kinds_decide None None = (λ h. refl, λ h. refl)
+kinds_decide None (Some b) = (λ h. cc, λ h. cc)
+kinds_decide (Some a) None = (λ h. cc, λ h. cc)
+kinds_decide (Some a) (Some b) = (λ h. ap Some ((Decides-eqb a b).0 h), λ h. let e : a ≡ b = cc in (Decides-eqb a b).1 e)
+
+one_slot : (a b : Slot) → a.key ≡ b.key → a.class ≡ b.class → a.kind ≡ b.kind → a ≡ b
+one_slot a b k c o = λ i. record { key = k i; class = c i; kind = o i }
+
+pub is_slot_decides : (a b : Slot) → Decides (is_slot a b) (a ≡ b)
+is_slot_decides a b =
+    let labels = pointwise (pointwise nat_eq) a.key b.key in
+    let class = a.class == b.class in
+    let kind = same_kind a.kind b.kind in (
+      λ h. one_slot a b
+          ((labels_decide a.key b.key).0 (first_so labels class (first_so (labels && class) kind h)))
+          ((Decides-eqb a.class b.class).0 (second_so labels class (first_so (labels && class) kind h)))
+          ((kinds_decide a.kind b.kind).0 (second_so (labels && class) kind h)),
+      λ e. both (labels && class) kind
+          (both labels class ((labels_decide a.key b.key).1 (ap (λ s. s.key) e)) ((Decides-eqb a.class b.class).1 (ap (λ s. s.class) e)))
+          ((kinds_decide a.kind b.kind).1 (ap (λ s. s.kind) e)),
+    )
+
+-- ---- the test of the code
+
+-- a name is as long as its octets and the zero behind them
+size_is : (name : List (List ℕ)) → size_of name ≡ length (octets_of name) + 1
+size_is [] = refl
+size_is (label ∷ name) = omega (arith, size_is name, length-append label (octets_of name))
+
+-- the octets and the size of a name are those of no other
+one_key : (a b : List (List ℕ)) → padded (octets_of a) ≡ padded (octets_of b) → size_of a ≡ size_of b → a ≡ b
+one_key a b o s =
+    let n : length (octets_of a) ≡ length (octets_of b) = omega (arith, s, size_is a, size_is b) in
+    let left = take_at (octets_of a) (replicate (255 - length (octets_of a)) 0) (length (octets_of a)) refl in
+    let right = take_at (octets_of b) (replicate (255 - length (octets_of b)) 0) (length (octets_of a)) (sym n) in
+    let same : octets_of a ≡ octets_of b = cc (left, right, o) in
+    cc (labels_of_octets a, labels_of_octets b, ap labels_of same)
+
+keys_decide : (a b : List (List ℕ)) → Decides (pointwise nat_eq (key_octets a) (key_octets b) && nat_eq (key_len a) (key_len b)) (a ≡ b)
+unfolding key_octets key_len
+keys_decide a b =
+    let octets = pointwise nat_eq (key_octets a) (key_octets b) in
+    let size = nat_eq (key_len a) (key_len b) in (
+      λ h. one_key a b ((bytes_decides (key_octets a) (key_octets b)).0 (first_so octets size h)) ((Decides-eqb (key_len a) (key_len b)).0 (second_so octets size h)),
+      λ e. both octets size ((bytes_decides (key_octets a) (key_octets b)).1 (ap key_octets e)) ((Decides-eqb (key_len a) (key_len b)).1 (ap key_len e)),
+    )
+
+types_decide : (a b : Option ℕ) → Decides (option_eq nat_eq a b) (a ≡ b)
+types_decide None None = (λ h. refl, λ h. refl)
+types_decide None (Some b) = (λ h. cc, λ h. cc)
+types_decide (Some a) None = (λ h. cc, λ h. cc)
+types_decide (Some a) (Some b) = (λ h. ap Some ((Decides-eqb a b).0 h), λ h. let e : a ≡ b = cc in (Decides-eqb a b).1 e)
+
+eq_decides : (a b : Slot) → Decides (eq-value.it a b) (a ≡ b)
+eq_decides a b =
+    let key = pointwise nat_eq (key_octets a.key) (key_octets b.key) && nat_eq (key_len a.key) (key_len b.key) in
+    let class = nat_eq a.class b.class in
+    let kind = option_eq nat_eq a.kind b.kind in (
+      λ h. one_slot a b
+          ((keys_decide a.key b.key).0 (first_so key (class && kind) h))
+          ((Decides-eqb a.class b.class).0 (first_so class kind (second_so key (class && kind) h)))
+          ((types_decide a.kind b.kind).0 (second_so class kind (second_so key (class && kind) h))),
+      λ e. both key (class && kind)
+          ((keys_decide a.key b.key).1 (ap (λ s. s.key) e))
+          (both class kind ((Decides-eqb a.class b.class).1 (ap (λ s. s.class) e)) ((types_decide a.kind b.kind).1 (ap (λ s. s.kind) e))),
+    )
+
+pub eq_is : (a b : Slot) → eq-value.it a b ≡ is_slot a b
+eq_is a b = same_from_decides (eq-value.it a b) (is_slot a b) (eq_decides a b) (is_slot_decides a b)

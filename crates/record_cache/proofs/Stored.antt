@@ -1,0 +1,220 @@
+-- What each call of `lru` does to entries that stand under their slots.
+use Rattle.std.proofs.Common.{◌≡◌, ℕ, zero, suc, ◌+◌, ◌-◌, ◌<◌, ◌≤◌, ◌^◌, Bool, true, false, cond, ◌&&◌, not, nat_lt, List, [], ◌∷◌, ◌++◌, length, take, get_or, Option, None, Some, option_map, IfSome, IsSome, refl, sym, ap, subst, ◌∙◌, arith, length-take}
+use Rattle.std.specs.List.{slice_get, list_any}
+use Rattle.std.specs.Option.{option_map_or, option_to_list}
+use Rattle.std.specs.Map.{values_of, lookup, lookup_entry, remove_entry}
+use Rattle.std.proofs.lemmas.List.{take_all}
+use Rattle.lru.specs.LruCache.{LruCache, lru_cache, put_entries, displaced}
+use Rattle.lru.specs.LruCache.{promoted as used}
+use Rattle.trust_rank.specs.declared.slot.Slot.{Slot}
+use Rattle.trust_rank.specs.Formed.{IsPiece}
+use Rattle.trust_rank.specs.Replacing.{is_name_error}
+use Rattle.trust_rank.specs.contracts.slot.SlotPartialEq.TheImpl.{eq-value}
+use Rattle.record_cache.specs.Values.{Held}
+use Rattle.record_cache.specs.Entries.{of_slot, entry_of, has_slot, without, promoted, AreApart, AreHeld}
+use Rattle.record_cache.specs.Ageing.{is_alive}
+use Rattle.record_cache.specs.Offers.{kept, outranks, is_outranked}
+use Rattle.record_cache.specs.Storing.{keyed, name_error_depth, depth_of, told, name_errors_at, IsStored}
+use Rattle.record_cache.proofs.Slots.{eq_is}
+use Rattle.record_cache.proofs.Lists as lists
+use Rattle.record_cache.proofs.Counts as counts
+
+abbrev pub eq : Slot → Slot → Bool
+eq = eq-value.it
+
+-- ---- lists of entries under their slots
+
+abbrev pair : Held → Slot × Held
+pair h = (h.piece.slot, h)
+
+pub values_keyed : (es : List Held) → values_of (keyed es) ≡ es
+values_keyed [] = refl
+values_keyed (h ∷ es) = ap (λ xs. h ∷ xs) (values_keyed es)
+
+lookup_keyed : (s : Slot) (es : List Held) → lookup (eq s) (keyed es) ≡ entry_of s es
+lookup_keyed s [] = refl
+lookup_keyed s (h ∷ es) = λ i. cond (eq_is s h.piece.slot i) (Some h) (lookup_keyed s es i)
+
+pairs_in_step : (b : Bool) (h : Held) (o : Option Held) → cond b (Some (pair h)) (option_map pair o) ≡ option_map pair (cond b (Some h) o)
+pairs_in_step true h o = refl
+pairs_in_step false h o = refl
+
+pair_keyed : (s : Slot) (es : List Held) → lookup_entry (eq s) (keyed es) ≡ option_map pair (entry_of s es)
+pair_keyed s [] = refl
+pair_keyed s (h ∷ es) = (λ i. cond (eq_is s h.piece.slot i) (Some (pair h)) (pair_keyed s es i)) ∙ pairs_in_step (of_slot s h) h (entry_of s es)
+
+remove_keyed : (s : Slot) (es : List Held) → AreApart es → remove_entry (eq s) (keyed es) ≡ keyed (without s es)
+remove_keyed s [] apart = refl
+remove_keyed s (h ∷ es) apart = (λ i. cond (eq_is s h.piece.slot i) (keyed es) (pair h ∷ remove_keyed s es apart.1 i)) ∙
+    ((elim (of_slot s h) as (λ b. of_slot s h ≡ b → cond b (keyed es) (pair h ∷ keyed (without s es)) ≡ keyed (cond (not b) (h ∷ without s es) (without s es))) [
+      | true ↦ λ is. ap keyed (sym (lists.without_none s es (lists.none_behind s h es apart is)))
+      | false ↦ λ is. refl
+    ]) refl)
+
+promoted_keyed : (s : Slot) (es : List Held) → AreApart es → used (eq s) (keyed es) ≡ keyed (promoted s es)
+promoted_keyed s es apart = rw (pair_keyed s es, remove_keyed s es apart, lists.promoted_is s es apart)
+    ((elim (entry_of s es) as (λ o. entry_of s es ≡ o → option_map_or (λ e. e ∷ keyed (without s es)) (option_map pair o) (keyed es) ≡ keyed (option_to_list o ++ without s es)) [
+      | None ↦ λ is. ap keyed (sym (lists.without_absent s es is))
+      | Some h ↦ λ is. refl
+    ]) refl)
+
+get_keyed : (n : ℕ) (es : List Held) → option_map (λ e. e.1) (slice_get (keyed es) n) ≡ slice_get es n
+get_keyed n [] = refl
+get_keyed zero (h ∷ es) = refl
+get_keyed (suc n) (h ∷ es) = get_keyed n es
+
+take_keyed : (n : ℕ) (es : List Held) → take n (keyed es) ≡ keyed (take n es)
+take_keyed zero es = refl
+take_keyed (suc n) [] = refl
+take_keyed (suc n) (h ∷ es) = ap (λ xs. pair h ∷ xs) (take_keyed n es)
+
+-- ---- the entry in front, and what is left behind it
+
+take_front : (n : ℕ) (h : Held) (es : List Held) → 0 < n → take n (h ∷ es) ≡ h ∷ take (n - 1) es
+take_front zero h es some = absurd (omega arith)
+take_front (suc n) h es some = let e : suc n - 1 ≡ n = omega arith in rw e refl
+
+abbrev pub rest : ℕ → Held → List Held → List Held
+rest capacity h es = take (capacity - 1) (without h.piece.slot es)
+
+pub kept_is : (n : ℕ) (h : Held) (es : List Held) → 0 < n → kept n h es ≡ h ∷ rest n h es
+kept_is n h es some = take_front n h (without h.piece.slot es) some
+
+abbrev NoMore : ℕ → List Held → Type 0
+NoMore n es = length es ≤ n
+
+pub room_left : (n : ℕ) (h old : Held) (es : List Held) → NoMore n es → entry_of h.piece.slot es ≡ Some old → rest n h es ≡ without h.piece.slot es
+room_left n h old es few found = take_all (n - 1) (without h.piece.slot es) (omega (arith, few, lists.length_without h.piece.slot es old found))
+
+put_keyed : (n : ℕ) (h : Held) (es : List Held) → AreApart es → NoMore n es → put_entries eq (lru_cache (keyed es) n) h.piece.slot h ≡ keyed (h ∷ rest n h es)
+put_keyed n h es apart few = rw (pair_keyed h.piece.slot es, remove_keyed h.piece.slot es apart)
+    ((elim (entry_of h.piece.slot es) as (λ o. entry_of h.piece.slot es ≡ o → option_map_or (λ e. (e.0, h) ∷ keyed (without h.piece.slot es)) (option_map pair o) ((h.piece.slot, h) ∷ take (n - 1) (keyed es)) ≡ keyed (h ∷ rest n h es)) [
+      | None ↦ λ is. ap (λ xs. pair h ∷ xs) (take_keyed (n - 1) es ∙ ap (λ xs. keyed (take (n - 1) xs)) (sym (lists.without_absent h.piece.slot es is)))
+      | Some old ↦ λ is. let same : h.piece.slot ≡ old.piece.slot = lists.slot_is h.piece.slot old (lists.entry_is_of h.piece.slot es old is) in
+          λ i. (sym same i, h) ∷ keyed (sym (room_left n h old es few is) i)
+    ]) refl)
+
+-- the entry that goes for another one, if one does
+abbrev pub old_one : LruCache Slot Held → Held → Option Held
+old_one m h = option_map (λ e. e.1) (displaced eq m h.piece.slot h)
+
+-- the code's way to its depth
+pub old_depth : (m : LruCache Slot Held) (h : Held) (s : Slot) (out : Option (Slot × Held)) (held : Option Held) (depth : Option ℕ)
+    → s ≡ h.piece.slot → out ≡ displaced eq m s h → held ≡ option_map (λ e. e.1) out → depth ≡ depth_of held → depth ≡ depth_of (old_one m h)
+old_depth m h s out held depth slot is value told = told ∙ ap depth_of (value ∙ ap (option_map (λ e. e.1)) (is ∙ ap (λ t. displaced eq m t h) slot))
+
+pub put_at : (m new : LruCache Slot Held) (h : Held) (s : Slot) → s ≡ h.piece.slot → new ≡ lru_cache (put_entries eq m s h) m.cap → new ≡ lru_cache (put_entries eq m h.piece.slot h) m.cap
+put_at m new h s slot is = is ∙ ap (λ t. lru_cache (put_entries eq m t h) m.cap) slot
+
+-- what is counted is counted in what was displaced or in what is left
+displaced_counts : (d n : ℕ) (h : Held) (es : List Held) → AreApart es → NoMore n es → 0 < n
+    → name_errors_at d es ≡ told d (depth_of (option_map (λ e. e.1) (displaced eq (lru_cache (keyed es) n) h.piece.slot h))) + name_errors_at d (rest n h es)
+displaced_counts d n h es apart few some = rw (lookup_keyed h.piece.slot es)
+    ((elim (entry_of h.piece.slot es) as (λ o. entry_of h.piece.slot es ≡ o → name_errors_at d es ≡ told d (depth_of (option_map (λ e. e.1) (option_map_or (λ old. Some (h.piece.slot, old)) o (slice_get (keyed es) (n - 1))))) + name_errors_at d (rest n h es)) [
+      | None ↦ λ is. rw (get_keyed (n - 1) es, lists.without_absent h.piece.slot es is) (counts.name_errors_take d (n - 1) es (omega (arith, few, some)))
+      | Some old ↦ λ is. rw (room_left n h old es few is) (subst (λ o. name_errors_at d es ≡ told d (depth_of o) + name_errors_at d (without h.piece.slot es)) is (counts.name_errors_without d h.piece.slot es apart))
+    ]) refl)
+
+-- ---- what is stored
+
+abbrev Counted : List ℕ → List Held → Type 0
+Counted numbers es = (d : ℕ) → get_or numbers d 0 ≡ name_errors_at d es
+
+stored : (n : ℕ) (es : List Held) (numbers : List ℕ) → n < 2 ^ 64 → AreHeld (record { capacity = n; entries = es }) → Counted numbers es → IsStored (lru_cache (keyed es) n) numbers
+stored n es numbers fits held counted = record {
+  keyed = rw (values_keyed es) refl;
+  fits = fits;
+  held = rw (values_keyed es) held;
+  counted = rw (values_keyed es) counted;
+}
+
+module _ (m : LruCache Slot Held) (numbers : List ℕ) (is : IsStored m numbers) where
+  abbrev es : List Held
+  es = values_of m.entries
+
+  -- a look-up finds the entry of the slot
+  pub found : (s : Slot) → lookup (eq s) m.entries ≡ entry_of s es
+  found s = ap (lookup (eq s)) is.keyed ∙ lookup_keyed s es
+
+  -- where a look-up finds none, none is there
+  pub absent : (s : Slot) → (IsSome (lookup (eq s) m.entries) → false ≡ true) → has_slot s es ≡ false
+  absent s refused = (elim (entry_of s es) as (λ o. entry_of s es ≡ o → (IsSome o → false ≡ true) → has_slot s es ≡ false) [
+    | None ↦ λ is none. lists.has_none s es (lists.entry_none s es is)
+    | Some h ↦ λ is none. let wrong : false ≡ true = none refl in cc
+  ]) refl (λ some. refused (subst IsSome (sym (found s)) some))
+
+  -- a set or NODATA is outranked by the entry of its slot or by none
+  pub outranked : (h : Held) (o : Option Held) → o ≡ lookup (eq h.piece.slot) m.entries → is_name_error h.piece ≡ false
+      → option_map_or (λ x. is_alive h.accepted x && nat_lt h.piece.rank x.piece.rank) o false ≡ is_outranked h.accepted h.piece es
+  outranked h o same typed =
+      ap (λ x. option_map_or (λ y. is_alive h.accepted y && nat_lt h.piece.rank y.piece.rank) x false) (same ∙ found h.piece.slot)
+      ∙ sym (lists.any_is_entry h.piece.slot (λ y. is_alive h.accepted y && nat_lt h.piece.rank y.piece.rank) es is.held.apart)
+      ∙ (λ i. not (sym typed i) && list_any (outranks h.accepted h.piece) es)
+
+  -- ---- an entry is taken out
+
+  taken : (s : Slot) → remove_entry (eq s) m.entries ≡ keyed (without s es)
+  taken s = ap (remove_entry (eq s)) is.keyed ∙ remove_keyed s es is.held.apart
+
+  pub taken_list : (s : Slot) → values_of (remove_entry (eq s) m.entries) ≡ without s es
+  taken_list s = ap values_of (taken s) ∙ values_keyed (without s es)
+
+  pub taken_told : (d : ℕ) (s : Slot) → told d (depth_of (lookup (eq s) m.entries)) ≤ get_or numbers d 0
+  taken_told d s = omega (arith, is.counted d, counts.name_errors_without d s es is.held.apart, ap (λ o. told d (depth_of o)) (found s))
+
+  pub taken_stored : (s : Slot) (left : List ℕ) → ((d : ℕ) → get_or numbers d 0 ≡ told d (depth_of (lookup (eq s) m.entries)) + get_or left d 0) → IsStored (lru_cache (remove_entry (eq s) m.entries) m.cap) left
+  taken_stored s left counted = rw (taken s)
+      (stored m.cap (without s es) left is.fits (lists.held_without m.cap s es is.held)
+      (λ d. omega (arith, is.counted d, counted d, counts.name_errors_without d s es is.held.apart, ap (λ o. told d (depth_of o)) (found s))))
+
+  -- ---- an entry is promoted
+
+  used_is : (s : Slot) → used (eq s) m.entries ≡ keyed (promoted s es)
+  used_is s = ap (used (eq s)) is.keyed ∙ promoted_keyed s es is.held.apart
+
+  pub used_list : (s : Slot) → values_of (used (eq s) m.entries) ≡ promoted s es
+  used_list s = ap values_of (used_is s) ∙ values_keyed (promoted s es)
+
+  pub used_stored : (s : Slot) → IsStored (lru_cache (used (eq s) m.entries) m.cap) numbers
+  used_stored s = rw (used_is s)
+      (stored m.cap (promoted s es) numbers is.fits (lists.held_promoted m.cap s es is.held)
+      (λ d. is.counted d ∙ sym (counts.name_errors_promoted d s es is.held.apart)))
+
+  -- ---- an entry is put first
+
+  module _ (h : Held) where
+    put_is : put_entries eq m h.piece.slot h ≡ keyed (kept m.cap h es)
+    put_is = ap (λ xs. put_entries eq (lru_cache xs m.cap) h.piece.slot h) is.keyed ∙ put_keyed m.cap h es is.held.apart is.held.few ∙ ap keyed (sym (kept_is m.cap h es is.held.some))
+
+    pub put_list : values_of (put_entries eq m h.piece.slot h) ≡ kept m.cap h es
+    put_list = ap values_of put_is ∙ values_keyed (kept m.cap h es)
+
+    displaced_is : (d : ℕ) → name_errors_at d es ≡ told d (depth_of (old_one m h)) + name_errors_at d (rest m.cap h es)
+    displaced_is d = subst (λ xs. name_errors_at d es ≡ told d (depth_of (option_map (λ e. e.1) (displaced eq (lru_cache xs m.cap) h.piece.slot h))) + name_errors_at d (rest m.cap h es)) (sym is.keyed)
+        (displaced_counts d m.cap h es is.held.apart is.held.few is.held.some)
+
+    pub put_told : (d : ℕ) → told d (depth_of (old_one m h)) ≤ get_or numbers d 0
+    put_told d = omega (arith, is.counted d, displaced_is d)
+
+    module _ (left : List ℕ) (without_old : (d : ℕ) → get_or numbers d 0 ≡ told d (depth_of (old_one m h)) + get_or left d 0) where
+      left_is : (d : ℕ) → get_or left d 0 ≡ name_errors_at d (rest m.cap h es)
+      left_is d = omega (arith, is.counted d, displaced_is d, without_old d)
+
+      -- one more fits the count
+      pub put_fits : (d : ℕ) → get_or left d 0 + 1 < 2 ^ 64
+      put_fits d = omega (arith, left_is d, counts.name_errors_few d (rest m.cap h es), length-take (m.cap - 1) (without h.piece.slot es), is.held.some, is.fits)
+
+      pub put_stored : IsPiece h.piece → (numbers' : List ℕ) → ((d : ℕ) → get_or numbers' d 0 ≡ told d (name_error_depth h) + get_or left d 0) → IsStored (lru_cache (put_entries eq m h.piece.slot h) m.cap) numbers'
+      put_stored piece numbers' counted = rw put_is
+          (stored m.cap (kept m.cap h es) numbers' is.fits (lists.held_kept m.cap h es piece is.held)
+          (λ d. rw (kept_is m.cap h es is.held.some) (omega (arith, counted d, left_is d))))
+
+-- what is counted can be taken from its count
+pub counted_out : (numbers : List ℕ) (o : Option ℕ) → IfSome o (λ d. d < 128) → ((d : ℕ) → told d o ≤ get_or numbers d 0) → IfSome o (λ d. (d < 128) × (0 < get_or numbers d 0))
+counted_out numbers None few h = tt
+counted_out numbers (Some d) few h = (few, omega (arith, h d, counts.told_own d))
+
+-- what has room is counted in
+pub counted_in : (numbers : List ℕ) (o : Option ℕ) → IfSome o (λ d. d < 128) → ((d : ℕ) → get_or numbers d 0 + 1 < 2 ^ 64) → IfSome o (λ d. (d < 128) × (get_or numbers d 0 + 1 < 2 ^ 64))
+counted_in numbers None few h = tt
+counted_in numbers (Some d) few h = (few, h d)

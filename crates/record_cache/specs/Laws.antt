@@ -1,0 +1,64 @@
+-- What the definitions of the cache are good for, as statements.
+use Rattle.std.specs.Prelude.{◌≡◌, ◌<◌, ℕ, Bool, true, false, ◌⊎◌, List, [], ◌∷◌, length, Some}
+use Rattle.dns_name.specs.Labels.{lowered}
+use Rattle.trust_rank.specs.declared.slot.Slot.{Slot}
+use Rattle.trust_rank.specs.Values.{Piece}
+use Rattle.trust_rank.specs.Replacing.{same_slot}
+use Rattle.record_cache.specs.Values.{Held}
+use Rattle.record_cache.specs.Entries.{is_slot, of_slot, entry_of, has_slot, without, promoted, AreApart, AreHeld}
+use Rattle.record_cache.specs.Offers.{answer, kept, offered}
+use Rattle.record_cache.specs.declared.cache.Offered.{Offered}
+use Rattle.record_cache.specs.declared.cache.Offered.TheVariants.{Unkept}
+
+abbrev pub Among : Held → List Held → Type 0
+Among h [] = ⊥
+Among h (e ∷ entries) = (e ≡ h) ⊎ Among h entries
+
+abbrev pub IsLast : Held → List Held → Type 0
+IsLast h [] = ⊥
+IsLast h (e ∷ []) = e ≡ h
+IsLast h (e ∷ f ∷ entries) = IsLast h (f ∷ entries)
+
+-- an entry is the last of a full cache, which a new slot needs
+pub record IsDropped (capacity : ℕ) (slot : Slot) (h : Held) (entries : List Held) : Type 0 where
+  pub new : has_slot slot entries ≡ false
+  pub full : length entries ≡ capacity
+  pub last : IsLast h entries
+
+-- What was kept last is the entry of its slot.
+abbrev pub KeptIsFound : Type 0
+KeptIsFound = (capacity : ℕ) (h : Held) (entries : List Held) → 0 < capacity
+    → entry_of h.piece.slot (kept capacity h entries) ≡ Some h
+
+-- An offer is refused for want of memory only where its slot has no entry.
+abbrev pub UnkeptIsNew : Type 0
+UnkeptIsNew = (moment : ℕ) (room : Bool) (piece : Piece) (entries : List Held)
+    → answer moment room piece entries ≡ Unkept
+    → (room ≡ false) × (has_slot piece.slot entries ≡ false)
+
+-- However an offer ends, each entry stays but that of its slot and one that is dropped.
+abbrev pub OfferedStay : Type 0
+OfferedStay = (capacity moment : ℕ) (end : Offered) (piece : Piece) (entries : List Held) (h : Held)
+    → AreHeld (record { capacity = capacity; entries = entries }) → Among h entries
+    → Among h (offered end capacity moment piece entries)
+    ⊎ ((of_slot piece.slot h ≡ true) ⊎ IsDropped capacity piece.slot h entries)
+
+-- Each entry stays where another slot is forgotten.
+abbrev pub OthersStay : Type 0
+OthersStay = (slot : Slot) (entries : List Held) (h : Held) → Among h entries
+    → Among h (without slot entries) ⊎ (of_slot slot h ≡ true)
+
+-- Each entry stays where one is promoted.
+abbrev pub PromotedStay : Type 0
+PromotedStay = (slot : Slot) (entries : List Held) (h : Held) → Among h entries
+    → Among h (promoted slot entries)
+
+-- A promotion changes no look-up.
+abbrev pub PromotedAreFound : Type 0
+PromotedAreFound = (slot other : Slot) (entries : List Held) → AreApart entries
+    → entry_of other (promoted slot entries) ≡ entry_of other entries
+
+-- Slots with keys in lower case, as all are, are one where they are the same.
+abbrev pub OneSlotIsTheSame : Type 0
+OneSlotIsTheSame = (a b : Slot) → lowered a.key ≡ a.key → lowered b.key ≡ b.key
+    → is_slot a b ≡ same_slot a b

@@ -1,0 +1,6 @@
+pub mod Values
+pub mod Ageing
+pub mod Entries
+pub mod Offers
+pub mod Storing
+pub mod Laws

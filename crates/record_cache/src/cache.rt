@@ -1,0 +1,211 @@
+//! The entries, in the order of their last use.
+
+ghost use Rattle.std.specs.Prelude.{◌≡◌, ◌<◌, ◌||◌, [], if◌then◌else◌, length, option_map, None, Some, IfOk, IfSome, MatchOption};
+ghost use Rattle.record_cache.specs.Entries.{AreHeld, entry_of, has_name_error, has_slot, promoted, without};
+ghost use Rattle.record_cache.specs.Offers.{answer, found_room, is_outranked, kept, offered};
+ghost use Rattle.record_cache.specs.Storing.{depth_of, IsStored};
+ghost use Rattle.std.specs.Map.{values_of};
+
+use crate::depths::Depths;
+use crate::held::Held;
+use lru::LruCache;
+use std::alloc::{AllocError, Allocator, Global};
+use std::hash::BuildHasher;
+use std::marker::Model;
+use std::num::NonZeroUsize;
+use trust_rank::{Piece, Slot};
+
+/// How an offer ended.
+#[derive(Clone, Copy, Debug, PartialEq, Eq)]
+pub enum Offered {
+    /// The piece is the entry of its slot, and the most recently used one.
+    Kept,
+    /// A living entry of a higher rank stays (RFC 2181 5.4.1).
+    Outranked,
+    /// The piece has no lifetime: its slot has no entry now.
+    NotKept,
+    /// Its slot had no entry, and memory for one ran out.
+    Unkept,
+}
+
+/// Entries of different slots, at most `capacity` of them, the most recently used first.
+#[derive(Drop)]
+pub struct Cache<H: BuildHasher, A: Allocator = Global> {
+    entries: LruCache<Slot, Held<A>, H, A>,
+    /// How many name errors are held, by the number of labels.
+    name_errors: Depths,
+}
+
+impl<H: BuildHasher, A: Allocator> Model for Cache<H, A> {
+    ghost use Rattle.std.specs.Map.{values_of};
+    ghost use Rattle.record_cache.specs.Values.{Cache};
+    ghost use Rattle.record_cache.specs.Storing.{IsStored};
+
+    ghost Value = { Cache };
+
+    ghost view = { λ c. record { capacity = c.entries.cap; entries = values_of c.entries.entries } };
+
+    ghost invariant = { λ c. IsStored c.entries c.name_errors.counts };
+}
+
+impl<H: BuildHasher + Drop, A: Allocator + Copy> Cache<H, A> {
+    /// No entries, and room for `capacity` of them, which is at least 1. `Err` where memory ran out.
+    pub fn new(alloc: A, capacity: usize, hasher: H) -> Result<Cache<H, A>, AllocError>
+        requires { 0 < capacity }
+        ensures { IfOk result (λ cache. cache ≡ record { capacity = capacity; entries = [] }) }
+    {
+        let Some(room) = NonZeroUsize::new(capacity) else {
+            unreachable!();
+        };
+        Ok(Cache {
+            entries: LruCache::with_hasher(alloc, room, hasher)?,
+            name_errors: Depths::new(),
+        })
+    }
+
+    /// Offers a piece that was accepted at a moment, in milliseconds.
+    ///
+    /// `Outranked`, where its slot has a living entry of a higher rank (RFC 2181 5.4.1), which a name error never minds:
+    /// nothing changes. Else `NotKept`, where its lifetime is 0: the entry of its slot is removed. Else
+    /// `Kept`: it goes to the front, in place of its slot's entry; or else a full cache drops its last entry. `Unkept`,
+    /// where its slot has no entry and a growth was refused: nothing changes.
+    pub fn offer(&mut self, piece: Piece<A>, moment: u64) -> Offered
+        ensures answer { result ≡ answer moment (found_room result) piece self.old.entries }
+        ensures list { self.new ≡ record self.old { entries = offered result self.old.capacity moment piece self.old.entries } }
+    {
+        let held = Held {
+            piece,
+            accepted: moment,
+        };
+        if self.is_outranked(&held) {
+            return Offered::Outranked;
+        }
+        if held.has_no_lifetime() {
+            self.forget(&held.slot());
+            return Offered::NotKept;
+        }
+        if put_first(&mut self.entries, &mut self.name_errors, held) {
+            Offered::Kept
+        } else {
+            Offered::Unkept
+        }
+    }
+
+    /// Whether its slot has an entry that outranks it when it is accepted; a name error is never outranked.
+    fn is_outranked(&self, held: &Held<A>) -> bool
+        ensures { result ≡ is_outranked held.now.accepted held.now.piece self.now.entries }
+    {
+        if held.is_name_error() {
+            return false;
+        }
+        match self.entries.peek(&held.slot()) {
+            Some(other) => other.outranks(held),
+            None => false,
+        }
+    }
+
+    /// The entry of a slot, alive or dead; the order stays. `None` where the slot has none. It takes no
+    /// memory. `held` says again what holds of all entries.
+    pub fn peek(&self, slot: &Slot) -> Option<&Held<A>>
+        ensures found { MatchOption result (entry_of slot.now self.now.entries ≡ None) (λ held. entry_of slot.now self.now.entries ≡ Some held.now) }
+        ensures held { AreHeld self.now }
+    {
+        self.entries.peek(slot)
+    }
+
+    /// Makes the entry of a slot the most recently used; nothing where the slot has none. It takes no memory.
+    pub fn promote(&mut self, slot: &Slot)
+        ensures { self.new ≡ record self.old { entries = promoted slot.now self.old.entries } }
+    {
+        self.entries.promote(slot);
+    }
+
+    /// Removes the entry of a slot; nothing where the slot has none. It takes no memory.
+    pub fn forget(&mut self, slot: &Slot)
+        ensures { self.new ≡ record self.old { entries = without slot.now self.old.entries } }
+    {
+        take_out(&mut self.entries, &mut self.name_errors, slot);
+    }
+
+    /// Removes all entries. It takes no memory.
+    pub fn clear(&mut self)
+        ensures { self.new ≡ record self.old { entries = [] } }
+    {
+        self.entries.clear();
+        self.name_errors = Depths::new();
+    }
+
+    /// How many entries there are, dead ones too. `held` says what holds of them. It takes no memory.
+    pub fn len(&self) -> usize
+        ensures count { result ≡ length self.now.entries }
+        ensures held { AreHeld self.now }
+    {
+        self.entries.len()
+    }
+
+    /// Whether a name error of a name with so many labels is held, alive or dead: where none is, no look-up for one is
+    /// needed. It takes no memory, and looks at no entry.
+    pub fn has_name_error(&self, depth: usize) -> bool
+        ensures { result ≡ has_name_error depth self.now.entries }
+    {
+        self.name_errors.has(depth)
+    }
+}
+
+/// Puts an entry first, in place of its slot's or of the last one of a full cache. `false` where its slot has no entry and
+/// a growth was refused, and then nothing has changed.
+fn put_first<H: BuildHasher + Drop, A: Allocator + Copy>(
+    entries: &mut LruCache<Slot, Held<A>, H, A>,
+    name_errors: &mut Depths,
+    held: Held<A>,
+) -> bool
+    requires { IsStored entries.old name_errors.old.counts }
+    ensures stored { IsStored entries.new name_errors.new.counts }
+    ensures list { values_of entries.new.entries ≡ (if result then kept entries.old.cap held (values_of entries.old.entries) else values_of entries.old.entries) }
+    ensures capacity { entries.new.cap ≡ entries.old.cap }
+    ensures room { result || has_slot held.piece.slot (values_of entries.old.entries) ≡ result }
+{
+    let slot = held.slot();
+    let depth = held.name_error_depth();
+    match entries.push(slot, held) {
+        Ok(displaced) => {
+            name_errors.remove(depth_of(value_of(displaced)));
+            name_errors.add(depth);
+            true
+        }
+        Err(_) => false,
+    }
+}
+
+/// Takes the entry of a slot out.
+fn take_out<H: BuildHasher + Drop, A: Allocator + Copy>(
+    entries: &mut LruCache<Slot, Held<A>, H, A>,
+    name_errors: &mut Depths,
+    slot: &Slot,
+)
+    requires { IsStored entries.old name_errors.old.counts }
+    ensures stored { IsStored entries.new name_errors.new.counts }
+    ensures list { values_of entries.new.entries ≡ without slot.now (values_of entries.old.entries) }
+    ensures capacity { entries.new.cap ≡ entries.old.cap }
+{
+    let taken = entries.pop(slot);
+    name_errors.remove(depth_of(taken));
+}
+
+/// How many labels the name of an entry has, if there is an entry and it is a name error.
+fn depth_of<A: Allocator>(held: Option<Held<A>>) -> Option<usize>
+    ensures depth { result ≡ depth_of held }
+    ensures few { IfSome result (λ depth. depth < 128) }
+{
+    held?.name_error_depth()
+}
+
+/// The value of a pair.
+fn value_of<A: Allocator>(pair: Option<(Slot, Held<A>)>) -> Option<Held<A>>
+    ensures { result ≡ option_map (λ p. p.1) pair }
+{
+    match pair {
+        Some((_, held)) => Some(held),
+        None => None,
+    }
+}

@@ -1,0 +1,107 @@
+//! One entry.
+
+ghost use Rattle.std.specs.Prelude.{◌≡◌, ◌≤◌, ◌<◌, ◌*◌, ◌==◌, ◌&&◌, nat_lt, length, IfSome};
+ghost use Rattle.record_cache.specs.Ageing.{is_alive, seconds_left};
+ghost use Rattle.record_cache.specs.Storing.{name_error_depth};
+ghost use Rattle.trust_rank.specs.Formed.{IsPiece};
+ghost use Rattle.trust_rank.specs.Replacing.{is_name_error};
+
+use dns_name::Name;
+use std::alloc::{Allocator, Global};
+use std::marker::Model;
+use trust_rank::{Piece, Slot};
+
+/// A piece, and when it was accepted.
+#[derive(Drop)]
+pub struct Held<A: Allocator = Global> {
+    /// What is held.
+    pub piece: Piece<A>,
+    /// The moment of acceptance, in milliseconds.
+    pub accepted: u64,
+}
+
+impl<A: Allocator> Model for Held<A> {
+    ghost use Rattle.record_cache.specs.Values.{Held};
+
+    ghost Value = { Held };
+
+    ghost view = { λ h. record { piece = h.piece; accepted = h.accepted } };
+}
+
+impl<A: Allocator> Held<A> {
+    /// Whether the entry is alive at a moment, in milliseconds: that is before its lifetime, in seconds, has passed since
+    /// it was accepted (RFC 1035 3.2.1). It takes no memory.
+    pub fn is_alive(&self, moment: u64) -> bool
+        ensures { result ≡ is_alive moment self.now }
+    {
+        match moment.checked_sub(self.accepted) {
+            Some(age) => age < self.lifetime_ms(),
+            None => true,
+        }
+    }
+
+    /// The whole seconds that are left of the entry at a moment, in milliseconds, that is not before it was accepted; 0
+    /// where it has ended. It takes no memory.
+    pub fn seconds_left(&self, moment: u64) -> u64
+        requires { self.now.accepted ≤ moment }
+        ensures { result ≡ seconds_left moment self.now }
+    {
+        let age = moment - self.accepted;
+        self.lifetime_ms().saturating_sub(age) / 1000
+    }
+
+    /// The lifetime in milliseconds.
+    fn lifetime_ms(&self) -> u64
+        ensures { result ≡ 1000 * self.now.piece.lifetime }
+    {
+        1000 * u64::from(self.piece.lifetime)
+    }
+
+    /// Whether this is a name error, the denial of a whole name (RFC 2308 2.1).
+    pub(crate) fn is_name_error(&self) -> bool
+        ensures { result ≡ is_name_error self.now.piece }
+    {
+        self.piece.slot.kind.is_none()
+    }
+
+    /// Whether its lifetime is 0.
+    pub(crate) fn has_no_lifetime(&self) -> bool
+        ensures { result ≡ (self.now.piece.lifetime == 0) }
+    {
+        self.piece.lifetime == 0
+    }
+
+    /// Whether the entry is alive when the other one is accepted, and has a higher rank (RFC 2181 5.4.1).
+    pub(crate) fn outranks(&self, other: &Held<A>) -> bool
+        ensures { result ≡ (is_alive other.now.accepted self.now && nat_lt other.now.piece.rank self.now.piece.rank) }
+    {
+        self.is_alive(other.accepted) && other.piece.rank < self.piece.rank
+    }
+
+    /// The slot of the entry. `formed` says again what holds of each piece.
+    pub(crate) fn slot(&self) -> Slot
+        ensures slot { result ≡ self.now.piece.slot }
+        ensures formed { IsPiece self.now.piece }
+    {
+        self.piece.slot
+    }
+
+    /// How many labels the name of a name error has; `None` where the piece is of one type.
+    pub(crate) fn name_error_depth(&self) -> Option<usize>
+        ensures depth { result ≡ name_error_depth self.now }
+        ensures few { IfSome result (λ depth. depth < 128) }
+    {
+        if !self.is_name_error() {
+            return None;
+        }
+        Some(label_count(&self.piece.owner))
+    }
+}
+
+/// How many labels a name has.
+fn label_count<A: Allocator>(name: &Name<A>) -> usize
+    ensures count { result ≡ length name.now }
+    ensures few { result < 128 }
+{
+    name.labels().count()
+}

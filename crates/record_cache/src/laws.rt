@@ -1,0 +1,31 @@
+//! What the definitions of the cache are good for.
+
+ghost use Rattle.record_cache.specs.Laws.{KeptIsFound, OfferedStay, OneSlotIsTheSame, OthersStay, PromotedAreFound, PromotedStay, UnkeptIsNew};
+
+/// What was kept last is what `peek` finds.
+pub fn kept_is_found()
+    ensures { KeptIsFound }
+{}
+
+/// An offer is `Unkept` only where its slot has no entry.
+pub fn unkept_is_new()
+    ensures { UnkeptIsNew }
+{}
+
+/// An entry is gone only by the offer of its slot or by `forget`, or as the last one of a full cache where a new slot is
+/// kept; or by `clear`.
+pub fn gone_only_so()
+    ensures offered { OfferedStay }
+    ensures forgotten { OthersStay }
+    ensures promoted { PromotedStay }
+{}
+
+/// A promotion changes no look-up.
+pub fn promotion_changes_no_look_up()
+    ensures { PromotedAreFound }
+{}
+
+/// Slots are one exactly where they are of the same name, class and type, as the rest of the forwarder says it.
+pub fn one_slot_is_the_same()
+    ensures { OneSlotIsTheSame }
+{}
