@@ -113,7 +113,7 @@ off_route = refl
 
 -- eight aliases end the walk, whatever stands at the last name
 eight : told (reply false 0 (alias a (data_of 98) ∷ alias (below_e 98) (data_of 99) ∷ alias (below_e 99) (data_of 100) ∷ alias (below_e 100) (data_of 101) ∷ alias (below_e 101) (data_of 102)
-      ∷ alias (below_e 102) (data_of 103) ∷ alias (below_e 103) (data_of 104) ∷ alias (below_e 104) (data_of 105) ∷ host (below_e 105) 300 5 ∷ []) [])
+    ∷ alias (below_e 102) (data_of 103) ∷ alias (below_e 103) (data_of 104) ∷ alias (below_e 104) (data_of 105) ∷ host (below_e 105) 300 5 ∷ []) [])
     ≡ ((Some 5, 60, 1) ∷ (Some 5, 60, 1) ∷ (Some 5, 60, 1) ∷ (Some 5, 60, 1) ∷ (Some 5, 60, 1) ∷ (Some 5, 60, 1) ∷ (Some 5, 60, 1) ∷ (Some 5, 60, 1) ∷ [], [], elsewhere (below_e 105))
 unfolding walk_from servers_from route_of name_of_rdata name_within walk_in name_step
 eight = refl
