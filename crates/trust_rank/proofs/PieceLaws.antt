@@ -1,5 +1,5 @@
 -- Sets and denials are pieces.
-use Rattle.std.proofs.Common.{◌≡◌, ℕ, ◌≤◌, Bool, true, false, cond, List, [], ◌∷◌, ◌++◌, length, Option, Some, None, refl, sym, ap, ◌∙◌, subst, ⊎_elim, arith}
+use Rattle.std.proofs.Common.{◌≡◌, ℕ, ◌≤◌, true, false, List, [], ◌∷◌, ◌++◌, length, Option, Some, None, refl, sym, ap, ◌∙◌, subst, ⊎_elim, arith}
 use Rattle.std.specs.Prelude.{min, ◌==◌, ◌&&◌, ◌≢◌}
 use Rattle.std.specs.List.{list_any, AllByRecursion}
 use Rattle.std.proofs.lemmas.Bool.{cases_Bool, cond-true, cond-false, cond_both, and_parts, eqb-true}
@@ -13,7 +13,7 @@ use Rattle.dns_message.specs.Messages.{AreShaped}
 use Rattle.trust_rank.specs.Values.{rows, Piece}
 use Rattle.trust_rank.specs.Sets.{is_of, records_for, with_data, with_all_data, seconds_of, lifetime_within, longest, set_with, set_of}
 use Rattle.trust_rank.specs.Gathering.{added_all, lowered_by_all}
-use Rattle.trust_rank.specs.Denials.{is_soa_for, soa_for, denial_lifetime, longest_denial, minimum_of}
+use Rattle.trust_rank.specs.Denials.{is_soa_for, soa_for, denial_lifetime}
 use Rattle.trust_rank.specs.Formed.{AreRows, IsSoa, IsPiece}
 use Rattle.trust_rank.proofs.Gathering.{added_all-is, lowered_by_all-is}
 

@@ -1,11 +1,10 @@
 -- Worked replies, computed: what they carry, how their walks end, and which piece takes the place of which.
-use Rattle.std.proofs.Common.{◌≡◌, ℕ, ◌+◌, ◌^◌, Bool, true, false, List, [], ◌∷◌, ◌++◌, map, Option, Some, None, refl}
-use Rattle.dns_message.specs.Header.{Header}
+use Rattle.std.proofs.Common.{◌≡◌, ℕ, ◌^◌, Bool, true, false, List, [], ◌∷◌, map, Option, Some, None, refl}
 use Rattle.dns_message.specs.Values.{Question, Record, Message}
 use Rattle.dns_message.specs.Data.{name_of_rdata}
 use Rattle.dns_message.specs.Names.{step as name_step, walk_in, name_within}
 use Rattle.suffix_routes.specs.declared.peer.Peer.{Peer}
-use Rattle.suffix_routes.specs.Values.{Config, Route, default_limits}
+use Rattle.suffix_routes.specs.Values.{Config, default_limits}
 use Rattle.suffix_routes.specs.Routes.{route_of}
 use Rattle.trust_rank.specs.Values.{Body, rows, no_data, denied, Piece, End, found, ends_no_data, ends_denied, elsewhere, lame, Walk}
 use Rattle.trust_rank.specs.Walks.{walk_from, servers_from, walk_of}
