@@ -1,7 +1,6 @@
 -- What a reply has at a name is carried for that name.
 use Rattle.std.proofs.Common.{◌≡◌, ℕ, Bool, true, false, cond, List, [], ◌∷◌, Option, Some, None, refl, sym, ap, ◌∙◌, subst, ⊎_elim}
 use Rattle.std.specs.Prelude.{◌==◌, ◌&&◌, ◌≢◌, not, is_none}
-use Rattle.std.specs.List.{AllByRecursion}
 use Rattle.std.specs.Option.{IfSome}
 use Rattle.std.proofs.lemmas.Bool.{cases_Bool, cond-true, cond-false, cond_both, and_parts, eqb-true, eq-eqb, false≢true}
 use Rattle.dns_name.specs.Labels.{lowered, same}
@@ -10,10 +9,10 @@ use Rattle.dns_message.specs.Values.{Question, Record}
 use Rattle.dns_message.specs.Messages.{AreShaped}
 use Rattle.suffix_routes.specs.Routes.{route_of}
 use Rattle.trust_rank.specs.Values.{Piece, found, ends_no_data, ends_denied, Reply}
-use Rattle.trust_rank.specs.Sets.{is_of, records_for, set_with, set_of, seconds_of, longest}
+use Rattle.trust_rank.specs.Sets.{is_of, records_for, set_with, set_of}
 use Rattle.trust_rank.specs.Denials.{soa_for}
-use Rattle.trust_rank.specs.Walks.{Met, met_nothing, met_set, met_no_data, met_name_error, met_alias, met_lame, is_place, is_on_route, rank_at, at_name, answer_set, alias_set, has_many, target_of, is_referral, name_error_at, no_data_at, denial_met, denial_at, leads, alias_or, set_met, set_or, met_at}
-use Rattle.trust_rank.specs.Formed.{IsPiece, IsSoa}
+use Rattle.trust_rank.specs.Walks.{Met, met_nothing, met_set, met_no_data, met_name_error, met_alias, met_lame, is_place, is_on_route, rank_at, at_name, answer_set, alias_set, has_many, target_of, is_referral, name_error_at, no_data_at, denial_met, denial_at, leads, alias_or, set_or, met_at}
+use Rattle.trust_rank.specs.Formed.{IsSoa}
 use Rattle.trust_rank.specs.Laws.{IsCarriedFor, IsAliasTo, IsLastBody}
 use Rattle.trust_rank.proofs.PieceLaws.{HaveShape, set_shape, set_with_is_piece, found_is_soa, denial_short}
 

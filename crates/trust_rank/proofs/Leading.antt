@@ -1,17 +1,15 @@
 -- The walk leads from the asked name to its end, and the name servers beside it fit.
-use Rattle.std.proofs.Common.{◌≡◌, ℕ, zero, suc, ◌<◌, ◌≤◌, Bool, true, false, cond, List, [], ◌∷◌, ◌++◌, length, Some, refl, sym, ap, ◌∙◌, subst, arith}
+use Rattle.std.proofs.Common.{◌≡◌, ℕ, zero, suc, ◌≤◌, Bool, true, false, cond, List, [], ◌∷◌, ◌++◌, length, Some, refl, sym, ap, ◌∙◌, subst, arith}
 use Rattle.std.specs.Prelude.{◌==◌, ◌&&◌, not}
 use Rattle.std.specs.List.{list_any, AllByRecursion}
-use Rattle.std.proofs.lemmas.Bool.{cond-true, cond-false, cond_both, and_parts, eqb-true, eq-eqb}
+use Rattle.std.proofs.lemmas.Bool.{cond_both, and_parts, eqb-true, eq-eqb}
 use Rattle.dns_name.specs.Labels.{is_under, lowered}
-use Rattle.dns_message.specs.Values.{Question, Record, Message}
-use Rattle.dns_message.specs.Messages.{HasShapes, AreShaped}
-use Rattle.suffix_routes.specs.Values.{Config}
+use Rattle.dns_message.specs.Values.{Question, Record}
+use Rattle.dns_message.specs.Messages.{AreShaped}
 use Rattle.suffix_routes.specs.Routes.{route_of}
 use Rattle.trust_rank.specs.Values.{Piece, End, found, ends_no_data, ends_denied, elsewhere, lame, Walk, Reply, reply_of}
 use Rattle.trust_rank.specs.Sets.{records_for}
-use Rattle.trust_rank.specs.Walks.{Met, met_nothing, met_set, met_no_data, met_name_error, met_alias, met_lame, is_place, is_on_route, met_at, most_aliases, ending, lame_walk, is_lame, behind, go_on, walk_from, is_name_server, is_server_for, has_owner, begins_set, servers_with, servers_at, servers_from, carries_servers, with_servers, walk_of}
-use Rattle.trust_rank.specs.Formed.{IsPiece}
+use Rattle.trust_rank.specs.Walks.{Met, met_nothing, met_set, met_no_data, met_name_error, met_alias, met_lame, is_place, is_on_route, met_at, most_aliases, lame_walk, is_lame, behind, go_on, walk_from, is_name_server, is_server_for, has_owner, begins_set, servers_with, servers_at, servers_from, carries_servers, with_servers}
 use Rattle.trust_rank.specs.Laws.{IsCarriedFor, IsAliasTo, Lead, last_kind, IsLastBody, Closes, EndsSo, WalkLeads, IsServerSet, ServersFit}
 use Rattle.trust_rank.proofs.PieceLaws.{set_shape, set_with_is_piece}
 use Rattle.trust_rank.proofs.Carrying.{Meets, meets, on_route_is}

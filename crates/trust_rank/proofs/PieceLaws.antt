@@ -1,5 +1,5 @@
 -- Sets and denials are pieces.
-use Rattle.std.proofs.Common.{◌≡◌, ℕ, ◌≤◌, Bool, true, false, cond, List, [], ◌∷◌, ◌++◌, length, Option, Some, None, refl, sym, ap, ◌∙◌, subst, ⊎_elim, arith}
+use Rattle.std.proofs.Common.{◌≡◌, ℕ, ◌≤◌, true, false, List, [], ◌∷◌, ◌++◌, length, Option, Some, None, refl, sym, ap, ◌∙◌, subst, ⊎_elim, arith}
 use Rattle.std.specs.Prelude.{min, ◌==◌, ◌&&◌, ◌≢◌}
 use Rattle.std.specs.List.{list_any, AllByRecursion}
 use Rattle.std.proofs.lemmas.Bool.{cases_Bool, cond-true, cond-false, cond_both, and_parts, eqb-true}
@@ -13,7 +13,7 @@ use Rattle.dns_message.specs.Messages.{AreShaped}
 use Rattle.trust_rank.specs.Values.{rows, Piece}
 use Rattle.trust_rank.specs.Sets.{is_of, records_for, with_data, with_all_data, seconds_of, lifetime_within, longest, set_with, set_of}
 use Rattle.trust_rank.specs.Gathering.{added_all, lowered_by_all}
-use Rattle.trust_rank.specs.Denials.{is_soa_for, soa_for, denial_lifetime, longest_denial, minimum_of}
+use Rattle.trust_rank.specs.Denials.{is_soa_for, soa_for, denial_lifetime}
 use Rattle.trust_rank.specs.Formed.{AreRows, IsSoa, IsPiece}
 use Rattle.trust_rank.proofs.Gathering.{added_all-is, lowered_by_all-is}
 
@@ -67,7 +67,7 @@ pub gathered_is_piece : (rank route : ℕ) (first : Record) (q : Question) (othe
     → IsPiece (record { owner = owner; slot = record { key = key; class = class; kind = Some kind }; body = rows sets; lifetime = lifetime; rank = rank; route = route })
 gathered_is_piece rank route first q others class kind owner key sets lifetime same_kind of_owner a b one all asked =
     let each : AreRows q.kind (with_all_data (first.rdata ∷ []) (records_for q others)) =
-        rows_with_all q.kind (first.rdata ∷ []) (records_for q others) (record { some = some_end [] first.rdata; shaped = (subst (λ (k : ℕ). IsShaped k first.rdata) asked one, tt) }) (set_shape q others all) in
+    rows_with_all q.kind (first.rdata ∷ []) (records_for q others) (record { some = some_end [] first.rdata; shaped = (subst (λ (k : ℕ). IsShaped k first.rdata) asked one, tt) }) (set_shape q others all) in
     record {
       key = of_owner;
       body = subst (λ (k : ℕ). AreRows k sets) (sym (same_kind ∙ asked)) (subst (AreRows q.kind) (sym (a ∙ added_all-is q (first.rdata ∷ []) others)) each);
@@ -123,8 +123,17 @@ copy_is_soa soa copy is e = subst IsSoa (sym e) is
 
 soa_long : (octets : List ℕ) → HasParts soa_parts octets → 4 ≤ length octets
 soa_long octets (more_parts a r1 is_a (more_parts b r2 is_b (more_parts c r3 is_c (more_parts d r4 is_d (more_parts e r5 is_e (more_parts f r6 is_f (more_parts g r7 is_g end e7) e6) e5) e4) e3) e2) e1) =
-    omega (arith, is_g, ap length e1 ∙ length-append a r1, ap length e2 ∙ length-append b r2, ap length e3 ∙ length-append c r3, ap length e4 ∙ length-append d r4, ap length e5 ∙ length-append e r5,
-    ap length e6 ∙ length-append f r6, ap length e7 ∙ length-append g r7)
+    omega (
+      arith,
+      is_g,
+      ap length e1 ∙ length-append a r1,
+      ap length e2 ∙ length-append b r2,
+      ap length e3 ∙ length-append c r3,
+      ap length e4 ∙ length-append d r4,
+      ap length e5 ∙ length-append e r5,
+      ap length e6 ∙ length-append f r6,
+      ap length e7 ∙ length-append g r7,
+    )
 
 -- the data of an SOA has its last number
 pub soa_has_minimum : (soa : Record) → IsSoa soa → 4 ≤ length soa.rdata

@@ -1,11 +1,10 @@
 -- Worked replies, computed: what they carry, how their walks end, and which piece takes the place of which.
-use Rattle.std.proofs.Common.{◌≡◌, ℕ, ◌+◌, ◌^◌, Bool, true, false, List, [], ◌∷◌, ◌++◌, map, Option, Some, None, refl}
-use Rattle.dns_message.specs.Header.{Header}
+use Rattle.std.proofs.Common.{◌≡◌, ℕ, ◌^◌, Bool, true, false, List, [], ◌∷◌, map, Option, Some, None, refl}
 use Rattle.dns_message.specs.Values.{Question, Record, Message}
 use Rattle.dns_message.specs.Data.{name_of_rdata}
 use Rattle.dns_message.specs.Names.{step as name_step, walk_in, name_within}
 use Rattle.suffix_routes.specs.declared.peer.Peer.{Peer}
-use Rattle.suffix_routes.specs.Values.{Config, Route, default_limits}
+use Rattle.suffix_routes.specs.Values.{Config, default_limits}
 use Rattle.suffix_routes.specs.Routes.{route_of}
 use Rattle.trust_rank.specs.Values.{Body, rows, no_data, denied, Piece, End, found, ends_no_data, ends_denied, elsewhere, lame, Walk}
 use Rattle.trust_rank.specs.Walks.{walk_from, servers_from, walk_of}
@@ -113,7 +112,7 @@ off_route = refl
 
 -- eight aliases end the walk, whatever stands at the last name
 eight : told (reply false 0 (alias a (data_of 98) ∷ alias (below_e 98) (data_of 99) ∷ alias (below_e 99) (data_of 100) ∷ alias (below_e 100) (data_of 101) ∷ alias (below_e 101) (data_of 102)
-      ∷ alias (below_e 102) (data_of 103) ∷ alias (below_e 103) (data_of 104) ∷ alias (below_e 104) (data_of 105) ∷ host (below_e 105) 300 5 ∷ []) [])
+    ∷ alias (below_e 102) (data_of 103) ∷ alias (below_e 103) (data_of 104) ∷ alias (below_e 104) (data_of 105) ∷ host (below_e 105) 300 5 ∷ []) [])
     ≡ ((Some 5, 60, 1) ∷ (Some 5, 60, 1) ∷ (Some 5, 60, 1) ∷ (Some 5, 60, 1) ∷ (Some 5, 60, 1) ∷ (Some 5, 60, 1) ∷ (Some 5, 60, 1) ∷ (Some 5, 60, 1) ∷ [], [], elsewhere (below_e 105))
 unfolding walk_from servers_from route_of name_of_rdata name_within walk_in name_step
 eight = refl

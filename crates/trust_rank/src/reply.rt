@@ -107,10 +107,20 @@ impl<'a, A: Allocator + Copy> Reply<'a, A> {
     }
 
     /// The set of this type that the answer section has at the name.
-    fn answer_set(&self, alloc: A, kind: u16, name: &Name<A>) -> Result<Option<Piece<A>>, AllocError>
+    fn answer_set(
+        &self,
+        alloc: A,
+        kind: u16,
+        name: &Name<A>,
+    ) -> Result<Option<Piece<A>>, AllocError>
         ensures { IfOk result (λ s. s ≡ answer_set self.now kind name.now) }
     {
-        set_among(alloc, self.source_at(name), self.answers, &self.at_name(kind, name))
+        set_among(
+            alloc,
+            self.source_at(name),
+            self.answers,
+            &self.at_name(kind, name),
+        )
     }
 
     /// The CNAME set at the name. A question for CNAME follows none.
