@@ -145,13 +145,21 @@ name_in_text = faults.name_in_name
 
 -- ---- octets of labels
 
--- no octets are the root
-pub no_octets_no_labels : labels_of [] ≡ []
-no_octets_no_labels = labels.labels_of-nil
-
+-- no octets are laid out: they are the root's
 pub no_octets_are_laid_out : IsLaidOut []
 no_octets_are_laid_out = labels.laid_out-nil
 
 -- octets with one more label behind them
 pub label_put_last : (old new label : List ℕ) → IsLaidOut old → IsLabel label → length old + length label ≤ 253 → new ≡ old ++ label_octets label → labels.Grows old new label
 label_put_last = labels.grows
+
+pub octets_joined : (front back : List (List ℕ)) → octets_of (front ++ back) ≡ octets_of front ++ octets_of back
+octets_joined = labels.octets_of-append
+
+-- octets of labels behind octets of labels
+pub labels_joined : (front back : List ℕ) → IsLaidOut front → IsLaidOut back → size_of (labels_of front) + length back ≤ 255 → labels.Joined front back
+labels_joined = labels.joined
+
+-- the octets that labels add to a name
+pub size_with_labels : (name : List (List ℕ)) (octets : List ℕ) → IsLaidOut octets → size_of (name ++ labels_of octets) ≡ size_of name + length octets
+size_with_labels = labels.size_of-joined

@@ -3,4 +3,5 @@ pub mod EndLaws
 pub mod ShortcutLaws
 pub mod Loops
 pub mod SizeLaws
+pub mod RunLaws
 pub mod CallerLemmas

@@ -2,6 +2,7 @@
 use Rattle.std.proofs.Common.{◌≡◌, ℕ, zero, suc, ◌+◌, ◌-◌, ◌<◌, ◌≤◌, List, [], ◌∷◌, length, take, drop, get_or, Option, Some, None, Result, Ok, Err, refl, sym, ap, subst, ◌∙◌, arith}
 use Rattle.std.specs.Prelude.{unwrap_or}
 use Rattle.std.proofs.lemmas.List.{length-take, length-drop}
+use Rattle.std.proofs.Math.Seq.{drop-cons}
 use Rattle.dns_name.specs.Labels.{size_of}
 use Rattle.message_names.specs.declared.fault.Fault.{Fault}
 use Rattle.message_names.specs.declared.fault.Fault.TheVariants.{NameLong}
@@ -96,20 +97,6 @@ resume_pointer bytes w p le is =
     let same = enough (w.run + (254 - w.used)) (steps_left p w.used) bytes (whole bytes) p p w.used le (omega (arith, lt)) (omega arith) in
     resume_step bytes w le ∙ rw (is, same) (end_of_ending w.end (w.offset + 2) (walk_in (steps_left p w.used) bytes (whole bytes) p p w.used))
 
-pub advances : (bytes : List ℕ) (first w : Walk) (len : ℕ) → Stays bytes w.bound w.offset w.run w.used (steps.Label len) → w.used ≡ first.used → w.run ≤ first.run → w.bound.stop ≤ length bytes
-    → resume bytes first ≡ with_label (take len (drop (w.offset + 1) bytes)) (resume bytes (record { offset = w.offset + 1 + len; run = w.run; used = w.used + len + 1; bound = w.bound; end = w.end }))
-    → Advances bytes (take len (drop (w.offset + 1) bytes)) first (record { offset = w.offset + 1 + len; run = w.run; used = w.used + len + 1; bound = w.bound; end = w.end })
-advances bytes first w len stays used back stop read =
-    let long : length (take len (drop (w.offset + 1) bytes)) ≡ len = omega (arith, length-take len (drop (w.offset + 1) bytes), length-drop (w.offset + 1) bytes, stays) in
-    record {
-      read = read;
-      is_label = record { some = omega (arith, long, stays); short = omega (arith, long, stays) };
-      used = omega (arith, long, used);
-      room = omega (arith, stays);
-      stop = stop;
-      fewer = omega (arith, stays, used, back);
-    }
-
 -- ---- what is read is a name
 
 abbrev pub read_as : List (List ℕ) → ℕ → Result (List (List ℕ) × ℕ) Fault
@@ -155,9 +142,32 @@ root_step : (bytes : List ℕ) (s : Bound) (o f used : ℕ) → step bytes s o f
 unfolding step
 root_step bytes s o f used e = record { within = grind (arith, e); zero_here = grind (arith, e) }
 
-label_step : (bytes : List ℕ) (s : Bound) (o f used len : ℕ) → step bytes s o f used ≡ did (steps.Label len) → get_or bytes o 0 ≡ len
+pub label_step : (bytes : List ℕ) (s : Bound) (o f used len : ℕ) → step bytes s o f used ≡ did (steps.Label len) → get_or bytes o 0 ≡ len
 unfolding step
 label_step bytes s o f used len e = grind (arith, e)
+
+pub advances : (bytes : List ℕ) (first w : Walk) (len : ℕ) → step bytes w.bound w.offset w.run w.used ≡ did (steps.Label len) → w.used ≡ first.used → w.run ≤ first.run → w.bound.stop ≤ length bytes
+    → resume bytes first ≡ with_label (take len (drop (w.offset + 1) bytes)) (resume bytes (record { offset = w.offset + 1 + len; run = w.run; used = w.used + len + 1; bound = w.bound; end = w.end }))
+    → Advances bytes (take len (drop (w.offset + 1) bytes)) first (record { offset = w.offset + 1 + len; run = w.run; used = w.used + len + 1; bound = w.bound; end = w.end })
+advances bytes first w len is used back stop read =
+    let stays = takes_label bytes w.bound w.offset w.run w.used len is in
+    let label : List ℕ = take len (drop (w.offset + 1) bytes) in
+    let long : length label ≡ len = omega (arith, length-take len (drop (w.offset + 1) bytes), length-drop (w.offset + 1) bytes, stays) in
+    let at : w.offset + 1 + len - length label - 1 ≡ w.offset = omega (arith, long) in
+    let more : length label + 1 ≡ suc len = omega (arith, long) in
+    let next : w.offset + 1 ≡ suc w.offset = omega arith in
+    let opens : drop w.offset bytes ≡ len ∷ drop (w.offset + 1) bytes = drop-cons bytes w.offset 0 (omega (arith, stays)) ∙ rw (label_step bytes w.bound w.offset w.run w.used len is, next) refl in
+    record {
+      read = read;
+      is_label = record { some = omega (arith, long, stays); short = omega (arith, long, stays) };
+      place = omega (arith, long);
+      octets = rw (at, more, opens, long) refl;
+      inside = omega (arith, stays);
+      used = omega (arith, long, used);
+      room = omega (arith, stays);
+      stop = stop;
+      fewer = omega (arith, stays, used, back);
+    }
 
 record IsPointer (bytes : List ℕ) (s : Bound) (o f p : ℕ) : Type 0 where
   high : 192 ≤ get_or bytes o 0

@@ -3,3 +3,4 @@ pub mod Numbers
 pub mod Names
 pub mod Shortcuts
 pub mod Sizes
+pub mod Runs

@@ -4,12 +4,13 @@ ghost use Rattle.std.specs.Prelude.{◌≡◌, ◌≤◌, IsOk, MatchOption, Ok,
 ghost use Rattle.message_names.specs.Reading.{Gives, behind};
 ghost use Rattle.message_names.specs.Shortcuts.{AreShortcuts};
 ghost use Rattle.message_names.specs.Sizes.{AreSizes};
-ghost use Rattle.message_names.specs.Names.{name_at, name_within, NameIs};
+ghost use Rattle.message_names.specs.Names.{name_at, name_within, NameIs, keyed};
 
 use crate::fault::Fault;
+use crate::runs::{Run, next_run};
 use crate::sizes::size_of_name;
 use crate::walk::{Bound, Next, Step, Walk, next_label, step_at};
-use dns_name::Name;
+use dns_name::{Name, NameKey};
 use std::alloc::Allocator;
 
 /// The name at a place, and the place behind it. Where pointers lead is remembered in `ends`, which may be empty.
@@ -29,10 +30,10 @@ pub fn read_name<A: Allocator>(
     let mut name = Name::root(alloc);
     let mut walk = Walk::new(bytes, Bound::whole(bytes), offset);
     loop {
-        match next_label(bytes, ends, walk)? {
-            Next::End(end) => return Ok((name, end)),
-            Next::Label(label, after) => {
-                name.append(label)?;
+        match next_run(bytes, ends, walk)? {
+            Run::End(end) => return Ok((name, end)),
+            Run::Labels(octets, after) => {
+                name.append_labels(octets)?;
                 walk = after;
             }
         }
@@ -107,6 +108,23 @@ pub fn skip_same_name<A: Allocator>(bytes: &[u8], offset: usize, name: &Name<A>)
                 if !label.eq_ignore_ascii_case(other) {
                     return None;
                 }
+                walk = after;
+            }
+        }
+    }
+}
+
+/// The key of the name at a place. `Err` is the first fault of the name from its front. It takes no memory.
+pub fn key_at(bytes: &[u8], offset: usize) -> Result<NameKey, Fault>
+    ensures { result ≡ keyed (name_at bytes.now offset) }
+{
+    let mut octets = [0u8; 255];
+    let mut walk = Walk::new(bytes, Bound::whole(bytes), offset);
+    loop {
+        match next_run(bytes, &mut [], walk)? {
+            Run::End(_) => return Ok(NameKey::from_octets(&octets[..walk.used])),
+            Run::Labels(labels, after) => {
+                octets[walk.used..after.used].copy_from_slice(labels);
                 walk = after;
             }
         }

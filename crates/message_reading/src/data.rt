@@ -1,6 +1,6 @@
 //! The data of records, by the shape of its type.
 
-ghost use Rattle.std.specs.Prelude.{◌≡◌, ◌≤◌, IfOk, length};
+ghost use Rattle.std.specs.Prelude.{◌≡◌, ◌≤◌, IfOk, OnErr, None, length};
 ghost use Rattle.message_names.specs.Reading.{Gives, behind};
 ghost use Rattle.message_names.specs.Shortcuts.{AreShortcuts};
 ghost use Rattle.message_names.specs.Sizes.{AreSizes};
@@ -9,7 +9,7 @@ ghost use Rattle.message_reading.specs.Data.{octets_within, written_out, prefixe
 
 use crate::shape::{Part, shape_of};
 use dns_name::Name;
-use message_names::{Bound, Fault, Next, Walk, next_label, part, read_name, skip_name};
+use message_names::{Bound, Fault, Run, Walk, next_run, part, skip_name};
 use std::alloc::{AllocError, Allocator};
 
 /// The place behind so many octets of the data.
@@ -25,6 +25,7 @@ fn skip_octets(bytes: &[u8], stop: usize, offset: usize, count: usize) -> Result
 }
 
 /// Writes a name of the data out in full behind the octets, and gives the place behind it.
+#[tactic(auto, using(crate::proofs::DataLaws::written_run))]
 fn expand_name<A: Allocator>(
     octets: &mut Vec<u8, A>,
     bytes: &[u8],
@@ -39,14 +40,13 @@ fn expand_name<A: Allocator>(
 {
     let mut walk = Walk::new(bytes, Bound::data(stop), offset);
     loop {
-        match next_label(bytes, ends, walk)? {
-            Next::End(end) => {
+        match next_run(bytes, ends, walk)? {
+            Run::End(end) => {
                 octets.push(0)?;
                 return Ok(end);
             }
-            Next::Label(label, after) => {
-                octets.push(label.len() as u8)?;
-                octets.extend_from_slice(label)?;
+            Run::Labels(labels, after) => {
+                octets.extend_from_slice(labels)?;
                 walk = after;
             }
         }
@@ -225,16 +225,18 @@ pub(crate) fn skip_data(
     }
 }
 
-/// The name that is all of these octets. In octets of its own no pointer leads back, so none is followed.
-#[tactic(auto, unfolding(crate::specs::Data::name_of_rdata))]
+/// The name that is all of these octets, its zero octet at their end. In octets of its own no pointer leads back, so none
+/// is followed. `Err` where memory ran out, which only a name takes.
+#[tactic(auto, using(crate::proofs::ShapeLaws::only_name, crate::proofs::ShapeLaws::no_name))]
 pub fn read_only_name<A: Allocator>(alloc: A, octets: &[u8]) -> Result<Option<Name<A>>, AllocError>
-    ensures { IfOk result (λ name. name ≡ name_of_rdata octets.now) }
+    ensures name { IfOk result (λ name. name ≡ name_of_rdata octets.now) }
+    ensures some { OnErr result (name_of_rdata octets.now ≡ None → ⊥) }
 {
     match skip_name(octets, &mut [], Bound::whole(octets), 0) {
-        Ok(end) if end == octets.len() => match read_name(alloc, octets, &mut [], 0) {
-            Ok((name, _)) => Ok(Some(name)),
-            Err(_) => Err(AllocError),
-        },
+        Ok(end) if end == octets.len() => {
+            let name = Name::from_octets(alloc, &octets[..end - 1])?;
+            Ok(Some(name))
+        }
         _ => Ok(None),
     }
 }
