@@ -33,6 +33,9 @@ pub fn measure(rt: &HostRuntime, reply: &str) -> Result<()> {
         least = least.min(started.elapsed(rt)?.as_micros());
         count = walk.pieces.as_slice().len();
     }
-    println!(rt; "carried: {} octets, {count} pieces: {least} us", octets.len())?;
+    println!(rt;
+        "carried: {} octets, {count} pieces: {least} us",
+        octets.len()
+    )?;
     Ok(())
 }

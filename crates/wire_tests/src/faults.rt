@@ -12,7 +12,15 @@ fn a_refused_ask_is_a_failed_path(rt: HostRuntime) -> Result<(), Fail> {
     let mut forwarder = forwarder(&heap)?;
     let mut wire = wire(&heap, question(&heap)?, Arrival::Nothing, &[1])?;
     let served = serve(&heap, &mut wire, &mut forwarder, 2)?;
-    assert_eq!(rt; served, Served { turns: 2, lost: 0, refused_puts: 0, refused_arrivals: 0 });
+    assert_eq!(rt;
+        served,
+        Served {
+            turns: 2,
+            lost: 0,
+            refused_puts: 0,
+            refused_arrivals: 0
+        }
+    );
     assert_eq!(rt; wire.faults(), 1);
     match wire.puts() {
         [first, second, third] => {
@@ -29,7 +37,15 @@ fn a_refused_arrival_is_lost(rt: HostRuntime) -> Result<(), Fail> {
     let mut forwarder = forwarder(&heap)?;
     let mut wire = wire(&heap, question(&heap)?, Arrival::Nothing, &[0])?;
     let served = serve(&heap, &mut wire, &mut forwarder, 2)?;
-    assert_eq!(rt; served, Served { turns: 2, lost: 0, refused_puts: 0, refused_arrivals: 1 });
+    assert_eq!(rt;
+        served,
+        Served {
+            turns: 2,
+            lost: 0,
+            refused_puts: 0,
+            refused_arrivals: 1
+        }
+    );
     assert!(rt; wire.puts().is_empty());
     Ok(())
 }
@@ -41,7 +57,15 @@ fn a_refused_reply_is_counted(rt: HostRuntime) -> Result<(), Fail> {
     let mut forwarder = forwarder(&heap)?;
     let mut wire = wire(&heap, question(&heap)?, reply(&heap)?, &[4])?;
     let served = serve(&heap, &mut wire, &mut forwarder, 2)?;
-    assert_eq!(rt; served, Served { turns: 2, lost: 0, refused_puts: 1, refused_arrivals: 0 });
+    assert_eq!(rt;
+        served,
+        Served {
+            turns: 2,
+            lost: 0,
+            refused_puts: 1,
+            refused_arrivals: 0
+        }
+    );
     match wire.puts() {
         [first, second, third] => {
             assert!(rt; asks(first, true) && closes(second) && answers(third, false));
@@ -82,7 +106,15 @@ fn an_event_without_memory_is_lost(rt: HostRuntime) -> Result<(), Fail> {
     heap.allow(0);
     let served = serve(&ample, &mut wire, &mut forwarder, 1)?;
     heap.allow(u64::MAX);
-    assert_eq!(rt; served, Served { turns: 1, lost: 1, refused_puts: 0, refused_arrivals: 0 });
+    assert_eq!(rt;
+        served,
+        Served {
+            turns: 1,
+            lost: 1,
+            refused_puts: 0,
+            refused_arrivals: 0
+        }
+    );
     assert!(rt; wire.puts().is_empty());
     Ok(())
 }
@@ -96,7 +128,15 @@ fn a_wire_without_memory_refuses(rt: HostRuntime) -> Result<(), Fail> {
     heap.allow(0);
     let served = serve(&ample, &mut wire, &mut forwarder, 1)?;
     heap.allow(u64::MAX);
-    assert_eq!(rt; served, Served { turns: 1, lost: 0, refused_puts: 0, refused_arrivals: 1 });
+    assert_eq!(rt;
+        served,
+        Served {
+            turns: 1,
+            lost: 0,
+            refused_puts: 0,
+            refused_arrivals: 1
+        }
+    );
     assert_eq!(rt; wire.faults(), 1);
     Ok(())
 }
