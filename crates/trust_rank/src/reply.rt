@@ -5,7 +5,7 @@ ghost use Rattle.std.specs.List.{list_any};
 ghost use Rattle.std.specs.Option.{IfSome};
 ghost use Rattle.trust_rank.specs.Denials.{soa_for};
 ghost use Rattle.trust_rank.specs.Formed.{IsSoa};
-ghost use Rattle.trust_rank.specs.Walks.{is_on_route, rank_at, at_name, answer_set, alias_set, has_many, target_of, is_referral, name_error_at, no_data_at, denial_at, leads, set_met, met_at, is_name_server, met_of};
+ghost use Rattle.trust_rank.specs.Walks.{is_on_route, rank_at, at_name, answer_set, alias_set, has_many, target_of, is_referral, denial_at, leads, set_met, met_at, is_name_server, met_of};
 
 use crate::denials::{name_error, no_data, soa_for};
 use crate::piece::{Body, Piece};
