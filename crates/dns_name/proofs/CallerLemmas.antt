@@ -1,7 +1,7 @@
 -- What the proofs of crates above cite of names.
 use Rattle.std.proofs.Common.{◌≡◌, ℕ, ◌+◌, ◌<◌, ◌≤◌, Bool, true, List, [], ◌∷◌, ◌++◌, length, drop, Ok}
 use Rattle.std.specs.Bool.{Decides}
-use Rattle.dns_name.specs.Labels.{octets_of, size_of, IsName, IsSame, IsUnder, same, is_under, lowered, labels_of, IsLaidOut}
+use Rattle.dns_name.specs.Labels.{label_octets, octets_of, size_of, IsLabel, IsName, IsSame, IsUnder, same, is_under, lowered, labels_of, IsLaidOut}
 use Rattle.dns_name.specs.Text.{name_in}
 use Rattle.dns_name.proofs.LabelLaws as labels
 use Rattle.dns_name.proofs.NameLaws as names
@@ -142,3 +142,24 @@ octets_are_laid_out = labels.laid_out
 -- what a text is read as is a name
 pub name_in_text : (text : List ℕ) (name : List (List ℕ)) → name_in text ≡ Ok name → IsName name
 name_in_text = faults.name_in_name
+
+-- ---- octets of labels
+
+-- no octets are laid out: they are the root's
+pub no_octets_are_laid_out : IsLaidOut []
+no_octets_are_laid_out = labels.laid_out-nil
+
+-- octets with one more label behind them
+pub label_put_last : (old new label : List ℕ) → IsLaidOut old → IsLabel label → length old + length label ≤ 253 → new ≡ old ++ label_octets label → labels.Grows old new label
+label_put_last = labels.grows
+
+pub octets_joined : (front back : List (List ℕ)) → octets_of (front ++ back) ≡ octets_of front ++ octets_of back
+octets_joined = labels.octets_of-append
+
+-- octets of labels behind octets of labels
+pub labels_joined : (front back : List ℕ) → IsLaidOut front → IsLaidOut back → size_of (labels_of front) + length back ≤ 255 → labels.Joined front back
+labels_joined = labels.joined
+
+-- the octets that labels add to a name
+pub size_with_labels : (name : List (List ℕ)) (octets : List ℕ) → IsLaidOut octets → size_of (name ++ labels_of octets) ≡ size_of name + length octets
+size_with_labels = labels.size_of-joined

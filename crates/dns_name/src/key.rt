@@ -58,6 +58,14 @@ impl Hash for NameKey {
 }
 
 impl NameKey {
+    /// The key of the name that these octets are, as `Name::octets` gives them. It takes no memory.
+    pub fn from_octets(octets: &[u8]) -> NameKey
+        requires { IsLaidOut octets.now }
+        ensures { result ≡ lowered (labels_of octets.now) }
+    {
+        key_of(octets)
+    }
+
     /// The key of the name without its first label; `None` for the root. It takes no memory.
     #[tactic(auto, using(crate::proofs::KeyOf::lowered_tail))]
     pub fn parent(&self) -> Option<NameKey>

@@ -38,6 +38,17 @@ impl<A: Allocator> Name<A> {
         }
     }
 
+    /// The name that these octets are, as `octets` gives them: each label behind its length, and no zero octet at the end.
+    /// They are copied once. `Err` where memory ran out.
+    pub fn from_octets(alloc: A, octets: &[u8]) -> Result<Name<A>, AllocError>
+        requires { IsLaidOut octets.now }
+        ensures { IfOk result (λ name. name ≡ labels_of octets.now) }
+    {
+        Ok(Name {
+            octets: Vec::from_slice(alloc, octets)?,
+        })
+    }
+
     /// The labels from left to right, at most 127. It takes no memory.
     pub fn labels(&self) -> Labels<'_>
         ensures labels { result ≡ self.now }
@@ -75,6 +86,14 @@ fn put_label<A: Allocator>(octets: &mut Vec<u8, A>, label: &[u8]) -> Result<(), 
     buffer[0] = label.len() as u8;
     buffer[1..label.len() + 1].copy_from_slice(label);
     octets.extend_from_slice(&buffer[..label.len() + 1])
+}
+
+/// Puts octets behind the octets, or nothing.
+fn put_octets<A: Allocator>(octets: &mut Vec<u8, A>, more: &[u8]) -> Result<(), AllocError>
+    ensures ok { OnOk result (octets.new.items ≡ octets.old.items ++ more.now) }
+    ensures err { OnErr result (octets.new.items ≡ octets.old.items) }
+{
+    octets.extend_from_slice(more)
 }
 
 /// The first fault of a label, from the left.
@@ -115,6 +134,18 @@ impl<A: Allocator> Name<A> {
         ensures err { OnErr result (self.new ≡ self.old) }
     {
         put_label(&mut self.octets, label)?;
+        Ok(())
+    }
+
+    /// Puts labels last, which stand in these octets one behind another, each behind its length; the caller knows that they
+    /// fit. An `Err` changes nothing.
+    pub fn append_labels(&mut self, octets: &[u8]) -> Result<(), AllocError>
+        requires laid { IsLaidOut octets.now }
+        requires room { size_of self.old + length octets.now ≤ 255 }
+        ensures ok { OnOk result (self.new ≡ self.old ++ labels_of octets.now) }
+        ensures err { OnErr result (self.new ≡ self.old) }
+    {
+        put_octets(&mut self.octets, octets)?;
         Ok(())
     }
 
@@ -166,16 +197,14 @@ impl<A: Allocator> Name<A> {
         key_of(&self.octets)
     }
 
-    /// The name without its first label; `None` for the root. `Err` where memory ran out.
+    /// The name without its first label; `None` for the root, which takes no memory. `Err` where memory ran out.
     pub fn parent(&self, alloc: A) -> Result<Option<Name<A>>, AllocError>
-        ensures { IfOk result (λ p. p ≡ parent_of self.now) }
+        ensures parent { IfOk result (λ p. p ≡ parent_of self.now) }
+        ensures root { OnErr result (self.now ≡ [] → ⊥) }
     {
         match split_label(&self.octets) {
             None => Ok(None),
-            Some((_, rest)) => {
-                let octets = Vec::from_slice(alloc, rest)?;
-                Ok(Some(Name { octets }))
-            }
+            Some((_, rest)) => Ok(Some(Name::from_octets(alloc, rest)?)),
         }
     }
 
@@ -183,8 +212,6 @@ impl<A: Allocator> Name<A> {
     pub fn copy(&self, alloc: A) -> Result<Name<A>, AllocError>
         ensures { IfOk result (λ n. n ≡ self.now) }
     {
-        Ok(Name {
-            octets: Vec::from_slice(alloc, &self.octets)?,
-        })
+        Name::from_octets(alloc, &self.octets)
     }
 }

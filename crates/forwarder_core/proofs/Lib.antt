@@ -1,5 +1,8 @@
 pub mod Short
 pub mod TextLaws
+pub mod SpellingLaws
 pub mod SetLaws
-pub mod Keeping
 pub mod Deciding
+pub mod Following
+pub mod KeptLaws
+pub mod Ticks

@@ -1,5 +1,5 @@
 -- A message with at most one question, and without records, is short.
-use Rattle.std.proofs.Common.{◌≡◌, ℕ, ◌+◌, ◌≤◌, List, [], ◌∷◌, ◌++◌, length, sym, ◌∙◌, arith, Option, Some, None}
+use Rattle.std.proofs.Common.{◌≡◌, ℕ, ◌+◌, ◌≤◌, List, [], ◌∷◌, ◌++◌, length, refl, sym, ◌∙◌, arith, Option, Some, None}
 use Rattle.std.specs.Prelude.{nat_lt, Result, Ok, Err}
 use Rattle.std.proofs.lemmas.Bool.{cond-false, le-ltb}
 use Rattle.std.proofs.lemmas.List.{length-append}
@@ -103,6 +103,11 @@ no_fault r m fault fits is = let same : Err fault ≡ Ok (written m) = sym is �
 
 pub header_given : (h : Header) (qs : List Question) (rs : List Record) (text : List ℕ) → qs ≡ [] → rs ≡ [] → written_within 65535 (made h qs rs) ≡ Ok text → text ≡ written (bare h [])
 header_given h qs rs text same none is = given_text _ (bare h []) text (written_made h qs [] rs same none ∙ header_fits h) is
+
+-- a header has 12 octets
+pub header_size : (h : Header) → length (written (bare h [])) ≡ 12
+unfolding written ◌▹◌ each
+header_size h = refl
 
 pub header_not_refused : (h : Header) (qs : List Question) (rs : List Record) (fault : Fault) → qs ≡ [] → rs ≡ [] → written_within 65535 (made h qs rs) ≡ Err fault → ⊥
 header_not_refused h qs rs fault same none is = no_fault _ (bare h []) fault (written_made h qs [] rs same none ∙ header_fits h) is

@@ -1,44 +1,77 @@
 -- What a step is about to do, before it is put in place.
-use Rattle.std.specs.Prelude.{◌≡◌, ℕ, ◌<◌, false, not, List, [], ◌∷◌, ◌++◌, length, filter, Option, Some, None, Result, Ok, Err}
+use Rattle.std.specs.Prelude.{◌≡◌, ℕ, ◌+◌, ◌^◌, ◌<◌, ◌≤◌, if◌then◌else◌, not, List, [], ◌∷◌, ◌++◌, length, drop, filter, slice_set, Option, Some, None, Result, Ok, Err}
 use Rattle.std.specs.declared.alloc.AllocError.{AllocError}
 use Rattle.suffix_routes.specs.Values.{Config}
 use Rattle.outstanding.specs.declared.ask.Path.{Path}
+use Rattle.forwarder_core.specs.declared.next.Preferred.{Preferred}
 use Rattle.forwarder_core.specs.declared.next.Change.{Change}
-use Rattle.forwarder_core.specs.declared.next.Change.TheVariants.{Nothing, Join, Open, Close}
+use Rattle.forwarder_core.specs.declared.next.Change.TheVariants.{Nothing, Join, Open, Close, AskAgain, Expire}
 use Rattle.forwarder_core.specs.declared.next.Next.{Next}
 use Rattle.step_values.specs.Values.{Event, restart, Action, actions_of, Outcome}
 use Rattle.step_rules.specs.State.{Waiting, State}
-use Rattle.outstanding.specs.Lists.{on_path as ask_on, of_question, without_path}
+use Rattle.outstanding.specs.Lists.{on_path as ask_on, without_path, MayBegin}
 use Rattle.outstanding.specs.Values.{Ask}
-use Rattle.step_rules.specs.Row.{Done, Fate, reply_in, waits_for, Happens}
+use Rattle.step_rules.specs.Row.{Done, Fate, closes, reply_in, waits_for, is_due_at, Happens}
+use Rattle.step_history.specs.History.{is_tcp}
+use Rattle.forwarder_core.specs.Kept.{IsKeptAsk}
+
+-- one more ask by TCP, where the path is a connection
+abbrev pub tcp_count_of : Path → ℕ
+tcp_count_of p = if is_tcp p then 1 else 0
 
 -- those that did not wait for the ask
 abbrev pub left_waiting : Option Ask → List Waiting → List Waiting
 left_waiting None xs = xs
 left_waiting (Some a) xs = filter (λ x. not (waits_for a.question x)) xs
 
--- the ask on a path is closed, and those that waited for it wait no more
-abbrev pub closing : ℕ → Path → State → Option Ask → State
-closing n path s r = record { asks = without_path path s.asks; waiting = left_waiting r s.waiting; moment = n }
+abbrev pub with_preferred : Option Preferred → List ℕ → List ℕ
+with_preferred None places = places
+with_preferred (Some p) places = slice_set places p.route p.server
+
+abbrev pub without_closed : Option Path → List Ask → List Ask
+without_closed None listed = listed
+without_closed (Some path) listed = without_path path listed
+
+abbrev pub closed_path : Option Ask → Option Path
+closed_path None = None
+closed_path (Some a) = Some a.path
+
+-- a path that is given up, where there is one
+abbrev pub closing_path : Option Path → List Action
+closing_path None = []
+closing_path (Some path) = closes path ∷ []
 
 abbrev pub changed : {A : Type 0} → ℕ → State → Change A → State
-changed n s Nothing = record { asks = s.asks; waiting = s.waiting; moment = n }
-changed n s (Join x) = record { asks = s.asks; waiting = s.waiting ++ x ∷ []; moment = n }
-changed n s (Open x a) = record { asks = s.asks ++ a ∷ []; waiting = s.waiting ++ x ∷ []; moment = n }
-changed n s (Close path) = closing n path s (ask_on path s.asks)
+changed n s Nothing = record s { moment = n }
+changed n s (Join x) = record s { waiting = s.waiting ++ x ∷ []; moment = n }
+changed n s (Open x a) = record s { asks = s.asks ++ a ∷ []; waiting = s.waiting ++ x ∷ []; moment = n; tcp_asks = s.tcp_asks + tcp_count_of a.path }
+changed n s (Close path preferred) = record s { asks = without_path path s.asks; waiting = left_waiting (ask_on path s.asks) s.waiting; preferred = with_preferred preferred s.preferred; moment = n }
+changed n s (AskAgain path a) = record s { asks = without_path path s.asks ++ a ∷ []; moment = n; tcp_asks = s.tcp_asks + tcp_count_of a.path }
+changed n s (Expire closed) = record s { asks = without_closed closed s.asks; waiting = drop 1 s.waiting; moment = n }
 
--- an ask that may be listed: its path and its question are not, it is asked at this moment, and there is room for it
-pub record CanOpen (c : Config) (n : ℕ) (s : State) (a : Ask) : Type 0 where
-  pub path : ask_on a.path s.asks ≡ None
-  pub question : of_question a.question s.asks ≡ None
-  pub moment : a.asked ≡ n
-  pub room : length s.asks < c.limits.inquiries
+-- an ask that may be listed behind these
+pub record CanFollow (c : Config) (n : ℕ) (s : State) (listed : List Ask) (a : Ask) : Type 0 where
+  pub begins : MayBegin a listed
+  pub room : length listed < c.limits.inquiries
+  pub kept : IsKeptAsk c n (s.tcp_asks + tcp_count_of a.path) a
+  pub counted : s.tcp_asks + tcp_count_of a.path < 2 ^ 64
+
+-- a question that may be taken now
+pub record CanWait (c : Config) (n : ℕ) (s : State) (x : Waiting) : Type 0 where
+  pub room : length s.waiting < c.limits.questions
+  pub taken : x.taken ≡ n
+
+abbrev pub IsServed : Config → Option Preferred → Type 0
+IsServed c None = Unit {0}
+IsServed c (Some p) = p.server < length (Rattle.step_rules.specs.Attempts.servers_in (Rattle.step_rules.specs.Attempts.group_of c p.route))
 
 abbrev pub CanChange : {A : Type 0} → Config → ℕ → State → Change A → Type 0
 CanChange c n s Nothing = Unit {0}
-CanChange c n s (Join x) = Unit {0}
-CanChange c n s (Open x a) = CanOpen c n s a
-CanChange c n s (Close path) = Unit {0}
+CanChange c n s (Join x) = CanWait c n s x
+CanChange c n s (Open x a) = CanWait c n s x × CanFollow c n s s.asks a
+CanChange c n s (Close path preferred) = IsServed c preferred
+CanChange c n s (AskAgain path a) = Rattle.std.specs.Prelude.IsSome (ask_on path s.asks) × CanFollow c n s (without_path path s.asks) a
+CanChange c n s (Expire closed) = Unit {0}
 
 abbrev pub next_of : {A : Type 0} → ℕ → State → Next A → Done
 next_of n s d = record { actions = actions_of d.actions; state = changed n s d.change }
@@ -59,10 +92,10 @@ IsDecidedQuietly (Ok (Some next)) = next.change ≡ Nothing
 IsDecidedQuietly (Err refused) = ⊥
 
 -- the outcome and the state after are these
-pub record IsOutcome (d : Done) (o : Outcome) (s' : State) : Type 0 where
+pub record IsOutcome (c : Config) (d : Done) (o : Outcome) (s' : State) : Type 0 where
   pub done : record { actions = o.actions; state = s' } ≡ d
   pub unkept : o.unkept ≡ 0
-  pub more : o.more ≡ false
+  pub more : o.more ≡ is_due_at c s'.moment s'
 
 -- replies put one behind another
 abbrev pub with_reply : List Action → Option Action → List Action

@@ -1,8 +1,8 @@
--- The messages of fresh answers.
-use Rattle.std.specs.Prelude.{ℕ, true, false, List, [], ◌∷◌, map}
+-- The records of fresh answers, and answers that are cut.
+use Rattle.std.specs.Prelude.{ℕ, true, List, [], ◌∷◌, map}
 use Rattle.dns_message.specs.Values.{Record, Message}
 use Rattle.step_history.specs.Pieces.{Body, rows, no_data, denied, Piece}
-use Rattle.step_history.specs.Answers.{kind_of, reply_message}
+use Rattle.step_history.specs.Replies.{kind_of, reply_message}
 use Rattle.step_rules.specs.State.{Waiting}
 
 -- a record of a set that came at this moment
@@ -16,10 +16,6 @@ rows_in (denied soa) = []
 
 abbrev pub fresh_records : Piece → List Record
 fresh_records p = map (fresh_record p) (rows_in p.body)
-
--- the answer with a set that came at this moment
-abbrev pub fresh_answer : Waiting → Piece → Message
-fresh_answer x p = reply_message x.header false 0 (x.question ∷ []) (fresh_records p) []
 
 -- the question alone, with TC
 abbrev pub cut_answer : Waiting → Message

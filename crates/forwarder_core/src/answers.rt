@@ -1,17 +1,15 @@
 //! The texts of replies and of queries.
 
-ghost use Rattle.std.specs.Prelude.{◌≡◌, ◌<◌, ◌≤◌, ◌∷◌, [], true, false, IfOk, if◌then◌else◌, nat_le, length};
+ghost use Rattle.std.specs.Prelude.{◌≡◌, ◌<◌, ◌≤◌, ◌∷◌, [], true, false, IfOk, length};
 ghost use Rattle.dns_message.specs.Writing.{written};
 ghost use Rattle.dns_message.specs.Writing.{written_within};
 ghost use Rattle.dns_message.specs.Reading.{Gives};
 ghost use Rattle.dns_name.specs.Labels.{IsName};
 ghost use Rattle.step_values.specs.Values.{action_of};
-ghost use Rattle.step_history.specs.Queries.{query_message};
-ghost use Rattle.step_history.specs.Sound.{error_response, rcode_of_why};
-ghost use Rattle.step_rules.specs.Row.{failed, gives_up, answered_over, asks_by};
-ghost use Rattle.forwarder_core.specs.Texts.{fresh_records, fresh_answer, cut_answer};
+ghost use Rattle.step_history.specs.Draws.{ask_message};
+ghost use Rattle.step_history.specs.Replies.{error_response, rcode_of_why};
+ghost use Rattle.step_rules.specs.Row.{failed, gives_up, asks_by};
 
-use crate::sets::RecordSet;
 use crate::state::Waiting;
 use dns_message::{Fault, Header, Message, Question, Record, write};
 use dns_name::Name;
@@ -19,9 +17,6 @@ use outstanding::{Ask, Path};
 use plain_list::{Octets, PlainList};
 use std::alloc::{AllocError, Allocator};
 use step_values::{Action, Client, Why};
-
-/// The most octets that UDP carries (RFC 1035 4.2.1).
-const UDP_LIMIT: usize = 512;
 
 /// The most octets that TCP carries (RFC 1035 4.2.2).
 const TCP_LIMIT: usize = 65_535;
@@ -47,7 +42,7 @@ fn rcode_of(why: Why) -> u8
 }
 
 /// The header of a reply to a request. Its counts are those of what is written under it.
-fn reply_header(request: &Header, cut: bool, rcode: u8) -> Header
+pub(crate) fn reply_header(request: &Header, cut: bool, rcode: u8) -> Header
     ensures { result ≡ record { id = request.now.id; qr = true; opcode = request.now.opcode; aa = false; tc = cut; rd = request.now.rd; ra = true; z = 0; rcode = rcode; counts = 0 ∷ 0 ∷ 0 ∷ 0 ∷ [] } }
 {
     Header {
@@ -89,7 +84,7 @@ fn message_text<A: Allocator + Copy>(
 }
 
 /// The question, copied into a list of one.
-fn one_question<A: Allocator + Copy>(
+pub(crate) fn one_question<A: Allocator + Copy>(
     alloc: A,
     question: &Question<A>,
 ) -> Result<PlainList<Question<A>, A>, AllocError>
@@ -110,12 +105,16 @@ fn name_of<A: Allocator>(question: &Question<A>) -> &Name<A>
     &question.name
 }
 
-/// The text of a header alone.
-fn header_text<A: Allocator + Copy>(alloc: A, header: Header) -> Result<Octets<A>, AllocError>
+/// The text of a header alone: 12 octets (RFC 1035 4.1.1).
+pub(crate) fn header_text<A: Allocator + Copy>(
+    alloc: A,
+    header: Header,
+) -> Result<Octets<A>, AllocError>
     requires opcode { header.opcode < 16 }
     requires z { header.z < 8 }
     requires rcode { header.rcode < 16 }
-    ensures { IfOk result (λ text. text ≡ written (record { header = header; questions = []; answers = []; authority = []; additional = [] })) }
+    ensures text { IfOk result (λ text. text ≡ written (record { header = header; questions = []; answers = []; authority = []; additional = [] })) }
+    ensures size { IfOk result (λ text. length text ≡ 12) }
 {
     let (questions, answers) = (PlainList::new(alloc), PlainList::new(alloc));
     match message_text(alloc, header, questions, answers, TCP_LIMIT) {
@@ -126,7 +125,7 @@ fn header_text<A: Allocator + Copy>(alloc: A, header: Header) -> Result<Octets<A
 }
 
 /// The text of a header and a question; it has 271 octets at most.
-fn question_text<A: Allocator + Copy>(
+pub(crate) fn question_text<A: Allocator + Copy>(
     alloc: A,
     header: Header,
     question: &Question<A>,
@@ -143,26 +142,6 @@ fn question_text<A: Allocator + Copy>(
         Err(Fault::TooLarge) => unreachable!(),
         Err(_) => Err(AllocError),
     }
-}
-
-/// The records of a set that came at this moment.
-fn fresh_records<A: Allocator + Copy>(
-    alloc: A,
-    set: &RecordSet<A>,
-) -> Result<PlainList<Record<A>, A>, AllocError>
-    ensures { IfOk result (λ records. records ≡ fresh_records set.now) }
-{
-    let mut records = PlainList::new(alloc);
-    for row in set.rdata.as_slice() {
-        records.push(Record {
-            owner: set.owner.copy(alloc)?,
-            kind: set.kind,
-            class: set.class,
-            ttl: set.lifetime,
-            rdata: row.copy(alloc)?,
-        })?;
-    }
-    Ok(records)
 }
 
 /// The reply to a question that fails, with the question as it came.
@@ -197,74 +176,9 @@ pub(crate) fn refusal<A: Allocator + Copy>(
     Ok(Action::Reply { client, bytes, why })
 }
 
-/// The answer with a set that came at this moment, where it has at most `limit` octets.
-fn fresh_text<A: Allocator + Copy>(
-    alloc: A,
-    waiting: &Waiting<A>,
-    set: &RecordSet<A>,
-    limit: usize,
-) -> Result<Octets<A>, Fault>
-    requires { limit ≤ 65535 }
-    ensures { Gives (λ text. text) result (written_within limit (fresh_answer waiting.now set.now)) }
-{
-    let questions = one_question(alloc, &waiting.question)?;
-    let records = fresh_records(alloc, set)?;
-    let header = reply_header(&waiting.header, false, 0);
-    message_text(alloc, header, questions, records, limit)
-}
-
-/// The question alone, with TC.
-fn cut_text<A: Allocator + Copy>(alloc: A, waiting: &Waiting<A>) -> Result<Octets<A>, AllocError>
-    ensures { IfOk result (λ text. text ≡ written (cut_answer waiting.now)) }
-{
-    let header = reply_header(&waiting.header, true, 0);
-    question_text(alloc, header, &waiting.question)
-}
-
-/// The answer over UDP: what passes 512 octets is cut (RFC 1035 4.2.1).
-fn text_for_udp<A: Allocator + Copy>(
-    alloc: A,
-    waiting: &Waiting<A>,
-    set: &RecordSet<A>,
-) -> Result<Octets<A>, AllocError>
-    ensures { IfOk result (λ text. text ≡ (if nat_le (length (written (fresh_answer waiting.now set.now))) 512 then written (fresh_answer waiting.now set.now) else written (cut_answer waiting.now))) }
-{
-    match fresh_text(alloc, waiting, set, UDP_LIMIT) {
-        Ok(text) => Ok(text),
-        Err(Fault::TooLarge) => cut_text(alloc, waiting),
-        Err(_) => Err(AllocError),
-    }
-}
-
-/// The reply with a set that came at this moment: over TCP what passes 65,535 octets is a failure.
-pub(crate) fn answer<A: Allocator + Copy>(
-    alloc: A,
-    waiting: &Waiting<A>,
-    set: &RecordSet<A>,
-) -> Result<Action<A>, AllocError>
-    ensures { IfOk result (λ action. action_of action ≡ answered_over waiting.now.client waiting.now (written (fresh_answer waiting.now set.now)) (written (cut_answer waiting.now))) }
-{
-    match waiting.client {
-        Client::Udp(_) => Ok(Action::Reply {
-            client: waiting.client,
-            bytes: text_for_udp(alloc, waiting, set)?,
-            why: Why::Answered,
-        }),
-        Client::Tcp(_) => match fresh_text(alloc, waiting, set, TCP_LIMIT) {
-            Ok(bytes) => Ok(Action::Reply {
-                client: waiting.client,
-                bytes,
-                why: Why::Answered,
-            }),
-            Err(Fault::TooLarge) => failure(alloc, waiting, Why::TooLarge),
-            Err(_) => Err(AllocError),
-        },
-    }
-}
-
 /// The text of a query: RD alone, and one question (RFC 1035 4.1.1).
 fn query_text<A: Allocator + Copy>(alloc: A, query: &Ask<A>) -> Result<Octets<A>, AllocError>
-    ensures { IfOk result (λ text. text ≡ written (query_message query.now.id query.now.question)) }
+    ensures { IfOk result (λ text. text ≡ written (ask_message query.now.id query.now.question)) }
 {
     let header = Header {
         id: query.id,

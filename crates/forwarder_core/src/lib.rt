@@ -3,12 +3,14 @@
 #![tactic(auto)]
 
 mod answers;
+mod attempts;
 mod forwarder;
 mod lists;
 mod next;
 mod replies;
 mod request;
 mod sets;
+mod spelled;
 mod state;
 
 pub use forwarder::Forwarder;

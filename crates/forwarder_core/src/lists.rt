@@ -1,35 +1,17 @@
 //! What is looked up in a configuration and in the lists of a forwarder.
 
-ghost use Rattle.std.specs.Prelude.{◌≡◌, ◌<◌, ◌+◌, ◌∷◌, ◌++◌, [], length, nat_lt, not, filter, OnOk, OnErr};
+ghost use Rattle.std.specs.Prelude.{◌≡◌, ◌<◌, ◌+◌, ◌∷◌, ◌++◌, [], length, nat_lt, nat_le, not, drop, filter, OnOk, OnErr};
+ghost use Rattle.std.specs.List.{list_any};
 ghost use Rattle.outstanding.specs.Lists.{MayBegin, on_path as ask_on, without_path};
-ghost use Rattle.step_rules.specs.Row.{waits_for, server_on};
-ghost use Rattle.forwarder_core.specs.Next.{left_waiting};
+ghost use Rattle.step_rules.specs.Row.{waits_for, timeout_of, deadline_of};
+ghost use Rattle.forwarder_core.specs.Next.{left_waiting, without_closed};
 
 use crate::replies::is_waiting_for;
 use crate::state::Waiting;
 use dns_message::Question;
 use outstanding::{Ask, Inquiries, Path, Refusal};
 use std::alloc::{AllocError, Allocator};
-use suffix_routes::{Config, Peer, RouteId};
-
-/// The peer of a group without servers; no configuration has one.
-const NOBODY: Peer = Peer {
-    ip: [0, 0, 0, 0],
-    port: 0,
-};
-
-/// The first server of a route's group.
-pub(crate) fn first_server<A: Allocator>(config: &Config<A>, route: RouteId) -> Peer
-    ensures { result ≡ server_on config.now route }
-{
-    match config.routes.as_slice().get(route.place) {
-        Some(route) => match route.servers.as_slice().first() {
-            Some(server) => *server,
-            None => NOBODY,
-        },
-        None => NOBODY,
-    }
-}
+use suffix_routes::Config;
 
 /// Lists an ask for which there is room. `Err` where memory ran out, and then nothing has changed.
 pub(crate) fn list<A: Allocator>(
@@ -69,9 +51,67 @@ fn drop_waiting<A: Allocator>(waiting: &mut Vec<Waiting<A>, A>, question: &Quest
     waiting.retain(|x| !is_waiting_for(question, x));
 }
 
-/// The query may still be answered.
-pub(crate) fn is_live<A: Allocator>(config: &Config<A>, moment: u64, query: &Ask<A>) -> bool
-    ensures { result ≡ nat_lt moment (query.now.asked + config.now.limits.ask_ms) }
+/// Ends the ask on a path, where there is one.
+pub(crate) fn end_closed<A: Allocator>(inquiries: &mut Inquiries<A>, closed: Option<Path>)
+    ensures { inquiries.new ≡ record inquiries.old { asks = without_closed closed inquiries.old.asks } }
 {
-    u128::from(moment) < u128::from(query.asked) + u128::from(config.limits.ask_ms)
+    if let Some(path) = closed {
+        let _ended = inquiries.end(path);
+    }
+}
+
+/// The oldest question waits no more.
+pub(crate) fn drop_first<A: Allocator>(waiting: &mut Vec<Waiting<A>, A>)
+    ensures { waiting.new.items ≡ drop 1 waiting.old.items }
+{
+    if !waiting.is_empty() {
+        let _expired = waiting.remove(0);
+    }
+}
+
+/// The ask may still be answered.
+pub(crate) fn is_live<A: Allocator>(config: &Config<A>, moment: u64, ask: &Ask<A>) -> bool
+    ensures { result ≡ nat_lt moment (timeout_of config.now ask.now) }
+{
+    u128::from(moment) < u128::from(ask.asked) + u128::from(config.limits.ask_ms)
+}
+
+/// The ask is past its time.
+pub(crate) fn is_late<A: Allocator>(config: &Config<A>, moment: u64, ask: &Ask<A>) -> bool
+    ensures { result ≡ nat_le (timeout_of config.now ask.now) moment }
+{
+    u128::from(ask.asked) + u128::from(config.limits.ask_ms) <= u128::from(moment)
+}
+
+/// The question has waited as long as it may.
+pub(crate) fn is_overdue<A: Allocator>(
+    config: &Config<A>,
+    moment: u64,
+    waiting: &Waiting<A>,
+) -> bool
+    ensures { result ≡ nat_le (deadline_of config.now waiting.now) moment }
+{
+    u128::from(waiting.taken) + u128::from(config.limits.deadline_ms) <= u128::from(moment)
+}
+
+/// The question's deadline comes no later than the ask's time ends.
+pub(crate) fn comes_first<A: Allocator>(
+    config: &Config<A>,
+    waiting: &Waiting<A>,
+    ask: &Ask<A>,
+) -> bool
+    ensures { result ≡ nat_le (deadline_of config.now waiting.now) (timeout_of config.now ask.now) }
+{
+    let deadline = u128::from(waiting.taken) + u128::from(config.limits.deadline_ms);
+    deadline <= u128::from(ask.asked) + u128::from(config.limits.ask_ms)
+}
+
+/// Another question waits for this one's ask.
+pub(crate) fn is_any_waiting_for<A: Allocator>(
+    question: &Question<A>,
+    waiting: &[Waiting<A>],
+) -> bool
+    ensures { result ≡ list_any (waits_for question.now) waiting.now }
+{
+    waiting.iter().any(|x| is_waiting_for(question, x))
 }

@@ -1,13 +1,14 @@
 //! The actions that end a query: its path is closed, and those that wait for it get their replies.
 
 ghost use Rattle.std.specs.Prelude.{◌≡◌, ◌∷◌, [], IfOk};
-ghost use Rattle.step_values.specs.declared.action.Why.TheVariants.{Exhausted};
 ghost use Rattle.step_values.specs.Values.{action_of, actions_of};
 ghost use Rattle.step_rules.specs.Row.{closes, answered, fails, is_given, reply_in, waits_for};
-ghost use Rattle.forwarder_core.specs.Next.{with_reply, with_replies};
+ghost use Rattle.forwarder_core.specs.Texts.{fresh_records};
+ghost use Rattle.forwarder_core.specs.Next.{closing_path, with_reply, with_replies};
 
-use crate::answers::{answer, failure};
+use crate::answers::failure;
 use crate::sets::RecordSet;
+use crate::spelled::Answers;
 use crate::state::Waiting;
 use dns_message::Question;
 use outstanding::{Ask, Path};
@@ -23,7 +24,7 @@ pub(crate) fn is_waiting_for<A: Allocator>(question: &Question<A>, waiting: &Wai
 }
 
 /// The action that gives a path up.
-fn close<A: Allocator>(path: Path) -> Action<A>
+pub(crate) fn close<A: Allocator>(path: Path) -> Action<A>
     ensures { action_of result ≡ closes path }
 {
     match path {
@@ -32,19 +33,34 @@ fn close<A: Allocator>(path: Path) -> Action<A>
     }
 }
 
+/// The actions that give a path up, where there is one.
+pub(crate) fn closes<A: Allocator>(
+    alloc: A,
+    closed: Option<Path>,
+) -> Result<PlainList<Action<A>, A>, AllocError>
+    ensures { IfOk result (λ actions. actions_of actions ≡ closing_path closed) }
+{
+    let mut actions = PlainList::new(alloc);
+    if let Some(path) = closed {
+        actions.push(close(path))?;
+    }
+    Ok(actions)
+}
+
 /// Puts the failure of a question last, where it waits for this one.
 fn put_failure<A: Allocator + Copy>(
     alloc: A,
     actions: &mut PlainList<Action<A>, A>,
     question: &Question<A>,
     waiting: &Waiting<A>,
+    why: Why,
 ) -> Result<(), AllocError>
-    ensures { IfOk result (λ _. actions_of actions.new ≡ with_reply (actions_of actions.old) (reply_in (fails Exhausted question.now waiting.now))) }
+    ensures { IfOk result (λ _. actions_of actions.new ≡ with_reply (actions_of actions.old) (reply_in (fails why question.now waiting.now))) }
 {
     if !is_waiting_for(question, waiting) {
         return Ok(());
     }
-    let action = failure(alloc, waiting, Why::Exhausted)?;
+    let action = failure(alloc, waiting, why)?;
     actions.push(action)
 }
 
@@ -53,47 +69,70 @@ pub(crate) fn failures<A: Allocator + Copy>(
     alloc: A,
     query: &Ask<A>,
     waiting: &[Waiting<A>],
+    why: Why,
 ) -> Result<PlainList<Action<A>, A>, AllocError>
-    ensures { IfOk result (λ actions. actions_of actions ≡ with_replies (fails Exhausted query.now.question) (closes query.now.path ∷ []) waiting.now) }
+    ensures { IfOk result (λ actions. actions_of actions ≡ with_replies (fails why query.now.question) (closes query.now.path ∷ []) waiting.now) }
 {
     let mut actions = PlainList::new(alloc);
     actions.push(close(query.path))?;
     for x in waiting {
-        put_failure(alloc, &mut actions, &query.question, x)?;
+        put_failure(alloc, &mut actions, &query.question, x, why)?;
     }
     Ok(actions)
 }
 
 /// The reply with a set that came at this moment, all of its lifetime left.
 fn answer_now<A: Allocator + Copy>(
-    alloc: A,
+    answers: &mut Answers<A>,
     set: &RecordSet<A>,
     now: u64,
     waiting: &Waiting<A>,
 ) -> Result<Action<A>, AllocError>
-    ensures { IfOk result (λ action. action_of action ≡ answered now (record { piece = set.now; accepted = now }) waiting.now) }
+    requires { answers.old ≡ fresh_records set.now }
+    ensures same { answers.new ≡ answers.old }
+    ensures reply { IfOk result (λ action. action_of action ≡ answered now (record { piece = set.now; accepted = now }) waiting.now) }
 {
     let _now = now;
     let _rdata = &set.rdata;
-    answer(alloc, waiting, set)
+    answers.reply(waiting)
 }
 
 /// Puts the answer of a question last, where it waits for this one.
 fn put_answer<A: Allocator + Copy>(
-    alloc: A,
     actions: &mut PlainList<Action<A>, A>,
     question: &Question<A>,
+    answers: &mut Answers<A>,
     set: &RecordSet<A>,
     now: u64,
     waiting: &Waiting<A>,
 ) -> Result<(), AllocError>
-    ensures { IfOk result (λ _. actions_of actions.new ≡ with_reply (actions_of actions.old) (reply_in (is_given now (record { piece = set.now; accepted = now }) question.now waiting.now))) }
+    requires { answers.old ≡ fresh_records set.now }
+    ensures same { answers.new ≡ answers.old }
+    ensures put { IfOk result (λ _. actions_of actions.new ≡ with_reply (actions_of actions.old) (reply_in (is_given now (record { piece = set.now; accepted = now }) question.now waiting.now))) }
 {
     if !is_waiting_for(question, waiting) {
         return Ok(());
     }
-    let action = answer_now(alloc, set, now, waiting)?;
+    let action = answer_now(answers, set, now, waiting)?;
     actions.push(action)
+}
+
+/// Puts the answers of those questions last that wait for this one, in their order.
+fn put_answers<A: Allocator + Copy>(
+    actions: &mut PlainList<Action<A>, A>,
+    question: &Question<A>,
+    answers: &mut Answers<A>,
+    set: &RecordSet<A>,
+    now: u64,
+    waiting: &[Waiting<A>],
+) -> Result<(), AllocError>
+    requires { answers.old ≡ fresh_records set.now }
+    ensures { IfOk result (λ _. actions_of actions.new ≡ with_replies (is_given now (record { piece = set.now; accepted = now }) question.now) (actions_of actions.old) waiting.now) }
+{
+    for x in waiting {
+        put_answer(actions, question, answers, set, now, x)?;
+    }
+    Ok(())
 }
 
 /// The query is closed, and each question that waits for it is answered with the set that came at this moment.
@@ -106,10 +145,16 @@ pub(crate) fn answers_to<A: Allocator + Copy>(
 ) -> Result<PlainList<Action<A>, A>, AllocError>
     ensures { IfOk result (λ actions. actions_of actions ≡ with_replies (is_given now (record { piece = set.now; accepted = now }) query.now.question) (closes query.now.path ∷ []) waiting.now) }
 {
+    let mut answers = Answers::new(alloc, set)?;
     let mut actions = PlainList::new(alloc);
     actions.push(close(query.path))?;
-    for x in waiting {
-        put_answer(alloc, &mut actions, &query.question, set, now, x)?;
-    }
+    put_answers(
+        &mut actions,
+        &query.question,
+        &mut answers,
+        set,
+        now,
+        waiting,
+    )?;
     Ok(actions)
 }

@@ -2,8 +2,8 @@
 
 ghost use Rattle.std.specs.Prelude.{◌≡◌, ◌==◌, ◌&&◌, [], Some, None, IfOk, MatchOption};
 ghost use Rattle.std.specs.List.{list_any, find};
-ghost use Rattle.plain_list.specs.Octets.{same_octets};
 ghost use Rattle.step_history.specs.Names.{same_name};
+ghost use Rattle.plain_list.specs.Octets.{same_octets};
 ghost use Rattle.step_history.specs.Pieces.{is_of, records_for, with_data, seconds_of, longest, rank_of, set_of, has_many};
 ghost use Rattle.forwarder_core.specs.Sets.{with_answer, with_answers, lowered_by, lowered_by_all};
 ghost use Rattle.step_rules.specs.Row.{set_ending};
@@ -70,7 +70,8 @@ fn seconds_from(ttl: u32) -> u32
     if ttl >= 1 << 31 { 0 } else { ttl }
 }
 
-fn is_same_octets(a: &[u8], b: &[u8]) -> bool
+/// Equal octets in the same order.
+pub(crate) fn is_same_octets(a: &[u8], b: &[u8]) -> bool
     ensures { result ≡ same_octets a.now b.now }
 {
     a == b

@@ -12,6 +12,8 @@ pub(crate) struct Waiting<A: Allocator = Global> {
     /// The header of the client's message.
     pub header: Header,
     pub question: Question<A>,
+    /// The moment at which it was taken, in milliseconds.
+    pub taken: u64,
 }
 
 impl<A: Allocator> Model for Waiting<A> {
@@ -20,7 +22,7 @@ impl<A: Allocator> Model for Waiting<A> {
 
     ghost Value = { Waiting };
 
-    ghost view = { λ w. record { client = w.client; header = w.header; question = w.question } };
+    ghost view = { λ w. record { client = w.client; header = w.header; question = w.question; taken = w.taken } };
 
     ghost invariant = { λ w. w.header.opcode < 16 };
 }

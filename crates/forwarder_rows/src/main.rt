@@ -3,7 +3,9 @@
 
 mod comparison;
 mod folder;
+mod manner;
 mod rows;
+mod sparing;
 mod tally;
 
 use std::process::ExitCode;

@@ -2,19 +2,19 @@
 
 use crate::comparison::{differing_line, line_at};
 use crate::folder::{has, names_in};
+use crate::manner::{Manner, told_by};
 use crate::tally::Tally;
-use replay_script::{ReplayFault, read_config, replay_run};
-use std::alloc::Global;
-use std::io::{Read, Write};
 use std::rt::Files;
 use std::{fs, io};
 
-/// What is done with the file of a row.
+/// What the file of a row is.
 #[derive(Clone, Copy)]
 enum Kind {
-    /// It is a script, which is replayed.
+    /// A script.
     Replay,
-    /// It is a configuration, which is checked.
+    /// A script whose lines have the same words.
+    Steps,
+    /// A configuration.
     Check,
 }
 
@@ -23,18 +23,28 @@ impl Kind {
     fn folder(self) -> &'static str {
         match self {
             Kind::Replay => "replay",
+            Kind::Steps => "steps",
             Kind::Check => "check",
+        }
+    }
+
+    /// How each row of this kind is run; it has to tell the same each time.
+    fn manners(self) -> &'static [Manner] {
+        match self {
+            Kind::Replay => &[Manner::Plain, Manner::Sparing],
+            Kind::Steps => &[Manner::SameWords],
+            Kind::Check => &[Manner::Check],
         }
     }
 }
 
-/// Runs the rows of both kinds in a folder, prints what differs, and counts.
+/// Runs the rows of each kind in a folder, prints what differs, and counts.
 pub(crate) fn run_all<R: Files + Print + AllocGlobal + Clone + Drop>(
     rt: &R,
     folder: &str,
 ) -> io::Result<Tally> {
     let mut tally = Tally::default();
-    for kind in [Kind::Replay, Kind::Check] {
+    for kind in [Kind::Replay, Kind::Steps, Kind::Check] {
         let name = kind.folder();
         let rows = format!(in rt.alloc(); "{folder}/{name}")?;
         run_folder(rt, kind, rows.as_str(), &mut tally)?;
@@ -75,8 +85,8 @@ fn run_folder<R: Files + Print + AllocGlobal + Clone + Drop>(
     Ok(())
 }
 
-/// Runs one row, and prints where it tells something else than its files say. Without a file `NAME.stderr` it has to
-/// end well.
+/// Runs one row in each manner, and prints where it tells something else than its files say. Without a file
+/// `NAME.stderr` it has to end well.
 fn run_row<R: Files + Print + AllocGlobal>(
     rt: &R,
     kind: Kind,
@@ -84,60 +94,36 @@ fn run_row<R: Files + Print + AllocGlobal>(
     names: &[String],
     tally: &mut Tally,
 ) -> io::Result<()> {
-    let told = told_by(rt, kind, row)?;
     tally.rows = tally.rows.saturating_add(1);
-    let path = format!(in rt.alloc(); "{row}.stdout")?;
-    let prints = match expected_in(rt, path.as_str(), names)? {
-        Some(expected) => is_told(rt, path.as_str(), &expected, &told.stdout)?,
-        None => {
-            println!(rt; "{path}: missing")?;
-            false
-        }
-    };
-    let path = format!(in rt.alloc(); "{row}.stderr")?;
-    let expected = expected_in(rt, path.as_str(), names)?;
-    let expected = expected.unwrap_or(Vec::new(rt.alloc()));
-    let ends = is_told(rt, path.as_str(), &expected, told.stderr.as_bytes())?;
-    if !(prints && ends) {
+    let mut is_well = true;
+    for manner in kind.manners() {
+        is_well = is_as_expected(rt, *manner, row, names)? && is_well;
+    }
+    if !is_well {
         tally.count_difference();
     }
     Ok(())
 }
 
-/// What the program tells of a row.
-#[derive(Drop)]
-struct Told {
-    /// The lines that it prints.
-    stdout: Vec<u8>,
-    /// The line that tells its fault, or nothing.
-    stderr: String,
-}
-
-/// Does with the file of a row what its kind says.
-fn told_by<R: Files + AllocGlobal>(rt: &R, kind: Kind, row: &str) -> io::Result<Told> {
-    let mut file = fs::open(rt, row)?;
-    let mut stdout = Vec::new(rt.alloc());
-    let ended = match kind {
-        Kind::Replay => replay_run(rt.alloc(), rt.alloc(), &mut file, &mut stdout),
-        Kind::Check => check(rt.alloc(), &mut file, &mut stdout),
+/// Runs one row in one manner, and prints where it tells something else than its files say.
+fn is_as_expected<R: Files + Print + AllocGlobal>(
+    rt: &R,
+    manner: Manner,
+    row: &str,
+    names: &[String],
+) -> io::Result<bool> {
+    let told = told_by(rt, manner, row)?;
+    let path = format!(in rt.alloc(); "{row}.stdout")?;
+    let Some(expected) = expected_in(rt, path.as_str(), names)? else {
+        println!(rt; "{path}: missing")?;
+        return Ok(false);
     };
-    let stderr = match ended {
-        Ok(()) => String::new(rt.alloc()),
-        Err(fault) => format!(in rt.alloc(); "{fault}\n")?,
-    };
-    Ok(Told { stdout, stderr })
-}
-
-/// Prints how many routes the configuration has that the reader gives.
-fn check<R: Read, W: Write>(
-    alloc: Global,
-    reader: &mut R,
-    writer: &mut W,
-) -> Result<(), ReplayFault> {
-    let config = read_config(alloc, alloc, reader)?;
-    let routes = config.routes().len();
-    writeln!(writer, "ok {routes}")?;
-    Ok(())
+    let prints = is_told(rt, manner, path.as_str(), &expected, &told.stdout)?;
+    let path = format!(in rt.alloc(); "{row}.stderr")?;
+    let expected = expected_in(rt, path.as_str(), names)?;
+    let expected = expected.unwrap_or(Vec::new(rt.alloc()));
+    let ends = is_told(rt, manner, path.as_str(), &expected, told.stderr.as_bytes())?;
+    Ok(prints && ends)
 }
 
 /// What a file has that tells what is expected; `None` where it is not among the folder's names.
@@ -153,13 +139,22 @@ fn expected_in<R: Files + AllocGlobal>(
 }
 
 /// Whether a text is the expected one; where it is not, prints the first line that differs.
-fn is_told(rt: &impl Print, path: &str, expected: &[u8], text: &[u8]) -> io::Result<bool> {
+fn is_told(
+    rt: &impl Print,
+    manner: Manner,
+    path: &str,
+    expected: &[u8],
+    text: &[u8],
+) -> io::Result<bool> {
     let Some(place) = differing_line(expected, text) else {
         return Ok(true);
     };
     let line = place.saturating_add(1);
     let wanted = line_at(expected, place);
     let given = line_at(text, place);
-    println!(rt; "{path}: line {line} differs\n  expected {wanted:?}\n  printed  {given:?}")?;
+    let manner = manner.name();
+    println!(rt;
+        "{path}, {manner}: line {line} differs\n  expected {wanted:?}\n  printed  {given:?}"
+    )?;
     Ok(false)
 }

@@ -4,8 +4,10 @@ use Rattle.dns_name.specs.Labels.{size_of}
 use Rattle.message_names.specs.declared.walk.Bound.{Bound}
 use Rattle.message_names.specs.Names.{NameAt, name_within, name_at}
 use Rattle.message_names.specs.Shortcuts.{AreShortcuts}
+use Rattle.message_names.specs.Sizes.{AreSizes}
 use Rattle.message_names.proofs.NameLaws as names
 use Rattle.message_names.proofs.ShortcutLaws as shortcuts
+use Rattle.message_names.proofs.SizeLaws as sizes
 
 -- ---- a name is read exactly where it stands, in at most 255 octets
 
@@ -35,3 +37,13 @@ zeros_are_shortcuts = shortcuts.none_known
 -- and no table remembers nothing
 pub no_table_is_shortcuts : (bytes : List ℕ) → AreShortcuts bytes []
 no_table_is_shortcuts = shortcuts.none_kept
+
+-- ---- how many octets names take
+
+-- zeros remember nothing, so nothing wrong
+pub zeros_are_sizes : (bytes : List ℕ) (n : ℕ) → AreSizes bytes (replicate n 0)
+zeros_are_sizes = sizes.none_known
+
+-- and no table remembers nothing
+pub no_table_is_sizes : (bytes : List ℕ) → AreSizes bytes []
+no_table_is_sizes = sizes.none_kept

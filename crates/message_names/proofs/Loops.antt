@@ -5,14 +5,15 @@ use Rattle.dns_name.specs.Labels.{IsSame}
 use Rattle.message_names.specs.declared.fault.Fault.{Fault}
 use Rattle.message_names.specs.Reading.{behind}
 use Rattle.message_names.specs.Names.{with_label, NameIs}
-
-abbrev pub with_front : List (List ℕ) → Result (List (List ℕ) × ℕ) Fault → Result (List (List ℕ) × ℕ) Fault
-with_front front (Ok n) = Ok (front ++ n.0, n.1)
-with_front front (Err fault) = Err fault
+use Rattle.message_names.specs.Runs.{with_front}
 
 pub front_more : (front : List (List ℕ)) (l : List ℕ) (r : Result (List (List ℕ) × ℕ) Fault) → with_front front (with_label l r) ≡ with_front (front ++ l ∷ []) r
 front_more front l (Ok n) = ap (λ (ls : List (List ℕ)). Ok (ls, n.1)) (sym (append_assoc front (l ∷ []) n.0))
 front_more front l (Err fault) = refl
+
+pub front_run : (front ls : List (List ℕ)) (r : Result (List (List ℕ) × ℕ) Fault) → with_front front (with_front ls r) ≡ with_front (front ++ ls) r
+front_run front ls (Ok n) = ap (λ (all : List (List ℕ)). Ok (all, n.1)) (sym (append_assoc front ls n.0))
+front_run front ls (Err fault) = refl
 
 pub front_none : (r : Result (List (List ℕ) × ℕ) Fault) → with_front [] r ≡ r
 front_none (Ok n) = refl

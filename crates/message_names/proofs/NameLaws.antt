@@ -2,8 +2,10 @@
 use Rattle.std.proofs.Common.{◌≡◌, ℕ, zero, suc, ◌+◌, ◌-◌, ◌<◌, ◌≤◌, List, [], ◌∷◌, length, take, drop, get_or, Option, Some, None, Result, Ok, Err, refl, sym, ap, subst, ◌∙◌, arith}
 use Rattle.std.specs.Prelude.{unwrap_or}
 use Rattle.std.proofs.lemmas.List.{length-take, length-drop}
+use Rattle.std.proofs.Math.Seq.{drop-cons}
 use Rattle.dns_name.specs.Labels.{size_of}
 use Rattle.message_names.specs.declared.fault.Fault.{Fault}
+use Rattle.message_names.specs.declared.fault.Fault.TheVariants.{NameLong}
 use Rattle.message_names.specs.declared.walk.Step.{Step}
 use Rattle.message_names.specs.declared.walk.Step.TheVariants as steps
 use Rattle.message_names.specs.declared.walk.Bound.{Bound}
@@ -95,23 +97,9 @@ resume_pointer bytes w p le is =
     let same = enough (w.run + (254 - w.used)) (steps_left p w.used) bytes (whole bytes) p p w.used le (omega (arith, lt)) (omega arith) in
     resume_step bytes w le ∙ rw (is, same) (end_of_ending w.end (w.offset + 2) (walk_in (steps_left p w.used) bytes (whole bytes) p p w.used))
 
-pub advances : (bytes : List ℕ) (first w : Walk) (len : ℕ) → Stays bytes w.bound w.offset w.run w.used (steps.Label len) → w.used ≡ first.used → w.run ≤ first.run → w.bound.stop ≤ length bytes
-    → resume bytes first ≡ with_label (take len (drop (w.offset + 1) bytes)) (resume bytes (record { offset = w.offset + 1 + len; run = w.run; used = w.used + len + 1; bound = w.bound; end = w.end }))
-    → Advances bytes (take len (drop (w.offset + 1) bytes)) first (record { offset = w.offset + 1 + len; run = w.run; used = w.used + len + 1; bound = w.bound; end = w.end })
-advances bytes first w len stays used back stop read =
-    let long : length (take len (drop (w.offset + 1) bytes)) ≡ len = omega (arith, length-take len (drop (w.offset + 1) bytes), length-drop (w.offset + 1) bytes, stays) in
-    record {
-      read = read;
-      is_label = record { some = omega (arith, long, stays); short = omega (arith, long, stays) };
-      used = omega (arith, long, used);
-      room = omega (arith, stays);
-      stop = stop;
-      fewer = omega (arith, stays, used, back);
-    }
-
 -- ---- what is read is a name
 
-abbrev read_as : List (List ℕ) → ℕ → Result (List (List ℕ) × ℕ) Fault
+abbrev pub read_as : List (List ℕ) → ℕ → Result (List (List ℕ) × ℕ) Fault
 read_as ls e = Ok (ls, e)
 
 -- the name goes on so, and fits
@@ -154,9 +142,32 @@ root_step : (bytes : List ℕ) (s : Bound) (o f used : ℕ) → step bytes s o f
 unfolding step
 root_step bytes s o f used e = record { within = grind (arith, e); zero_here = grind (arith, e) }
 
-label_step : (bytes : List ℕ) (s : Bound) (o f used len : ℕ) → step bytes s o f used ≡ did (steps.Label len) → get_or bytes o 0 ≡ len
+pub label_step : (bytes : List ℕ) (s : Bound) (o f used len : ℕ) → step bytes s o f used ≡ did (steps.Label len) → get_or bytes o 0 ≡ len
 unfolding step
 label_step bytes s o f used len e = grind (arith, e)
+
+pub advances : (bytes : List ℕ) (first w : Walk) (len : ℕ) → step bytes w.bound w.offset w.run w.used ≡ did (steps.Label len) → w.used ≡ first.used → w.run ≤ first.run → w.bound.stop ≤ length bytes
+    → resume bytes first ≡ with_label (take len (drop (w.offset + 1) bytes)) (resume bytes (record { offset = w.offset + 1 + len; run = w.run; used = w.used + len + 1; bound = w.bound; end = w.end }))
+    → Advances bytes (take len (drop (w.offset + 1) bytes)) first (record { offset = w.offset + 1 + len; run = w.run; used = w.used + len + 1; bound = w.bound; end = w.end })
+advances bytes first w len is used back stop read =
+    let stays = takes_label bytes w.bound w.offset w.run w.used len is in
+    let label : List ℕ = take len (drop (w.offset + 1) bytes) in
+    let long : length label ≡ len = omega (arith, length-take len (drop (w.offset + 1) bytes), length-drop (w.offset + 1) bytes, stays) in
+    let at : w.offset + 1 + len - length label - 1 ≡ w.offset = omega (arith, long) in
+    let more : length label + 1 ≡ suc len = omega (arith, long) in
+    let next : w.offset + 1 ≡ suc w.offset = omega arith in
+    let opens : drop w.offset bytes ≡ len ∷ drop (w.offset + 1) bytes = drop-cons bytes w.offset 0 (omega (arith, stays)) ∙ rw (label_step bytes w.bound w.offset w.run w.used len is, next) refl in
+    record {
+      read = read;
+      is_label = record { some = omega (arith, long, stays); short = omega (arith, long, stays) };
+      place = omega (arith, long);
+      octets = rw (at, more, opens, long) refl;
+      inside = omega (arith, stays);
+      used = omega (arith, long, used);
+      room = omega (arith, stays);
+      stop = stop;
+      fewer = omega (arith, stays, used, back);
+    }
 
 record IsPointer (bytes : List ℕ) (s : Bound) (o f p : ℕ) : Type 0 where
   high : 192 ≤ get_or bytes o 0
@@ -193,7 +204,7 @@ sound_by k bytes rest s o f used ls e in_ le (Ok (steps.Pointer p)) is read =
     let on : NameAt bytes (target bytes o) (target bytes o) ls parts.far = rw (← here.there) more.0 in
     (at_pointer here.high (omega (arith, here.within, in_)) (omega (arith, here.there, here.back)) on parts.here, more.1, omega (arith, here.within, parts.here))
 
-sound : (k : ℕ) (bytes : List ℕ) → Sound k bytes
+pub sound : (k : ℕ) (bytes : List ℕ) → Sound k bytes
 unfolding walk_in
 sound zero bytes s o f used ls e in_ le read = absurd cc
 sound (suc k) bytes s o f used ls e in_ le read =
@@ -212,25 +223,30 @@ zero_step : (bytes : List ℕ) (s : Bound) (o f used : ℕ) → o < s.stop → g
 unfolding step
 zero_step bytes s o f used inside none = grind arith
 
-length_step : (bytes : List ℕ) (s : Bound) (o f used : ℕ) → 0 < get_or bytes o 0 → get_or bytes o 0 < 64 → o + 1 + get_or bytes o 0 ≤ s.stop → used + get_or bytes o 0 + 2 ≤ 255
+pub length_step : (bytes : List ℕ) (s : Bound) (o f used : ℕ) → 0 < get_or bytes o 0 → get_or bytes o 0 < 64 → o + 1 + get_or bytes o 0 ≤ s.stop → used + get_or bytes o 0 + 2 ≤ 255
     → step bytes s o f used ≡ did (steps.Label (get_or bytes o 0))
 unfolding step
 length_step bytes s o f used some short inside room = grind arith
 
-back_step : (bytes : List ℕ) (s : Bound) (o f used : ℕ) → 192 ≤ get_or bytes o 0 → o + 2 ≤ s.stop → target bytes o < f → step bytes s o f used ≡ did (steps.Pointer (target bytes o))
+pub long_step : (bytes : List ℕ) (s : Bound) (o f used : ℕ) → 0 < get_or bytes o 0 → get_or bytes o 0 < 64 → o + 1 + get_or bytes o 0 ≤ s.stop → 255 < used + get_or bytes o 0 + 2
+    → step bytes s o f used ≡ Err NameLong
+unfolding step
+long_step bytes s o f used some short inside long = grind arith
+
+pub back_step : (bytes : List ℕ) (s : Bound) (o f used : ℕ) → 192 ≤ get_or bytes o 0 → o + 2 ≤ s.stop → target bytes o < f → step bytes s o f used ≡ did (steps.Pointer (target bytes o))
 unfolding step
 back_step bytes s o f used high inside back = grind arith
 
-some_size : (ls : List (List ℕ)) → 1 ≤ size_of ls
+pub some_size : (ls : List (List ℕ)) → 1 ≤ size_of ls
 some_size [] = omega arith
 some_size (l ∷ ls) = omega (arith, some_size ls)
 
-ends_after : (bytes : List ℕ) (o f e : ℕ) (ls : List (List ℕ)) → NameAt bytes o f ls e → (o < e) × (e ≤ length bytes)
+pub ends_after : (bytes : List ℕ) (o f e : ℕ) (ls : List (List ℕ)) → NameAt bytes o f ls e → (o < e) × (e ≤ length bytes)
 ends_after bytes o f e [] (at_root inside none here) = (omega arith, omega arith)
 ends_after bytes o f e (l ∷ ls) (at_label some short inside l-is rest) = let h = ends_after bytes (o + 1 + get_or bytes o 0) f e ls rest in (omega (arith, h.0), h.1)
 ends_after bytes o f e ls (at_pointer high inside back rest here) = (omega arith, omega arith)
 
-complete : (bytes : List ℕ) (k : ℕ) (s : Bound) (o f used e : ℕ) (ls : List (List ℕ)) → e ≤ s.stop → used + size_of ls ≤ 255 → steps_left f used ≤ k → NameAt bytes o f ls e → walk_in k bytes s o f used ≡ read_as ls e
+pub complete : (bytes : List ℕ) (k : ℕ) (s : Bound) (o f used e : ℕ) (ls : List (List ℕ)) → e ≤ s.stop → used + size_of ls ≤ 255 → steps_left f used ≤ k → NameAt bytes o f ls e → walk_in k bytes s o f used ≡ read_as ls e
 unfolding walk_in
 complete bytes zero s o f used e ls stop fits le at = absurd (omega (arith, some_size ls))
 complete bytes (suc k) s o f used e [] stop fits le (at_root inside none here) =

@@ -55,10 +55,10 @@ pub resume_shortcut : (bytes : List ℕ) (o e used end : ℕ) → SameRun bytes 
 unfolding resume
 resume_shortcut bytes o e used end same le = same used end le
 
-abbrev zeros : ℕ → List ℕ
+abbrev pub zeros : ℕ → List ℕ
 zeros n = replicate n 0
 
-get_or-zeros : (n o : ℕ) → get_or (zeros n) o 0 ≡ 0
+pub get_or-zeros : (n o : ℕ) → get_or (zeros n) o 0 ≡ 0
 get_or-zeros n o = ⊎_elim (λ inside. get_or-replicate n o 0 0 inside) (λ outside. get_or-eq_default (zeros n) 0 (omega (arith, length-replicate {A = ℕ} n 0, outside))) (cases_lt o n)
 
 -- nothing is known yet

@@ -1,6 +1,6 @@
 -- A name in a message: RFC 1035 4.1.4, with pointers that lead back to before the run that they end.
 use Rattle.std.specs.Prelude.{◌≡◌, ℕ, zero, suc, ◌+◌, ◌-◌, ◌*◌, ◌<◌, ◌≤◌, List, [], ◌∷◌, length, take, drop, Option, Some, None, Result, Ok, Err, nat_lt, nat_le, ◌==◌, if◌then◌else◌, slice_index}
-use Rattle.dns_name.specs.Labels.{IsLabel, IsSame}
+use Rattle.dns_name.specs.Labels.{IsLabel, IsSame, label_octets, lowered}
 use Rattle.message_names.specs.declared.fault.Fault.{Fault}
 use Rattle.message_names.specs.declared.fault.Fault.TheVariants.{Short, LabelForm, Pointer, NameLong, Rdata}
 use Rattle.message_names.specs.declared.walk.Bound.{Bound}
@@ -94,9 +94,16 @@ end_of (Some e) read = ending e read
 unfoldable pub resume : List ℕ → Walk → Result (List (List ℕ) × ℕ) Fault
 resume bytes w = end_of w.end (walk_in (steps_left w.run w.used) bytes w.bound w.offset w.run w.used)
 
+-- the beginning of the name that a pointer leads to, behind labels of so many octets
+abbrev pub behind_labels : List ℕ → ℕ → ℕ → Walk
+behind_labels bytes o used = record { offset = o; run = o; used = used; bound = whole bytes; end = None }
+
 pub record Advances (bytes label : List ℕ) (w v : Walk) : Type 0 where
   pub read : resume bytes w ≡ with_label label (resume bytes v)
   pub is_label : IsLabel label
+  pub place : length label + 1 ≤ v.offset
+  pub octets : take (length label + 1) (drop (v.offset - length label - 1) bytes) ≡ label_octets label
+  pub inside : v.offset ≤ length bytes
   pub used : v.used ≡ w.used + length label + 1
   pub room : v.used ≤ 254
   pub stop : v.bound.stop ≤ length bytes
@@ -111,3 +118,8 @@ Resumes bytes w (Err fault) = resume bytes w ≡ Err fault
 abbrev pub NameIs : Result (List (List ℕ) × ℕ) Fault → List (List ℕ) → Type 0
 NameIs (Ok n) labels = IsSame n.0 labels
 NameIs (Err fault) labels = ⊥
+
+-- the key of the name that was read
+abbrev pub keyed : Result (List (List ℕ) × ℕ) Fault → Result (List (List ℕ)) Fault
+keyed (Ok n) = Ok (lowered n.0)
+keyed (Err fault) = Err fault

@@ -4,11 +4,14 @@
 mod fault;
 mod names;
 mod numbers;
+mod runs;
 mod shortcuts;
+mod sizes;
 mod walk;
 
 pub use fault::Fault;
-pub use names::{read_name, readable_name_end, skip_name, skip_same_name};
+pub use names::{key_at, read_name, readable_name_end, skip_name, skip_same_name};
 pub use numbers::{number16, number32};
+pub use runs::{Run, next_run};
 pub use shortcuts::{PLACES, SMALL};
-pub use walk::{Bound, Next, Walk, next_label, part};
+pub use walk::{Bound, Walk, part};

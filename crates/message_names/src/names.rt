@@ -3,11 +3,14 @@
 ghost use Rattle.std.specs.Prelude.{◌≡◌, ◌≤◌, IsOk, MatchOption, Ok, length};
 ghost use Rattle.message_names.specs.Reading.{Gives, behind};
 ghost use Rattle.message_names.specs.Shortcuts.{AreShortcuts};
-ghost use Rattle.message_names.specs.Names.{name_at, name_within, NameIs};
+ghost use Rattle.message_names.specs.Sizes.{AreSizes};
+ghost use Rattle.message_names.specs.Names.{name_at, name_within, NameIs, keyed};
 
 use crate::fault::Fault;
-use crate::walk::{Bound, Next, Walk, next_label};
-use dns_name::Name;
+use crate::runs::{Run, next_run};
+use crate::sizes::size_of_name;
+use crate::walk::{Bound, Next, Step, Walk, next_label, step_at};
+use dns_name::{Name, NameKey};
 use std::alloc::Allocator;
 
 /// The name at a place, and the place behind it. Where pointers lead is remembered in `ends`, which may be empty.
@@ -27,34 +30,45 @@ pub fn read_name<A: Allocator>(
     let mut name = Name::root(alloc);
     let mut walk = Walk::new(bytes, Bound::whole(bytes), offset);
     loop {
-        match next_label(bytes, ends, walk)? {
-            Next::End(end) => return Ok((name, end)),
-            Next::Label(label, after) => {
-                name.append(label)?;
+        match next_run(bytes, ends, walk)? {
+            Run::End(end) => return Ok((name, end)),
+            Run::Labels(octets, after) => {
+                name.append_labels(octets)?;
                 walk = after;
             }
         }
     }
 }
 
-/// The place behind the name at a place, in a run that must end before a bound. `Err` is the first fault of the name
-/// from its front. It takes no memory.
+/// The place behind the name at a place, in a run that must end before a bound. The octets of the names that pointers
+/// lead to are remembered in `sizes`, which may be empty. `Err` is the first fault of the name from its front. It takes
+/// no memory.
 pub fn skip_name(
     bytes: &[u8],
-    ends: &mut [u16],
+    sizes: &mut [u8],
     bound: Bound,
     offset: usize,
 ) -> Result<usize, Fault>
     requires inside { bound.stop ≤ length bytes.now }
-    requires known { AreShortcuts bytes.now ends.old }
+    requires known { AreSizes bytes.now sizes.old }
     ensures exact { result ≡ behind (name_within bytes.now bound offset) }
-    ensures known { AreShortcuts bytes.now ends.new }
+    ensures known { AreSizes bytes.now sizes.new }
 {
     let mut walk = Walk::new(bytes, bound, offset);
     loop {
-        match next_label(bytes, ends, walk)? {
-            Next::End(end) => return Ok(end),
-            Next::Label(_, after) => walk = after,
+        match step_at(bytes, walk)? {
+            Step::End => return Ok(walk.offset + 1),
+            Step::Label(len) => {
+                walk = Walk {
+                    offset: walk.offset + 1 + len,
+                    used: walk.used + len + 1,
+                    ..walk
+                };
+            }
+            Step::Pointer(target) => {
+                size_of_name(bytes, sizes, target, walk.used)?;
+                return Ok(walk.offset + 2);
+            }
         }
     }
 }
@@ -94,6 +108,23 @@ pub fn skip_same_name<A: Allocator>(bytes: &[u8], offset: usize, name: &Name<A>)
                 if !label.eq_ignore_ascii_case(other) {
                     return None;
                 }
+                walk = after;
+            }
+        }
+    }
+}
+
+/// The key of the name at a place. `Err` is the first fault of the name from its front. It takes no memory.
+pub fn key_at(bytes: &[u8], offset: usize) -> Result<NameKey, Fault>
+    ensures { result ≡ keyed (name_at bytes.now offset) }
+{
+    let mut octets = [0u8; 255];
+    let mut walk = Walk::new(bytes, Bound::whole(bytes), offset);
+    loop {
+        match next_run(bytes, &mut [], walk)? {
+            Run::End(_) => return Ok(NameKey::from_octets(&octets[..walk.used])),
+            Run::Labels(labels, after) => {
+                octets[walk.used..after.used].copy_from_slice(labels);
                 walk = after;
             }
         }

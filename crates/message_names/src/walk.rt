@@ -1,8 +1,8 @@
 //! One name in a message, label by label.
 
-ghost use Rattle.std.specs.Prelude.{◌≡◌, ◌≤◌, ◌+◌, length, take, drop, IfOk};
+ghost use Rattle.std.specs.Prelude.{◌≡◌, ◌≤◌, ◌+◌, length, take, drop, IfOk, None};
 ghost use Rattle.message_names.specs.Shortcuts.{AreShortcuts};
-ghost use Rattle.message_names.specs.Names.{whole, inside, step, Stays, Resumes, resume, name_within};
+ghost use Rattle.message_names.specs.Names.{whole, inside, behind_labels, step, Stays, Resumes, resume, name_within};
 
 use crate::fault::Fault;
 use crate::shortcuts::resolve;
@@ -71,13 +71,24 @@ impl Walk {
     pub fn new(bytes: &[u8], bound: Bound, offset: usize) -> Walk
         ensures used { result.used ≡ 0 }
         ensures bound { result.bound ≡ bound }
+        ensures end { result.end ≡ None }
         ensures start { resume bytes.now result ≡ name_within bytes.now bound offset }
+    {
+        Walk {
+            bound,
+            ..Walk::behind(bytes, offset, 0)
+        }
+    }
+
+    /// The beginning of the name that a pointer leads to, behind labels of so many octets.
+    pub(crate) fn behind(bytes: &[u8], offset: usize, used: usize) -> Walk
+        ensures { result ≡ behind_labels bytes.now offset used }
     {
         Walk {
             offset,
             run: offset,
-            used: 0,
-            bound,
+            used,
+            bound: Bound::whole(bytes),
             end: None,
         }
     }
@@ -103,7 +114,7 @@ pub fn part(bytes: &[u8], start: usize, len: usize) -> &[u8]
 
 /// What stands at the next place: RFC 1035 4.1.4. The order of the tests is the order of the faults.
 #[tactic(auto, unfolding(crate::specs::Names::step))]
-fn step_at(bytes: &[u8], walk: Walk) -> Result<Step, Fault>
+pub(crate) fn step_at(bytes: &[u8], walk: Walk) -> Result<Step, Fault>
     requires used { walk.used ≤ 254 }
     requires stop { walk.bound.stop ≤ length bytes.now }
     ensures exact { result ≡ step bytes.now walk.bound walk.offset walk.run walk.used }

@@ -1,9 +1,10 @@
 -- What is read is of its shape, every name in it written out in full.
-use Rattle.std.proofs.Common.{◌≡◌, ℕ, ◌+◌, ◌<◌, ◌≤◌, Bool, true, false, cond, List, [], ◌∷◌, ◌++◌, length, take, drop, get_or, Option, Some, None, Result, Ok, Err, eqb, refl, sym, ap, subst, ◌∙◌, append_assoc, add-one, arith}
+use Rattle.std.proofs.Common.{◌≡◌, ℕ, ◌+◌, ◌-◌, ◌<◌, ◌≤◌, Bool, true, false, cond, List, [], ◌∷◌, ◌++◌, length, take, drop, get_or, Option, Some, None, Result, Ok, Err, eqb, refl, sym, ap, subst, ◌∙◌, append_assoc, add-one, arith}
 use Rattle.std.specs.List.{AllByRecursion}
 use Rattle.std.specs.Prelude.{IfOk}
 use Rattle.std.proofs.lemmas.List.{append-nil, length-append, length-take, length-drop, drop_more, drop_all, drop-drop, take-append-drop, get_or_at, drop_at, take_at}
-use Rattle.dns_name.specs.Labels.{IsLabel, IsName, label_octets, octets_of, size_of}
+use Rattle.dns_name.specs.Labels.{IsLabel, IsName, label_octets, labels_of, octets_of, size_of, IsLaidOut}
+use Rattle.dns_name.proofs.CallerLemmas.{labels_of_octets, octets_are_laid_out}
 use Rattle.message_names.specs.declared.fault.Fault.{Fault}
 use Rattle.message_reading.specs.declared.shape.Part.{Part}
 use Rattle.message_reading.specs.declared.shape.Part.TheVariants.{Name, Number16, Number32, Text}
@@ -11,7 +12,7 @@ use Rattle.message_reading.specs.Values.{Record, Message}
 use Rattle.message_reading.specs.declared.header.Header.{Header}
 use Rattle.message_reading.specs.Shapes.{Shape, shape_of}
 use Rattle.message_reading.specs.Header.{FitsBits, header_in}
-use Rattle.message_names.specs.Reading.{Gives}
+use Rattle.message_names.specs.Reading.{Gives, behind}
 use Rattle.message_names.specs.Names.{NameAt, at_root, at_label, at_pointer, target, name_at}
 use Rattle.message_reading.specs.Data.{name_octets, IsPart, HasParts, no_parts, more_parts, IsOfShape, IsShaped, PartAt, PartsAt, parts_end, parts_go_on, ShapedAt, DataAt, name_if_all, name_of_rdata}
 use Rattle.message_reading.specs.Records.{RecordAt, InRow}
@@ -164,3 +165,38 @@ unfolding name_of_rdata
 named_complete octets labels name is =
     let at : NameAt octets 0 0 labels (length octets) = rw is (written_at [] 0 labels name.each) in
     ap (name_if_all (length octets)) (standing_name_is_read octets 0 labels (length octets) at name.short) ∙ if_all labels (length octets)
+
+-- octets that are all one name, the zero octet at its end left out
+pub record OnlyName (octets : List ℕ) (end : ℕ) : Type 0 where
+  pub some : 1 ≤ end
+  pub laid : IsLaidOut (take (end - 1) octets)
+  pub name : name_of_rdata octets ≡ Some (labels_of (take (end - 1) octets))
+
+only_by : (octets : List ℕ) (end : ℕ) (r : Result (List (List ℕ) × ℕ) Fault) → name_at octets 0 ≡ r → behind r ≡ Ok end → end ≡ length octets → OnlyName octets end
+unfolding name_of_rdata
+only_by octets end (Ok n) is ends all =
+    let at : n.1 ≡ length octets = cc in
+    let named : name_of_rdata octets ≡ Some n.0 = ap (name_if_all (length octets)) is ∙ ap (λ (e : ℕ). name_if_all (length octets) (Ok (n.0, e))) at ∙ if_all n.0 (length octets) in
+    let name = named_sound octets n.0 named in
+    let sized : length octets ≡ length (octets_of n.0) + 1 = ap length name.1 ∙ length-append (octets_of n.0) (0 ∷ []) in
+    let front : take (end - 1) octets ≡ octets_of n.0 = ap (take (end - 1)) name.1 ∙ take_at (octets_of n.0) (0 ∷ []) (end - 1) (omega (arith, sized, all)) in
+    record {
+      some = omega (arith, sized, all);
+      laid = rw front (octets_are_laid_out n.0 name.0);
+      name = rw (front, labels_of_octets n.0) named;
+    }
+only_by octets end (Err fault) is ends all = absurd cc
+
+pub only_name : (octets : List ℕ) (end : ℕ) → behind (name_at octets 0) ≡ Ok end → end ≡ length octets → OnlyName octets end
+only_name octets end ends all = only_by octets end (name_at octets 0) refl ends all
+
+other_end : (labels : List (List ℕ)) (e len : ℕ) → (e ≡ len → ⊥) → name_if_all len (Ok (labels, e)) ≡ None
+other_end labels e len other = grind (arith, other)
+
+no_name_by : (octets : List ℕ) (r : Result (List (List ℕ) × ℕ) Fault) → name_at octets 0 ≡ r → (behind r ≡ Ok (length octets) → ⊥) → name_of_rdata octets ≡ None
+unfolding name_of_rdata
+no_name_by octets (Ok n) is other = ap (name_if_all (length octets)) is ∙ other_end n.0 n.1 (length octets) (λ e. other (ap (λ (x : ℕ). Ok x) e))
+no_name_by octets (Err fault) is other = ap (name_if_all (length octets)) is
+
+pub no_name : (octets : List ℕ) → (behind (name_at octets 0) ≡ Ok (length octets) → ⊥) → name_of_rdata octets ≡ None
+no_name octets other = no_name_by octets (name_at octets 0) refl other

@@ -1,6 +1,6 @@
 -- A message is read exactly where the octets spell it.
-use Rattle.std.proofs.Common.{◌≡◌, ℕ, ◌<◌, ◌≤◌, Bool, true, false, cond, List, [], ◌∷◌, length, get_or, Option, Some, None, Result, Ok, Err, eqb, ltb, refl, sym, ap, subst, arith}
-use Rattle.std.specs.Prelude.{IsOk}
+use Rattle.std.proofs.Common.{◌≡◌, ℕ, ◌+◌, ◌-◌, ◌<◌, ◌≤◌, Bool, true, false, cond, List, [], ◌∷◌, length, get_or, Option, Some, None, Result, Ok, Err, eqb, ltb, refl, sym, ap, subst, arith}
+use Rattle.std.specs.Prelude.{IsOk, IfOk}
 use Rattle.message_names.specs.declared.fault.Fault.{Fault}
 use Rattle.message_names.specs.declared.fault.Fault.TheVariants.{Short, NoQuestion}
 use Rattle.message_reading.specs.declared.header.Header.{Header}
@@ -9,7 +9,10 @@ use Rattle.message_names.specs.Reading.{behind}
 use Rattle.message_names.specs.Numbers.{number16}
 use Rattle.message_reading.specs.Header.{header_in, header_of}
 use Rattle.message_reading.specs.Records.{QuestionAt, RecordAt, question_at, record_at, counted}
-use Rattle.message_reading.specs.Messages.{Spells, FirstQuestion, IsWhole, first_question, or_short, read_of, message_at, message_of}
+use Rattle.message_reading.specs.Messages.{Spells, FirstQuestion, IsWhole, IsViewed, IsViewedTo, first_question, or_short, read_of, message_at, message_of}
+use Rattle.dns_name.specs.Labels.{lowered}
+use Rattle.message_names.specs.Names.{name_at, keyed}
+use Rattle.message_names.proofs.CallerLemmas.{standing_name_is_read}
 use Rattle.message_reading.proofs.SpellLaws.{read_as, read_first, steps, question_sound, question_complete, record_sound, record_complete, counted_sound, counted_complete}
 
 pub header_is : (bytes : List ℕ) (header : Header) → header_of bytes ≡ Some header → header_in bytes ≡ header
@@ -136,3 +139,46 @@ first_complete bytes question first =
     let some = first.counted in
     let read = ap read_of (question_complete bytes 12 question first.e first.at) in
     grind (arith, there, some, read)
+
+-- what stands before the end of the first question
+pub record Asked (bytes : List ℕ) (end : ℕ) : Type 0 where
+  pub back : 4 ≤ end
+  pub there : end ≤ length bytes
+  pub kind : IfOk (first_question bytes) (λ question. number16 bytes (end - 4) ≡ question.kind)
+  pub class : IfOk (first_question bytes) (λ question. number16 bytes (end - 2) ≡ question.class)
+  pub name : IfOk (first_question bytes) (λ question. name_at bytes 12 ≡ Ok (question.name, end - 4))
+
+pub asked : (bytes : List ℕ) (end : ℕ) → IsViewedTo bytes end → Asked bytes end
+asked bytes end view =
+    let v = view.viewed in
+    let first = first_sound bytes v.question v.is in
+    let at = first.at in
+    let read = ap behind (question_complete bytes 12 v.question first.e at) in
+    let ends = view.ends in
+    let same : first.e ≡ end = cc in
+    let after : end - 4 ≡ at.after = omega (arith, at.ends, same) in
+    let next : end - 2 ≡ at.after + 2 = omega (arith, at.ends, same) in
+    record {
+      back = omega (arith, at.ends, same);
+      there = omega (arith, at.ends, same, at.there);
+      kind = rw v.is (rw after (sym at.kind));
+      class = rw v.is (rw next (sym at.class));
+      name = rw v.is (rw after (standing_name_is_read bytes 12 v.question.name at.after at.name at.fits));
+    }
+
+first_keyed : (bytes : List ℕ) (view : IsViewed bytes) → keyed (name_at bytes 12) ≡ Ok (lowered view.question.name)
+first_keyed bytes view =
+    let at = (first_sound bytes view.question view.is).at in
+    ap keyed (standing_name_is_read bytes 12 view.question.name at.after at.name at.fits)
+
+-- the key of the first question's name is told
+pub key_found : (bytes : List ℕ) (end : ℕ) (key : List (List ℕ)) → IsViewedTo bytes end → keyed (name_at bytes 12) ≡ Ok key → IfOk (first_question bytes) (λ question. key ≡ lowered question.name)
+key_found bytes end key view is =
+    let found = first_keyed bytes view.viewed in
+    let same : key ≡ lowered view.viewed.question.name = cc in
+    rw view.viewed.is same
+
+pub key_never_lost : (bytes : List ℕ) (end : ℕ) (fault : Fault) → IsViewedTo bytes end → keyed (name_at bytes 12) ≡ Err fault → ⊥
+key_never_lost bytes end fault view is =
+    let found = first_keyed bytes view.viewed in
+    cc

@@ -5,7 +5,7 @@ use Rattle.dns_name.specs.Labels.{IsSame}
 use Rattle.message_names.specs.declared.fault.Fault.{Fault}
 use Rattle.message_names.specs.declared.fault.Fault.TheVariants.{Short, NoQuestion}
 use Rattle.message_reading.specs.Values.{Question, Record, Message}
-use Rattle.message_names.specs.Reading.{◌>>=◌}
+use Rattle.message_names.specs.Reading.{◌>>=◌, behind}
 use Rattle.message_names.specs.Numbers.{number16}
 use Rattle.message_reading.specs.Header.{header_of}
 use Rattle.message_reading.specs.Data.{IsShaped}
@@ -90,3 +90,8 @@ QuestionIs (Err fault) question = ⊥
 pub record IsViewed (bytes : List ℕ) : Type 0 where
   pub question : Question
   pub is : first_question bytes ≡ Ok question
+
+-- and the first question ends before this place
+pub record IsViewedTo (bytes : List ℕ) (end : ℕ) : Type 0 where
+  pub viewed : IsViewed bytes
+  pub ends : behind (question_at bytes 12) ≡ Ok end

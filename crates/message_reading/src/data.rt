@@ -1,14 +1,15 @@
 //! The data of records, by the shape of its type.
 
-ghost use Rattle.std.specs.Prelude.{◌≡◌, ◌≤◌, IfOk, length};
+ghost use Rattle.std.specs.Prelude.{◌≡◌, ◌≤◌, IfOk, OnErr, None, length};
 ghost use Rattle.message_names.specs.Reading.{Gives, behind};
 ghost use Rattle.message_names.specs.Shortcuts.{AreShortcuts};
+ghost use Rattle.message_names.specs.Sizes.{AreSizes};
 ghost use Rattle.message_names.specs.Names.{name_within, inside};
 ghost use Rattle.message_reading.specs.Data.{octets_within, written_out, prefixed, part_at, parts_at, data_at, name_of_rdata};
 
 use crate::shape::{Part, shape_of};
 use dns_name::Name;
-use message_names::{Bound, Fault, Next, Walk, next_label, part, read_name, skip_name};
+use message_names::{Bound, Fault, Run, Walk, next_run, part, skip_name};
 use std::alloc::{AllocError, Allocator};
 
 /// The place behind so many octets of the data.
@@ -24,6 +25,7 @@ fn skip_octets(bytes: &[u8], stop: usize, offset: usize, count: usize) -> Result
 }
 
 /// Writes a name of the data out in full behind the octets, and gives the place behind it.
+#[tactic(auto, using(crate::proofs::DataLaws::written_run))]
 fn expand_name<A: Allocator>(
     octets: &mut Vec<u8, A>,
     bytes: &[u8],
@@ -38,14 +40,13 @@ fn expand_name<A: Allocator>(
 {
     let mut walk = Walk::new(bytes, Bound::data(stop), offset);
     loop {
-        match next_label(bytes, ends, walk)? {
-            Next::End(end) => {
+        match next_run(bytes, ends, walk)? {
+            Run::End(end) => {
                 octets.push(0)?;
                 return Ok(end);
             }
-            Next::Label(label, after) => {
-                octets.push(label.len() as u8)?;
-                octets.extend_from_slice(label)?;
+            Run::Labels(labels, after) => {
+                octets.extend_from_slice(labels)?;
                 walk = after;
             }
         }
@@ -101,18 +102,18 @@ fn read_part<A: Allocator>(
 #[tactic(auto, unfolding(crate::specs::Data::text_within))]
 fn skip_part(
     bytes: &[u8],
-    ends: &mut [u16],
+    sizes: &mut [u8],
     stop: usize,
     part: Part,
     offset: usize,
 ) -> Result<usize, Fault>
     requires inside { stop ≤ length bytes.now }
-    requires known { AreShortcuts bytes.now ends.old }
+    requires known { AreSizes bytes.now sizes.old }
     ensures exact { result ≡ behind (part_at part bytes.now stop offset) }
-    ensures known { AreShortcuts bytes.now ends.new }
+    ensures known { AreSizes bytes.now sizes.new }
 {
     match part {
-        Part::Name => skip_name(bytes, ends, Bound::data(stop), offset),
+        Part::Name => skip_name(bytes, sizes, Bound::data(stop), offset),
         Part::Number16 => skip_octets(bytes, stop, offset, 2),
         Part::Number32 => skip_octets(bytes, stop, offset, 4),
         Part::Text => {
@@ -154,19 +155,19 @@ fn read_parts<A: Allocator>(
 #[tactic(auto, using(crate::proofs::DataLaws::skip_more, crate::proofs::DataLaws::skip_fault, crate::proofs::DataLaws::skip_done, crate::proofs::DataLaws::skip_short))]
 fn skip_parts(
     bytes: &[u8],
-    ends: &mut [u16],
+    sizes: &mut [u8],
     stop: usize,
     parts: &[Part],
     offset: usize,
 ) -> Result<usize, Fault>
     requires inside { stop ≤ length bytes.now }
-    requires known { AreShortcuts bytes.now ends.old }
+    requires known { AreSizes bytes.now sizes.old }
     ensures exact { result ≡ behind (parts_at parts.now bytes.now stop offset) }
-    ensures known { AreShortcuts bytes.now ends.new }
+    ensures known { AreSizes bytes.now sizes.new }
 {
     let mut at = offset;
     for part in parts {
-        at = skip_part(bytes, ends, stop, *part, at)?;
+        at = skip_part(bytes, sizes, stop, *part, at)?;
     }
     if stop != at {
         return Err(Fault::Rdata);
@@ -205,35 +206,37 @@ pub(crate) fn read_data<A: Allocator>(
 #[tactic(auto, unfolding(crate::specs::Data::data_at))]
 pub(crate) fn skip_data(
     bytes: &[u8],
-    ends: &mut [u16],
+    sizes: &mut [u8],
     kind: u16,
     offset: usize,
     len: usize,
 ) -> Result<usize, Fault>
     requires inside { offset ≤ length bytes.now }
-    requires known { AreShortcuts bytes.now ends.old }
+    requires known { AreSizes bytes.now sizes.old }
     ensures exact { result ≡ behind (data_at kind bytes.now offset len) }
-    ensures known { AreShortcuts bytes.now ends.new }
+    ensures known { AreSizes bytes.now sizes.new }
 {
     if bytes.len() - offset < len {
         return Err(Fault::Short);
     }
     match shape_of(kind) {
         None => Ok(offset + len),
-        Some(shape) => skip_parts(bytes, ends, offset + len, shape.parts, offset),
+        Some(shape) => skip_parts(bytes, sizes, offset + len, shape.parts, offset),
     }
 }
 
-/// The name that is all of these octets. In octets of its own no pointer leads back, so none is followed.
-#[tactic(auto, unfolding(crate::specs::Data::name_of_rdata))]
+/// The name that is all of these octets, its zero octet at their end. In octets of its own no pointer leads back, so none
+/// is followed. `Err` where memory ran out, which only a name takes.
+#[tactic(auto, using(crate::proofs::ShapeLaws::only_name, crate::proofs::ShapeLaws::no_name))]
 pub fn read_only_name<A: Allocator>(alloc: A, octets: &[u8]) -> Result<Option<Name<A>>, AllocError>
-    ensures { IfOk result (λ name. name ≡ name_of_rdata octets.now) }
+    ensures name { IfOk result (λ name. name ≡ name_of_rdata octets.now) }
+    ensures some { OnErr result (name_of_rdata octets.now ≡ None → ⊥) }
 {
     match skip_name(octets, &mut [], Bound::whole(octets), 0) {
-        Ok(end) if end == octets.len() => match read_name(alloc, octets, &mut [], 0) {
-            Ok((name, _)) => Ok(Some(name)),
-            Err(_) => Err(AllocError),
-        },
+        Ok(end) if end == octets.len() => {
+            let name = Name::from_octets(alloc, &octets[..end - 1])?;
+            Ok(Some(name))
+        }
         _ => Ok(None),
     }
 }

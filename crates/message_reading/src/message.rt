@@ -1,6 +1,6 @@
 //! Messages that own what they hold.
 
-ghost use Rattle.std.specs.Prelude.{◌≡◌, IfOk};
+ghost use Rattle.std.specs.Prelude.{◌≡◌, IfOk, OnErr, None};
 ghost use Rattle.message_reading.specs.Data.{name_of_rdata};
 ghost use Rattle.message_reading.specs.Questions.{same_question};
 
@@ -81,9 +81,11 @@ impl<A: Allocator> Rdata<A> {
         self.octets.as_slice()
     }
 
-    /// The name that the data is, written out in full; `None` where it is none. `Err` where memory ran out.
+    /// The name that the data is, written out in full; `None` where it is none, which takes no memory. `Err` where memory
+    /// ran out.
     pub fn name(&self, alloc: A) -> Result<Option<Name<A>>, AllocError>
-        ensures { IfOk result (λ name. name ≡ name_of_rdata self.now) }
+        ensures name { IfOk result (λ name. name ≡ name_of_rdata self.now) }
+        ensures some { OnErr result (name_of_rdata self.now ≡ None → ⊥) }
     {
         read_only_name(alloc, self.octets())
     }

@@ -3,6 +3,7 @@
 ghost use Rattle.std.specs.Prelude.{◌≡◌, IsOk, Ok};
 ghost use Rattle.message_names.specs.Reading.{Gives, behind};
 ghost use Rattle.message_names.specs.Shortcuts.{AreShortcuts};
+ghost use Rattle.message_names.specs.Sizes.{AreSizes};
 ghost use Rattle.message_reading.specs.Records.{octets_end, question_at, record_at, counted};
 
 use crate::data::{read_data, skip_data};
@@ -43,12 +44,12 @@ pub(crate) fn read_question<A: Allocator>(
 
 /// The place behind the question at a place.
 #[tactic(auto, using(crate::proofs::RecordLaws::question_behind))]
-pub(crate) fn skip_question(bytes: &[u8], ends: &mut [u16], offset: usize) -> Result<usize, Fault>
-    requires { AreShortcuts bytes.now ends.old }
+pub(crate) fn skip_question(bytes: &[u8], sizes: &mut [u8], offset: usize) -> Result<usize, Fault>
+    requires { AreSizes bytes.now sizes.old }
     ensures exact { result ≡ behind (question_at bytes.now offset) }
-    ensures known { AreShortcuts bytes.now ends.new }
+    ensures known { AreSizes bytes.now sizes.new }
 {
-    let after = skip_name(bytes, ends, Bound::whole(bytes), offset)?;
+    let after = skip_name(bytes, sizes, Bound::whole(bytes), offset)?;
     skip_octets(bytes, after, 4)
 }
 
@@ -86,16 +87,16 @@ pub(crate) fn read_record<A: Allocator + Copy>(
 
 /// The place behind the record at a place.
 #[tactic(auto, unfolding(crate::specs::Records::octets_end), using(crate::proofs::RecordLaws::record_behind))]
-pub(crate) fn skip_record(bytes: &[u8], ends: &mut [u16], offset: usize) -> Result<usize, Fault>
-    requires { AreShortcuts bytes.now ends.old }
+pub(crate) fn skip_record(bytes: &[u8], sizes: &mut [u8], offset: usize) -> Result<usize, Fault>
+    requires { AreSizes bytes.now sizes.old }
     ensures exact { result ≡ behind (record_at bytes.now offset) }
-    ensures known { AreShortcuts bytes.now ends.new }
+    ensures known { AreSizes bytes.now sizes.new }
 {
-    let after = skip_name(bytes, ends, Bound::whole(bytes), offset)?;
+    let after = skip_name(bytes, sizes, Bound::whole(bytes), offset)?;
     let fixed = skip_octets(bytes, after, 10)?;
     let kind = number16(bytes, after);
     let len = number16(bytes, after + 8) as usize;
-    skip_data(bytes, ends, kind, fixed, len)
+    skip_data(bytes, sizes, kind, fixed, len)
 }
 
 /// The place behind the record at a place, which can be read. No pointer is followed.
@@ -158,17 +159,17 @@ pub(crate) fn read_records<A: Allocator + Copy>(
 #[tactic(auto, using(crate::proofs::Counting::skip_more, crate::proofs::Counting::skip_fault, crate::proofs::Counting::skip_done))]
 pub(crate) fn skip_questions(
     bytes: &[u8],
-    ends: &mut [u16],
+    sizes: &mut [u8],
     offset: usize,
     count: u16,
 ) -> Result<usize, Fault>
-    requires { AreShortcuts bytes.now ends.old }
+    requires { AreSizes bytes.now sizes.old }
     ensures exact { result ≡ behind (counted (question_at bytes.now) count offset) }
-    ensures known { AreShortcuts bytes.now ends.new }
+    ensures known { AreSizes bytes.now sizes.new }
 {
     let mut at = offset;
     for _ in 0..count {
-        at = skip_question(bytes, ends, at)?;
+        at = skip_question(bytes, sizes, at)?;
     }
     Ok(at)
 }
@@ -177,17 +178,17 @@ pub(crate) fn skip_questions(
 #[tactic(auto, using(crate::proofs::Counting::skip_more, crate::proofs::Counting::skip_fault, crate::proofs::Counting::skip_done))]
 pub(crate) fn skip_records(
     bytes: &[u8],
-    ends: &mut [u16],
+    sizes: &mut [u8],
     offset: usize,
     count: u16,
 ) -> Result<usize, Fault>
-    requires { AreShortcuts bytes.now ends.old }
+    requires { AreSizes bytes.now sizes.old }
     ensures exact { result ≡ behind (counted (record_at bytes.now) count offset) }
-    ensures known { AreShortcuts bytes.now ends.new }
+    ensures known { AreSizes bytes.now sizes.new }
 {
     let mut at = offset;
     for _ in 0..count {
-        at = skip_record(bytes, ends, at)?;
+        at = skip_record(bytes, sizes, at)?;
     }
     Ok(at)
 }

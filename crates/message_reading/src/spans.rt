@@ -2,7 +2,7 @@
 
 ghost use Rattle.std.specs.Iterator.{YieldsFirst, item_count};
 ghost use Rattle.std.specs.Prelude.{◌≡◌, ◌≤◌, ◌∷◌, [], MatchOption, length};
-ghost use Rattle.message_names.specs.Shortcuts.{AreShortcuts};
+ghost use Rattle.message_names.specs.Sizes.{AreSizes};
 ghost use Rattle.message_reading.specs.Spans.{sections_of, spans_at, spans_of};
 
 use crate::records::{readable_record_end, skip_questions, skip_record};
@@ -73,14 +73,14 @@ fn next_section(left: Left) -> Option<(u8, Left)>
 
 /// How many of the counted records can be read, from a place on up to the first that can't be.
 #[tactic(auto, using(crate::proofs::SpanLaws::one_counted_here, crate::proofs::SpanLaws::none_counted_here, crate::proofs::SpanLaws::none_counted, crate::proofs::SpanLaws::sections_counted))]
-fn readable_records(bytes: &[u8], ends: &mut [u16], offset: usize, left: Left) -> usize
-    requires { AreShortcuts bytes.now ends.old }
+fn readable_records(bytes: &[u8], sizes: &mut [u8], offset: usize, left: Left) -> usize
+    requires { AreSizes bytes.now sizes.old }
     ensures { result ≡ length (spans_at bytes.now (sections_of left) offset) }
 {
     let (mut at, mut left) = (offset, left);
     let mut count = 0;
     while let Some((_, after)) = next_section(left) {
-        let Ok(end) = skip_record(bytes, ends, at) else {
+        let Ok(end) = skip_record(bytes, sizes, at) else {
             return count;
         };
         count += 1;
@@ -140,21 +140,22 @@ impl<'a> Iterator for Records<'a> {
     }
 }
 
-/// The spans of the records of a message, where pointers lead remembered in `ends`.
+/// The spans of the records of a message, with the octets of the names that pointers lead to remembered
+/// in `sizes`.
 #[tactic(auto, unfolding(crate::specs::Spans::spans_of, crate::specs::Spans::spans_at))]
-fn records_with<'a>(bytes: &'a [u8], ends: &mut [u16]) -> Records<'a>
+fn records_with<'a>(bytes: &'a [u8], sizes: &mut [u8]) -> Records<'a>
     requires header { 12 ≤ length bytes.now }
-    requires known { AreShortcuts bytes.now ends.old }
+    requires known { AreSizes bytes.now sizes.old }
     ensures { result ≡ spans_of bytes.now }
 {
-    match skip_questions(bytes, ends, 12, number16(bytes, 4)) {
+    match skip_questions(bytes, sizes, 12, number16(bytes, 4)) {
         Ok(offset) => {
             let left = Left {
                 answers: number16(bytes, 6),
                 authority: number16(bytes, 8),
                 additional: number16(bytes, 10),
             };
-            let readable = readable_records(bytes, ends, offset, left);
+            let readable = readable_records(bytes, sizes, offset, left);
             Records {
                 bytes,
                 offset,
@@ -175,18 +176,18 @@ fn records_with<'a>(bytes: &'a [u8], ends: &mut [u16]) -> Records<'a>
     }
 }
 
-/// `records_with` of a message that may have long chains of pointers.
-#[tactic(auto, using(message_names::proofs::CallerLemmas::zeros_are_shortcuts))]
+/// `records_with` of a message that may have many pointers to one name.
+#[tactic(auto, using(message_names::proofs::CallerLemmas::zeros_are_sizes))]
 fn records_in_large<'a>(bytes: &'a [u8]) -> Records<'a>
     requires { 12 ≤ length bytes.now }
     ensures { result ≡ spans_of bytes.now }
 {
-    let mut ends = [0u16; PLACES];
-    records_with(bytes, &mut ends)
+    let mut sizes = [0u8; PLACES];
+    records_with(bytes, &mut sizes)
 }
 
 /// The spans of the records of a message.
-#[tactic(auto, using(message_names::proofs::CallerLemmas::no_table_is_shortcuts))]
+#[tactic(auto, using(message_names::proofs::CallerLemmas::no_table_is_sizes))]
 pub(crate) fn records_in<'a>(bytes: &'a [u8]) -> Records<'a>
     requires { 12 ≤ length bytes.now }
     ensures { result ≡ spans_of bytes.now }

@@ -1,9 +1,12 @@
 //! A message that is looked at where it lies. Nothing here takes memory but what makes a value.
 
-ghost use Rattle.std.specs.Prelude.{◌≡◌, ◌↔◌, ◌≤◌, IsTrue, IsOk, Ok, Err, length, MatchResult, IfOk};
+ghost use Rattle.std.specs.Prelude.{◌≡◌, ◌↔◌, ◌≤◌, IsTrue, IsOk, Ok, Err, Some, length, MatchResult, IfOk};
 ghost use Rattle.message_names.specs.Reading.{Gives, behind};
-ghost use Rattle.message_reading.specs.Header.{FitsBits};
+ghost use Rattle.dns_name.specs.Labels.{lowered};
+ghost use Rattle.message_reading.specs.Header.{FitsBits, header_of};
+ghost use Rattle.message_reading.specs.Records.{question_at};
 ghost use Rattle.message_names.specs.Shortcuts.{AreShortcuts};
+ghost use Rattle.message_names.specs.Sizes.{AreSizes};
 ghost use Rattle.message_reading.specs.Messages.{IsWhole, HasShapes, first_question, message_at, message_of, QuestionIs, IsViewed};
 ghost use Rattle.message_reading.specs.Spans.{spans_of};
 ghost use Rattle.message_names.specs.declared.fault.Fault.TheVariants.{Memory};
@@ -15,14 +18,16 @@ use crate::records::{
     skip_records,
 };
 use crate::spans::{Records, records_in};
-use message_names::{Fault, PLACES, SMALL, number16, skip_same_name};
+use dns_name::NameKey;
+use message_names::{Fault, PLACES, SMALL, key_at, number16, skip_same_name};
 use std::alloc::Allocator;
 use std::marker::Model;
 
-/// Header and first question can be read.
+/// The place behind the first question, where header and first question can be read.
 #[tactic(auto, unfolding(crate::specs::Messages::first_question), using(crate::proofs::MessageLaws::question_read, crate::proofs::MessageLaws::question_fault))]
-fn check_first_question(bytes: &[u8]) -> Result<(), Fault>
-    ensures { MatchResult result (λ _. IsOk (first_question bytes.now)) (λ fault. first_question bytes.now ≡ Err fault) }
+fn first_question_end(bytes: &[u8]) -> Result<usize, Fault>
+    ensures first { MatchResult result (λ _. IsOk (first_question bytes.now)) (λ fault. first_question bytes.now ≡ Err fault) }
+    ensures end { IfOk result (λ end. behind (question_at bytes.now 12) ≡ Ok end) }
 {
     if bytes.len() < 12 {
         return Err(Fault::Short);
@@ -30,8 +35,8 @@ fn check_first_question(bytes: &[u8]) -> Result<(), Fault>
     if number16(bytes, 4) == 0 {
         return Err(Fault::NoQuestion);
     }
-    skip_question(bytes, &mut [], 12)?;
-    Ok(())
+    let end = skip_question(bytes, &mut [], 12)?;
+    Ok(end)
 }
 
 /// The first question is this one, letter case aside.
@@ -49,31 +54,31 @@ fn first_question_is<A: Allocator>(bytes: &[u8], question: &Question<A>) -> bool
     number16(bytes, after) == question.kind && number16(bytes, end - 2) == question.class
 }
 
-/// The place behind the last counted record, where pointers lead remembered in `ends`.
+/// The place behind the last counted record, with the octets of the names that pointers lead to remembered in `sizes`.
 #[tactic(auto, using(crate::proofs::MessageLaws::message_behind))]
-fn skip_sections(bytes: &[u8], ends: &mut [u16]) -> Result<usize, Fault>
+fn skip_sections(bytes: &[u8], sizes: &mut [u8]) -> Result<usize, Fault>
     requires header { 12 ≤ length bytes.now }
-    requires known { AreShortcuts bytes.now ends.old }
+    requires known { AreSizes bytes.now sizes.old }
     ensures { result ≡ behind (message_at bytes.now) }
 {
-    let at = skip_questions(bytes, ends, 12, number16(bytes, 4))?;
-    let at = skip_records(bytes, ends, at, number16(bytes, 6))?;
-    let at = skip_records(bytes, ends, at, number16(bytes, 8))?;
-    skip_records(bytes, ends, at, number16(bytes, 10))
+    let at = skip_questions(bytes, sizes, 12, number16(bytes, 4))?;
+    let at = skip_records(bytes, sizes, at, number16(bytes, 6))?;
+    let at = skip_records(bytes, sizes, at, number16(bytes, 8))?;
+    skip_records(bytes, sizes, at, number16(bytes, 10))
 }
 
-/// `skip_sections` of a message that may have long chains of pointers.
-#[tactic(auto, using(message_names::proofs::CallerLemmas::zeros_are_shortcuts))]
+/// `skip_sections` of a message that may have many pointers to one name.
+#[tactic(auto, using(message_names::proofs::CallerLemmas::zeros_are_sizes))]
 fn skip_large_message(bytes: &[u8]) -> Result<usize, Fault>
     requires { 12 ≤ length bytes.now }
     ensures { result ≡ behind (message_at bytes.now) }
 {
-    let mut ends = [0u16; PLACES];
-    skip_sections(bytes, &mut ends)
+    let mut sizes = [0u8; PLACES];
+    skip_sections(bytes, &mut sizes)
 }
 
 /// The place behind the last counted record.
-#[tactic(auto, using(message_names::proofs::CallerLemmas::no_table_is_shortcuts))]
+#[tactic(auto, using(message_names::proofs::CallerLemmas::no_table_is_sizes))]
 fn skip_message(bytes: &[u8]) -> Result<usize, Fault>
     requires { 12 ≤ length bytes.now }
     ensures { result ≡ behind (message_at bytes.now) }
@@ -134,17 +139,19 @@ fn read_message<A: Allocator + Copy>(alloc: A, bytes: &[u8]) -> Result<Message<A
 #[derive(Drop)]
 pub struct MessageRef<'a> {
     bytes: &'a [u8],
+    /// The place behind the first question.
+    question_end: usize,
 }
 
 impl<'a> Model for MessageRef<'a> {
     ghost use Rattle.std.specs.Prelude.{List, ℕ};
-    ghost use Rattle.message_reading.specs.Messages.{IsViewed};
+    ghost use Rattle.message_reading.specs.Messages.{IsViewedTo};
 
     ghost Value = { List ℕ };
 
     ghost view = { λ m. m.bytes.now };
 
-    ghost invariant = { λ m. IsViewed m.bytes.now };
+    ghost invariant = { λ m. IsViewedTo m.bytes.now m.question_end };
 }
 
 impl<'a> MessageRef<'a> {
@@ -154,8 +161,47 @@ impl<'a> MessageRef<'a> {
         ensures same { IfOk result (λ message. message ≡ bytes.now) }
         ensures exact { MatchResult result (λ _. IsOk (first_question bytes.now)) (λ fault. first_question bytes.now ≡ Err fault) }
     {
-        check_first_question(bytes)?;
-        Ok(MessageRef { bytes })
+        let question_end = first_question_end(bytes)?;
+        Ok(MessageRef {
+            bytes,
+            question_end,
+        })
+    }
+
+    /// The header. It takes no memory.
+    #[tactic(auto, unfolding(crate::specs::Header::header_of), using(crate::proofs::MessageLaws::viewed_long))]
+    pub fn header(&self) -> Header
+        ensures exact { header_of self.now ≡ Some result }
+        ensures fits { FitsBits result }
+    {
+        let Some(header) = Header::read(self.bytes) else {
+            unreachable!()
+        };
+        header
+    }
+
+    /// The type of the first question. It takes no memory.
+    pub fn kind(&self) -> u16
+        ensures { IfOk (first_question self.now) (λ question. result ≡ question.kind) }
+    {
+        number16(self.bytes, self.question_end - 4)
+    }
+
+    /// The class of the first question. It takes no memory.
+    pub fn class(&self) -> u16
+        ensures { IfOk (first_question self.now) (λ question. result ≡ question.class) }
+    {
+        number16(self.bytes, self.question_end - 2)
+    }
+
+    /// The key of the first question's name. It takes no memory.
+    pub fn key(&self) -> NameKey
+        ensures { IfOk (first_question self.now) (λ question. result ≡ lowered question.name) }
+    {
+        match key_at(self.bytes, 12) {
+            Ok(key) => key,
+            Err(_) => unreachable!(),
+        }
     }
 
     /// The first question has this name, letter case aside, this type and this class. It takes no memory.
@@ -183,7 +229,7 @@ impl<'a> MessageRef<'a> {
     }
 
     /// The spans of the records that can be read, in order. It takes no memory, and with all of them about the time of
-    /// `is_whole`, also where many names lie behind one long chain of pointers.
+    /// `is_whole`, also where many pointers lead to one name.
     #[tactic(auto, using(crate::proofs::MessageLaws::viewed_long))]
     pub fn records(&self) -> Records<'a>
         ensures { result ≡ spans_of self.now }

@@ -8,6 +8,8 @@ mod messages;
 #[cfg(test)]
 mod reading_tests;
 #[cfg(test)]
+mod shape_tests;
+#[cfg(test)]
 mod shapes;
 #[cfg(test)]
 mod sweeps;

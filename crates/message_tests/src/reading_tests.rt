@@ -267,6 +267,63 @@ fn a_name_has_at_most_255_octets(rt: HostRuntime) -> Result<(), Fail> {
     Ok(())
 }
 
+/// A question whose name has 127 labels, so many answers of type MINFO (RFC 1035 3.3.7), each of whose three names is a
+/// pointer to it, and one more whose owner is this.
+fn behind_127_labels(alloc: Global, count: u16, last: &[u8]) -> Result<Vec<u8>, Fail> {
+    let mut octets = decoded(alloc, "000885000001")?;
+    octets.extend_from_slice(count.saturating_add(1).to_be_bytes().as_slice())?;
+    octets.extend_from_slice(b"\x00\x00\x00\x00".as_slice())?;
+    for _ in 0..127u8 {
+        octets.extend_from_slice(b"\x01a".as_slice())?;
+    }
+    octets.extend_from_slice(b"\x00\x00\x01\x00\x01".as_slice())?;
+    for _ in 0..count {
+        octets.extend_from_slice(b"\xc0\x0c".as_slice())?;
+        octets.extend_from_slice(b"\x00\x0e\x00\x01\x00\x00\x01\x2c\x00\x04".as_slice())?;
+        octets.extend_from_slice(b"\xc0\x0c\xc0\x0c".as_slice())?;
+    }
+    push_empty_record(&mut octets, last)?;
+    Ok(octets)
+}
+
+#[test]
+fn messages_up_to_65535_octets_are_read(rt: HostRuntime) -> Result<(), Fail> {
+    for (count, len) in [(64u16, 1309usize), (4078, 65533)] {
+        let octets = behind_127_labels(rt.alloc(), count, b"\x01a\xc0\x0e".as_slice())?;
+        assert_eq!(rt; octets.len(), len);
+        let view = MessageRef::view(&octets)?;
+        assert!(rt; view.is_whole());
+        assert_eq!(rt;
+            view.records().count(),
+            usize::from(count).saturating_add(1)
+        );
+        let message = view.read_whole(rt.alloc())?;
+        for record in message.answers.as_slice() {
+            assert_eq!(rt; record.owner.octets().len(), 254);
+            assert!(rt; record.kind == 10 || record.rdata.octets().len() == 510);
+        }
+        let octets = behind_127_labels(rt.alloc(), count, b"\x01a\xc0\x0c".as_slice())?;
+        assert!(rt; !MessageRef::view(&octets)?.is_whole());
+        assert_eq!(rt; fault_of(rt.alloc(), &octets), Some(Fault::NameLong));
+    }
+    Ok(())
+}
+
+#[test]
+fn a_view_knows_header_and_question(rt: HostRuntime) -> Result<(), Fail> {
+    let octets = decoded(
+        rt.alloc(),
+        "0008850000010000000000000161074558414d504c4500001c0003",
+    )?;
+    let view = MessageRef::view(&octets)?;
+    let question = view.question(rt.alloc())?;
+    assert_eq!(rt; view.header().id, 8);
+    assert_eq!(rt; (view.kind(), view.class()), (28, 3));
+    assert!(rt; view.key() == question.name.key());
+    assert!(rt; question.name.octets() == b"\x01a\x07EXAMPLE".as_slice());
+    Ok(())
+}
+
 #[test]
 fn data_is_a_name_or_none(rt: HostRuntime) -> Result<(), Fail> {
     let data = Rdata::new(decoded(rt.alloc(), "0161076578616d706c6500")?);
@@ -307,6 +364,6 @@ fn each_refused_growth_is_want_of_memory(rt: HostRuntime) -> Result<(), Fail> {
         }
         refused = count + 1;
     }
-    assert_eq!(rt; refused, 16, "growths in all");
+    assert_eq!(rt; refused, 12, "growths in all");
     Ok(())
 }

@@ -1,7 +1,8 @@
 //! Writing messages as octets: RFC 1035 4.1.
 
-ghost use Rattle.std.specs.Prelude.{◌≡◌, ◌↔◌, ◌≤◌, ◌<◌, OnOk, IfOk, IsTrue};
+ghost use Rattle.std.specs.Prelude.{◌≡◌, ◌↔◌, ◌≤◌, ◌<◌, OnOk, IfOk, IfErr, IsTrue};
 ghost use Rattle.message_names.specs.Reading.{Gives};
+ghost use Rattle.message_names.specs.declared.fault.Fault.TheVariants.{Memory};
 ghost use Rattle.message_reading.specs.Header.{FitsBits};
 ghost use Rattle.message_reading.specs.Messages.{Spells, HasShapes};
 ghost use Rattle.message_writing.specs.Writing.{bit, flags_of, CanBeCounted, header_text, message_text, written_within};
@@ -97,8 +98,9 @@ fn put_message<'a, A: Allocator + Copy>(
 ///
 /// In the names of questions and owners, and in the data of the types whose names may be pointers, the longest end of
 /// a name that began earlier in these octets is a pointer to where it began first (RFC 1035 4.1.4).
-/// `TooLarge` where these are more octets than `limit`; `Memory` where a growth was refused. What is written spells the
-/// message again, where its header counts the lists and its data is of its shapes.
+/// `TooLarge` where these are more octets than `limit`, and at once where a list has more things than a header counts;
+/// `Memory` where a growth was refused. What is written spells the message again, where its header counts the lists and
+/// its data is of its shapes.
 pub fn write<A: Allocator + Copy>(
     alloc: A,
     message: &Message<A>,
@@ -107,6 +109,7 @@ pub fn write<A: Allocator + Copy>(
     requires limit { limit ≤ 65535 }
     requires bits { FitsBits message.now.header }
     ensures given { Gives (λ octets. octets) result (written_within limit message.now) }
+    ensures counted { IfErr result (λ fault. fault ≡ Memory → CanBeCounted message.now) }
     ensures spelled { IfOk result (λ octets. IsCounted message.now → HasShapes message.now → Spells octets message.now) }
 {
     if !can_be_counted(message) {

@@ -1,0 +1,7 @@
+pub mod Telling
+pub mod Quiet
+pub mod Handling
+pub mod Framing
+pub mod Turns
+pub mod Storing
+pub mod Worked

@@ -1,8 +1,19 @@
-//! Runs of the forwarder: over a list, and step by step beside the stored history, which is sound whenever it is seen.
+//! Runs of the forwarder: over a list, step by step beside the stored history, which is sound whenever it is seen, and
+//! over a wire, whose arrivals are its events.
 #![tactic(auto)]
 
+mod counts;
+mod handing;
 mod recorded;
 mod run;
+mod script_wire;
+mod serving;
+mod streams;
+mod wire;
 
+pub use counts::Served;
 pub use recorded::Recorded;
 pub use run::run_list;
+pub use script_wire::{ScriptTurn, ScriptWire};
+pub use serving::serve;
+pub use wire::{Arrival, Wire, WireFault};

@@ -34,7 +34,7 @@ impl<H, A: Allocator> Model for Recorded<H, A> {
 impl<H: Drop, A: Allocator + Copy> Recorded<H, A> {
     /// A new forwarder, without steps. `Err` where memory ran out.
     pub fn new(alloc: A, config: Config<A>, hasher: H) -> Result<Recorded<H, A>, AllocError>
-        ensures { IfOk result (λ recorded. recorded ≡ record { running = record { config = config; state = start }; steps = [] }) }
+        ensures { IfOk result (λ recorded. recorded ≡ record { running = record { config = config; state = start config }; steps = [] }) }
     {
         let forwarder = Forwarder::new(alloc, config, hasher)?;
         Ok(Recorded {

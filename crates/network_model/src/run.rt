@@ -19,11 +19,12 @@ pub fn run_list<A: Allocator + Copy>(
     handed: &[Handed<A>],
 ) -> Result<Vec<Step<A>, A>, AllocError>
     ensures handed { IfOk result (λ steps. map (λ s. s.handed) steps.items ≡ handed.now) }
-    ensures run { IfOk result (λ steps. (last : State) × Run config.now start steps.items last) }
-    // For some owners of the replies, each reply is right for the question that owns it.
+    ensures run { IfOk result (λ steps. (last : State) × Run config.now (start config.now) steps.items last) }
+    // For some owners of the replies, each reply is right for the question that owns it, each step tells whether more is
+    // due, and no more questions own no reply than may wait.
     ensures sound { IfOk result (λ steps. IsSound config.now steps.items) }
-    // After every step the listed queries have different paths and different questions, and are no more than may be
-    // open; each query has the identifier and the port that its step's words give.
+    // After every step the listed asks have different paths and different questions, and are no more than may be open;
+    // each goes to a server of its question's route, with the identifier and the path that its step's words give.
     ensures asks { IfOk result (λ steps. AsksWell config.now (reverse steps.items)) }
 {
     let own = config.copy(alloc)?;

@@ -6,6 +6,7 @@ use Rattle.dns_message.specs.Questions.{same_question}
 use Rattle.outstanding.specs.declared.ask.Path.{Path}
 use Rattle.outstanding.specs.Values.{Ask}
 use Rattle.outstanding.specs.Lists.{same_path, on_path, of_question, without_path, IsInTime, AreInTurn, AreListed, MayBegin}
+use Rattle.outstanding.specs.Laws.{NextMayBegin, EndedIsUnlisted, UnlistedStaysSo}
 use Rattle.outstanding.proofs.Listed as listed
 use Rattle.outstanding.proofs.Retries as retries
 
@@ -38,3 +39,15 @@ all_without_path = retries.all_left
 pub question_free_without_path : (path : Path) (question : Question) (asks : List Ask) (ask : Ask) → AreInTurn asks → on_path path asks ≡ Some ask → same_question ask.question question ≡ true
     → of_question question (without_path path asks) ≡ None
 question_free_without_path = retries.question_free
+
+-- the path that ended is listed no more
+pub ended_path_is_unlisted : EndedIsUnlisted
+ended_path_is_unlisted = retries.ended_unlisted
+
+-- a path that is not listed stays so where another one ends
+pub unlisted_path_stays_so : UnlistedStaysSo
+unlisted_path_stays_so = retries.unlisted_stays
+
+-- the ask that comes next may be listed
+pub next_may_begin : NextMayBegin
+next_may_begin = retries.next_begins

@@ -1,6 +1,6 @@
 //! The list of asks that are under way.
 
-ghost use Rattle.std.specs.Prelude.{◌≡◌, ◌<◌, ◌≤◌, ◌+◌, ◌↔◌, ◌^◌, ◌∷◌, ◌++◌, [], length, Some, None, if◌then◌else◌, is_ok, position, vec_capacity, vec_len, IfErr, IsSome, MatchOption, OnErr, OnOk, OnSome};
+ghost use Rattle.std.specs.Prelude.{◌≡◌, ◌<◌, ◌≤◌, ◌+◌, ◌↔◌, ◌^◌, ◌∷◌, ◌++◌, [], length, Some, None, if◌then◌else◌, is_ok, position, vec_capacity, vec_len, slice_get, IfErr, IsSome, MatchOption, OnErr, OnOk, OnSome};
 ghost use Rattle.std.specs.List.{AllByRecursion};
 ghost use Rattle.outstanding.specs.Due.{next_due};
 ghost use Rattle.outstanding.specs.Lists.{AreInTurn, AreListed, IsInTime, MayBegin, of_question, on_path, same_path, without_path};
@@ -120,6 +120,14 @@ impl<A: Allocator> Inquiries<A> {
         ensures { result ≡ next_due ask_ms self.now.asks }
     {
         due_first(&self.asks, ask_ms)
+    }
+
+    /// The ask that was asked first, which is due first. `None` exactly where no ask is listed. It takes no memory.
+    pub fn oldest(&self) -> Option<&Ask<A>>
+        ensures first { MatchOption result (self.now.asks ≡ []) (λ ask. slice_get self.now.asks 0 ≡ Some ask.now) }
+        ensures listed { AreListed self.now }
+    {
+        self.asks.first()
     }
 
     /// Ends all asks. It takes no memory.

@@ -8,8 +8,8 @@ use forwarder_core::{Action, Client, Why};
 use std::alloc::Allocator;
 use std::io::Write;
 
-/// Prints an action of the event line of this number.
-pub(crate) fn print<A: Allocator, W: Write>(
+/// Prints an action of the event line of this number. `Device` where writing fails, `Memory` where memory ran out.
+pub fn print<A: Allocator, W: Write>(
     alloc: A,
     writer: &mut W,
     line: u32,

@@ -1,17 +1,18 @@
 //! Event lines of a script, read as moments and events.
 
-ghost use Rattle.std.specs.Prelude.{◌≡◌, ◌≤◌};
+ghost use Rattle.std.specs.Prelude.{◌≡◌, ◌≤◌, IfOk};
 ghost use Rattle.replay_script.specs.declared.events.Refusal.TheVariants.{Memory};
 ghost use Rattle.replay_script.specs.Words.{words_of};
 
-use forwarder_core::{Client, Event, Path};
+use crate::fault::ReplayFault;
+use forwarder_core::{Client, Event, Handed, Path};
 use hex::FromHexError;
 use plain_list::{Octets, PlainList};
 use std::alloc::{AllocError, Allocator};
 use suffix_routes::Peer;
 
 /// How many event lines a script may have.
-pub(crate) const MOST_LINES: u32 = 8191;
+pub const MOST_LINES: u32 = 8191;
 
 /// Why a line gives no event.
 #[derive(Clone, Copy, PartialEq, Eq, Debug)]
@@ -55,25 +56,46 @@ pub(crate) fn words(line: u32) -> [u32; 8]
     ]
 }
 
+/// What the event line of this number hands over. `Line` where it has none of the forms, `Memory` where memory ran out.
+pub fn handed_by<A: Allocator>(alloc: A, number: u32, line: &[u8]) -> Result<Handed<A>, ReplayFault>
+    requires { number ≤ MOST_LINES }
+    ensures words { IfOk result (λ handed. handed.words ≡ words_of number) }
+{
+    match timed_event(alloc, line) {
+        Ok(timed) => Ok(Handed {
+            now: timed.moment,
+            words: words(number),
+            event: timed.event,
+        }),
+        Err(Refusal::Form) => Err(ReplayFault::Line(number)),
+        Err(Refusal::Memory) => Err(ReplayFault::Memory),
+    }
+}
+
 /// The event of a line: `MOMENT client udp PEER OCTETS`, `MOMENT client tcp NUMBER OCTETS`,
-/// `MOMENT reply udp PORT PEER OCTETS` or `MOMENT restart`.
+/// `MOMENT reply udp PORT PEER OCTETS`, `MOMENT reply tcp NUMBER PEER OCTETS`, `MOMENT failed udp PORT`,
+/// `MOMENT failed tcp NUMBER`, `MOMENT tick` or `MOMENT restart`.
 pub(crate) fn timed_event<A: Allocator>(alloc: A, line: &[u8]) -> Result<TimedEvent<A>, Refusal> {
     let line = str::from_utf8(line).map_err(|_| Refusal::Form)?;
     let (moment, rest) = cut(line)?;
     let moment = number(moment, 20)?;
-    if rest == "restart" {
-        return Ok(TimedEvent {
-            moment,
-            event: Event::Restart,
-        });
-    }
-    let (kind, rest) = cut(rest)?;
-    let event = match kind {
-        "client" => client_event(alloc, rest)?,
-        "reply" => reply_event(alloc, rest)?,
-        _ => return Err(Refusal::Form),
+    let event = match rest {
+        "tick" => Event::Tick,
+        "restart" => Event::Restart,
+        _ => event_of_kind(alloc, rest)?,
     };
     Ok(TimedEvent { moment, event })
+}
+
+/// An event that has more than a kind.
+fn event_of_kind<A: Allocator>(alloc: A, text: &str) -> Result<Event<A>, Refusal> {
+    let (kind, rest) = cut(text)?;
+    match kind {
+        "client" => client_event(alloc, rest),
+        "reply" => reply_event(alloc, rest),
+        "failed" => failed_event(rest),
+        _ => Err(Refusal::Form),
+    }
 }
 
 /// The first field, and what stands behind the space after it.
@@ -95,15 +117,27 @@ fn client_event<A: Allocator>(alloc: A, text: &str) -> Result<Event<A>, Refusal>
 
 fn reply_event<A: Allocator>(alloc: A, text: &str) -> Result<Event<A>, Refusal> {
     let (transport, rest) = cut(text)?;
-    if transport != "udp" {
-        return Err(Refusal::Form);
-    }
     let (at, rest) = cut(rest)?;
     let (from, digits) = cut(rest)?;
-    let path = Path::Udp(port(at)?);
+    let path = path(transport, at)?;
     let from = peer(from)?;
     let bytes = octets(alloc, digits)?;
     Ok(Event::Delivery { path, from, bytes })
+}
+
+fn failed_event<A: Allocator>(text: &str) -> Result<Event<A>, Refusal> {
+    let (transport, at) = cut(text)?;
+    let path = path(transport, at)?;
+    Ok(Event::PathFailed { path })
+}
+
+/// The path to a server: a port of UDP, or the number of a connection.
+fn path(transport: &str, at: &str) -> Result<Path, Refusal> {
+    match transport {
+        "udp" => Ok(Path::Udp(port(at)?)),
+        "tcp" => Ok(Path::Tcp(number(at, 20)?)),
+        _ => Err(Refusal::Form),
+    }
 }
 
 /// A decimal number of 1 to `most` digits that fits 64 bits.

@@ -32,7 +32,7 @@ pub(crate) fn read_limited<A: Allocator, R: Read>(
 }
 
 /// A script's configuration, and the event lines behind its first line `---`; `None` where it has no such line.
-pub(crate) fn parts(script: &[u8]) -> Option<(&[u8], &[u8])> {
+pub fn parts(script: &[u8]) -> Option<(&[u8], &[u8])> {
     let mut start = 0usize;
     for line in script.split(|octet| *octet == b'\n') {
         if line == b"---".as_slice() {

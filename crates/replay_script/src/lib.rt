@@ -8,6 +8,8 @@ mod fault;
 mod input;
 mod replay;
 
+pub use actions::print;
+pub use events::{MOST_LINES, handed_by};
 pub use fault::ReplayFault;
-pub use input::read_config;
+pub use input::{parts, read_config};
 pub use replay::replay_run;

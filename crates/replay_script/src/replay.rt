@@ -3,7 +3,7 @@
 ghost use Rattle.std.specs.Prelude.{◌≤◌};
 
 use crate::actions::print;
-use crate::events::{MOST_LINES, Refusal, timed_event, words};
+use crate::events::{MOST_LINES, handed_by};
 use crate::fault::ReplayFault;
 use crate::input::{config_in, parts, read_limited};
 use forwarder_core::Forwarder;
@@ -52,12 +52,8 @@ fn run_line<A: Allocator + Copy, W: Write>(
 ) -> Result<(), ReplayFault>
     requires { number ≤ MOST_LINES }
 {
-    let timed = match timed_event(alloc, line) {
-        Ok(timed) => timed,
-        Err(Refusal::Form) => return Err(ReplayFault::Line(number)),
-        Err(Refusal::Memory) => return Err(ReplayFault::Memory),
-    };
-    let outcome = forwarder.step(timed.moment, words(number), timed.event)?;
+    let handed = handed_by(alloc, number, line)?;
+    let outcome = forwarder.step(handed.now, handed.words, handed.event)?;
     for action in outcome.actions.as_slice() {
         print(alloc, writer, number, action)?;
     }

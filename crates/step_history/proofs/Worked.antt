@@ -1,23 +1,23 @@
--- Worked histories, computed: which questions are served, which moments count, until when a query is open, whose server a query goes to, and when a question has failed.
+-- Worked histories, computed: which questions are served, which moments count, until when an ask is open, when more is due, whose server an ask goes to, and when all tries have failed.
 use Rattle.std.proofs.Common.{◌≡◌, ℕ, ◌<◌, List, [], ◌∷◌, zero, suc, Some, true, false, refl, sym, ap, subst, arith}
 use Rattle.std.specs.Prelude.{slice_get}
 use Rattle.std.proofs.lemmas.Bool.{true≢false}
 use Rattle.suffix_routes.specs.declared.peer.Peer.{Peer}
 use Rattle.suffix_routes.specs.Values.{Config, Route, default_limits}
 use Rattle.suffix_routes.specs.Routes.{route_of}
+use Rattle.dns_message.specs.Values.{Question}
 use Rattle.dns_message.specs.Names.{step as name_step, walk_in, name_within}
 use Rattle.dns_message.specs.Records.{octets_end, question_at}
 use Rattle.dns_message.specs.Messages.{first_question}
-use Rattle.dns_message.specs.Values.{Question}
 use Rattle.dns_message.specs.Questions.{same_question}
 use Rattle.outstanding.specs.declared.ask.Path.TheVariants.{Udp}
 use Rattle.step_values.specs.declared.event.Client.{Client}
 use Rattle.step_values.specs.declared.event.Client.TheVariants.{Udp as FromUdp}
-use Rattle.step_values.specs.declared.action.Why.TheVariants.{Exhausted}
-use Rattle.step_values.specs.Values.{from_client, delivery, restart, ask_udp, close_udp, Step}
-use Rattle.step_history.specs.History.{moment_at, Query, listed, Matches}
-use Rattle.step_history.specs.Asked.{IsServerFor}
-use Rattle.step_history.specs.Causes.{is_unserved, NoneAsks, Cause}
+use Rattle.step_values.specs.Values.{from_client, delivery, tick, restart, ask_udp, close_udp, Step}
+use Rattle.step_history.specs.History.{moment_at, ShownAsk, listed, Matches}
+use Rattle.step_history.specs.Accounting.{is_due}
+use Rattle.step_history.specs.Asked.{IsRightAsk, IsServerFor}
+use Rattle.step_history.specs.Causes.{is_unserved, AllTriesFailed}
 
 -- ---- which questions are served
 
@@ -35,7 +35,7 @@ unserved = (refl, refl, refl, refl, refl)
 served : (is_unserved (of_type 1) ≡ false) × (is_unserved (of_type 40) ≡ false) × (is_unserved (of_type 42) ≡ false) × (is_unserved (of_type 127) ≡ false) × (is_unserved (of_type 256) ≡ false) × (is_unserved (of_class 254) ≡ false)
 served = (refl, refl, refl, refl, refl, refl)
 
--- ---- a question for the address of a.example, and its query
+-- ---- a question for the address of a.example, and its ask
 
 abbrev server : Peer
 server = record { ip = 192 ∷ 0 ∷ 2 ∷ 1 ∷ []; port = 53 }
@@ -69,62 +69,84 @@ with_identifier id = 0 ∷ id ∷ 1 ∷ 0 ∷ 0 ∷ 1 ∷ 0 ∷ 0 ∷ 0 ∷ 0 �
 abbrev asked : Step
 asked = record { handed = record { now = 1000; words = words; event = from_client client (with_identifier 7) }; outcome = record { actions = ask_udp 1032 other_server (with_identifier 8) ∷ []; unkept = 0; more = false } }
 
-abbrev query : Query
-query = record { path = Udp 1032; server = other_server; octets = with_identifier 8; moment = 1000 }
+abbrev ask : ShownAsk
+ask = record { path = Udp 1032; server = other_server; octets = with_identifier 8; moment = 1000 }
 
--- at this moment octets come on the query's path
+-- at this moment octets come on the ask's path
 abbrev comes : ℕ → List ℕ → Step
 comes now octets = record { handed = record { now = now; words = words; event = delivery (Udp 1032) other_server octets }; outcome = record { actions = []; unkept = 0; more = false } }
 
 abbrev restarted : Step
 restarted = record { handed = record { now = 9000; words = words; event = restart }; outcome = record { actions = []; unkept = 0; more = false } }
 
-one_query : listed (asked ∷ []) ≡ query ∷ []
-one_query = refl
+one_ask : listed (asked ∷ []) ≡ ask ∷ []
+one_ask = refl
 
--- a restart's own moment doesn't count, and no query outlives it
+-- a restart's own moment doesn't count, and no ask outlives it
 forgotten : (moment_at (restarted ∷ asked ∷ []) ≡ 0) × (listed (restarted ∷ asked ∷ []) ≡ [])
 forgotten = (refl, refl)
 
--- the query is open for 1,500 milliseconds
-late : (octets : List ℕ) (q : Question) → Matches config (comes 2500 octets) (asked ∷ []) query octets q → ⊥
+-- the ask is open for 1,500 milliseconds
+late : (octets : List ℕ) (q : Question) → Matches config (comes 2500 octets) (asked ∷ []) ask octets q → ⊥
 late octets q m = let live : 2500 < 2500 = m.is_live in omega (arith, live)
 
 -- ---- whose server it goes to
 
 its_server : IsServerFor config address other_server
 unfolding route_of
-its_server = (1, for_example, 0, refl, refl, refl)
+its_server = record { route = 1; group = for_example; place = 0; route_is = refl; there = refl; server = refl }
 
 -- the server of another route is none of this
 of_another_route : IsServerFor config address server → ⊥
 unfolding route_of
 of_another_route h =
-    let place_is : Some 1 ≡ Some h.0 = h.3 in
-    let place_same : 1 ≡ h.0 = cc in
-    let route_is : Some for_example ≡ Some h.1 = subst (λ (n : ℕ). slice_get config.routes n ≡ Some h.1) (sym place_same) h.4 in
-    let route_same : for_example ≡ h.1 = cc in
-    none h.2 (subst (λ (r : Route). slice_get r.servers h.2 ≡ Some server) (sym route_same) h.5)
+    let place_is : Some 1 ≡ Some h.route = h.route_is in
+    let place_same : 1 ≡ h.route = cc in
+    let route_is : Some for_example ≡ Some h.group = subst (λ (n : ℕ). slice_get config.routes n ≡ Some h.group) (sym place_same) h.there in
+    let route_same : for_example ≡ h.group = cc in
+    none h.place (subst (λ (r : Route). slice_get r.servers h.place ≡ Some server) (sym route_same) h.server)
   where
     none : (k : ℕ) → slice_get (other_server ∷ []) k ≡ Some server → ⊥
     none zero is = let same : other_server ≡ server = cc in let port : 5353 ≡ 53 = ap (λ (p : Peer). p.port) same in omega (arith, port)
     none (suc k) is = absurd cc
 
--- ---- when it has failed
+-- ---- what is due
 
--- a reply is of no use, and the question is asked once more in the same step
+-- at this moment time passes, and nothing is done
+abbrev passes : ℕ → Step
+passes now = record { handed = record { now = now; words = words; event = tick }; outcome = record { actions = []; unkept = 0; more = false } }
+
+-- a question may wait for so many milliseconds
+abbrev patient_for : ℕ → Config
+patient_for deadline = record config { limits = record default_limits { deadline_ms = deadline } }
+
+-- an ask is due after 1,500 milliseconds
+ask_is_due : (is_due config (passes 2499 ∷ asked ∷ []) [] ≡ false) × (is_due config (passes 2500 ∷ asked ∷ []) [] ≡ true)
+ask_is_due = (refl, refl)
+
+-- a question at its deadline, unless it owns a reply
+question_is_due : (is_due (patient_for 500) (passes 1499 ∷ asked ∷ []) [] ≡ false) × (is_due (patient_for 500) (passes 1500 ∷ asked ∷ []) [] ≡ true) × (is_due (patient_for 500) (passes 1500 ∷ asked ∷ []) (0 ∷ []) ≡ false)
+question_is_due = (refl, refl, refl)
+
+-- ---- when all tries have failed
+
+-- its time is over, and its server is asked once more, from another port
 abbrev asked_again : Step
-asked_again = record { handed = record { now = 1020; words = words; event = delivery (Udp 1032) other_server (with_identifier 8) }; outcome = record { actions = close_udp 1032 ∷ ask_udp 1033 other_server (with_identifier 9) ∷ []; unkept = 0; more = false } }
+asked_again = record { handed = record { now = 2500; words = words; event = tick }; outcome = record { actions = close_udp 1032 ∷ ask_udp 1040 other_server (with_identifier 16) ∷ []; unkept = 0; more = false } }
 
-abbrev next_query : Query
-next_query = record { path = Udp 1033; server = other_server; octets = with_identifier 9; moment = 1020 }
+-- an ask whose path is given up behind it is none
+given_up_at_once : IsRightAsk config asked_again (asked ∷ []) (Some (record { path = Udp 1040; server = other_server; octets = with_identifier 16 })) (close_udp 1040 ∷ []) → ⊥
+given_up_at_once h = true≢false h.1
 
--- so it has not failed yet
-still_asked : Cause config asked [] (asked_again ∷ asked ∷ []) client (with_identifier 7) 0 Exhausted → ⊥
+-- each question has one try
+abbrev one_try : Config
+one_try = record config { limits = record default_limits { tries = 1 } }
+
+-- a question that is still asked has not failed
+still_asked : AllTriesFailed (record { config = one_try; asked = asked; before = []; now = asked_again ∷ asked ∷ [] }) (with_identifier 7) → ⊥
 unfolding first_question question_at octets_end name_within walk_in name_step
 still_asked h =
-    let is : Some address ≡ Some h.0 = h.1 in
-    let same : address ≡ h.0 = cc in
-    let none : NoneAsks h.0 (next_query ∷ []) = h.3 in
-    let differs : same_question address h.0 ≡ false = none.0 address refl in
-    true≢false (subst (λ (q : Question). same_question address q ≡ false) (sym same) differs)
+    let reads : Some address ≡ Some h.question = h.reads in
+    let same : address ≡ h.question = cc in
+    let other : same_question address h.question ≡ false = h.none_left.0 address refl in
+    true≢false (subst (λ (q : Question). same_question address q ≡ false) (sym same) other)

@@ -5,7 +5,7 @@ use Rattle.step_values.specs.Values.{Step}
 use Rattle.dns_name.specs.Labels.{is_under}
 use Rattle.step_history.specs.Names.{same_name, route_of}
 use Rattle.step_history.specs.Pieces.{Slot, Piece, Held}
-use Rattle.step_history.specs.History.{is_restart, moment_at, Carries, NothingAccepted}
+use Rattle.step_history.specs.History.{is_restart, moment_at, Look, Carries, NothingAccepted}
 
 abbrev pub same_kind : Option ℕ → Option ℕ → Bool
 same_kind None None = true
@@ -57,9 +57,11 @@ expires o = o.accepted + 1000 * o.piece.lifetime
 abbrev pub ttl_at : Held → ℕ → ℕ
 ttl_at o n = (expires o - n) / 1000
 
--- o may serve the question of the step asked for this name: it was carried whole by one reply on the name's route, and was alive when the client asked and not replaced, or came while the client waited
-abbrev pub Justified : Config → Step → List Step → List Step → List (List ℕ) → Held → Type 0
-Justified c asked before now name o =
-    (os : List Held) × (new : List Held) × CarriedInEra c (asked ∷ before) os × CarriedInEra c now (new ++ os)
-    × (route_of c name ≡ Some o.piece.route)
-    × ((NotReplaced o os × (moment_at (asked ∷ before) < expires o)) ⊎ IsIn o new)
+-- o may serve the question for this name: it was carried whole by one reply on the name's route, and was alive when the client asked and not replaced, or came while the client waited
+pub record Justified (l : Look) (name : List (List ℕ)) (o : Held) : Type 0 where
+  pub old : List Held
+  pub new : List Held
+  pub carried_before : CarriedInEra l.config (l.asked ∷ l.before) old
+  pub carried_now : CarriedInEra l.config l.now (new ++ old)
+  pub on_route : route_of l.config name ≡ Some o.piece.route
+  pub counts : (NotReplaced o old × (moment_at (l.asked ∷ l.before) < expires o)) ⊎ IsIn o new

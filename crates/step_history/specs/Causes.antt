@@ -1,5 +1,5 @@
 -- Why a question is answered without success.
-use Rattle.std.specs.Prelude.{◌≡◌, ◌≢◌, ℕ, ◌<◌, Bool, true, false, ◌==◌, ◌&&◌, ◌||◌, nat_le, List, [], ◌∷◌, length, Some, None}
+use Rattle.std.specs.Prelude.{◌≡◌, ◌≢◌, ℕ, zero, suc, ◌+◌, ◌-◌, ◌^◌, ◌<◌, ◌≤◌, Bool, true, false, ◌==◌, ◌&&◌, ◌||◌, nat_le, List, [], ◌∷◌, length, Some, None, ◌⊎◌}
 use Rattle.std.specs.List.{AllByRecursion}
 use Rattle.dns_message.specs.Values.{Question}
 use Rattle.dns_message.specs.Writing.{written}
@@ -8,14 +8,15 @@ use Rattle.step_values.specs.declared.event.Client.{Client}
 use Rattle.step_values.specs.declared.event.Client.TheVariants.{Udp, Tcp}
 use Rattle.step_values.specs.declared.action.Why.{Why}
 use Rattle.step_values.specs.declared.action.Why.TheVariants.{Answered, BadFormat, BadOpcode, NotServed, NoRoute, QuestionsFull, InquiriesFull, NoPort, Exhausted, Deadline, ChainLong, TooLarge}
-use Rattle.step_values.specs.Values.{Action, Step}
+use Rattle.step_values.specs.Values.{tick, Action, Step}
 use Rattle.step_history.specs.Names.{route_of}
 use Rattle.dns_message.specs.Questions.{same_question}
 use Rattle.dns_message.specs.Header.{header_in}
 use Rattle.step_history.specs.Pieces.{Held}
-use Rattle.step_history.specs.History.{Query, listed, on_path, moment_at, NothingAccepted, Reads}
-use Rattle.step_history.specs.Answers.{Chain, full_answer}
-use Rattle.step_history.specs.Queries.{closes_path, drawn}
+use Rattle.step_history.specs.History.{is_restart, Look, ShownAsk, listed, on_path, closes_path, tcp_asks, moment_at, NothingAccepted, Reads}
+use Rattle.step_history.specs.Answers.{Chain}
+use Rattle.step_history.specs.Replies.{full_answer}
+use Rattle.step_history.specs.Draws.{drawn}
 
 -- questions for what is no data, or for more than one type or class (RFC 1035 3.2.3 and 3.2.5, RFC 6895 3.1)
 abbrev pub is_unserved : Question → Bool
@@ -33,34 +34,96 @@ abbrev pub before_newest : List Step → List Step
 before_newest [] = []
 before_newest (s ∷ past) = past
 
--- the step closes a query of this question
-abbrev pub ClosesQuery : Question → Step → List Step → Type 0
-ClosesQuery q s past = (a : Query) × (own : Question) × (on_path a.path (listed past) ≡ Some a) × (closes_path a.path s.outcome.actions ≡ true) × Reads a.octets own × (same_question own q ≡ true)
+-- the newest step is the passing of time
+abbrev pub IsTick : List Step → Type 0
+IsTick [] = ⊥
+IsTick (s ∷ past) = s.handed.event ≡ tick
 
--- the newest step closes a query of this question, and accepts nothing
-abbrev pub FailsQuery : Config → Question → List Step → Type 0
-FailsQuery c q [] = ⊥
-FailsQuery c q (s ∷ past) = ClosesQuery q s past × NothingAccepted c s past
+-- the step closes an ask of this question
+pub record ClosesAsk (q : Question) (s : Step) (past : List Step) : Type 0 where
+  pub ask : ShownAsk
+  pub asked : Question
+  pub is_listed : on_path ask.path (listed past) ≡ Some ask
+  pub closed : closes_path ask.path s.outcome.actions ≡ true
+  pub reads : Reads ask.octets asked
+  pub same : same_question asked q ≡ true
+
+-- the last asks of this question in the era, so many, were closed, none of them by an accepted reply
+abbrev pub LastFailed : Config → Question → List Step → ℕ → Type 0
+LastFailed c q [] zero = Unit {0}
+LastFailed c q [] (suc k) = ⊥
+LastFailed c q (s ∷ past) zero = Unit {0}
+LastFailed c q (s ∷ past) (suc k) =
+    (is_restart s ≡ false)
+    × ((ClosesAsk q s past × NothingAccepted c s past × LastFailed c q past k) ⊎ ((ClosesAsk q s past → ⊥) × LastFailed c q past (suc k)))
+
+-- the newest step closes an ask of this question
+abbrev pub ClosesNow : Question → List Step → Type 0
+ClosesNow q [] = ⊥
+ClosesNow q (s ∷ past) = ClosesAsk q s past
 
 -- none of these asks the question
-abbrev pub NoneAsks : Question → List Query → Type 0
-NoneAsks q queries = AllByRecursion (λ a. (own : Question) → Reads a.octets own → same_question own q ≡ false) queries
+abbrev pub NoneAsks : Question → List ShownAsk → Type 0
+NoneAsks q asks = AllByRecursion (λ a. (own : Question) → Reads a.octets own → same_question own q ≡ false) asks
 
--- what the history shows for each way of failing; waiting is the number of questions without a reply before the step asked
-abbrev pub Cause : Config → Step → List Step → List Step → Client → List ℕ → ℕ → Why → Type 0
-Cause c asked before now client octets waiting BadOpcode = (now ≡ asked ∷ before) × ((header_in octets).opcode ≢ 0)
-Cause c asked before now client octets waiting BadFormat = (now ≡ asked ∷ before) × ((header_in octets).opcode ≡ 0) × ((q : Question) → Reads octets q → ⊥)
-Cause c asked before now client octets waiting NotServed = (now ≡ asked ∷ before) × ((header_in octets).opcode ≡ 0) × (q : Question) × Reads octets q × (is_unserved q ≡ true)
-Cause c asked before now client octets waiting NoRoute =
-    (now ≡ asked ∷ before) × ((header_in octets).opcode ≡ 0) × (q : Question) × Reads octets q × (is_unserved q ≡ false) × (route_of c q.name ≡ None)
-Cause c asked before now client octets waiting QuestionsFull = (now ≡ asked ∷ before) × (waiting ≡ c.limits.questions)
-Cause c asked before now client octets waiting InquiriesFull = (now ≡ asked ∷ before) × (length (listed before) ≡ c.limits.inquiries)
-Cause c asked before now client octets waiting NoPort = drawn (newest_words now) (listed (before_newest now)) (newest_actions now) ≡ None
-Cause c asked before now client octets waiting Exhausted = (q : Question) × Reads octets q × FailsQuery c q now × NoneAsks q (listed now)
-Cause c asked before now (Udp peer) octets waiting TooLarge = ⊥
-Cause c asked before now (Tcp conn) octets waiting TooLarge =
-    (q : Question) × (aliases : List Held) × (o : Held) × Reads octets q × Chain c asked before now q aliases o × (65535 < length (written (full_answer (header_in octets) q aliases o (moment_at now))))
--- no question is told these yet, and success has no cause
-Cause c asked before now client octets waiting Answered = ⊥
-Cause c asked before now client octets waiting Deadline = ⊥
-Cause c asked before now client octets waiting ChainLong = ⊥
+-- ---- what the history shows for each way of failing
+
+-- the question has no route
+pub record HasNoRoute (l : Look) (octets : List ℕ) : Type 0 where
+  pub at_once : l.now ≡ l.asked ∷ l.before
+  pub opcode : (header_in octets).opcode ≡ 0
+  pub question : Question
+  pub reads : Reads octets question
+  pub served : is_unserved question ≡ false
+  pub none : route_of l.config question.name ≡ None
+
+-- the type or class is not served
+pub record AsksUnserved (l : Look) (octets : List ℕ) : Type 0 where
+  pub at_once : l.now ≡ l.asked ∷ l.before
+  pub opcode : (header_in octets).opcode ≡ 0
+  pub question : Question
+  pub reads : Reads octets question
+  pub unserved : is_unserved question ≡ true
+
+-- all tries failed, the last one in the newest step, and none is under way
+pub record AllTriesFailed (l : Look) (octets : List ℕ) : Type 0 where
+  pub question : Question
+  pub reads : Reads octets question
+  pub failed : LastFailed l.config question l.now l.config.limits.tries
+  pub closed : ClosesNow question l.now
+  pub none_left : NoneAsks question (listed l.now)
+
+-- no port is free, or as many asks went by TCP as may
+abbrev pub NoPathIsFree : Look → Type 0
+NoPathIsFree l = (drawn (newest_words l.now) (listed (before_newest l.now)) (newest_actions l.now) ≡ None) ⊎ (tcp_asks (before_newest l.now) ≡ 2 ^ 64 - 1)
+
+-- time has passed, and the question has waited as long as it may
+pub record IsOverdue (l : Look) : Type 0 where
+  pub passed : IsTick l.now
+  pub late : moment_at (l.asked ∷ l.before) + l.config.limits.deadline_ms ≤ moment_at l.now
+
+-- the full answer passes what TCP carries
+pub record AnswerIsTooLarge (l : Look) (octets : List ℕ) : Type 0 where
+  pub question : Question
+  pub aliases : List Held
+  pub end : Held
+  pub reads : Reads octets question
+  pub chain : Chain l question aliases end
+  pub large : 65535 < length (written (full_answer (header_in octets) question aliases end (moment_at l.now)))
+
+-- waiting is the number of questions without a reply before the step asked
+abbrev pub Cause : Look → Client → List ℕ → ℕ → Why → Type 0
+Cause l client octets waiting BadOpcode = (l.now ≡ l.asked ∷ l.before) × ((header_in octets).opcode ≢ 0)
+Cause l client octets waiting BadFormat = (l.now ≡ l.asked ∷ l.before) × ((header_in octets).opcode ≡ 0) × ((q : Question) → Reads octets q → ⊥)
+Cause l client octets waiting NotServed = AsksUnserved l octets
+Cause l client octets waiting NoRoute = HasNoRoute l octets
+Cause l client octets waiting QuestionsFull = (l.now ≡ l.asked ∷ l.before) × (waiting ≡ l.config.limits.questions)
+Cause l client octets waiting InquiriesFull = (l.now ≡ l.asked ∷ l.before) × (length (listed l.before) ≡ l.config.limits.inquiries)
+Cause l client octets waiting NoPort = NoPathIsFree l
+Cause l client octets waiting Exhausted = AllTriesFailed l octets
+Cause l client octets waiting Deadline = IsOverdue l
+Cause l (Udp peer) octets waiting TooLarge = ⊥
+Cause l (Tcp conn) octets waiting TooLarge = AnswerIsTooLarge l octets
+-- no question is told this yet, and success has no cause
+Cause l client octets waiting Answered = ⊥
+Cause l client octets waiting ChainLong = ⊥

@@ -1,6 +1,6 @@
 -- A history is the list of its steps, the newest first: what is said of a step is said of the list that begins with it.
-use Rattle.std.specs.Prelude.{◌≡◌, ℕ, ◌+◌, ◌^◌, ◌<◌, ◌≤◌, Bool, true, false, if◌then◌else◌, ◌&&◌, not, nat_le, min, max, List, [], ◌∷◌, ◌++◌, length, filter, Option, Some, ◌⊎◌}
-use Rattle.std.specs.List.{find}
+use Rattle.std.specs.Prelude.{◌≡◌, ℕ, ◌+◌, ◌^◌, ◌<◌, ◌≤◌, Bool, true, false, if◌then◌else◌, ◌&&◌, not, nat_le, min, max, List, [], ◌∷◌, ◌++◌, length, filter, Option, Some, None, ◌⊎◌}
+use Rattle.std.specs.List.{find, list_any}
 use Rattle.dns_message.specs.Values.{Question, Message}
 use Rattle.dns_message.specs.Messages.{Spells}
 use Rattle.suffix_routes.specs.declared.peer.Peer.{Peer}
@@ -9,7 +9,7 @@ use Rattle.step_values.specs.declared.event.Client.{Client}
 use Rattle.outstanding.specs.declared.ask.Path.{Path}
 use Rattle.outstanding.specs.declared.ask.Path.TheVariants.{Udp, Tcp}
 use Rattle.outstanding.specs.Lists.{same_path}
-use Rattle.step_values.specs.Values.{Event, from_client, delivery, path_failed, tick, restart, Action, ask_udp, ask_tcp, close_udp, close_tcp, send_reply, Step}
+use Rattle.step_values.specs.Values.{Event, from_client, delivery, path_failed, tick, restart, Action, Request, request_in, delivery_in, SentAsk, ask_in, closed_path_in, Step}
 use Rattle.step_history.specs.Names.{route_of}
 use Rattle.dns_message.specs.Questions.{same_question}
 use Rattle.dns_message.specs.Header.{header_in}
@@ -37,95 +37,133 @@ abbrev pub moment_at : List Step → ℕ
 moment_at [] = 0
 moment_at (s ∷ past) = if is_restart s then 0 else max (min s.handed.now (2 ^ 62)) (moment_at past)
 
--- a query to a server, as its action shows it
-pub record Query : Type 0 where
+-- a step that asked a question and what came before it, seen from a later moment of its era
+pub record Look : Type 0 where
+  pub config : Config
+  pub asked : Step
+  pub before : List Step
+  pub now : List Step
+
+-- ---- asks
+
+-- an ask as its action shows it, and the moment of that
+pub record ShownAsk : Type 0 where
   pub path : Path
   pub server : Peer
   pub octets : List ℕ
   pub moment : ℕ
 
-abbrev pub unlisted : Path → List Query → List Query
-unlisted path queries = filter (λ a. not (same_path a.path path)) queries
+abbrev pub unlisted : Path → List ShownAsk → List ShownAsk
+unlisted path asks = filter (λ a. not (same_path a.path path)) asks
 
--- a query is listed from its action until its path is closed; t is the moment of the actions
-abbrev pub queries_after : ℕ → List Action → List Query → List Query
-queries_after t [] queries = queries
-queries_after t (ask_udp port server octets ∷ more) queries = queries_after t more (queries ++ record { path = Udp port; server = server; octets = octets; moment = t } ∷ [])
-queries_after t (ask_tcp conn server octets ∷ more) queries = queries_after t more (queries ++ record { path = Tcp conn; server = server; octets = octets; moment = t } ∷ [])
-queries_after t (close_udp port ∷ more) queries = queries_after t more (unlisted (Udp port) queries)
-queries_after t (close_tcp conn ∷ more) queries = queries_after t more (unlisted (Tcp conn) queries)
-queries_after t (send_reply client octets why ∷ more) queries = queries_after t more queries
+abbrev pub without_closed : Option Path → List ShownAsk → List ShownAsk
+without_closed None asks = asks
+without_closed (Some path) asks = unlisted path asks
 
--- the queries that are listed after the newest step, in the order in which they were asked
-abbrev pub listed : List Step → List Query
+abbrev pub with_sent : ℕ → Option SentAsk → List ShownAsk → List ShownAsk
+with_sent t None asks = asks
+with_sent t (Some a) asks = asks ++ record { path = a.path; server = a.server; octets = a.octets; moment = t } ∷ []
+
+-- an ask is listed from its action until its path is closed; t is the moment of the actions
+abbrev pub asks_after : ℕ → List Action → List ShownAsk → List ShownAsk
+asks_after t [] asks = asks
+asks_after t (a ∷ more) asks = asks_after t more (with_sent t (ask_in a) (without_closed (closed_path_in a) asks))
+
+-- the asks that are listed after the newest step, in the order in which they were asked
+abbrev pub listed : List Step → List ShownAsk
 listed [] = []
-listed (s ∷ past) = if is_restart s then [] else queries_after (moment_at (s ∷ past)) s.outcome.actions (listed past)
+listed (s ∷ past) = if is_restart s then [] else asks_after (moment_at (s ∷ past)) s.outcome.actions (listed past)
 
-abbrev pub on_path : Path → List Query → Option Query
-on_path path queries = find (λ a. same_path a.path path) queries
+abbrev pub on_path : Path → List ShownAsk → Option ShownAsk
+on_path path asks = find (λ a. same_path a.path path) asks
 
--- a delivery of these octets on this path, from this peer
-abbrev pub Delivers : Event → Path → Peer → List ℕ → Type 0
-Delivers (delivery path from octets) path' from' octets' = (path ≡ path') × (from ≡ from') × (octets ≡ octets')
-Delivers (from_client client octets) path' from' octets' = ⊥
-Delivers (path_failed path) path' from' octets' = ⊥
-Delivers tick path' from' octets' = ⊥
-Delivers restart path' from' octets' = ⊥
+abbrev pub is_tcp : Path → Bool
+is_tcp (Udp port) = false
+is_tcp (Tcp conn) = true
+
+abbrev pub count_tcp : Option SentAsk → ℕ
+count_tcp None = 0
+count_tcp (Some a) = if is_tcp a.path then 1 else 0
+
+abbrev pub tcp_asks_in : List Action → ℕ
+tcp_asks_in [] = 0
+tcp_asks_in (a ∷ more) = count_tcp (ask_in a) + tcp_asks_in more
+
+-- how many asks went by TCP in the newest step's era
+abbrev pub tcp_asks : List Step → ℕ
+tcp_asks [] = 0
+tcp_asks (s ∷ past) = if is_restart s then 0 else tcp_asks past + tcp_asks_in s.outcome.actions
+
+-- the action gives up the path
+abbrev pub is_closing : Path → Option Path → Bool
+is_closing path None = false
+is_closing path (Some closed) = same_path path closed
+
+-- these actions give up the path
+abbrev pub closes_path : Path → List Action → Bool
+closes_path path actions = list_any (λ a. is_closing path (closed_path_in a)) actions
+
+-- ---- what is heard
 
 -- octets with one question, which is this
 abbrev pub Reads : List ℕ → Question → Type 0
 Reads octets q = one_question octets ≡ Some q
 
--- the newest step delivers octets that match a query which is open before it, in server, path, identifier and question (RFC 5452 9.1)
-pub record Matches (c : Config) (s : Step) (past : List Step) (query : Query) (octets : List ℕ) (queried : Question) : Type 0 where
-  pub delivered : Delivers s.handed.event query.path query.server octets
-  pub is_listed : on_path query.path (listed past) ≡ Some query
-  pub is_live : moment_at (s ∷ past) < query.moment + c.limits.ask_ms
+-- a delivery of these octets on this path, from this peer
+abbrev pub Delivers : Event → Path → Peer → List ℕ → Type 0
+Delivers e path from octets = delivery_in e ≡ Some (record { path = path; from = from; octets = octets })
+
+-- the newest step delivers octets that match an ask which is open before it, in server, path, identifier and question (RFC 5452 9.1)
+pub record Matches (c : Config) (s : Step) (past : List Step) (ask : ShownAsk) (octets : List ℕ) (asked : Question) : Type 0 where
+  pub delivered : Delivers s.handed.event ask.path ask.server octets
+  pub is_listed : on_path ask.path (listed past) ≡ Some ask
+  pub is_live : moment_at (s ∷ past) < ask.moment + c.limits.ask_ms
   pub long_enough : 12 ≤ length octets
   pub not_too_long : length octets ≤ 65535
   pub is_reply : (header_in octets).qr ≡ true
   pub opcode : (header_in octets).opcode ≡ 0
-  -- the query's own text gives its identifier and question
-  pub identifier : (header_in octets).id ≡ (header_in query.octets).id
-  pub query_reads : Reads query.octets queried
+  -- the ask's own text gives its identifier and question
+  pub identifier : (header_in octets).id ≡ (header_in ask.octets).id
+  pub ask_reads : Reads ask.octets asked
   pub question : Question
   pub reads : Reads octets question
-  pub same_question_as_query : same_question question queried ≡ true
+  pub same_question_as_ask : same_question question asked ≡ true
 
 -- the newest step is accepted: whole, neither truncated nor a failure, and not lame
-pub record Accepts (c : Config) (s : Step) (past : List Step) (query : Query) (queried : Question) (route : ℕ) (m : Message) : Type 0 where
+pub record Accepts (c : Config) (s : Step) (past : List Step) (ask : ShownAsk) (asked : Question) (route : ℕ) (m : Message) : Type 0 where
   pub octets : List ℕ
-  pub matches : Matches c s past query octets queried
+  pub matches : Matches c s past ask octets asked
   pub spells : Spells octets m
   pub untruncated : m.header.tc ≡ false
   pub rcode : (m.header.rcode ≡ 0) ⊎ (m.header.rcode ≡ 3)
-  pub route_is : route_of c queried.name ≡ Some route
-  pub not_lame : is_lame (walk c m queried route).end ≡ false
+  pub route_is : route_of c asked.name ≡ Some route
+  pub not_lame : is_lame (walk c m asked route).end ≡ false
 
 -- the newest step is accepted and carried these pieces: those of the walk, then the name servers of the authority section
-abbrev pub Carries : Config → Step → List Step → List Piece → Type 0
-Carries c s past ps =
-    (query : Query) × (queried : Question) × (route : ℕ) × (m : Message) × Accepts c s past query queried route m
-    × (ps ≡ (walk c m queried route).pieces ++ (walk c m queried route).authority)
+pub record Carries (c : Config) (s : Step) (past : List Step) (ps : List Piece) : Type 0 where
+  pub ask : ShownAsk
+  pub asked : Question
+  pub route : ℕ
+  pub message : Message
+  pub accepts : Accepts c s past ask asked route message
+  pub are : ps ≡ (walk c message asked route).pieces ++ (walk c message asked route).authority
 
 abbrev pub NothingAccepted : Config → Step → List Step → Type 0
 NothingAccepted c s past = (ps : List Piece) → Carries c s past ps → ⊥
+
+-- ---- a client's message
 
 -- octets of a client are dropped if they are too few or too many, or are themselves a reply
 abbrev pub is_taken : List ℕ → Bool
 is_taken octets = nat_le 12 (length octets) && nat_le (length octets) 65535 && not (header_in octets).qr
 
+abbrev pub is_taken_request : Option Request → Bool
+is_taken_request None = false
+is_taken_request (Some r) = is_taken r.octets
+
 abbrev pub takes_question : Event → Bool
-takes_question (from_client client octets) = is_taken octets
-takes_question (delivery path from octets) = false
-takes_question (path_failed path) = false
-takes_question tick = false
-takes_question restart = false
+takes_question e = is_taken_request (request_in e)
 
 -- the event is these octets of the client
 abbrev pub Sends : Event → Client → List ℕ → Type 0
-Sends (from_client client octets) client' octets' = (client ≡ client') × (octets ≡ octets')
-Sends (delivery path from octets) client' octets' = ⊥
-Sends (path_failed path) client' octets' = ⊥
-Sends tick client' octets' = ⊥
-Sends restart client' octets' = ⊥
+Sends e client octets = request_in e ≡ Some (record { client = client; octets = octets })

@@ -1,10 +1,12 @@
 pub mod Names
-pub mod History
 pub mod Pieces
+pub mod History
 pub mod Carried
+pub mod Replies
 pub mod Answers
-pub mod Queries
+pub mod Draws
 pub mod Causes
 pub mod Sound
 pub mod Asked
+pub mod Accounting
 pub mod Laws

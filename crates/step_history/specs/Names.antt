@@ -1,4 +1,4 @@
--- Names, compared as the forwarder compares them.
+-- Names, questions and peers, compared as the forwarder compares them.
 use Rattle.std.specs.Prelude.{ℕ, Bool, List, Option}
 use Rattle.dns_name.specs.Labels.{same}
 use Rattle.suffix_routes.specs.Values.{Config}

@@ -4,8 +4,8 @@ use Rattle.std.specs.List.{list_any}
 use Rattle.dns_name.specs.Labels.{lowered}
 use Rattle.dns_message.specs.Values.{Question, Record, Message}
 use Rattle.suffix_routes.specs.Values.{Config}
-use Rattle.plain_list.specs.Octets.{same_octets}
 use Rattle.step_history.specs.Names.{same_name}
+use Rattle.plain_list.specs.Octets.{same_octets}
 
 -- what a piece tells of: a name and class with a type, or with none for the denial of a whole name
 pub record Slot : Type 0 where

@@ -18,7 +18,7 @@ use Rattle.step_values.specs.Values.{from_client, delivery, restart, ask_udp, cl
 use Rattle.step_history.specs.History.{moment_at, listed}
 use Rattle.step_history.specs.Sound.{unanswered}
 use Rattle.step_rules.specs.State.{State}
-use Rattle.step_rules.specs.Row.{start, idle, at_once, requested, delivered}
+use Rattle.step_rules.specs.Row.{start, idle_step, reply_step, row_of_request, row_of_delivery}
 use Rattle.outstanding.specs.Lists.{on_path as ask_on}
 
 abbrev server : Peer
@@ -99,89 +99,91 @@ with_opt = 18 ∷ 52 ∷ 1 ∷ 0 ∷ 0 ∷ 1 ∷ 0 ∷ 0 ∷ 0 ∷ 0 ∷ 0 ∷ 1
 abbrev opt_query : List ℕ
 opt_query = 0 ∷ 56 ∷ 1 ∷ 0 ∷ 0 ∷ 1 ∷ 0 ∷ 0 ∷ 0 ∷ 0 ∷ 0 ∷ 0 ∷ 1 ∷ 97 ∷ 7 ∷ 101 ∷ 120 ∷ 97 ∷ 109 ∷ 112 ∷ 108 ∷ 101 ∷ 0 ∷ 0 ∷ 1 ∷ 0 ∷ 1 ∷ []
 
-abbrev after_question : State
-after_question = record {
-  asks = record { question = record { name = (97 ∷ []) ∷ (101 ∷ 120 ∷ 97 ∷ 109 ∷ 112 ∷ 108 ∷ 101 ∷ []) ∷ []; kind = 1; class = 1 }; route = 0; server = 0; peer = server; used = 1; path = Udp 1032; id = 8; asked = 1000 } ∷ [];
-  waiting = record { client = client; header = record { id = 4660; qr = false; opcode = 0; aa = false; tc = false; rd = true; ra = false; z = 0; rcode = 0; counts = 1 ∷ 0 ∷ 0 ∷ 0 ∷ [] }; question = record { name = (97 ∷ []) ∷ (101 ∷ 120 ∷ 97 ∷ 109 ∷ 112 ∷ 108 ∷ 101 ∷ []) ∷ []; kind = 1; class = 1 } } ∷ [];
-  moment = 1000;
-}
-
 abbrev words : List ℕ
 words = 524296 ∷ 589833 ∷ 655370 ∷ 720907 ∷ 786444 ∷ 851981 ∷ 917518 ∷ 983055 ∷ []
 
--- a question, and its query
-asks : requested config 1000 words client question start ≡ record { actions = ask_udp 1032 server query ∷ []; state = after_question }
+abbrev after_question : State
+after_question = record {
+  asks = record { question = record { name = (97 ∷ []) ∷ (101 ∷ 120 ∷ 97 ∷ 109 ∷ 112 ∷ 108 ∷ 101 ∷ []) ∷ []; kind = 1; class = 1 }; route = 0; server = 0; peer = server; used = 1; path = Udp 1032; id = 8; asked = 1000 } ∷ [];
+  waiting = record { client = client; header = record { id = 4660; qr = false; opcode = 0; aa = false; tc = false; rd = true; ra = false; z = 0; rcode = 0; counts = 1 ∷ 0 ∷ 0 ∷ 0 ∷ [] }; question = record { name = (97 ∷ []) ∷ (101 ∷ 120 ∷ 97 ∷ 109 ∷ 112 ∷ 108 ∷ 101 ∷ []) ∷ []; kind = 1; class = 1 }; taken = 1000 } ∷ [];
+  preferred = 0 ∷ [];
+  moment = 1000;
+  tcp_asks = 0;
+}
+
+-- a question, and its ask
+asks : row_of_request config 1000 words client question (start config) ≡ record { actions = ask_udp 1032 server query ∷ []; state = after_question }
 unfolding written ◌▹◌ each name_text first_question question_at octets_end name_within walk_in name_step route_of
 asks = refl
 
 -- its reply, and the answer
-answers : delivered config 1020 server reply_text after_question (ask_on (Udp 1032) after_question.asks)
-    ≡ record { actions = close_udp 1032 ∷ send_reply client answer Answered ∷ []; state = record { asks = []; waiting = []; moment = 1020 } }
+answers : row_of_delivery config 1020 words server reply_text after_question (ask_on (Udp 1032) after_question.asks)
+    ≡ record { actions = close_udp 1032 ∷ send_reply client answer Answered ∷ []; state = record { asks = []; waiting = []; preferred = 0 ∷ []; moment = 1020; tcp_asks = 0 } }
 unfolding written ◌▹◌ each name_text data_text with_length first_question question_at octets_end name_within walk_in name_step message_at header_of counted record_at data_at octets_within parts_at shape_of
 answers = refl
 
 -- forged replies: another identifier, path, server, port or question
-forged_identifier : delivered config 1001 server other_identifier after_question (ask_on (Udp 1032) after_question.asks) ≡ idle 1001 after_question
+forged_identifier : row_of_delivery config 1001 words server other_identifier after_question (ask_on (Udp 1032) after_question.asks) ≡ idle_step 1001 after_question
 unfolding written ◌▹◌ each name_text data_text with_length first_question question_at octets_end name_within walk_in name_step message_at header_of counted record_at data_at octets_within parts_at shape_of
 forged_identifier = refl
 
-forged_path : delivered config 1002 server reply_text after_question (ask_on (Udp 1033) after_question.asks) ≡ idle 1002 after_question
+forged_path : row_of_delivery config 1002 words server reply_text after_question (ask_on (Udp 1033) after_question.asks) ≡ idle_step 1002 after_question
 forged_path = refl
 
-forged_server : delivered config 1003 other_server reply_text after_question (ask_on (Udp 1032) after_question.asks) ≡ idle 1003 after_question
+forged_server : row_of_delivery config 1003 words other_server reply_text after_question (ask_on (Udp 1032) after_question.asks) ≡ idle_step 1003 after_question
 unfolding written ◌▹◌ each name_text data_text with_length first_question question_at octets_end name_within walk_in name_step message_at header_of counted record_at data_at octets_within parts_at shape_of
 forged_server = refl
 
-forged_port : delivered config 1004 other_port reply_text after_question (ask_on (Udp 1032) after_question.asks) ≡ idle 1004 after_question
+forged_port : row_of_delivery config 1004 words other_port reply_text after_question (ask_on (Udp 1032) after_question.asks) ≡ idle_step 1004 after_question
 unfolding written ◌▹◌ each name_text data_text with_length first_question question_at octets_end name_within walk_in name_step message_at header_of counted record_at data_at octets_within parts_at shape_of
 forged_port = refl
 
-forged_question : delivered config 1005 server other_type after_question (ask_on (Udp 1032) after_question.asks) ≡ idle 1005 after_question
+forged_question : row_of_delivery config 1005 words server other_type after_question (ask_on (Udp 1032) after_question.asks) ≡ idle_step 1005 after_question
 unfolding written ◌▹◌ each name_text data_text with_length first_question question_at octets_end name_within walk_in name_step message_at header_of counted record_at data_at octets_within parts_at shape_of
 forged_question = refl
 
 -- the reply spells the name in its own way: the question comes back as the client spelled it, the set as the server did
-letter_case : delivered config 1020 server upper_reply after_question (ask_on (Udp 1032) after_question.asks)
-    ≡ record { actions = close_udp 1032 ∷ send_reply client upper_answer Answered ∷ []; state = record { asks = []; waiting = []; moment = 1020 } }
+letter_case : row_of_delivery config 1020 words server upper_reply after_question (ask_on (Udp 1032) after_question.asks)
+    ≡ record { actions = close_udp 1032 ∷ send_reply client upper_answer Answered ∷ []; state = record { asks = []; waiting = []; preferred = 0 ∷ []; moment = 1020; tcp_asks = 0 } }
 unfolding written ◌▹◌ each name_text data_text with_length first_question question_at octets_end name_within walk_in name_step message_at header_of counted record_at data_at octets_within parts_at shape_of
 letter_case = refl
 
--- the query was live until 2499
-late : delivered config 2500 server reply_text after_question (ask_on (Udp 1032) after_question.asks) ≡ idle 2500 after_question
+-- the ask was live until 2499
+late : row_of_delivery config 2500 words server reply_text after_question (ask_on (Udp 1032) after_question.asks) ≡ idle_step 2500 after_question
 late = refl
 
 -- after a restart the reply matches nothing, and the same question is asked anew
-restarted : delivered config 1020 server reply_text start (ask_on (Udp 1032) start.asks) ≡ idle 1020 start
+restarted : row_of_delivery config 1020 words server reply_text (start config) (ask_on (Udp 1032) (start config).asks) ≡ idle_step 1020 (start config)
 restarted = refl
 
-asks_anew : (requested config 1030 (2097184 ∷ []) client question_again start).actions ≡ ask_udp 1056 server query_again ∷ []
+asks_anew : (row_of_request config 1030 (2097184 ∷ []) client question_again (start config)).actions ≡ ask_udp 1056 server query_again ∷ []
 unfolding written ◌▹◌ each name_text first_question question_at octets_end name_within walk_in name_step route_of
 asks_anew = refl
 
 -- what clients may send
-too_short : requested config 1000 words client short start ≡ idle 1000 start
+too_short : row_of_request config 1000 words client short (start config) ≡ idle_step 1000 (start config)
 too_short = refl
 
-no_question_but_a_reply : requested config 1000 words client is_reply start ≡ idle 1000 start
+no_question_but_a_reply : row_of_request config 1000 words client is_reply (start config) ≡ idle_step 1000 (start config)
 no_question_but_a_reply = refl
 
-other_opcode : requested config 1000 words client status start ≡ at_once 1000 (send_reply client status_answer BadOpcode) start
+other_opcode : row_of_request config 1000 words client status (start config) ≡ reply_step 1000 (send_reply client status_answer BadOpcode) (start config)
 unfolding written ◌▹◌ each name_text first_question question_at octets_end name_within walk_in name_step route_of
 other_opcode = refl
 
-none_asked : requested config 1000 words client no_question start ≡ at_once 1000 (send_reply client format_answer BadFormat) start
+none_asked : row_of_request config 1000 words client no_question (start config) ≡ reply_step 1000 (send_reply client format_answer BadFormat) (start config)
 unfolding written ◌▹◌ each name_text first_question question_at octets_end name_within walk_in name_step route_of
 none_asked = refl
 
-unreadable : requested config 1000 words client pointer_question start ≡ at_once 1000 (send_reply client format_answer BadFormat) start
+unreadable : row_of_request config 1000 words client pointer_question (start config) ≡ reply_step 1000 (send_reply client format_answer BadFormat) (start config)
 unfolding written ◌▹◌ each name_text first_question question_at octets_end name_within walk_in name_step route_of
 unreadable = refl
 
-any_type : requested config 1000 words client any_question start ≡ at_once 1000 (send_reply client any_answer NotServed) start
+any_type : row_of_request config 1000 words client any_question (start config) ≡ reply_step 1000 (send_reply client any_answer NotServed) (start config)
 unfolding written ◌▹◌ each name_text first_question question_at octets_end name_within walk_in name_step route_of
 any_type = refl
 
-behind_the_question : (requested config 1000 (3670072 ∷ []) client with_opt start).actions ≡ ask_udp 1080 server opt_query ∷ []
+behind_the_question : (row_of_request config 1000 (3670072 ∷ []) client with_opt (start config)).actions ≡ ask_udp 1080 server opt_query ∷ []
 unfolding written ◌▹◌ each name_text first_question question_at octets_end name_within walk_in name_step route_of
 behind_the_question = refl
 
@@ -200,25 +202,25 @@ other_failure = 18 ∷ 53 ∷ 129 ∷ 130 ∷ 0 ∷ 1 ∷ 0 ∷ 0 ∷ 0 ∷ 0 �
 abbrev limited : ℕ → ℕ → Config
 limited questions inquiries = record config { limits = record default_limits { questions = questions; inquiries = inquiries } }
 
--- an equal question waits for the same query
-joins : let d = requested config 1001 words client question_again after_question in (d.actions ≡ []) × (d.state.asks ≡ after_question.asks) × (length d.state.waiting ≡ 2)
+-- an equal question waits for the same ask
+joins : let d = row_of_request config 1001 words client question_again after_question in (d.actions ≡ []) × (d.state.asks ≡ after_question.asks) × (length d.state.waiting ≡ 2)
 unfolding first_question question_at octets_end name_within walk_in name_step route_of
 joins = (refl, refl, refl)
 
 -- the port in use is passed over
-takes_another_port : (requested config 1001 (524296 ∷ 1048592 ∷ []) client other_question after_question).actions ≡ ask_udp 1040 server other_query ∷ []
+takes_another_port : (row_of_request config 1001 (524296 ∷ 1048592 ∷ []) client other_question after_question).actions ≡ ask_udp 1040 server other_query ∷ []
 unfolding written ◌▹◌ each name_text first_question question_at octets_end name_within walk_in name_step route_of
 takes_another_port = refl
 
-no_port : requested config 1001 (524296 ∷ 524297 ∷ []) client other_question after_question ≡ at_once 1001 (send_reply client other_failure NoPort) after_question
+no_port : row_of_request config 1001 (524296 ∷ 524297 ∷ []) client other_question after_question ≡ reply_step 1001 (send_reply client other_failure NoPort) after_question
 unfolding written ◌▹◌ each name_text first_question question_at octets_end name_within walk_in name_step route_of
 no_port = refl
 
-questions_full : requested (limited 1 9) 1001 words client other_question after_question ≡ at_once 1001 (send_reply client other_failure QuestionsFull) after_question
+questions_full : row_of_request (limited 1 9) 1001 words client other_question after_question ≡ reply_step 1001 (send_reply client other_failure QuestionsFull) after_question
 unfolding written ◌▹◌ each name_text first_question question_at octets_end name_within walk_in name_step route_of
 questions_full = refl
 
-inquiries_full : requested (limited 9 1) 1001 words client other_question after_question ≡ at_once 1001 (send_reply client other_failure InquiriesFull) after_question
+inquiries_full : row_of_request (limited 9 1) 1001 words client other_question after_question ≡ reply_step 1001 (send_reply client other_failure InquiriesFull) after_question
 unfolding written ◌▹◌ each name_text first_question question_at octets_end name_within walk_in name_step route_of
 inquiries_full = refl
 
@@ -239,11 +241,11 @@ moment = refl
 forgotten : moment_at (third ∷ second ∷ first ∷ []) ≡ 0
 forgotten = refl
 
-one_query : listed (first ∷ []) ≡ record { path = Udp 1032; server = server; octets = query; moment = 1000 } ∷ []
-one_query = refl
+one_ask : listed (first ∷ []) ≡ record { path = Udp 1032; server = server; octets = query; moment = 1000 } ∷ []
+one_ask = refl
 
-no_query : listed (second ∷ first ∷ []) ≡ []
-no_query = refl
+no_ask : listed (second ∷ first ∷ []) ≡ []
+no_ask = refl
 
 unlisted_by_restart : listed (third ∷ first ∷ []) ≡ []
 unlisted_by_restart = refl

@@ -4,4 +4,4 @@
 
 mod laws;
 
-pub use laws::moments_do_not_fall;
+pub use laws::{moments_do_not_fall, next_due_tells, what_is_left_falls};

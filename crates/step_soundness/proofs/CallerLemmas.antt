@@ -1,7 +1,9 @@
--- What crates above cite: the theorem, runs that go on by a step, and lists of asks.
+-- What crates above cite: the theorem, runs that go on by a step, and asks that come next.
 pub use Rattle.step_soundness.proofs.Theorem.{start_explained}
 pub use Rattle.step_soundness.proofs.Runs.{row_stays, IsExplained-start, explained_is_sound, explained_more, run_more, stays_at, handed_more}
-pub use Rattle.step_soundness.proofs.Listed.{ask_on-is, drawn_fresh, none_there}
+pub use Rattle.step_soundness.proofs.Listed.{ask_on-is, of_question-is, own_on, IsFresh, drawn_fresh, free_now, free_then, none_above, IsNumbered, drawn_numbered, without_shorter}
 pub use Rattle.step_soundness.proofs.Asking.{still_earlier}
-pub use Rattle.step_soundness.proofs.Fates.{Each-append}
+pub use Rattle.step_soundness.proofs.Attempts.{IsAskBy, ask_by-some, udp-some, tcp-some, peer_within, peer_there, preferred_first, preferred_put}
+pub use Rattle.step_soundness.proofs.Fates.{All-append, All-filter, All-weaker}
 pub use Rattle.step_soundness.proofs.Names.{told_same_name}
+pub use Rattle.step_soundness.proofs.Nexts.{append_nil, gave_up, asked_next, asked_again}

@@ -1,31 +1,35 @@
 -- Waiting questions, each with the number of its step, and their fates.
-use Rattle.std.proofs.Common.{◌≡◌, ℕ, List, [], ◌∷◌, ◌++◌, Bool, false, cond, refl, sym, ap, ◌∙◌, Option, Some, None}
+use Rattle.std.proofs.Common.{◌≡◌, ℕ, List, [], ◌∷◌, ◌++◌, Bool, true, false, cond, refl, sym, ap, ◌∙◌, Option, Some, None}
 use Rattle.std.specs.Prelude.{filter, map, not, ◌==◌, ◌||◌}
 use Rattle.std.specs.List.{filter_map, cons_option, AllByRecursion}
 use Rattle.std.proofs.lemmas.Bool.{eqb-false, eq-eqb, ne_eqb, cond-true, cond-false}
 use Rattle.step_values.specs.Values.{Action}
 use Rattle.step_rules.specs.State.{Waiting}
-use Rattle.step_rules.specs.Row.{Fate, gets, waits}
+use Rattle.step_rules.specs.Row.{Fate, gets, waits, waiting_in, still_waiting}
 use Rattle.step_history.specs.Sound.{among}
-use Rattle.step_rules.specs.Row.{waiting_in, still_waiting}
 
-pub Each-weaker : {X : Type 0} (P Q : X → Type 0) → ((x : X) → P x → Q x) → (xs : List X) → AllByRecursion P xs → AllByRecursion Q xs
-Each-weaker P Q f [] h = tt
-Each-weaker P Q f (x ∷ xs) h = (f x h.0, Each-weaker P Q f xs h.1)
+pub All-weaker : {X : Type 0} (P Q : X → Type 0) → ((x : X) → P x → Q x) → (xs : List X) → AllByRecursion P xs → AllByRecursion Q xs
+All-weaker P Q f [] h = tt
+All-weaker P Q f (x ∷ xs) h = (f x h.0, All-weaker P Q f xs h.1)
 
-pub Each-append : {X : Type 0} (P : X → Type 0) (xs ys : List X) → AllByRecursion P xs → AllByRecursion P ys → AllByRecursion P (xs ++ ys)
-Each-append P [] ys h k = k
-Each-append P (x ∷ xs) ys h k = (h.0, Each-append P xs ys h.1 k)
+pub All-append : {X : Type 0} (P : X → Type 0) (xs ys : List X) → AllByRecursion P xs → AllByRecursion P ys → AllByRecursion P (xs ++ ys)
+All-append P [] ys h k = k
+All-append P (x ∷ xs) ys h k = (h.0, All-append P xs ys h.1 k)
+
+pub All-filter : {X : Type 0} (P : X → Type 0) (test : X → Bool) (xs : List X) → AllByRecursion P xs → AllByRecursion P (filter test xs)
+All-filter P test [] h = tt
+All-filter P test (x ∷ xs) h = elim (test x) as (λ v. AllByRecursion P (cond v (x ∷ filter test xs) (filter test xs))) [ true ↦ (h.0, All-filter P test xs h.1) | false ↦ All-filter P test xs h.1 ]
 
 abbrev pub Distinct : List ℕ → Type 0
 Distinct [] = Unit {0}
 Distinct (i ∷ is) = AllByRecursion (λ j. (j == i) ≡ false) is × Distinct is
 
-abbrev pub seconds : List (Waiting × ℕ) → List ℕ
-seconds zs = map (λ z. z.1) zs
+-- the fate of each question, with the question's number
+abbrev pub fates_in : List (Fate × ℕ) → List Fate
+fates_in gs = map (λ g. g.0) gs
 
-abbrev pub firsts : List (Waiting × ℕ) → List Waiting
-firsts zs = map (λ z. z.0) zs
+abbrev pub numbers_in : List (Fate × ℕ) → List ℕ
+numbers_in gs = map (λ g. g.1) gs
 
 abbrev pub owner_in : Fate → ℕ → Option ℕ
 owner_in (gets a) i = Some i
@@ -36,22 +40,22 @@ numbered_in (gets a) i = None
 numbered_in (waits y) i = Some (y, i)
 
 -- the numbers of those that get their replies
-abbrev pub owners_by : (Waiting → Fate) → List (Waiting × ℕ) → List ℕ
-owners_by fate zs = filter_map (λ z. owner_in (fate z.0) z.1) zs
+abbrev pub owners_by : List (Fate × ℕ) → List ℕ
+owners_by gs = filter_map (λ g. owner_in g.0 g.1) gs
 
 -- those that wait on, as they are now, each with the number that it had
-abbrev pub left_by : (Waiting → Fate) → List (Waiting × ℕ) → List (Waiting × ℕ)
-left_by fate zs = filter_map (λ z. numbered_in (fate z.0) z.1) zs
+abbrev pub left_by : List (Fate × ℕ) → List (Waiting × ℕ)
+left_by gs = filter_map (λ g. numbered_in g.0 g.1) gs
 
 -- ---- those that are left
 
-left_one : (v : Fate) (i : ℕ) (zs : List (Waiting × ℕ)) (ys : List Waiting) → firsts zs ≡ ys → firsts (cons_option (numbered_in v i) zs) ≡ cons_option (waiting_in v) ys
+left_one : (v : Fate) (i : ℕ) (zs : List (Waiting × ℕ)) (ys : List Waiting) → map (λ (z : Waiting × ℕ). z.0) zs ≡ ys → map (λ (z : Waiting × ℕ). z.0) (cons_option (numbered_in v i) zs) ≡ cons_option (waiting_in v) ys
 left_one (gets a) i zs ys e = e
 left_one (waits y) i zs ys e = ap (λ xs. y ∷ xs) e
 
-pub left_firsts : (fate : Waiting → Fate) (zs : List (Waiting × ℕ)) → firsts (left_by fate zs) ≡ still_waiting fate (firsts zs)
-left_firsts fate [] = refl
-left_firsts fate (z ∷ zs) = left_one (fate z.0) z.1 (left_by fate zs) (still_waiting fate (firsts zs)) (left_firsts fate zs)
+pub left_firsts : (gs : List (Fate × ℕ)) → map (λ (z : Waiting × ℕ). z.0) (left_by gs) ≡ still_waiting (fates_in gs)
+left_firsts [] = refl
+left_firsts (g ∷ gs) = left_one g.0 g.1 (left_by gs) (still_waiting (fates_in gs)) (left_firsts gs)
 
 -- ---- owners
 
@@ -60,17 +64,17 @@ owner_one P (gets a) i os p h = (p, h)
 owner_one P (waits y) i os p h = h
 
 -- what holds of each number holds of each owner
-pub Each-owners : (P : ℕ → Type 0) (fate : Waiting → Fate) (zs : List (Waiting × ℕ)) → AllByRecursion P (seconds zs) → AllByRecursion P (owners_by fate zs)
-Each-owners P fate [] h = tt
-Each-owners P fate (z ∷ zs) h = owner_one P (fate z.0) z.1 (owners_by fate zs) h.0 (Each-owners P fate zs h.1)
+pub All-owners : (P : ℕ → Type 0) (gs : List (Fate × ℕ)) → AllByRecursion P (numbers_in gs) → AllByRecursion P (owners_by gs)
+All-owners P [] h = tt
+All-owners P (g ∷ gs) h = owner_one P g.0 g.1 (owners_by gs) h.0 (All-owners P gs h.1)
 
 distinct_one : (v : Fate) (i : ℕ) (os : List ℕ) → AllByRecursion (λ j. (j == i) ≡ false) os → Distinct os → Distinct (cons_option (owner_in v i) os)
 distinct_one (gets a) i os others d = (others, d)
 distinct_one (waits y) i os others d = d
 
-pub Distinct-owners : (fate : Waiting → Fate) (zs : List (Waiting × ℕ)) → Distinct (seconds zs) → Distinct (owners_by fate zs)
-Distinct-owners fate [] d = tt
-Distinct-owners fate (z ∷ zs) d = distinct_one (fate z.0) z.1 (owners_by fate zs) (Each-owners (λ j. (j == z.1) ≡ false) fate zs d.0) (Distinct-owners fate zs d.1)
+pub Distinct-owners : (gs : List (Fate × ℕ)) → Distinct (numbers_in gs) → Distinct (owners_by gs)
+Distinct-owners [] d = tt
+Distinct-owners (g ∷ gs) d = distinct_one g.0 g.1 (owners_by gs) (All-owners (λ j. (j == g.1) ≡ false) gs d.0) (Distinct-owners gs d.1)
 
 -- ---- without the owners, the numbers are those of who is left
 
@@ -89,18 +93,21 @@ filter_agree_on f g (x ∷ xs) h =
 abbrev others : List ℕ → List ℕ → List ℕ
 others os is = filter (λ k. not (among k os)) is
 
+abbrev seconds : List (Waiting × ℕ) → List ℕ
+seconds zs = map (λ z. z.1) zs
+
 one_left : (v : Fate) (i : ℕ) (is os : List ℕ) (zs : List (Waiting × ℕ)) → AllByRecursion (λ j. (j == i) ≡ false) is → AllByRecursion (λ j. (j == i) ≡ false) os → others os is ≡ seconds zs
     → others (cons_option (owner_in v i) os) (i ∷ is) ≡ seconds (cons_option (numbered_in v i) zs)
 one_left (gets a) i is os zs apart free rest =
     cond-false (not (among i (i ∷ os))) _ _ (ap (λ b. not (b || among i os)) (eq-eqb i i refl))
-    ∙ filter_agree_on (λ k. not (among k (i ∷ os))) (λ k. not (among k os)) is (Each-weaker (λ j. (j == i) ≡ false) (λ k. not (among k (i ∷ os)) ≡ not (among k os)) (λ k e. ap (λ b. not (b || among k os)) (eqb_turned i k e)) is apart)
+    ∙ filter_agree_on (λ k. not (among k (i ∷ os))) (λ k. not (among k os)) is (All-weaker (λ j. (j == i) ≡ false) (λ k. not (among k (i ∷ os)) ≡ not (among k os)) (λ k e. ap (λ b. not (b || among k os)) (eqb_turned i k e)) is apart)
     ∙ rest
 one_left (waits y) i is os zs apart free rest = cond-true (not (among i os)) _ _ (ap not (not_among i os free)) ∙ ap (λ ys. i ∷ ys) rest
 
-pub left_seconds : (fate : Waiting → Fate) (zs : List (Waiting × ℕ)) → Distinct (seconds zs) → others (owners_by fate zs) (seconds zs) ≡ seconds (left_by fate zs)
-left_seconds fate [] d = refl
-left_seconds fate (z ∷ zs) d =
-    one_left (fate z.0) z.1 (seconds zs) (owners_by fate zs) (left_by fate zs) d.0 (Each-owners (λ j. (j == z.1) ≡ false) fate zs d.0) (left_seconds fate zs d.1)
+pub left_seconds : (gs : List (Fate × ℕ)) → Distinct (numbers_in gs) → others (owners_by gs) (numbers_in gs) ≡ seconds (left_by gs)
+left_seconds [] d = refl
+left_seconds (g ∷ gs) d =
+    one_left g.0 g.1 (numbers_in gs) (owners_by gs) (left_by gs) d.0 (All-owners (λ j. (j == g.1) ≡ false) gs d.0) (left_seconds gs d.1)
 
 -- ---- a fact for each fate
 
@@ -112,6 +119,24 @@ stays_one : (owns : ℕ → Action → Type 0) (stays : Waiting → ℕ → Type
 stays_one owns stays (gets a) i zs p h = h
 stays_one owns stays (waits y) i zs p h = (p, h)
 
-pub left_each : (owns : ℕ → Action → Type 0) (stays : Waiting → ℕ → Type 0) (fate : Waiting → Fate) (zs : List (Waiting × ℕ)) → AllByRecursion (λ z. Fated owns stays (fate z.0) z.1) zs → AllByRecursion (λ z. stays z.0 z.1) (left_by fate zs)
-left_each owns stays fate [] h = tt
-left_each owns stays fate (z ∷ zs) h = stays_one owns stays (fate z.0) z.1 (left_by fate zs) h.0 (left_each owns stays fate zs h.1)
+pub left_each : (owns : ℕ → Action → Type 0) (stays : Waiting → ℕ → Type 0) (gs : List (Fate × ℕ)) → AllByRecursion (λ g. Fated owns stays g.0 g.1) gs → AllByRecursion (λ z. stays z.0 z.1) (left_by gs)
+left_each owns stays [] h = tt
+left_each owns stays (g ∷ gs) h = stays_one owns stays g.0 g.1 (left_by gs) h.0 (left_each owns stays gs h.1)
+
+-- ---- fates by the question
+
+abbrev pub fated : (Waiting → Fate) → List (Waiting × ℕ) → List (Fate × ℕ)
+fated fate zs = map (λ z. (fate z.0, z.1)) zs
+
+pub fated_fates : (fate : Waiting → Fate) (zs : List (Waiting × ℕ)) → fates_in (fated fate zs) ≡ map fate (map (λ (z : Waiting × ℕ). z.0) zs)
+fated_fates fate [] = refl
+fated_fates fate (z ∷ zs) = ap (λ vs. fate z.0 ∷ vs) (fated_fates fate zs)
+
+pub fated_numbers : (fate : Waiting → Fate) (zs : List (Waiting × ℕ)) → numbers_in (fated fate zs) ≡ seconds zs
+fated_numbers fate [] = refl
+fated_numbers fate (z ∷ zs) = ap (λ is. z.1 ∷ is) (fated_numbers fate zs)
+
+pub fated_each : (owns : ℕ → Action → Type 0) (stays before : Waiting → ℕ → Type 0) (fate : Waiting → Fate) (zs : List (Waiting × ℕ)) → ((x : Waiting) (i : ℕ) → before x i → Fated owns stays (fate x) i)
+    → AllByRecursion (λ z. before z.0 z.1) zs → AllByRecursion (λ g. Fated owns stays g.0 g.1) (fated fate zs)
+fated_each owns stays before fate [] each h = tt
+fated_each owns stays before fate (z ∷ zs) each h = (each z.0 z.1 h.0, fated_each owns stays before fate zs each h.1)

@@ -5,7 +5,7 @@ use Rattle.dns_message.specs.Values.{Message}
 use Rattle.dns_message.specs.Messages.{message_of, Spells}
 use Rattle.dns_message.specs.Header.{header_in}
 use Rattle.dns_message.proofs.CallerLemmas.{spelled_message_is_read, message_read_is_spelled}
-use Rattle.step_soundness.proofs.QueryText.{header_there}
+use Rattle.step_soundness.proofs.AskText.{header_there}
 
 pub spells_read : (octets : List ℕ) (m : Message) → Spells octets m → message_of octets ≡ Ok m
 spells_read octets m spells = spelled_message_is_read octets m spells

@@ -11,9 +11,9 @@ use Rattle.suffix_routes.specs.declared.peer.Peer.{Peer}
 use Rattle.suffix_routes.specs.Values.{Config}
 use Rattle.suffix_routes.specs.Routes.{route_of as route_among}
 use Rattle.suffix_routes.proofs.CallerLemmas.{route_of_lowered}
+use Rattle.step_history.specs.Names.{same_name, route_of}
 use Rattle.plain_list.specs.Octets.{same_octets}
 use Rattle.plain_list.proofs.CallerLemmas.{same_octets_reflexive, same_octets_equal}
-use Rattle.step_history.specs.Names.{same_name, route_of}
 use Rattle.reply_match.specs.Peers.{same_peer}
 use Rattle.dns_message.specs.Questions.{same_question}
 
@@ -46,3 +46,9 @@ same_question-sym a b e =
 -- a test that is told by the fact is this test
 pub told_same_name : (r : Bool) (a b : List (List ℕ)) → (r ≡ true → IsSame a b) × (IsSame a b → r ≡ true) → r ≡ same_name a b
 told_same_name r a b tells = told r (same_name a b) tells (same_decides a b)
+
+pub same_question-trans : (a b q : Question) → same_question a b ≡ true → same_question b q ≡ true → same_question a q ≡ true
+same_question-trans a b q one two =
+    let first = (same_question_decides a b).0 one in
+    let second = (same_question_decides b q).0 two in
+    (same_question_decides a q).1 (record { name = first.name ∙ second.name; kind = first.kind ∙ second.kind; class = first.class ∙ second.class })

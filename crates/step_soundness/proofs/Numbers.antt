@@ -7,7 +7,7 @@ use Rattle.step_values.specs.Values.{Step}
 use Rattle.step_history.specs.History.{is_restart, takes_question}
 use Rattle.step_history.specs.Sound.{among, unanswered}
 use Rattle.std.specs.List.{AllByRecursion}
-use Rattle.step_soundness.proofs.Fates.{Each-append, Each-weaker, Distinct}
+use Rattle.step_soundness.proofs.Fates.{All-append, All-weaker, Distinct}
 
 among-append : (i : ℕ) (is js : List ℕ) → among i (is ++ js) ≡ (among i is || among i js)
 among-append i [] js = refl
@@ -51,7 +51,7 @@ Distinct-push : (is : List ℕ) (n : ℕ) → Distinct is → AllByRecursion (λ
 Distinct-push [] n d below = (tt, tt)
 Distinct-push (i ∷ is) n d below =
     let other : (n ≡ i) → ⊥ = λ e. let lt : i < n = below.0 in omega (arith, lt, e) in
-    (Each-append _ is (n ∷ []) d.0 (ne_eqb n i other, tt), Distinct-push is n d.1 below.1)
+    (All-append _ is (n ∷ []) d.0 (ne_eqb n i other, tt), Distinct-push is n d.1 below.1)
 
 -- they are numbers of steps, that own no reply, and differ
 pub record AreFree (past : List Step) (taken : List ℕ) : Type 0 where
@@ -66,10 +66,10 @@ free_one : (n : ℕ) (taken is : List ℕ) (b t : Bool) → among n taken ≡ t 
 free_one n taken is b t e h = cases b t e
   where
     up : AllByRecursion (λ i. i < suc n) is
-    up = Each-weaker (λ i. i < n) (λ i. i < suc n) (λ i l. omega (arith, l)) is h.0
+    up = All-weaker (λ i. i < n) (λ i. i < suc n) (λ i l. omega (arith, l)) is h.0
 
     none : Free (suc n) taken (is ++ [])
-    none = (Each-append _ is [] up tt, Each-append _ is [] h.1 tt, subst Distinct (sym (append_nil is)) h.2)
+    none = (All-append _ is [] up tt, All-append _ is [] h.1 tt, subst Distinct (sym (append_nil is)) h.2)
       where
         append_nil : (xs : List ℕ) → xs ++ [] ≡ xs
         append_nil [] = refl
@@ -78,7 +78,7 @@ free_one n taken is b t e h = cases b t e
     cases : (b t : Bool) → among n taken ≡ t → Free (suc n) taken (is ++ cond (b && not t) (n ∷ []) [])
     cases false t e = none
     cases true true e = none
-    cases true false e = (Each-append (λ i. i < suc n) is (n ∷ []) up (omega arith, tt), Each-append (λ i. among i taken ≡ false) is (n ∷ []) h.1 (e, tt), Distinct-push is n h.2 h.0)
+    cases true false e = (All-append (λ i. i < suc n) is (n ∷ []) up (omega arith, tt), All-append (λ i. among i taken ≡ false) is (n ∷ []) h.1 (e, tt), Distinct-push is n h.2 h.0)
 
 free : (past : List Step) (taken : List ℕ) → Free (length past) taken (unanswered past taken)
 free [] taken = (tt, tt, tt)
@@ -119,7 +119,7 @@ numbers_at_once s past taken run asks =
     ∙ ap (λ (v : Bool). unanswered past (n ∷ taken) ++ cond v (n ∷ []) []) (and_no (takes_question s.handed.event))
     ∙ append_nil (unanswered past (n ∷ taken))
     ∙ unanswered-more past (n ∷ []) taken
-    ∙ filter_all (λ i. not (among i (n ∷ []))) (unanswered past taken) (Each-weaker (λ i. i < n) (λ i. not (among i (n ∷ [])) ≡ true) (λ i l. ap (λ v. not (v || false)) (ne_eqb n i (λ e. omega (arith, l, e)))) (unanswered past taken) (are_free past taken).below)
+    ∙ filter_all (λ i. not (among i (n ∷ []))) (unanswered past taken) (All-weaker (λ i. i < n) (λ i. not (among i (n ∷ [])) ≡ true) (λ i l. ap (λ v. not (v || false)) (ne_eqb n i (λ e. omega (arith, l, e)))) (unanswered past taken) (are_free past taken).below)
   where
     n : ℕ
     n = length past

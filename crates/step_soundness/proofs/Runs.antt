@@ -1,10 +1,13 @@
 -- A run goes on by one step.
-use Rattle.std.proofs.Common.{◌≡◌, ◌∙◌, ℕ, ◌+◌, ◌<◌, List, [], ◌∷◌, ◌++◌, length, take, get_or, refl, sym, ap, subst, append_assoc}
+use Rattle.std.proofs.Common.{◌≡◌, ◌∙◌, ℕ, ◌+◌, ◌<◌, ◌≤◌, arith, List, [], ◌∷◌, ◌++◌, length, take, get_or, refl, sym, ap, subst, append_assoc}
 use Rattle.std.specs.Prelude.{reverse, map}
 use Rattle.std.proofs.lemmas.List.{reverse-append, map-append, take_more}
-use Rattle.suffix_routes.specs.Values.{Config}
+use Rattle.std.specs.List.{concat}
+use Rattle.std.proofs.lemmas.List.{length-map}
+use Rattle.suffix_routes.specs.Values.{Config, IsConfig}
 use Rattle.step_values.specs.Values.{Handed, Outcome, Step}
-use Rattle.step_rules.specs.State.{State}
+use Rattle.step_history.specs.Sound.{unanswered}
+use Rattle.step_rules.specs.State.{Waiting, State}
 use Rattle.step_rules.specs.Row.{Row, start}
 use Rattle.step_history.specs.Asked.{AsksWell}
 use Rattle.step_soundness.specs.Explains.{Explains}
@@ -20,11 +23,21 @@ IsExplained-push c steps s s' h o x stays =
     let more = stays (reverse steps) x.0 x.1 in
     (more.0 ∷ x.0, subst (λ (past : List Step). Explains c past (more.0 ∷ x.0) s') (sym (reverse-append steps (record { handed = h; outcome = o } ∷ []))) more.1)
 
-pub IsExplained-start : (c : Config) → IsExplained c [] start
-IsExplained-start c = ([], start_explained c)
+pub IsExplained-start : (c : Config) → IsConfig c → IsExplained c [] (start c)
+IsExplained-start c config = ([], start_explained c config)
+
+-- the questions that own no reply are those that wait
+sound_of : (c : Config) (past : List Step) (w : List (List ℕ)) (s : State) → Explains c past w s → length (unanswered past (concat w)) ≤ c.limits.questions
+sound_of c past w s x =
+    let one = length-map x.numbers_of (λ (z : Waiting × ℕ). z.0) in
+    let two = length-map x.numbers_of (λ (z : Waiting × ℕ). z.1) in
+    let waiting = ap length x.waiting in
+    let numbers = ap length x.numbers in
+    let few = x.few in
+    omega (arith, one, two, waiting, numbers, few)
 
 pub explained_is_sound : (c : Config) (steps : List Step) (s : State) → IsExplained c steps s → IsSound c steps
-explained_is_sound c steps s x = (x.0, x.1.sound)
+explained_is_sound c steps s x = record { owners = x.0; sound = x.1.sound; tells = x.1.tells; few = sound_of c (reverse steps) x.0 s x.1 }
 
 pub row_stays : (c : Config) (s : State) (h : Handed) (o : Outcome) (s' : State) → Row c s h o s' → StaysExplained c s h o s'
 row_stays c s h o s' r = λ past w x. row_explained c past w s h o s' x r
@@ -55,11 +68,11 @@ Run-explained c s s' (t ∷ steps) past w x run =
     let rest = Run-explained c run.0 s' steps (t ∷ past) (more.0 ∷ w) more.1 run.2 in
     (rest.0, subst (λ (all : List Step). Explains c all rest.0 s') (sym (ap (λ (xs : List Step). xs ++ past) (reverse-append (t ∷ []) steps) ∙ append_assoc (reverse steps) (t ∷ []) past)) rest.1)
 
-pub runs_sound : (c : Config) (steps : List Step) (s : State) → Run c start steps s → IsSound c steps × AsksWell c (reverse steps)
-runs_sound c steps s run =
-    let all = Run-explained c start s steps [] [] (start_explained c) run in
+pub runs_sound : (c : Config) (steps : List Step) (s : State) → IsConfig c → Run c (start c) steps s → IsSound c steps × AsksWell c (reverse steps)
+runs_sound c steps s config run =
+    let all = Run-explained c (start c) s steps [] [] (start_explained c config) run in
     let one = subst (λ (past : List Step). Explains c past all.0 s) (append_nil (reverse steps)) all.1 in
-    ((all.0, one.sound), one.asked_well)
+    (explained_is_sound c steps s (all.0, one), one.asked_well)
   where
     append_nil : (xs : List Step) → xs ++ [] ≡ xs
     append_nil [] = refl

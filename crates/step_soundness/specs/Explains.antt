@@ -1,25 +1,30 @@
 -- A history explains the state of a forwarder.
-use Rattle.std.specs.Prelude.{◌≡◌, ℕ, ◌<◌, ◌≤◌, true, false, List, ◌∷◌, length, map, Some}
+use Rattle.std.specs.Prelude.{◌≡◌, ℕ, suc, ◌<◌, ◌≤◌, true, false, List, [], ◌∷◌, length, map, Some}
 use Rattle.std.specs.List.{concat, AllByRecursion}
 use Rattle.dns_message.specs.Writing.{written}
-use Rattle.suffix_routes.specs.Values.{Config}
+use Rattle.dns_message.specs.Written.{IsQuestion}
+use Rattle.suffix_routes.specs.Values.{Config, Route, IsConfig}
 use Rattle.step_values.specs.Values.{Step}
 use Rattle.step_history.specs.Names.{route_of}
 use Rattle.dns_message.specs.Header.{header_in}
 use Rattle.step_history.specs.Pieces.{Held}
-use Rattle.step_history.specs.History.{InEra, moment_at, Query, listed, Reads, Sends, takes_question}
+use Rattle.step_history.specs.History.{InEra, moment_at, ShownAsk, listed, tcp_asks, Reads, Sends, takes_question}
 use Rattle.step_history.specs.Carried.{CarriedInEra}
-use Rattle.step_history.specs.Queries.{query_message}
-use Rattle.step_history.specs.Causes.{is_unserved}
+use Rattle.step_history.specs.Draws.{ask_message}
+use Rattle.step_history.specs.Causes.{is_unserved, LastFailed}
 use Rattle.step_history.specs.Sound.{Sound, unanswered}
+use Rattle.step_history.specs.Accounting.{TellsMore}
 use Rattle.step_rules.specs.State.{Waiting, State}
+use Rattle.step_rules.specs.Attempts.{peer_at}
+use Rattle.outstanding.specs.declared.ask.Path.{Path}
+use Rattle.outstanding.specs.declared.ask.Path.TheVariants.{Udp, Tcp}
 use Rattle.outstanding.specs.Values.{Ask}
 use Rattle.outstanding.specs.Lists.{AreListed}
 use Rattle.step_history.specs.Asked.{AsksWell}
 
 -- an ask as its action showed it
-abbrev pub shown : Ask → Query
-shown a = record { path = a.path; server = a.peer; octets = written (query_message a.id a.question); moment = a.asked }
+abbrev pub shown : Ask → ShownAsk
+shown a = record { path = a.path; server = a.peer; octets = written (ask_message a.id a.question); moment = a.asked }
 
 -- the step with this number asked the question that waits
 pub record Waits (c : Config) (now : List Step) (x : Waiting) (i : ℕ) : Type 0 where
@@ -34,18 +39,44 @@ pub record Waits (c : Config) (now : List Step) (x : Waiting) (i : ℕ) : Type 0
   pub header_is : x.header ≡ header_in request
   pub opcode : (header_in request).opcode ≡ 0
   pub served : is_unserved x.question ≡ false
+  pub moment : x.taken ≡ moment_at (asked ∷ before)
 
--- the text of a listed query reads as its question, on its route
-pub record IsReadable (c : Config) (a : Ask) : Type 0 where
-  pub reads : Reads (written (query_message a.id a.question)) a.question
-  pub identifier : (header_in (written (query_message a.id a.question))).id ≡ a.id
+-- the text of a listed ask reads as its question, on its route; it went to the server at its place in the group; the tries before it failed
+pub record Tried (c : Config) (now : List Step) (a : Ask) : Type 0 where
+  pub question : IsQuestion a.question
+  pub reads : Reads (written (ask_message a.id a.question)) a.question
+  pub identifier : (header_in (written (ask_message a.id a.question))).id ≡ a.id
   pub on_route : route_of c a.question.name ≡ Some a.route
+  pub server : peer_at c a.route a.server ≡ Some a.peer
+  pub before : ℕ
+  pub used : a.used ≡ suc before
+  pub failed : LastFailed c a.question now before
+
+-- a connection has the number of an ask by TCP that went before
+abbrev pub IsBelow : ℕ → Path → Type 0
+IsBelow count (Udp port) = Unit {0}
+IsBelow count (Tcp conn) = conn < count
+
+-- each route has the place of one of its servers
+abbrev pub ArePreferred : List Route → List ℕ → Type 0
+ArePreferred [] [] = Unit {0}
+ArePreferred [] (p ∷ places) = ⊥
+ArePreferred (r ∷ routes) [] = ⊥
+ArePreferred (r ∷ routes) (p ∷ places) = (p < length r.servers) × ArePreferred routes places
 
 pub record Explains (c : Config) (past : List Step) (w : List (List ℕ)) (s : State) : Type 0 where
+  pub config : IsConfig c
   pub sound : Sound c past w
+  pub asked_well : AsksWell c past
+  pub tells : TellsMore c past w
   pub moment : s.moment ≡ moment_at past
-  pub queries : map shown s.asks ≡ listed past
-  pub readable : AllByRecursion (IsReadable c) s.asks
+  pub tcp : s.tcp_asks ≡ tcp_asks past
+  pub asks : map shown s.asks ≡ listed past
+  pub asks_are : AreListed (record { capacity = c.limits.inquiries; asks = s.asks })
+  pub earlier : AllByRecursion (λ a. a.asked ≤ s.moment) s.asks
+  pub tried : AllByRecursion (Tried c past) s.asks
+  pub connections : AllByRecursion (λ a. IsBelow s.tcp_asks a.path) s.asks
+  pub preferred : ArePreferred c.routes s.preferred
   pub carried : List Held
   pub carried_is : CarriedInEra c past carried
   -- the waiting questions, each with the number of its step
@@ -53,8 +84,6 @@ pub record Explains (c : Config) (past : List Step) (w : List (List ℕ)) (s : S
   pub waiting : map (λ z. z.0) numbers_of ≡ s.waiting
   pub numbers : map (λ z. z.1) numbers_of ≡ unanswered past (concat w)
   pub waits : AllByRecursion (λ z. Waits c past z.0 z.1) numbers_of
-  pub taken : AllByRecursion (λ i. i < length past) (concat w)
   pub few : length s.waiting ≤ c.limits.questions
-  pub asks_are : AreListed (record { capacity = c.limits.inquiries; asks = s.asks })
-  pub earlier : AllByRecursion (λ a. a.asked ≤ s.moment) s.asks
-  pub asked_well : AsksWell c past
+  -- no step after the newest owns a reply
+  pub owners : AllByRecursion (λ i. i < length past) (concat w)

@@ -1,6 +1,6 @@
 -- The theorem, as statements over plain values.
 use Rattle.std.specs.Prelude.{List, [], reverse}
-use Rattle.suffix_routes.specs.Values.{Config}
+use Rattle.suffix_routes.specs.Values.{Config, IsConfig}
 use Rattle.step_values.specs.Values.{Handed, Outcome, Step}
 use Rattle.step_history.specs.Asked.{AsksWell}
 use Rattle.step_rules.specs.State.{State}
@@ -14,8 +14,8 @@ RowsKeepWhatExplains = (c : Config) (s : State) (h : Handed) (o : Outcome) (s' :
 
 -- The empty history explains a new forwarder.
 abbrev pub NothingExplainsAStart : Type 0
-NothingExplainsAStart = (c : Config) → Explains c [] [] start
+NothingExplainsAStart = (c : Config) → IsConfig c → Explains c [] [] (start c)
 
 -- The steps of a run, the oldest first, are sound, and ask well.
 abbrev pub RunsAreSound : Type 0
-RunsAreSound = (c : Config) (steps : List Step) (s : State) → Run c start steps s → IsSound c steps × AsksWell c (reverse steps)
+RunsAreSound = (c : Config) (steps : List Step) (s : State) → IsConfig c → Run c (start c) steps s → IsSound c steps × AsksWell c (reverse steps)

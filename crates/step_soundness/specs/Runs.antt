@@ -1,10 +1,12 @@
 -- Whole runs.
-use Rattle.std.specs.Prelude.{◌≡◌, ℕ, List, [], ◌∷◌, reverse}
+use Rattle.std.specs.Prelude.{◌≡◌, ℕ, ◌≤◌, List, [], ◌∷◌, reverse, length}
+use Rattle.std.specs.List.{concat}
 use Rattle.suffix_routes.specs.Values.{Config}
 use Rattle.step_values.specs.Values.{Handed, Outcome, Step}
+use Rattle.step_history.specs.Sound.{Sound, unanswered}
+use Rattle.step_history.specs.Accounting.{TellsMore}
 use Rattle.step_rules.specs.State.{State}
 use Rattle.step_rules.specs.Row.{Row}
-use Rattle.step_history.specs.Sound.{Sound}
 use Rattle.step_soundness.specs.Explains.{Explains}
 
 -- these steps, the oldest first, are rows one after another
@@ -12,9 +14,12 @@ abbrev pub Run : Config → State → List Step → State → Type 0
 Run c s [] s' = s' ≡ s
 Run c s (t ∷ steps) s' = (mid : State) × Row c s t.handed t.outcome mid × Run c mid steps s'
 
--- some owners make these steps, the oldest first, sound
-abbrev pub IsSound : Config → List Step → Type 0
-IsSound c steps = (w : List (List ℕ)) × Sound c (reverse steps) w
+-- Some owners make these steps, the oldest first, sound; with them each step tells whether more is due, and the questions that own no reply are no more than may wait.
+pub record IsSound (c : Config) (steps : List Step) : Type 0 where
+  pub owners : List (List ℕ)
+  pub sound : Sound c (reverse steps) owners
+  pub tells : TellsMore c (reverse steps) owners
+  pub few : length (unanswered (reverse steps) (concat owners)) ≤ c.limits.questions
 
 -- some owners explain the state by these steps, the oldest first
 abbrev pub IsExplained : Config → List Step → State → Type 0

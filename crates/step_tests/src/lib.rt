@@ -3,8 +3,6 @@
 #![tactic(auto)]
 
 #[cfg(test)]
-mod memory;
-#[cfg(test)]
 mod quiet;
 #[cfg(test)]
 mod runs;

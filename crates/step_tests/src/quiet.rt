@@ -1,23 +1,21 @@
-//! What does nothing takes no memory: of one growth that is allowed, one is left after the step. So a body that copies
-//! a stranger's octets is found even where it bears the refusal in silence.
+//! What calls for nothing takes no memory: of one growth that is allowed, one is left after the step. So a body that
+//! copies a stranger's octets is found even where it bears the refusal in silence.
 
-use crate::worked::{
-    PATH, QUESTION, REPLY, SERVER, WORDS, answer_whole, asked, delivers, replies, sends,
-};
+use crate::worked::{PATH, REPLY, SERVER, WORDS, asked, delivers, sends};
 use forwarder_core::Forwarder;
 use lru::DefaultHasher;
 use refusing_allocator::Refusing;
-use std::alloc::{AllocError, Allocator};
+use std::alloc::{AllocError, Allocator, Global};
 use std::test::Fail;
 use step_values::{Event, Path};
 use suffix_routes::Peer;
 
 /// The step of this event has no action and takes no memory.
-fn is_quiet<'a, A: Allocator + Copy>(
-    heap: &'a Refusing<A>,
-    forwarder: &mut Forwarder<DefaultHasher, &'a Refusing<A>>,
+fn is_quiet<'a>(
+    heap: &'a Refusing<Global>,
+    forwarder: &mut Forwarder<DefaultHasher, &'a Refusing<Global>>,
     now: u64,
-    event: Event<&'a Refusing<A>>,
+    event: Event<&'a Refusing<Global>>,
 ) -> Result<bool, AllocError> {
     heap.allow(1);
     let outcome = forwarder.step(now, WORDS, event);
@@ -26,80 +24,82 @@ fn is_quiet<'a, A: Allocator + Copy>(
     Ok(is_left && outcome?.actions.as_slice().is_empty())
 }
 
-/// The octets on this path and from this peer do nothing at this moment, and the right reply is still answered after.
-fn is_ignored<A: Allocator + Copy>(
-    heap: &Refusing<A>,
-    path: Path,
-    from: Peer,
-    bytes: &[u8],
-) -> Result<bool, AllocError> {
-    let mut forwarder = asked(heap)?;
-    let event = delivers(heap, path, from, bytes)?;
-    if !is_quiet(heap, &mut forwarder, 1001, event)? {
-        return Ok(false);
+/// An event whose octets stand in the table.
+#[derive(Clone, Copy)]
+enum Row {
+    Sends(&'static [u8]),
+    Delivers(Path, Peer, &'static [u8]),
+    Fails(Path),
+    Tick,
+    Restart,
+}
+
+/// The same reply with another identifier, and with another type.
+const OTHER_IDENTIFIER: &[u8] =
+    b"\x00\x09\x85\x00\x00\x01\x00\x01\x00\x00\x00\x00\x01a\x07example\x00\x00\x01\x00\x01\xc0\x0c\x00\x01\x00\x01\x00\x00\x01\x2c\x00\x04\xc6\x33\x64\x05";
+
+const OTHER_TYPE: &[u8] =
+    b"\x00\x08\x85\x00\x00\x01\x00\x01\x00\x00\x00\x00\x01a\x07example\x00\x00\x1c\x00\x01\xc0\x0c\x00\x01\x00\x01\x00\x00\x01\x2c\x00\x04\xc6\x33\x64\x05";
+
+const OTHER_PORT: Peer = Peer {
+    ip: [192, 0, 2, 1],
+    port: 5353,
+};
+
+/// What comes once the query was sent at 1000, with its moment. The query may be answered for 1,500 milliseconds, and an
+/// earlier moment counts as the latest one.
+const ROWS: [(u64, Row); 15] = [
+    (1001, Row::Sends(REPLY)),
+    (
+        1002,
+        Row::Sends(b"\x12\x34\x01\x00\x00\x01\x00\x00\x00\x00\x00"),
+    ),
+    (1003, Row::Delivers(PATH, SERVER, OTHER_IDENTIFIER)),
+    (1003, Row::Delivers(PATH, SERVER, OTHER_TYPE)),
+    (1003, Row::Delivers(PATH, OTHER_PORT, REPLY)),
+    (1003, Row::Delivers(Path::Udp(1033), SERVER, REPLY)),
+    (1004, Row::Fails(Path::Udp(1033))),
+    (1004, Row::Fails(Path::Tcp(1032))),
+    (2499, Row::Tick),
+    (0, Row::Tick),
+    (2500, Row::Delivers(PATH, SERVER, REPLY)),
+    (2500, Row::Restart),
+    (2500, Row::Delivers(PATH, SERVER, REPLY)),
+    (2500, Row::Fails(PATH)),
+    (9000, Row::Tick),
+];
+
+/// The event of a row.
+fn event<A: Allocator + Copy>(alloc: A, row: Row) -> Result<Event<A>, AllocError> {
+    match row {
+        Row::Sends(bytes) => sends(alloc, bytes),
+        Row::Delivers(path, from, bytes) => delivers(alloc, path, from, bytes),
+        Row::Fails(path) => Ok(Event::PathFailed { path }),
+        Row::Tick => Ok(Event::Tick),
+        Row::Restart => Ok(Event::Restart),
     }
-    let right = forwarder.step(1006, WORDS, replies(heap)?)?;
-    Ok(answer_whole(right.actions.as_slice()))
 }
 
 #[test]
-fn forged_replies_do_nothing(rt: HostRuntime) -> Result<(), Fail> {
+fn what_calls_for_nothing_takes_no_memory(rt: HostRuntime) -> Result<(), Fail> {
     let heap = Refusing::new(rt.alloc());
-    let other_server = Peer {
-        ip: [192, 0, 2, 2],
-        port: 53,
-    };
-    let other_port = Peer {
-        ip: [192, 0, 2, 1],
-        port: 5353,
-    };
-    let other_type: &[u8] =
-        b"\x00\x08\x85\x00\x00\x01\x00\x01\x00\x00\x00\x00\x01a\x07example\x00\x00\x1c\x00\x01\xc0\x0c\x00\x01\x00\x01\x00\x00\x01\x2c\x00\x04\xc6\x33\x64\x05";
-    let other_identifier: &[u8] =
-        b"\x00\x09\x85\x00\x00\x01\x00\x01\x00\x00\x00\x00\x01a\x07example\x00\x00\x01\x00\x01\xc0\x0c\x00\x01\x00\x01\x00\x00\x01\x2c\x00\x04\xc6\x33\x64\x05";
-    assert!(rt; is_ignored(&heap, PATH, SERVER, other_identifier)?);
-    assert!(rt; is_ignored(&heap, Path::Udp(1033), SERVER, REPLY)?);
-    assert!(rt; is_ignored(&heap, PATH, other_server, REPLY)?);
-    assert!(rt; is_ignored(&heap, PATH, other_port, REPLY)?);
-    assert!(rt; is_ignored(&heap, PATH, SERVER, other_type)?);
+    let mut forwarder = asked(&heap)?;
+    for (number, (now, row)) in ROWS.iter().enumerate() {
+        let event = event(&heap, *row)?;
+        assert!(rt;
+            is_quiet(&heap, &mut forwarder, *now, event)?,
+            "row {number}"
+        );
+    }
     Ok(())
 }
 
 #[test]
-fn what_matches_nothing_takes_no_memory(rt: HostRuntime) -> Result<(), Fail> {
+fn a_restart_by_its_call_takes_no_memory(rt: HostRuntime) -> Result<(), Fail> {
     let heap = Refusing::new(rt.alloc());
     let mut forwarder = asked(&heap)?;
-    // A message of a client that is itself a reply, and one that is too short, are dropped.
-    let reply = sends(&heap, REPLY)?;
-    assert!(rt; is_quiet(&heap, &mut forwarder, 1001, reply)?, "a reply");
-    let short = sends(&heap, &QUESTION[..11])?;
-    assert!(rt;
-        is_quiet(&heap, &mut forwarder, 1002, short)?,
-        "a short one"
-    );
-    assert!(rt;
-        is_quiet(&heap, &mut forwarder, 1003, Event::Tick)?,
-        "a tick"
-    );
-    // The query may be answered for 1,500 milliseconds.
-    let late = replies(&heap)?;
-    assert!(rt;
-        is_quiet(&heap, &mut forwarder, 2500, late)?,
-        "a late reply"
-    );
-    assert!(rt;
-        is_quiet(&heap, &mut forwarder, 2500, Event::Restart)?,
-        "a restart"
-    );
-    let mut restarted = asked(&heap)?;
     heap.allow(1);
-    restarted.restart();
-    assert!(rt; Box::new(&heap, 0u8).is_ok(), "a restart by its call");
-    heap.allow(u64::MAX);
-    let forgotten = replies(&heap)?;
-    assert!(rt;
-        is_quiet(&heap, &mut restarted, 1020, forgotten)?,
-        "a reply after it"
-    );
+    forwarder.restart();
+    assert!(rt; Box::new(&heap, 0u8).is_ok());
     Ok(())
 }

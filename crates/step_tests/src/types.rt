@@ -56,26 +56,3 @@ fn questions_of_each_type(rt: HostRuntime) -> Result<(), Fail> {
     }
     Ok(())
 }
-
-/// Eight questions have taken the ports of all eight words.
-#[test]
-fn no_port_is_free(rt: HostRuntime) -> Result<(), Fail> {
-    let alloc = rt.alloc();
-    let mut forwarder = Forwarder::new(alloc, config(alloc)?, DefaultHasher::default())?;
-    for kind in 1..=8u16 {
-        let event = sends(alloc, &with_kind(QUESTION, kind, 1))?;
-        let outcome = forwarder.step(1000, WORDS, event)?;
-        match outcome.actions.as_slice() {
-            [Action::AskUdp { port, .. }] => assert_eq!(rt; *port, 1031 + kind),
-            _ => assert!(rt; false, "type {kind}"),
-        }
-    }
-    let outcome = forwarder.step(1001, WORDS, sends(alloc, &with_kind(QUESTION, 16, 1))?)?;
-    let mut failure = with_kind(QUESTION, 16, 1);
-    [failure[2], failure[3]] = [0x81, 0x82];
-    match outcome.actions.as_slice() {
-        [action] => assert!(rt; is_reply(action, &failure, Why::NoPort)),
-        _ => assert!(rt; false),
-    }
-    Ok(())
-}

@@ -1,8 +1,9 @@
 -- Events, actions and steps as plain values.
-use Rattle.std.specs.Prelude.{ℕ, Bool, List, map}
+use Rattle.std.specs.Prelude.{ℕ, Bool, List, map, Option, Some, None}
 use Rattle.suffix_routes.specs.declared.peer.Peer.{Peer}
 use Rattle.step_values.specs.declared.event.Client.{Client}
 use Rattle.outstanding.specs.declared.ask.Path.{Path}
+use Rattle.outstanding.specs.declared.ask.Path.TheVariants as path
 use Rattle.step_values.specs.declared.action.Why.{Why}
 use Rattle.step_values.specs.declared.event.Event.{Event as OwnedEvent}
 use Rattle.step_values.specs.declared.event.Event.TheVariants.{Client as OfClient, Delivery, PathFailed, Tick, Restart}
@@ -24,6 +25,68 @@ pub data Action : Type 0 where
   close_udp : ℕ → Action
   close_tcp : ℕ → Action
   send_reply : Client → List ℕ → Why → Action
+
+-- ---- what an event and an action show
+
+-- a client's message
+pub record Request : Type 0 where
+  pub client : Client
+  pub octets : List ℕ
+
+-- a message on a path to a server
+pub record Delivered : Type 0 where
+  pub path : Path
+  pub from : Peer
+  pub octets : List ℕ
+
+-- an ask that is sent
+pub record SentAsk : Type 0 where
+  pub path : Path
+  pub server : Peer
+  pub octets : List ℕ
+
+-- a reply that a client gets
+pub record SentReply : Type 0 where
+  pub client : Client
+  pub octets : List ℕ
+  pub why : Why
+
+abbrev pub request_in : Event → Option Request
+request_in (from_client client octets) = Some (record { client = client; octets = octets })
+request_in (delivery path from octets) = None
+request_in (path_failed path) = None
+request_in tick = None
+request_in restart = None
+
+abbrev pub delivery_in : Event → Option Delivered
+delivery_in (delivery path from octets) = Some (record { path = path; from = from; octets = octets })
+delivery_in (from_client client octets) = None
+delivery_in (path_failed path) = None
+delivery_in tick = None
+delivery_in restart = None
+
+abbrev pub ask_in : Action → Option SentAsk
+ask_in (ask_udp port server octets) = Some (record { path = path.Udp port; server = server; octets = octets })
+ask_in (ask_tcp conn server octets) = Some (record { path = path.Tcp conn; server = server; octets = octets })
+ask_in (close_udp port) = None
+ask_in (close_tcp conn) = None
+ask_in (send_reply client octets why) = None
+
+abbrev pub closed_path_in : Action → Option Path
+closed_path_in (close_udp port) = Some (path.Udp port)
+closed_path_in (close_tcp conn) = Some (path.Tcp conn)
+closed_path_in (ask_udp port server octets) = None
+closed_path_in (ask_tcp conn server octets) = None
+closed_path_in (send_reply client octets why) = None
+
+abbrev pub reply_in_action : Action → Option SentReply
+reply_in_action (send_reply client octets why) = Some (record { client = client; octets = octets; why = why })
+reply_in_action (ask_udp port server octets) = None
+reply_in_action (ask_tcp conn server octets) = None
+reply_in_action (close_udp port) = None
+reply_in_action (close_tcp conn) = None
+
+-- ---- the program's values as these
 
 abbrev pub event_of : {A : Type 0} → OwnedEvent A → Event
 event_of (OfClient client octets) = from_client client octets

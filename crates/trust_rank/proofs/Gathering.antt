@@ -5,7 +5,7 @@ use Rattle.std.specs.Bool.{Decides}
 use Rattle.std.specs.List.{list_any}
 use Rattle.std.specs.Ordering.{nat_cmp, is_eq}
 use Rattle.std.specs.Cmp.Lexicographic.{slice_cmp}
-use Rattle.std.specs.BTreeSet.{BTreeSet, contains_by, contains, Updates}
+use Rattle.std.specs.BTreeSet.{BTreeSet, contains_by, Updates}
 use Rattle.std.specs.Str.{bytes_eq}
 use Rattle.std.proofs.lemmas.Bool.{or_from, or_right, cond-true, cond-false}
 use Rattle.std.proofs.lemmas.List.{take-append-drop, drop_all, drop-append-le, length-append}
@@ -16,7 +16,7 @@ use Rattle.plain_list.specs.Octets.{same_octets}
 use Rattle.plain_list.proofs.CallerLemmas.{same_octets_decides}
 use Rattle.dns_message.specs.Values.{Question, Record}
 use Rattle.trust_rank.specs.Sets.{is_of, records_for, with_data, with_all_data, seconds_of, lifetime_within}
-use Rattle.trust_rank.specs.Gathering.{few, Indexes, added, added_all, lowered_by, lowered_by_all}
+use Rattle.trust_rank.specs.Gathering.{few, Indexes, added_all, lowered_by_all}
 use denote.Ref.{Bor}
 
 -- ---- one pass gives the set

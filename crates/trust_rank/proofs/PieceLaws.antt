@@ -1,5 +1,5 @@
 -- Sets and denials are pieces.
-use Rattle.std.proofs.Common.{◌≡◌, ℕ, ◌≤◌, Bool, true, false, cond, List, [], ◌∷◌, ◌++◌, length, Option, Some, None, refl, sym, ap, ◌∙◌, subst, ⊎_elim, arith}
+use Rattle.std.proofs.Common.{◌≡◌, ℕ, ◌≤◌, true, false, List, [], ◌∷◌, ◌++◌, length, Option, Some, None, refl, sym, ap, ◌∙◌, subst, ⊎_elim, arith}
 use Rattle.std.specs.Prelude.{min, ◌==◌, ◌&&◌, ◌≢◌}
 use Rattle.std.specs.List.{list_any, AllByRecursion}
 use Rattle.std.proofs.lemmas.Bool.{cases_Bool, cond-true, cond-false, cond_both, and_parts, eqb-true}
@@ -13,7 +13,7 @@ use Rattle.dns_message.specs.Messages.{AreShaped}
 use Rattle.trust_rank.specs.Values.{rows, Piece}
 use Rattle.trust_rank.specs.Sets.{is_of, records_for, with_data, with_all_data, seconds_of, lifetime_within, longest, set_with, set_of}
 use Rattle.trust_rank.specs.Gathering.{added_all, lowered_by_all}
-use Rattle.trust_rank.specs.Denials.{is_soa_for, soa_for, denial_lifetime, longest_denial, minimum_of}
+use Rattle.trust_rank.specs.Denials.{is_soa_for, soa_for, denial_lifetime}
 use Rattle.trust_rank.specs.Formed.{AreRows, IsSoa, IsPiece}
 use Rattle.trust_rank.proofs.Gathering.{added_all-is, lowered_by_all-is}
 
@@ -32,7 +32,7 @@ rows_with kind kept octets all one =
     cond_both (list_any (same_octets octets) kept) kept (kept ++ octets ∷ []) (AreRows kind) (λ _. all)
     (λ _. record { some = some_end kept octets; shaped = shaped_end kind kept octets all.shaped one })
 
-abbrev HaveShape : ℕ → List Record → Type 0
+abbrev pub HaveShape : ℕ → List Record → Type 0
 HaveShape kind records = AllByRecursion (λ (r : Record). IsShaped kind r.rdata) records
 
 rows_with_all : (kind : ℕ) (kept : List (List ℕ)) (records : List Record) → AreRows kind kept → HaveShape kind records → AreRows kind (with_all_data kept records)
@@ -42,7 +42,7 @@ rows_with_all kind kept (r ∷ records) all each = rows_with_all kind (with_data
 pub kind_of_set : (q : Question) (r : Record) → is_of q r ≡ true → r.kind ≡ q.kind
 kind_of_set q r e = eqb-true r.kind q.kind (and_parts (r.kind == q.kind) (r.class == q.class) (and_parts ((r.kind == q.kind) && (r.class == q.class)) (same r.owner q.name) e).0).0
 
-set_shape : (q : Question) (records : List Record) → AreShaped records → HaveShape q.kind (records_for q records)
+pub set_shape : (q : Question) (records : List Record) → AreShaped records → HaveShape q.kind (records_for q records)
 set_shape q [] all = tt
 set_shape q (r ∷ records) all =
     cond_both (is_of q r) (r ∷ records_for q records) (records_for q records) (HaveShape q.kind)
@@ -53,13 +53,21 @@ lifetime_short : (most : ℕ) (records : List Record) → lifetime_within most r
 lifetime_short most [] = omega arith
 lifetime_short most (r ∷ records) = omega (arith, lifetime_short (min most (seconds_of r.ttl)) records)
 
+-- a set is a piece
+pub set_with_is_piece : (rank route : ℕ) (first : Record) (others : List Record) (kind : ℕ) → first.kind ≡ kind → IsShaped kind first.rdata → HaveShape kind others → IsPiece (set_with rank route first others)
+set_with_is_piece rank route first others kind is one all = record {
+  key = refl;
+  body = subst (λ (k : ℕ). AreRows k (with_all_data (first.rdata ∷ []) others)) (sym is) (rows_with_all kind (first.rdata ∷ []) others (record { some = some_end [] first.rdata; shaped = (one, tt) }) all);
+  lifetime = omega (arith, lifetime_short (min longest (seconds_of first.ttl)) others);
+}
+
 -- what one pass gathers is a piece
 pub gathered_is_piece : (rank route : ℕ) (first : Record) (q : Question) (others : List Record) (class kind : ℕ) (owner key : List (List ℕ)) (sets : List (List ℕ)) (lifetime : ℕ) → kind ≡ first.kind → key ≡ lowered owner
     → sets ≡ added_all q (first.rdata ∷ []) others → lifetime ≡ lowered_by_all q (min longest (seconds_of first.ttl)) others → IsShaped first.kind first.rdata → AreShaped others → first.kind ≡ q.kind
     → IsPiece (record { owner = owner; slot = record { key = key; class = class; kind = Some kind }; body = rows sets; lifetime = lifetime; rank = rank; route = route })
 gathered_is_piece rank route first q others class kind owner key sets lifetime same_kind of_owner a b one all asked =
     let each : AreRows q.kind (with_all_data (first.rdata ∷ []) (records_for q others)) =
-        rows_with_all q.kind (first.rdata ∷ []) (records_for q others) (record { some = some_end [] first.rdata; shaped = (subst (λ (k : ℕ). IsShaped k first.rdata) asked one, tt) }) (set_shape q others all) in
+    rows_with_all q.kind (first.rdata ∷ []) (records_for q others) (record { some = some_end [] first.rdata; shaped = (subst (λ (k : ℕ). IsShaped k first.rdata) asked one, tt) }) (set_shape q others all) in
     record {
       key = of_owner;
       body = subst (λ (k : ℕ). AreRows k sets) (sym (same_kind ∙ asked)) (subst (AreRows q.kind) (sym (a ∙ added_all-is q (first.rdata ∷ []) others)) each);
@@ -115,8 +123,17 @@ copy_is_soa soa copy is e = subst IsSoa (sym e) is
 
 soa_long : (octets : List ℕ) → HasParts soa_parts octets → 4 ≤ length octets
 soa_long octets (more_parts a r1 is_a (more_parts b r2 is_b (more_parts c r3 is_c (more_parts d r4 is_d (more_parts e r5 is_e (more_parts f r6 is_f (more_parts g r7 is_g end e7) e6) e5) e4) e3) e2) e1) =
-    omega (arith, is_g, ap length e1 ∙ length-append a r1, ap length e2 ∙ length-append b r2, ap length e3 ∙ length-append c r3, ap length e4 ∙ length-append d r4, ap length e5 ∙ length-append e r5,
-    ap length e6 ∙ length-append f r6, ap length e7 ∙ length-append g r7)
+    omega (
+      arith,
+      is_g,
+      ap length e1 ∙ length-append a r1,
+      ap length e2 ∙ length-append b r2,
+      ap length e3 ∙ length-append c r3,
+      ap length e4 ∙ length-append d r4,
+      ap length e5 ∙ length-append e r5,
+      ap length e6 ∙ length-append f r6,
+      ap length e7 ∙ length-append g r7,
+    )
 
 -- the data of an SOA has its last number
 pub soa_has_minimum : (soa : Record) → IsSoa soa → 4 ≤ length soa.rdata

@@ -5,3 +5,4 @@ pub mod Denials
 pub mod Walks
 pub mod Replacing
 pub mod Formed
+pub mod Laws

@@ -2,6 +2,7 @@
 #![tactic(auto)]
 
 mod denials;
+mod laws;
 mod piece;
 mod reply;
 mod servers;
@@ -10,7 +11,11 @@ mod slot;
 mod walk;
 mod walking;
 
+pub use laws::{servers_fit, walk_leads};
 pub use piece::{Body, Piece};
 pub use slot::Slot;
 pub use walk::{End, Walk};
 pub use walking::pieces;
+
+#[cfg(test)]
+mod tests;

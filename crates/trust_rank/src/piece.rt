@@ -29,6 +29,7 @@ pub struct Piece<A: Allocator = Global> {
     pub owner: Name<A>,
     /// What it tells of; its key is the owner's.
     pub slot: Slot,
+    /// What it tells: `Denied` exactly where the slot has no type.
     pub body: Body<A>,
     /// In seconds, a week at most.
     pub lifetime: u32,

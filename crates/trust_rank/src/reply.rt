@@ -5,7 +5,7 @@ ghost use Rattle.std.specs.List.{list_any};
 ghost use Rattle.std.specs.Option.{IfSome};
 ghost use Rattle.trust_rank.specs.Denials.{soa_for};
 ghost use Rattle.trust_rank.specs.Formed.{IsSoa};
-ghost use Rattle.trust_rank.specs.Walks.{is_on_route, rank_at, at_name, answer_set, alias_set, has_many, target_of, is_referral, name_error_at, no_data_at, denial_at, leads, set_met, met_at, is_name_server, met_of};
+ghost use Rattle.trust_rank.specs.Walks.{is_on_route, rank_at, at_name, answer_set, alias_set, has_many, target_of, is_referral, denial_at, leads, set_met, met_at, is_name_server, met_of};
 
 use crate::denials::{name_error, no_data, soa_for};
 use crate::piece::{Body, Piece};
@@ -107,10 +107,20 @@ impl<'a, A: Allocator + Copy> Reply<'a, A> {
     }
 
     /// The set of this type that the answer section has at the name.
-    fn answer_set(&self, alloc: A, kind: u16, name: &Name<A>) -> Result<Option<Piece<A>>, AllocError>
+    fn answer_set(
+        &self,
+        alloc: A,
+        kind: u16,
+        name: &Name<A>,
+    ) -> Result<Option<Piece<A>>, AllocError>
         ensures { IfOk result (λ s. s ≡ answer_set self.now kind name.now) }
     {
-        set_among(alloc, self.source_at(name), self.answers, &self.at_name(kind, name))
+        set_among(
+            alloc,
+            self.source_at(name),
+            self.answers,
+            &self.at_name(kind, name),
+        )
     }
 
     /// The CNAME set at the name. A question for CNAME follows none.

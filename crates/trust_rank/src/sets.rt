@@ -139,7 +139,12 @@ impl<'a, A: Allocator + Copy> Gathered<'a, A> {
     }
 
     /// One more record of the section.
-    fn add(&mut self, alloc: A, record: &'a Record<A>, key: &SetKey<'_, A>) -> Result<(), AllocError>
+    fn add(
+        &mut self,
+        alloc: A,
+        record: &'a Record<A>,
+        key: &SetKey<'_, A>,
+    ) -> Result<(), AllocError>
         requires { Indexes self.old.index self.old.rows }
         ensures rows { OnOk result (self.new.rows ≡ added key.now self.old.rows record.now) }
         ensures index { OnOk result (Indexes self.new.index self.new.rows) }

@@ -29,6 +29,7 @@ pub struct Walk<A: Allocator = Global> {
     /// The name servers of the authority section, where the reply is authoritative: NS sets whose owner has no other
     /// piece, in the order of the section.
     pub authority: PlainList<Piece<A>, A>,
+    /// How the walk ends.
     pub end: End<A>,
 }
 

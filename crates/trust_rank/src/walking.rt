@@ -107,7 +107,8 @@ fn with_servers<A: Allocator + Copy>(
 /// alias at a name is lame (RFC 2181 10.1). An authoritative reply carries the NS sets of its authority section too, of
 /// the question's class, whose owner is at or above the asked name, on the route, and has no other piece.
 ///
-/// Whatever the records are, this takes time in proportion to n log n for n of them. `Err` where memory ran out.
+/// `Err` where memory ran out. No contract tells the time: it is in proportion to n log n for n records, since the data of
+/// a large set is found by an index.
 pub fn pieces<A: Allocator + Copy>(
     alloc: A,
     message: &Message<A>,

@@ -1,16 +1,47 @@
 //! What was decided is put in place. All memory is taken before anything changes.
 
-ghost use Rattle.outstanding.specs.Lists.{on_path as ask_on};
-ghost use Rattle.std.specs.Prelude.{◌≡◌, ◌^◌, ◌≤◌, ◌∷◌, ◌++◌, [], IfOk, OnOk, OnErr, IsOk};
-ghost use Rattle.forwarder_core.specs.Next.{closing, changed, next_of, IsOutcome, CanOpen, CanChange};
+ghost use Rattle.outstanding.specs.Lists.{MayBegin, on_path as ask_on, without_path};
+ghost use Rattle.std.specs.Prelude.{◌≡◌, ◌^◌, ◌<◌, ◌≤◌, ◌+◌, ◌∷◌, ◌++◌, [], drop, slice_set, nat_le, IfOk, OnOk, OnErr, IsOk, IsSome};
+ghost use Rattle.std.specs.List.{list_any};
+ghost use Rattle.step_rules.specs.Row.{is_due_at, deadline_of, timeout_of};
+ghost use Rattle.forwarder_core.specs.Next.{tcp_count_of, left_waiting, with_preferred, without_closed, changed, next_of, IsOutcome, CanWait, CanFollow, CanChange, IsServed};
 
 use crate::forwarder::Forwarder;
-use crate::lists::{close, list};
-use crate::next::{Change, Next};
+use crate::lists::{close, drop_first, end_closed, is_late, is_overdue, list};
+use crate::next::{Change, Next, Preferred};
 use crate::state::Waiting;
 use outstanding::{Ask, Path};
 use std::alloc::{AllocError, Allocator};
 use step_values::Outcome;
+
+/// One more ask by TCP, where the path is a connection.
+fn count_tcp(count: u64, path: Path) -> u64
+    requires { count + tcp_count_of path < 2 ^ 64 }
+    ensures { result ≡ count + tcp_count_of path }
+{
+    match path {
+        Path::Udp(_) => count,
+        Path::Tcp(_) => count + 1,
+    }
+}
+
+/// The server is asked first from now on.
+fn prefer(places: &mut [usize], preferred: Option<Preferred>)
+    ensures { places.new ≡ with_preferred preferred places.old }
+{
+    if let Some(preferred) = preferred {
+        put_place(places, preferred.route.place, preferred.server);
+    }
+}
+
+/// Puts a place where there is one.
+fn put_place(places: &mut [usize], route: usize, server: usize)
+    ensures { places.new ≡ slice_set places.old route server }
+{
+    if route < places.len() {
+        places[route] = server;
+    }
+}
 
 impl<H: Drop, A: Allocator + Copy> Forwarder<H, A> {
     /// The moment has come.
@@ -23,11 +54,15 @@ impl<H: Drop, A: Allocator + Copy> Forwarder<H, A> {
     }
 
     /// The question waits for an ask that is listed already. An `Err` changes nothing.
-    fn put_waiting(&mut self, waiting: Waiting<A>) -> Result<(), AllocError>
-        ensures ok { OnOk result (self.new ≡ record { config = self.old.config; state = record self.old.state { waiting = self.old.state.waiting ++ waiting ∷ [] } }) }
+    fn put_waiting(&mut self, moment: u64, waiting: Waiting<A>) -> Result<(), AllocError>
+        requires later { self.old.state.moment ≤ moment }
+        requires in_time { moment ≤ 2 ^ 62 }
+        requires fits { CanWait self.old.config moment self.old.state waiting }
+        ensures ok { OnOk result (self.new ≡ record { config = self.old.config; state = record self.old.state { waiting = self.old.state.waiting ++ waiting ∷ []; moment = moment } }) }
         ensures err { OnErr result (self.new ≡ self.old) }
     {
         self.waiting.push(waiting)?;
+        self.moment = moment;
         Ok(())
     }
 
@@ -35,22 +70,54 @@ impl<H: Drop, A: Allocator + Copy> Forwarder<H, A> {
     fn put_ask(&mut self, moment: u64, waiting: Waiting<A>, ask: Ask<A>) -> Result<(), AllocError>
         requires later { self.old.state.moment ≤ moment }
         requires in_time { moment ≤ 2 ^ 62 }
-        requires fits { CanOpen self.old.config moment self.old.state ask }
-        ensures ok { OnOk result (self.new ≡ record { config = self.old.config; state = record { asks = self.old.state.asks ++ ask ∷ []; waiting = self.old.state.waiting ++ waiting ∷ []; moment = moment } }) }
+        requires waits { CanWait self.old.config moment self.old.state waiting }
+        requires follows { CanFollow self.old.config moment self.old.state self.old.state.asks ask }
+        ensures ok { OnOk result (self.new ≡ record { config = self.old.config; state = record self.old.state { asks = self.old.state.asks ++ ask ∷ []; waiting = self.old.state.waiting ++ waiting ∷ []; moment = moment; tcp_asks = self.old.state.tcp_asks + tcp_count_of ask.path } }) }
         ensures err { OnErr result (self.new ≡ self.old) }
     {
+        let count = count_tcp(self.tcp_asks, ask.path);
         self.waiting.reserve(1)?;
         list(&mut self.inquiries, ask)?;
         self.waiting.push_reserved(waiting);
+        self.tcp_asks = count;
         self.moment = moment;
         Ok(())
     }
 
     /// The ask on the path is closed, and those that waited for it wait no more.
-    fn close(&mut self, path: Path)
-        ensures { self.new ≡ record { config = self.old.config; state = closing self.old.state.moment path self.old.state (ask_on path self.old.state.asks) } }
+    fn close(&mut self, moment: u64, path: Path, preferred: Option<Preferred>)
+        requires later { self.old.state.moment ≤ moment }
+        requires in_time { moment ≤ 2 ^ 62 }
+        requires served { IsServed self.old.config preferred }
+        ensures { self.new ≡ record { config = self.old.config; state = record self.old.state { asks = without_path path self.old.state.asks; waiting = left_waiting (ask_on path self.old.state.asks) self.old.state.waiting; preferred = with_preferred preferred self.old.state.preferred; moment = moment } } }
     {
         close(&mut self.inquiries, &mut self.waiting, path);
+        prefer(&mut self.preferred, preferred);
+        self.moment = moment;
+    }
+
+    /// The ask on the path is closed, and another one for its question is listed.
+    fn replace(&mut self, moment: u64, path: Path, ask: Ask<A>)
+        requires later { self.old.state.moment ≤ moment }
+        requires in_time { moment ≤ 2 ^ 62 }
+        requires listed { IsSome (ask_on path self.old.state.asks) }
+        requires follows { CanFollow self.old.config moment self.old.state (without_path path self.old.state.asks) ask }
+        ensures { self.new ≡ record { config = self.old.config; state = record self.old.state { asks = without_path path self.old.state.asks ++ ask ∷ []; moment = moment; tcp_asks = self.old.state.tcp_asks + tcp_count_of ask.path } } }
+    {
+        self.tcp_asks = count_tcp(self.tcp_asks, ask.path);
+        let _ended = self.inquiries.replace(path, ask);
+        self.moment = moment;
+    }
+
+    /// The oldest question waits no more, and the ask on the path, where there is one, is closed.
+    fn expire_first(&mut self, moment: u64, closed: Option<Path>)
+        requires later { self.old.state.moment ≤ moment }
+        requires in_time { moment ≤ 2 ^ 62 }
+        ensures { self.new ≡ record { config = self.old.config; state = record self.old.state { asks = without_closed closed self.old.state.asks; waiting = drop 1 self.old.state.waiting; moment = moment } } }
+    {
+        end_closed(&mut self.inquiries, closed);
+        drop_first(&mut self.waiting);
+        self.moment = moment;
     }
 
     /// Puts a change in place. An `Err` changes nothing.
@@ -68,18 +135,48 @@ impl<H: Drop, A: Allocator + Copy> Forwarder<H, A> {
                 self.pass(moment);
                 Ok(())
             }
-            Change::Join(waiting) => {
-                self.put_waiting(waiting)?;
-                self.pass(moment);
+            Change::Join(waiting) => self.put_waiting(moment, waiting),
+            Change::Open(waiting, ask) => self.put_ask(moment, waiting, ask),
+            Change::Close(path, preferred) => {
+                self.close(moment, path, preferred);
                 Ok(())
             }
-            Change::Open(waiting, ask) => self.put_ask(moment, waiting, ask),
-            Change::Close(path) => {
-                self.close(path);
-                self.pass(moment);
+            Change::AskAgain(path, ask) => {
+                self.replace(moment, path, ask);
+                Ok(())
+            }
+            Change::Expire(closed) => {
+                self.expire_first(moment, closed);
                 Ok(())
             }
         }
+    }
+
+    /// A question has waited as long as it may: the list is in the order of time, so the first one tells.
+    fn is_question_due(&self) -> bool
+        ensures { result ≡ list_any (λ x. nat_le (deadline_of self.now.config x) self.now.state.moment) self.now.state.waiting }
+    {
+        match self.waiting.split_first() {
+            Some((oldest, _)) => is_overdue(&self.config, self.moment, oldest),
+            None => false,
+        }
+    }
+
+    /// An ask is past its time: the list is in the order of time, so the first one tells.
+    fn is_ask_due(&self) -> bool
+        ensures { result ≡ list_any (λ a. nat_le (timeout_of self.now.config a) self.now.state.moment) self.now.state.asks }
+    {
+        match self.inquiries.oldest() {
+            Some(oldest) => is_late(&self.config, self.moment, oldest),
+            None => false,
+        }
+    }
+
+    /// More is due at the moment that it is now.
+    fn is_due(&self) -> bool
+        ensures { result ≡ is_due_at self.now.config self.now.state.moment self.now.state }
+    {
+        self.is_question_due() || self.is_ask_due()
     }
 
     /// Does what was decided. An `Err` changes nothing.
@@ -87,17 +184,18 @@ impl<H: Drop, A: Allocator + Copy> Forwarder<H, A> {
         requires later { self.old.state.moment ≤ moment }
         requires in_time { moment ≤ 2 ^ 62 }
         requires fits { CanChange self.old.config moment self.old.state next.change }
-        ensures ok { IfOk result (λ outcome. IsOutcome (next_of moment self.old.state next) outcome self.new.state) }
+        ensures ok { IfOk result (λ outcome. IsOutcome self.old.config (next_of moment self.old.state next) outcome self.new.state) }
         ensures config { self.new.config ≡ self.old.config }
         ensures quiet { next.change ≡ Change.Nothing → IsOk result }
         ensures err { OnErr result (self.new ≡ self.old) }
     {
         let Next { actions, change } = next;
         self.apply(moment, change)?;
+        let more = self.is_due();
         Ok(Outcome {
             actions,
             unkept: 0,
-            more: false,
+            more,
         })
     }
 }

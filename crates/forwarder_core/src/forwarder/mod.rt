@@ -1,16 +1,20 @@
 //! The forwarder, and its step.
 
-ghost use Rattle.std.specs.Prelude.{◌≡◌, ◌^◌, ◌≤◌, [], IfOk, IfSome, OnErr, IsOk};
+ghost use Rattle.std.specs.Prelude.{◌≡◌, ◌^◌, ◌≤◌, ◌<◌, ◌+◌, ◌*◌, [], IfOk, IfSome, OnErr, IsOk, map};
+ghost use Rattle.suffix_routes.specs.Values.{IsConfig};
 ghost use Rattle.step_values.specs.Values.{event_of};
 ghost use Rattle.plain_list.specs.Octets.{AreOctets};
-ghost use Rattle.step_rules.specs.Row.{start, HandsOctets, TakesNoMemory, effective, Row};
+ghost use Rattle.step_rules.specs.Row.{start, HandsOctets, TakesNoMemory, effective, Row, is_due_at};
+ghost use Rattle.step_rules.specs.Progress.{left_to_do, ServesSomething, next_due, IsInOrder};
 ghost use Rattle.forwarder_core.specs.Next.{IsDecided, IsDecidedQuietly, CanChange};
 ghost use Rattle.step_soundness.specs.Runs.{StaysExplained};
 ghost use Rattle.step_soundness.specs.Explains.{Explains};
 
+mod attempt;
 mod change;
 mod client;
 mod delivery;
+mod tick;
 
 use crate::next::Next;
 use crate::state::Waiting;
@@ -19,7 +23,7 @@ use plain_list::PlainList;
 use std::alloc::{AllocError, Allocator, Global};
 use std::marker::Model;
 use step_values::{Event, Outcome};
-use suffix_routes::Config;
+use suffix_routes::{Config, Route};
 
 /// The greatest effective moment, in milliseconds.
 const LATEST: u64 = 1 << 62;
@@ -44,28 +48,60 @@ fn octets_of(bytes: &[u8]) -> &[u8]
     bytes
 }
 
-/// A forwarder: its configuration, the asks that are under way, the questions that wait, and its effective moment.
+/// For each route the place of the server that is asked first: at the beginning the first of its group.
+fn first_places<A: Allocator>(alloc: A, routes: &[Route<A>]) -> Result<Vec<usize, A>, AllocError>
+    ensures { IfOk result (λ places. places.items ≡ map (λ r. 0) routes.now) }
+{
+    let mut places = Vec::new(alloc);
+    for _route in routes {
+        places.push(0)?;
+    }
+    Ok(places)
+}
+
+/// The first server of each group is asked first again.
+fn forget_places(places: &mut [usize])
+    ensures { places.new ≡ map (λ p. 0) places.old }
+{
+    for route in 0..places.len() {
+        places[route] = 0;
+    }
+}
+
+/// A forwarder: its configuration, the asks that are under way, the questions that wait, the server of each group that
+/// is asked first, its effective moment, and how many asks went by TCP.
 #[derive(Drop)]
 pub struct Forwarder<H, A: Allocator = Global> {
     alloc: A,
     config: Config<A>,
+    /// Kept for the cache that is to come, and not read yet.
     hasher: H,
     inquiries: Inquiries<A>,
     waiting: Vec<Waiting<A>, A>,
+    preferred: Vec<usize, A>,
     moment: u64,
+    tcp_asks: u64,
 }
 
 impl<H, A: Allocator> Model for Forwarder<H, A> {
-    ghost use Rattle.step_rules.specs.State.{Running, IsKept};
+    ghost use Rattle.step_rules.specs.State.{Running};
+    ghost use Rattle.forwarder_core.specs.Kept.{IsKept};
 
     ghost Value = { Running };
 
-    ghost view = { λ f. record { config = f.config; state = record { asks = f.inquiries.asks; waiting = f.waiting.items; moment = f.moment } } };
+    ghost view = { λ f. record { config = f.config; state = record { asks = f.inquiries.asks; waiting = f.waiting.items; preferred = f.preferred.items; moment = f.moment; tcp_asks = f.tcp_asks } } };
 
-    ghost invariant = { λ f. IsKept f.config f.inquiries f.moment };
+    ghost invariant = { λ f. IsKept f.config f.inquiries f.waiting.items f.preferred.items f.moment f.tcp_asks };
 }
 
 impl<H: Drop, A: Allocator + Copy> Forwarder<H, A> {
+    /// Both lists are in the order of time and within their limits.
+    fn check_order(&self)
+        ensures { IsInOrder self.now.config self.now.state }
+    {
+        let _asks = self.inquiries.len();
+    }
+
     /// What an event calls for; nothing where it is a restart.
     fn decide(
         &self,
@@ -73,6 +109,8 @@ impl<H: Drop, A: Allocator + Copy> Forwarder<H, A> {
         words: [u32; 8],
         event: &Event<A>,
     ) -> Result<Option<Next<A>>, AllocError>
+        requires later { self.now.state.moment ≤ moment }
+        requires in_time { moment ≤ 2 ^ 62 }
         ensures row { IfOk result (λ next. IsDecided self.now.config moment words self.now.state (event_of event.now) next) }
         ensures no_memory { TakesNoMemory self.now.config moment self.now.state (event_of event.now) → IsDecidedQuietly result }
         ensures fits { IfOk result (λ next. IfSome next (λ some. CanChange self.now.config moment self.now.state some.change)) }
@@ -83,10 +121,17 @@ impl<H: Drop, A: Allocator + Copy> Forwarder<H, A> {
                 Ok(Some(next))
             }
             Event::Delivery { path, from, bytes } => {
-                let next = self.on_delivery(moment, *path, *from, bytes.as_slice())?;
+                let next = self.on_delivery(moment, words, *path, *from, bytes.as_slice())?;
                 Ok(Some(next))
             }
-            Event::PathFailed { .. } | Event::Tick => Ok(Some(self.nothing())),
+            Event::PathFailed { path } => {
+                let next = self.on_failed_path(moment, words, *path)?;
+                Ok(Some(next))
+            }
+            Event::Tick => {
+                let next = self.on_tick(moment, words)?;
+                Ok(Some(next))
+            }
             Event::Restart => Ok(None),
         }
     }
@@ -125,29 +170,34 @@ impl<H: Drop, A: Allocator + Copy> Forwarder<H, A> {
         self.carry_out(moment, next)
     }
 
-    /// A forwarder that remembers nothing. It takes no memory yet; `Err` is for the memory of what it will remember.
+    /// A forwarder that remembers nothing. `Err` where memory ran out.
     pub fn new(alloc: A, config: Config<A>, hasher: H) -> Result<Forwarder<H, A>, AllocError>
-        ensures new { IfOk result (λ forwarder. forwarder ≡ record { config = config; state = start }) }
+        ensures new { IfOk result (λ forwarder. forwarder ≡ record { config = config; state = start config }) }
         ensures explained { IfOk result (λ forwarder. Explains forwarder.config [] [] forwarder.state) }
     {
         let capacity = config.limits.inquiries;
+        let preferred = first_places(alloc, config.routes())?;
         Ok(Forwarder {
             alloc,
             config,
             hasher,
             inquiries: Inquiries::new(alloc, capacity),
             waiting: Vec::new(alloc),
+            preferred,
             moment: 0,
+            tcp_asks: 0,
         })
     }
 
     /// Forgets all but the configuration: the state is that of a new forwarder. It takes no memory.
     pub fn restart(&mut self)
-        ensures { self.new ≡ record { config = self.old.config; state = start } }
+        ensures { self.new ≡ record { config = self.old.config; state = start self.old.config } }
     {
         self.inquiries.clear();
         self.waiting.clear();
+        forget_places(&mut self.preferred);
         self.moment = 0;
+        self.tcp_asks = 0;
     }
 
     /// One step: what is to be done about the event, at this moment in milliseconds and with these random words. A
@@ -162,11 +212,30 @@ impl<H: Drop, A: Allocator + Copy> Forwarder<H, A> {
         // What explains the state before explains, with this step and an owner for each of its replies, the state after.
         ensures explained { IfOk result (λ outcome. StaysExplained self.old.config self.old.state (record { now = now; words = words; event = event_of event }) outcome self.new.state) }
         ensures config { self.new.config ≡ self.old.config }
-        // A message that is dropped, a delivery that matches nothing and a restart never want memory.
+        // A message that is dropped, a delivery that matches nothing, the failure of a path without an ask, a tick with
+        // nothing due and a restart never want memory.
         ensures no_memory { TakesNoMemory self.old.config (effective now self.old.state) self.old.state (event_of event) → IsOk result }
         ensures err { OnErr result (self.new ≡ self.old) }
+        // What is left to do is bounded, and falls with each step that serves something: so ticks, while more is due,
+        // come to an end.
+        ensures bounded { left_to_do self.old.config self.old.state ≤ self.old.config.limits.questions + self.old.config.limits.inquiries * self.old.config.limits.tries }
+        ensures less { ServesSomething self.old.config (effective now self.old.state) self.old.state (event_of event) → IfOk result (λ outcome. left_to_do self.old.config self.new.state < left_to_do self.old.config self.old.state) }
     {
         check_octets(&event);
+        self.check_order();
         self.take(now, words, &event)
+    }
+
+    /// The least moment, in milliseconds, at which a tick serves something: the deadline of a waiting question, or the
+    /// moment from which an ask is past its time. `None` exactly where nothing waits and no ask is listed. It takes no
+    /// memory, and looks at the oldest of each list alone.
+    pub fn next_due(&self) -> Option<u64>
+        ensures { result ≡ next_due self.now.config self.now.state }
+    {
+        match (self.first_deadline(), self.first_timeout()) {
+            (Some(deadline), Some(timeout)) => Some(deadline.min(timeout)),
+            (Some(deadline), None) => Some(deadline),
+            (None, timeout) => timeout,
+        }
     }
 }

@@ -1,6 +1,8 @@
 use Rattle.std.proofs.Common.{ap, arith, sym, ◌∙◌}
-use Rattle.dns_name.proofs.CallerLemmas.{size_with_label}
-use Rattle.message_names.proofs.Loops.{with_front, front_more, front_none}
+use Rattle.dns_name.proofs.CallerLemmas.{size_with_labels}
+use Rattle.dns_name.specs.Labels.{labels_of}
+use Rattle.message_names.specs.Runs.{with_front}
+use Rattle.message_names.proofs.Loops.{front_run, front_none}
 use Rattle.message_names.proofs.names.read_name.Goals as goal
 
 pub loop-name-init : goal.loop-name-init
@@ -10,15 +12,21 @@ loop-name-init g c =
     rw c.root-name.ensures
     (record { read = front_none _ ∙ start; used = omega arith; room = omega arith; stop = rw bound (omega arith); known = c.requires })
 
+pub append_labels-requires-clause-room : goal.append_labels-requires-clause-room
+append_labels-requires-clause-room g c =
+    let a = rw c.in-Labels.is at c.in_ok-end.ensures.takes in
+    let now = c.loop-name.invariant in
+    omega (arith, a.0.used, a.0.room, now.used)
+
 pub loop-name-preserved : goal.loop-name-preserved
 loop-name-preserved g c =
-    let a = rw c.in-Label.is at c.in_ok-end.ensures.resumes in
+    let a = rw c.in-Labels.is at c.in_ok-end.ensures.takes in
     let now = c.loop-name.invariant in
-    rw c.in_ok-append-in-Label.ensures.ok
+    rw c.in_ok-append_labels-in-Labels.ensures.ok
     (record {
-      read = sym (front_more c.loop-name.name c.in-Label.label.now _) ∙ ap (with_front c.loop-name.name) (sym a.read) ∙ now.read;
-      used = omega (arith, size_with_label c.loop-name.name c.in-Label.label.now, now.used, a.used);
-      room = a.room;
-      stop = a.stop;
+      read = sym (front_run c.loop-name.name (labels_of c.in-Labels.octets.now) _) ∙ ap (with_front c.loop-name.name) (sym a.0.read) ∙ now.read;
+      used = omega (arith, size_with_labels c.loop-name.name c.in-Labels.octets.now a.0.laid, now.used, a.0.used);
+      room = a.0.room;
+      stop = a.0.stop;
       known = c.in_ok-end.ensures.known;
     })

@@ -2,7 +2,7 @@ use Rattle.std.proofs.Common.{◌≡◌, ◌≤◌, ◌+◌, length}
 use Rattle.dns_name.specs.Labels.{size_of}
 use Rattle.message_names.specs.Shortcuts.{AreShortcuts}
 use Rattle.message_names.specs.Names.{resume, name_at, steps_left}
-use Rattle.message_names.proofs.Loops.{with_front}
+use Rattle.message_names.specs.Runs.{with_front}
 use Rattle.message_names.proofs.names.read_name.Given as goal
 
 abbrev pub invariant-loop-name : goal.invariant-loop-name

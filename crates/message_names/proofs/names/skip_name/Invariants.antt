@@ -1,16 +1,17 @@
-use Rattle.std.proofs.Common.{◌≡◌, ◌≤◌, length}
-use Rattle.message_names.specs.Shortcuts.{AreShortcuts}
+use Rattle.std.proofs.Common.{◌≡◌, ◌≤◌, length, None}
+use Rattle.message_names.specs.Sizes.{AreSizes}
 use Rattle.message_names.specs.Names.{resume, name_within, steps_left}
 use Rattle.message_names.specs.Reading.{behind}
 use Rattle.message_names.proofs.names.skip_name.Given as goal
 
-abbrev pub invariant-loop-end : goal.invariant-loop-end
-invariant-loop-end l = record {
+abbrev pub invariant-loop-len : goal.invariant-loop-len
+invariant-loop-len l = record {
   read : behind (resume l.bytes l.walk) ≡ behind (name_within l.bytes l.fn.bound l.offset);
   room : l.walk.used ≤ 254;
   stop : l.walk.bound.stop ≤ length l.bytes;
-  known : AreShortcuts l.bytes l.ends;
+  own : l.walk.end ≡ None;
+  known : AreSizes l.bytes l.sizes;
 }
 
-abbrev pub decreases-loop-end : goal.decreases-loop-end
-decreases-loop-end l = steps_left l.walk.run l.walk.used
+abbrev pub decreases-loop-len : goal.decreases-loop-len
+decreases-loop-len l = steps_left l.walk.run l.walk.used

@@ -16,9 +16,9 @@ returns-in-End-clause-resumes c =
 
 pub returns-in-Label-clause-resumes : goal.returns-in-Label-clause-resumes
 returns-in-Label-clause-resumes c =
-    let stays = rw c.in-Label.is at c.in_ok-step_at.ensures.stays in
-    let read = resume_label c.args.bytes.now c.loop-len.walk c.in-Label.len (omega arith) (rw c.in-Label.is at (sym c.in_ok-step_at.ensures.exact)) in
-    rw c.part-label.ensures (advances c.args.bytes.now c.args.walk c.loop-len.walk c.in-Label.len stays c.loop-len.invariant.used c.loop-len.invariant.back c.loop-len.invariant.stop (sym c.loop-len.invariant.same ∙ read))
+    let is = rw c.in-Label.is at (sym c.in_ok-step_at.ensures.exact) in
+    let read = resume_label c.args.bytes.now c.loop-len.walk c.in-Label.len (omega arith) is in
+    rw c.part-label.ensures (advances c.args.bytes.now c.args.walk c.loop-len.walk c.in-Label.len is c.loop-len.invariant.used c.loop-len.invariant.back c.loop-len.invariant.stop (sym c.loop-len.invariant.same ∙ read))
 
 pub loop-len-preserved : goal.loop-len-preserved
 loop-len-preserved c =

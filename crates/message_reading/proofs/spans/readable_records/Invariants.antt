@@ -1,5 +1,5 @@
 use Rattle.std.proofs.Common.{◌≡◌, ◌+◌, length}
-use Rattle.message_names.specs.Shortcuts.{AreShortcuts}
+use Rattle.message_names.specs.Sizes.{AreSizes}
 use Rattle.message_reading.specs.Spans.{sections_of, spans_at}
 use Rattle.message_reading.proofs.spans.readable_records.Given as goal
 
@@ -7,7 +7,7 @@ abbrev pub invariant-loop-after : goal.invariant-loop-after
 invariant-loop-after l = record {
   told : l.count + length (spans_at l.bytes (sections_of l.left) l.at) ≡ length (spans_at l.bytes (sections_of l.fn.left) l.offset);
   room : l.count + length (sections_of l.left) ≡ length (sections_of l.fn.left);
-  known : AreShortcuts l.bytes l.ends;
+  known : AreSizes l.bytes l.sizes;
 }
 
 abbrev pub decreases-loop-after : goal.decreases-loop-after

@@ -1,9 +1,23 @@
-use Rattle.std.proofs.Common.{◌∙◌, refl, ap, subst, arith}
-use Rattle.step_values.specs.Values.{event_of, Handed}
-use Rattle.step_rules.specs.Row.{Row}
-use Rattle.step_soundness.specs.Runs.{StaysExplained}
-use Rattle.step_soundness.proofs.CallerLemmas.{explained_more, run_more, stays_at, handed_more}
+use Rattle.std.proofs.Common.{◌≡◌, ◌∙◌, ℕ, List, [], length, take, refl, sym, ap, subst, arith}
+use Rattle.std.specs.Prelude.{map}
+use Rattle.std.proofs.Math.Seq.{take-length}
+use Rattle.suffix_routes.specs.Values.{Config}
+use Rattle.step_values.specs.Values.{event_of, Handed, Step}
+use Rattle.step_rules.specs.State.{Running}
+use Rattle.step_rules.specs.Row.{Row, start}
+use Rattle.step_soundness.specs.Runs.{Run, IsExplained, StaysExplained}
+use Rattle.step_soundness.proofs.CallerLemmas.{explained_is_sound, explained_more, run_more, stays_at, handed_more}
 use Rattle.network_model.proofs.run.run_list.Goals as goal
+
+pub loop-entry-init : goal.loop-entry-init
+loop-entry-init g c =
+    let config : c.in_ok-forwarder.forwarder.config ≡ c.args.config.now = ap (λ (r : Running). r.config) c.in_ok-forwarder.ensures.new ∙ c.in_ok-own.ensures in
+    record {
+      config = config;
+      handed = ap (λ (steps : List Step). map (λ (s : Step). s.handed) steps) c.new-steps.ensures.items;
+      run = subst (λ (steps : List Step). Run c.args.config.now (start c.args.config.now) steps c.in_ok-forwarder.forwarder.state) (sym c.new-steps.ensures.items) (ap (λ (r : Running). r.state) c.in_ok-forwarder.ensures.new ∙ ap (λ (k : Config). start k) c.in_ok-own.ensures);
+      explained = subst (λ (steps : List Step). IsExplained c.args.config.now steps c.in_ok-forwarder.forwarder.state) (sym c.new-steps.ensures.items) (subst (λ (k : Config). IsExplained k [] c.in_ok-forwarder.forwarder.state) config ([], c.in_ok-forwarder.ensures.explained));
+    }
 
 pub loop-entry-preserved : goal.loop-entry-preserved
 loop-entry-preserved g c =
@@ -17,3 +31,12 @@ loop-entry-preserved g c =
       run = run_more _ c.loop-entry.forwarder.config _ _ _ _ _ c.in_ok-entry.entry c.in_ok-outcome.outcome i.config c.in_ok-push.ensures.items i.run row;
       explained = explained_more c.args.config.now c.args.config.now _ _ c.loop-entry.forwarder.state _ c.in_ok-entry.entry c.in_ok-outcome.outcome refl c.in_ok-push.ensures.items i.explained (stays_at _ c.loop-entry.forwarder.config _ _ _ _ i.config stays);
     }
+
+pub returns-clause-handed : goal.returns-clause-handed
+returns-clause-handed g c =
+    let far = c.loop-entry.auto.entry-index-end in
+    let test = c.loop-entry-test.false in
+    c.loop-entry.invariant.handed ∙ ap (λ (n : ℕ). take n c.args.handed.now) (let all : c.loop-entry.entry-index ≡ length c.args.handed.now = omega (arith, far, test) in all) ∙ take-length c.args.handed.now
+
+pub returns-clause-sound : goal.returns-clause-sound
+returns-clause-sound g c = explained_is_sound c.args.config.now c.loop-entry.steps.items c.loop-entry.forwarder.state c.loop-entry.invariant.explained

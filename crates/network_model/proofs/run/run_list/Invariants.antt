@@ -8,6 +8,6 @@ abbrev pub invariant-loop-entry : goal.invariant-loop-entry
 invariant-loop-entry g l = record {
   config : l.forwarder.config ≡ l.fn.config;
   handed : map (λ s. s.handed) l.steps.items ≡ take l.entry-index l.handed;
-  run : Run l.fn.config start l.steps.items l.forwarder.state;
+  run : Run l.fn.config (start l.fn.config) l.steps.items l.forwarder.state;
   explained : IsExplained l.fn.config l.steps.items l.forwarder.state;
 }

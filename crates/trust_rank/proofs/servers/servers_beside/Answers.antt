@@ -1,5 +1,4 @@
-use Rattle.std.proofs.Common.{List, subst}
-use Rattle.dns_message.specs.Values.{Record}
+use Rattle.std.proofs.Common.{subst}
 use Rattle.dns_message.specs.Messages.{AreShaped}
 use Rattle.trust_rank.specs.Walks.{servers_from}
 use Rattle.trust_rank.proofs.ServerLaws.{go_further, all_put}

@@ -1,5 +1,4 @@
-use Rattle.std.proofs.Common.{◌∙◌, ap, [], ◌∷◌}
-use Rattle.step_values.specs.declared.action.Why.TheVariants.{Exhausted}
+use Rattle.std.proofs.Common.{◌∙◌, ap, [], ◌∷◌, None}
 use Rattle.step_rules.specs.State.{Running}
 use Rattle.step_rules.specs.Row.{closes, fails}
 use Rattle.forwarder_core.specs.Next.{with_replies}
@@ -8,6 +7,6 @@ use Rattle.forwarder_core.proofs.forwarder.Forwarder.give_up.Goals as goal
 
 pub returns-clause-row : goal.returns-clause-row
 returns-clause-row g c =
-    closed_is c.args.moment c.args.path c.args.self.now.state c.args.query.now (fails Exhausted c.args.query.now.question) _ c.requires
-    (c.in_ok-actions.ensures ∙ ap (with_replies (fails Exhausted c.args.query.now.question) (closes c.args.query.now.path ∷ [])) (c.deref.ensures.value ∙ ap (λ (r : Running). r.state.waiting) c.self.view_is))
-    (fails_frees Exhausted c.args.query.now.question)
+    closed_is g.row.A.Denot c.args.moment c.args.path c.args.self.now.state c.args.ask.now (fails c.args.why c.args.ask.now.question) None _ c.requires
+    (c.in_ok-actions.ensures ∙ ap (with_replies (fails c.args.why c.args.ask.now.question) (closes c.args.ask.now.path ∷ [])) (c.deref.ensures.value ∙ ap (λ (r : Running). r.state.waiting) c.self.view_is))
+    (fails_frees c.args.why c.args.ask.now.question)

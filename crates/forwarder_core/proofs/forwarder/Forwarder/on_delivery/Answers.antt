@@ -2,38 +2,38 @@ use Rattle.std.proofs.Common.{◌∙◌, ap, sym, ◌+◌}
 use Rattle.std.specs.Prelude.{nat_lt}
 use Rattle.std.proofs.lemmas.Result.{IfOk-weaker}
 use Rattle.step_rules.specs.State.{Running}
-use Rattle.step_rules.specs.Row.{judged}
+use Rattle.step_rules.specs.Row.{row_of_verdict}
 use Rattle.outstanding.specs.Lists.{on_path as ask_on}
 use Rattle.forwarder_core.proofs.Deciding.{idle_unlisted, idle_late, judged_is, verdict_is}
 use Rattle.forwarder_core.proofs.forwarder.Forwarder.on_delivery.Goals as goal
 
 pub returns-in_default-clause-row : goal.returns-in_default-clause-row
 returns-in_default-clause-row g c =
-    idle_unlisted c.args.self.now.config c.args.moment c.args.from c.args.bytes.now c.args.self.now.state _ _
+    idle_unlisted c.args.self.now.config c.args.moment c.args.words c.args.from c.args.bytes.now c.args.self.now.state _ _
     (sym (ap (ask_on c.args.path) (ap (λ (r : Running). r.state.asks) c.self.view_is)) ∙ c.in_default.ensures.found)
     (c.nothing.ensures.row c.args.moment)
 
 pub returns-then-not-is_live-clause-row : goal.returns-then-not-is_live-clause-row
 returns-then-not-is_live-clause-row g c =
-    idle_late c.args.self.now.config c.args.moment c.args.from c.args.bytes.now c.args.self.now.state _ c.in-Some.query.now _
+    idle_late c.args.self.now.config c.args.moment c.args.words c.args.from c.args.bytes.now c.args.self.now.state _ c.in-Some.ask.now _
     (sym (ap (ask_on c.args.path) (ap (λ (r : Running). r.state.asks) c.self.view_is)) ∙ c.in-Some.ensures.found)
-    (ap (λ (r : Running). nat_lt c.args.moment (c.in-Some.query.now.asked + r.config.limits.ask_ms)) (sym c.self.view_is) ∙ sym c.is_live.ensures ∙ c.if-not-is_live.true)
+    (ap (λ (r : Running). nat_lt c.args.moment (c.in-Some.ask.now.asked + r.config.limits.ask_ms)) (sym c.self.view_is) ∙ sym c.is_live.ensures ∙ c.if-not-is_live.true)
     (c.nothing-then-not-is_live.ensures.row c.args.moment)
 
 pub returns-clause-row : goal.returns-clause-row
 returns-clause-row g c =
     IfOk-weaker c.on_verdict.result _ _
-    (λ next e. judged_is c.args.self.now.config c.args.moment c.args.from c.args.bytes.now c.args.self.now.state _ c.in-Some.query.now _
+    (λ next e. judged_is c.args.self.now.config c.args.moment c.args.words c.args.from c.args.bytes.now c.args.self.now.state _ c.in-Some.ask.now _
     (sym (ap (ask_on c.args.path) (ap (λ (r : Running). r.state.asks) c.self.view_is)) ∙ c.in-Some.ensures.found)
-    (ap (λ (r : Running). nat_lt c.args.moment (c.in-Some.query.now.asked + r.config.limits.ask_ms)) (sym c.self.view_is) ∙ sym c.is_live.ensures ∙ c.if-not-is_live.false)
-    (e ∙ ap (judged c.args.self.now.config c.args.moment c.in-Some.query.now c.args.bytes.now c.args.self.now.state) c.judge-verdict.ensures))
+    (ap (λ (r : Running). nat_lt c.args.moment (c.in-Some.ask.now.asked + r.config.limits.ask_ms)) (sym c.self.view_is) ∙ sym c.is_live.ensures ∙ c.if-not-is_live.false)
+    (e ∙ ap (row_of_verdict c.args.self.now.config c.args.moment c.args.words c.in-Some.ask.now c.args.bytes.now c.args.self.now.state) c.judge-verdict.ensures))
     c.on_verdict.ensures.row
 
 pub returns-clause-unmatched : goal.returns-clause-unmatched
 returns-clause-unmatched g c stranger =
     c.on_verdict.ensures.unmatched
     (c.judge-verdict.ensures
-    ∙ sym (verdict_is c.args.self.now.config c.args.moment c.args.from c.args.bytes.now _ c.in-Some.query.now
+    ∙ sym (verdict_is c.args.self.now.config c.args.moment c.args.from c.args.bytes.now _ c.in-Some.ask.now
     (sym (ap (ask_on c.args.path) (ap (λ (r : Running). r.state.asks) c.self.view_is)) ∙ c.in-Some.ensures.found)
-    (ap (λ (r : Running). nat_lt c.args.moment (c.in-Some.query.now.asked + r.config.limits.ask_ms)) (sym c.self.view_is) ∙ sym c.is_live.ensures ∙ c.if-not-is_live.false))
+    (ap (λ (r : Running). nat_lt c.args.moment (c.in-Some.ask.now.asked + r.config.limits.ask_ms)) (sym c.self.view_is) ∙ sym c.is_live.ensures ∙ c.if-not-is_live.false))
     ∙ stranger)

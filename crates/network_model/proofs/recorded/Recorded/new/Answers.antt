@@ -1,5 +1,7 @@
-use Rattle.step_soundness.proofs.CallerLemmas.{IsExplained-start}
+use Rattle.std.proofs.Common.{sym, subst, [], List}
+use Rattle.step_values.specs.Values.{Step}
+use Rattle.step_soundness.specs.Runs.{IsExplained}
 use Rattle.network_model.proofs.recorded.Recorded.new.Goals as goal
 
 pub invariant_of-result : goal.invariant_of-result
-invariant_of-result g c = rw (c.in_ok-forwarder.ensures.new, c.new-2.ensures.items) (IsExplained-start _)
+invariant_of-result g c = subst (λ (steps : List Step). IsExplained c.in_ok-forwarder.forwarder.config steps c.in_ok-forwarder.forwarder.state) (sym c.new-2.ensures.items) ([], c.in_ok-forwarder.ensures.explained)

@@ -1,0 +1,106 @@
+//! What it costs where one reply answers many clients that asked the same question.
+
+use anyhow::Result;
+use forwarder_core::Forwarder;
+use lru::DefaultHasher;
+use plain_list::PlainList;
+use std::alloc::Global;
+use std::fs;
+use std::time::Instant;
+use step_values::{Action, Client, Event, Path};
+use suffix_routes::{Config, Peer};
+
+/// One route for all names, and room for all that wait.
+const CONFIG: &str = r#"version = 1
+[limits]
+questions = 4096
+[[route]]
+suffix = "."
+servers = ["192.0.2.1:53"]
+"#;
+
+/// The server of the route.
+const SERVER: Peer = Peer {
+    ip: [192, 0, 2, 1],
+    port: 53,
+};
+
+/// Identifier 8 and port 1032 by the first.
+const WORDS: [u32; 8] = [
+    524_296, 589_833, 655_370, 720_907, 786_444, 851_981, 917_518, 983_055,
+];
+
+/// The path that the first of the words draws.
+const PATH: Path = Path::Udp(1032);
+
+/// So often the least time is taken of.
+const ROUNDS: u32 = 3;
+
+/// A client over this transport.
+fn client(number: u16, over_tcp: bool) -> Client {
+    if over_tcp {
+        return Client::Tcp(u64::from(number));
+    }
+    Client::Udp(Peer {
+        ip: [10, 0, 0, 7],
+        port: number,
+    })
+}
+
+/// How long the step with the reply takes in nanoseconds where so many wait for it, and how many octets it sends.
+fn time_of_reply(
+    rt: &HostRuntime,
+    question: &[u8],
+    reply: &[u8],
+    waiting: u16,
+    over_tcp: bool,
+) -> Result<(u128, usize)> {
+    let alloc = rt.alloc();
+    let config = Config::read(alloc, alloc, CONFIG)?;
+    let mut forwarder = Forwarder::new(alloc, config, DefaultHasher::default())?;
+    for number in 0..waiting {
+        let client = client(number, over_tcp);
+        let bytes = PlainList::copied(alloc, question)?;
+        forwarder.step(1000, WORDS, Event::Client { client, bytes })?;
+    }
+    let event = Event::Delivery {
+        path: PATH,
+        from: SERVER,
+        bytes: PlainList::copied(alloc, reply)?,
+    };
+    let started = Instant::now(rt)?;
+    let outcome = forwarder.step(1020, WORDS, event)?;
+    let took = started.elapsed(rt)?.as_nanos();
+    let mut sent = 0usize;
+    for action in outcome.actions.as_slice() {
+        if let Action::Reply { bytes, .. } = action {
+            sent = sent.saturating_add(bytes.as_slice().len());
+        }
+    }
+    Ok((took, sent))
+}
+
+/// Prints how long the step with the reply takes where one and where 1,000 wait for it, over UDP and over TCP. The files
+/// have the octets of a client's message and of the server's, whose identifier is 8.
+pub fn measure(rt: &HostRuntime, question: &str, reply: &str) -> Result<()> {
+    let question = fs::read(rt, question)?;
+    let reply = fs::read(rt, reply)?;
+    for over_tcp in [false, true] {
+        for waiting in [1u16, 1000] {
+            let mut least = u128::MAX;
+            let mut octets = 0usize;
+            for _ in 0..ROUNDS {
+                let (took, sent) = time_of_reply(rt, &question, &reply, waiting, over_tcp)?;
+                least = least.min(took);
+                octets = sent;
+            }
+            let transport = if over_tcp { "TCP" } else { "UDP" };
+            let micros = least / 1000;
+            println!(rt;
+                "many_wait: a reply of {} octets, {waiting} over {transport}, {octets} octets sent: {micros} us",
+                reply.len()
+            )?;
+        }
+    }
+    Ok(())
+}

@@ -1,0 +1,264 @@
+-- What a forwarder keeps still holds after each change.
+use Rattle.std.proofs.Common.{Vec, ◌≡◌, ℕ, zero, suc, ◌+◌, ◌^◌, ◌<◌, ◌≤◌, List, [], ◌∷◌, ◌++◌, length, Bool, true, false, cond, refl, sym, ap, ◌∙◌, subst, arith, Option, Some, None}
+use Rattle.std.specs.Prelude.{filter, not, option_map, min, take, drop, map, slice_set, slice_get, nat_le}
+use Rattle.std.specs.List.{AllByRecursion, list_any}
+use Rattle.std.proofs.lemmas.List.{length-append, with_items_is}
+use Rattle.std.specs.Vec.{with_items}
+use Rattle.std.proofs.lemmas.Bool.{cond_both, leb-true, leb-false, cond-true, cond-false}
+use Rattle.suffix_routes.specs.Values.{Config, Route, IsConfig}
+use Rattle.outstanding.specs.declared.ask.Path.{Path}
+use Rattle.outstanding.specs.declared.ask.Path.TheVariants.{Udp, Tcp}
+use Rattle.outstanding.specs.Lists.{same_path, without_path, AreInTurn, AreListed}
+use Rattle.outstanding.specs.Due as due
+use Rattle.outstanding.specs.Values.{Ask, Inquiries}
+use Rattle.step_rules.specs.State.{Waiting}
+use Rattle.step_rules.specs.Attempts.{servers_in}
+use Rattle.step_rules.specs.Row.{waits_for, deadline_of, timeout_of}
+use Rattle.step_rules.specs.Progress.{AreTakenInTurn, IsTry, lesser, least, IsInOrder}
+use Rattle.step_rules.proofs.CallerLemmas.{first_due, first_late, first_deadline}
+use Rattle.step_soundness.specs.Explains.{IsBelow, ArePreferred}
+use Rattle.step_soundness.proofs.CallerLemmas.{All-append, All-filter, All-weaker, preferred_first, preferred_put}
+use Rattle.forwarder_core.specs.declared.next.Preferred.{Preferred}
+use Rattle.forwarder_core.specs.Kept.{IsKeptAsk, IsKept}
+use Rattle.forwarder_core.specs.Next.{left_waiting, with_preferred, without_closed, IsServed}
+
+-- ---- asks, later
+
+below_more : (k j : ℕ) (p : Path) → IsBelow k p → IsBelow (k + j) p
+below_more k j (Udp port) h = tt
+below_more k j (Tcp conn) h = let lt : conn < k = h in omega (arith, lt)
+
+later_asks : (c : Config) (m n k j : ℕ) (asks : List Ask) → m ≤ n → AllByRecursion (IsKeptAsk c m k) asks → AllByRecursion (IsKeptAsk c n (k + j)) asks
+later_asks c m n k j asks le all = All-weaker (IsKeptAsk c m k) (IsKeptAsk c n (k + j)) (λ a h. record { earlier = let e = h.earlier in omega (arith, e, le); server = h.server; tries = h.tries; path = below_more k j a.path h.path }) asks all
+
+later_same : (c : Config) (m n k : ℕ) (asks : List Ask) → m ≤ n → AllByRecursion (IsKeptAsk c m k) asks → AllByRecursion (IsKeptAsk c n k) asks
+later_same c m n k asks le all = All-weaker (IsKeptAsk c m k) (IsKeptAsk c n k) (λ a h. record { earlier = let e = h.earlier in omega (arith, e, le); server = h.server; tries = h.tries; path = h.path }) asks all
+
+-- ---- questions, later
+
+later_taken : (m n : ℕ) (xs : List Waiting) → m ≤ n → AllByRecursion (λ x. x.taken ≤ m) xs → AllByRecursion (λ x. x.taken ≤ n) xs
+later_taken m n xs le all = All-weaker (λ (x : Waiting). x.taken ≤ m) (λ (x : Waiting). x.taken ≤ n) (λ x h. let at : x.taken ≤ m = h in omega (arith, at, le)) xs all
+
+in_turn_put : (m : ℕ) (xs : List Waiting) (y : Waiting) → AreTakenInTurn xs → AllByRecursion (λ x. x.taken ≤ m) xs → m ≤ y.taken → AreTakenInTurn (xs ++ y ∷ [])
+in_turn_put m [] y turn all le = (tt, tt)
+in_turn_put m (x ∷ xs) y turn all le =
+    (All-append (λ (z : Waiting). x.taken ≤ z.taken) xs (y ∷ []) turn.0 (let at : x.taken ≤ m = all.0 in omega (arith, at, le), tt), in_turn_put m xs y turn.1 all.1 le)
+
+in_turn_left : (test : Waiting → Bool) (xs : List Waiting) → AreTakenInTurn xs → AreTakenInTurn (filter test xs)
+in_turn_left test [] turn = tt
+in_turn_left test (x ∷ xs) turn = elim (test x) as (λ v. AreTakenInTurn (cond v (x ∷ filter test xs) (filter test xs))) [
+  | true ↦ (All-filter (λ (y : Waiting). x.taken ≤ y.taken) test xs turn.0, in_turn_left test xs turn.1)
+  | false ↦ in_turn_left test xs turn.1
+]
+
+fewer : {X : Type 0} (test : X → Bool) (xs : List X) → length (filter test xs) ≤ length xs
+fewer test [] = omega arith
+fewer test (x ∷ xs) = cond_both (test x) (x ∷ filter test xs) (filter test xs) (λ ys. length ys ≤ length (x ∷ xs)) (λ _. let rest = fewer test xs in omega (arith, rest)) (λ _. let rest = fewer test xs in omega (arith, rest))
+
+-- ---- changes
+
+pub kept_later : (c : Config) (i : Inquiries) (ws : List Waiting) (ps : List ℕ) (m n k : ℕ) → IsKept c i ws ps m k → m ≤ n → n ≤ 2 ^ 62 → IsKept c i ws ps n k
+kept_later c i ws ps m n k kept le small = record {
+  config = kept.config;
+  capacity = kept.capacity;
+  asks = later_same c m n k i.asks le kept.asks;
+  few = kept.few;
+  in_turn = kept.in_turn;
+  taken = later_taken m n ws le kept.taken;
+  places = kept.places;
+  in_time = small;
+  counted = kept.counted;
+}
+
+-- one question more
+pub kept_joined : (c : Config) (i : Inquiries) (ws ws' : List Waiting) (ps : List ℕ) (m n k : ℕ) (x : Waiting) → IsKept c i ws ps m k → m ≤ n → n ≤ 2 ^ 62 → length ws < c.limits.questions → x.taken ≡ n → ws' ≡ ws ++ x ∷ [] → IsKept c i ws' ps n k
+kept_joined c i ws ws' ps m n k x kept le small room at is = subst (λ (xs : List Waiting). IsKept c i xs ps n k) (sym is) (record {
+  config = kept.config;
+  capacity = kept.capacity;
+  asks = later_same c m n k i.asks le kept.asks;
+  few = let longer = length-append ws (x ∷ []) in omega (arith, longer, room);
+  in_turn = in_turn_put m ws x kept.in_turn kept.taken (omega (arith, at, le));
+  taken = All-append (λ (y : Waiting). y.taken ≤ n) ws (x ∷ []) (later_taken m n ws le kept.taken) (omega (arith, at), tt);
+  places = kept.places;
+  in_time = small;
+  counted = kept.counted;
+})
+
+-- one ask more
+pub kept_asked : (c : Config) (i i' : Inquiries) (ws : List Waiting) (ps : List ℕ) (m n k j : ℕ) (listed : List Ask) (a : Ask) → IsKept c i ws ps m k → m ≤ n → n ≤ 2 ^ 62 → AllByRecursion (IsKeptAsk c m k) listed → IsKeptAsk c n (k + j) a → k + j < 2 ^ 64
+    → i' ≡ record i { asks = listed ++ a ∷ [] } → IsKept c i' ws ps n (k + j)
+kept_asked c i i' ws ps m n k j listed a kept le small all one fits is = subst (λ (q : Inquiries). IsKept c q ws ps n (k + j)) (sym is) (record {
+  config = kept.config;
+  capacity = kept.capacity;
+  asks = All-append (IsKeptAsk c n (k + j)) listed (a ∷ []) (later_asks c m n k j listed le all) (one, tt);
+  few = kept.few;
+  in_turn = kept.in_turn;
+  taken = later_taken m n ws le kept.taken;
+  places = kept.places;
+  in_time = small;
+  counted = fits;
+})
+
+pub kept_rest : (c : Config) (m k : ℕ) (path : Path) (asks : List Ask) → AllByRecursion (IsKeptAsk c m k) asks → AllByRecursion (IsKeptAsk c m k) (without_path path asks)
+kept_rest c m k path asks all = All-filter (IsKeptAsk c m k) (λ b. not (same_path b.path path)) asks all
+
+-- an ask fewer
+pub kept_without : (c : Config) (i i' : Inquiries) (ws : List Waiting) (ps : List ℕ) (m k : ℕ) (closed : Option Path) → IsKept c i ws ps m k → i' ≡ record i { asks = without_closed closed i.asks } → IsKept c i' ws ps m k
+kept_without c i i' ws ps m k closed kept is = subst (λ (q : Inquiries). IsKept c q ws ps m k) (sym is) (record {
+  config = kept.config;
+  capacity = kept.capacity;
+  asks = by closed;
+  few = kept.few;
+  in_turn = kept.in_turn;
+  taken = kept.taken;
+  places = kept.places;
+  in_time = kept.in_time;
+  counted = kept.counted;
+})
+  where
+    by : (o : Option Path) → AllByRecursion (IsKeptAsk c m k) (without_closed o i.asks)
+    by None = kept.asks
+    by (Some path) = kept_rest c m k path i.asks kept.asks
+
+-- questions fewer
+pub kept_left : (c : Config) (i : Inquiries) (ws ws' : List Waiting) (ps : List ℕ) (m k : ℕ) (r : Option Ask) → IsKept c i ws ps m k → ws' ≡ left_waiting r ws → IsKept c i ws' ps m k
+kept_left c i ws ws' ps m k r kept is = subst (λ (xs : List Waiting). IsKept c i xs ps m k) (sym is) (by r)
+  where
+    by : (o : Option Ask) → IsKept c i (left_waiting o ws) ps m k
+    by None = kept
+    by (Some a) = record {
+      config = kept.config;
+      capacity = kept.capacity;
+      asks = kept.asks;
+      few = let less = fewer (λ (x : Waiting). not (waits_for a.question x)) ws in let few = kept.few in omega (arith, less, few);
+      in_turn = in_turn_left (λ x. not (waits_for a.question x)) ws kept.in_turn;
+      taken = All-filter (λ (x : Waiting). x.taken ≤ m) (λ x. not (waits_for a.question x)) ws kept.taken;
+      places = kept.places;
+      in_time = kept.in_time;
+      counted = kept.counted;
+    }
+
+pub kept_dropped : (c : Config) (i : Inquiries) (ws ws' : List Waiting) (ps : List ℕ) (m k : ℕ) → IsKept c i ws ps m k → ws' ≡ drop 1 ws → IsKept c i ws' ps m k
+kept_dropped c i [] ws' ps m k kept is = subst (λ (xs : List Waiting). IsKept c i xs ps m k) (sym is) kept
+kept_dropped c i (x ∷ ws) ws' ps m k kept is = subst (λ (xs : List Waiting). IsKept c i xs ps m k) (sym is) (record {
+  config = kept.config;
+  capacity = kept.capacity;
+  asks = kept.asks;
+  few = let few = kept.few in omega (arith, few);
+  in_turn = kept.in_turn.1;
+  taken = kept.taken.1;
+  places = kept.places;
+  in_time = kept.in_time;
+  counted = kept.counted;
+})
+
+-- another server is preferred
+pub kept_preferred : (c : Config) (i : Inquiries) (ws : List Waiting) (ps ps' : List ℕ) (m k : ℕ) (preferred : Option Preferred) → IsKept c i ws ps m k → IsServed c preferred → ps' ≡ with_preferred preferred ps → IsKept c i ws ps' m k
+kept_preferred c i ws ps ps' m k preferred kept served is = subst (λ (qs : List ℕ). IsKept c i ws qs m k) (sym is) (by preferred served)
+  where
+    by : (o : Option Preferred) → IsServed c o → IsKept c i ws (with_preferred o ps) m k
+    by None h = kept
+    by (Some p) h = record {
+      config = kept.config;
+      capacity = kept.capacity;
+      asks = kept.asks;
+      few = kept.few;
+      in_turn = kept.in_turn;
+      taken = kept.taken;
+      places = preferred_put c.routes ps p.route p.server kept.places (λ r there. subst (λ (o : Option Route). p.server < length (servers_in o)) there h);
+      in_time = kept.in_time;
+      counted = kept.counted;
+    }
+
+-- a new forwarder
+pub kept_first : (c : Config) (i : Inquiries) (ws : List Waiting) (ps : List ℕ) → IsConfig c → i ≡ record { capacity = c.limits.inquiries; asks = [] } → ws ≡ [] → ps ≡ map (λ r. 0) c.routes → IsKept c i ws ps 0 0
+kept_first c i ws ps config is none places =
+    subst (λ (q : Inquiries). IsKept c q ws ps 0 0) (sym is) (subst (λ (xs : List Waiting). IsKept c (record { capacity = c.limits.inquiries; asks = [] }) xs ps 0 0) (sym none) (record {
+      config = config;
+      capacity = refl;
+      asks = tt;
+      few = omega arith;
+      in_turn = tt;
+      taken = tt;
+      places = subst (ArePreferred c.routes) (sym places) (preferred_first c.routes config.each);
+      in_time = omega arith;
+      counted = omega arith;
+    }))
+
+-- ---- what is due: the first of each list tells
+
+pub oldest_due : (d n : ℕ) (x : Waiting) (xs ws : List Waiting) → ws ≡ x ∷ xs → AreTakenInTurn ws → nat_le (x.taken + d) n ≡ list_any (λ (y : Waiting). nat_le (y.taken + d) n) ws
+oldest_due d n x xs ws is turn = first_due d n x xs (subst AreTakenInTurn is turn) ∙ sym (ap (λ (ys : List Waiting). list_any (λ (y : Waiting). nat_le (y.taken + d) n) ys) is)
+
+pub oldest_late : (d n : ℕ) (a : Ask) (asks : List Ask) → slice_get asks 0 ≡ Some a → AreInTurn asks → nat_le (a.asked + d) n ≡ list_any (λ (b : Ask). nat_le (b.asked + d) n) asks
+oldest_late d n a [] there turn = absurd (cc)
+oldest_late d n a (b ∷ asks) there turn = let same : b ≡ a = cc in subst (λ (x : Ask). nat_le (x.asked + d) n ≡ list_any (λ (y : Ask). nat_le (y.asked + d) n) (b ∷ asks)) same (first_late d n b asks turn)
+
+-- the oldest question has the least deadline
+pub oldest_deadline : (c : Config) (x : Waiting) (xs ws : List Waiting) → ws ≡ x ∷ xs → AreTakenInTurn ws → least (map (deadline_of c) ws) ≡ Some (deadline_of c x)
+oldest_deadline c x xs ws is turn = ap (λ (ys : List Waiting). least (map (deadline_of c) ys)) is ∙ first_deadline c x xs (subst AreTakenInTurn is turn)
+
+-- an ask that is due first, as a moment alone
+sooner_one : (p : ℕ × Path) (o : Option (ℕ × Path)) → option_map (λ d. d.0) (due.sooner p o) ≡ Some (lesser p.0 (option_map (λ d. d.0) o))
+sooner_one p None = refl
+sooner_one p (Some q) = by (nat_le p.0 q.0) refl
+  where
+    by : (b : Bool) → nat_le p.0 q.0 ≡ b → option_map (λ d. d.0) (cond (nat_le p.0 q.0) (Some p) (Some q)) ≡ Some (min p.0 q.0)
+    by true t = ap (option_map (λ (d : ℕ × Path). d.0)) (cond-true (nat_le p.0 q.0) (Some p) (Some q) t) ∙ sym (ap (λ (m : ℕ). Some m) (Rattle.std.proofs.Math.Nat.min-eq_left (leb-true p.0 q.0 t)))
+    by false f = ap (option_map (λ (d : ℕ × Path). d.0)) (cond-false (nat_le p.0 q.0) (Some p) (Some q) f) ∙ sym (ap (λ (m : ℕ). Some m) (Rattle.std.proofs.Math.Nat.min-eq_right (let less = leb-false p.0 q.0 f in omega (arith, less))))
+
+pub timeouts_least : (c : Config) (asks : List Ask) → option_map (λ d. d.0) (due.next_due c.limits.ask_ms asks) ≡ least (map (timeout_of c) asks)
+timeouts_least c [] = refl
+timeouts_least c (a ∷ asks) = sooner_one (due.due_of c.limits.ask_ms a) (due.next_due c.limits.ask_ms asks) ∙ ap (λ (o : Option ℕ). Some (lesser (timeout_of c a) o)) (timeouts_least c asks)
+
+-- both lists are in order
+pub kept_in_order : (c : Config) (i : Inquiries) (ws : List Waiting) (ps : List ℕ) (m k : ℕ) → IsKept c i ws ps m k → AreListed i → IsInOrder c (record { asks = i.asks; waiting = ws; preferred = ps; moment = m; tcp_asks = k })
+kept_in_order c i ws ps m k kept are = record {
+  asks = are.in_turn;
+  tries = All-weaker (IsKeptAsk c m k) (IsTry c) (λ a h. h.tries) i.asks kept.asks;
+  few_asks = let few = are.few in let room = kept.capacity in omega (arith, few, room);
+  waiting = kept.in_turn;
+  few_waiting = kept.few;
+}
+
+-- ---- places
+
+pub zeros_as : (routes : List Route) (places : List ℕ) → ArePreferred routes places → map {B = ℕ} (λ (p : ℕ). 0) places ≡ map {B = ℕ} (λ (r : Route). 0) routes
+zeros_as [] [] are = refl
+zeros_as [] (p ∷ places) are = absurd are
+zeros_as (r ∷ routes) [] are = absurd are
+zeros_as (r ∷ routes) (p ∷ places) are = ap (λ xs. 0 ∷ xs) (zeros_as routes places are.1)
+
+pub set_past : (xs : List ℕ) (i v : ℕ) → length xs ≤ i → slice_set xs i v ≡ xs
+set_past [] i v le = refl
+set_past (x ∷ xs) zero v le = absurd (omega (arith, le))
+set_past (x ∷ xs) (suc i) v le = ap (λ ys. x ∷ ys) (set_past xs i v (omega (arith, le)))
+
+zeros_more : (xs : List ℕ) (i : ℕ) → i < length xs → slice_set (map {B = ℕ} (λ (p : ℕ). 0) (take i xs) ++ drop i xs) i 0 ≡ map {B = ℕ} (λ (p : ℕ). 0) (take (suc i) xs) ++ drop (suc i) xs
+zeros_more [] i lt = absurd (omega (arith, lt))
+zeros_more (x ∷ xs) zero lt = refl
+zeros_more (x ∷ xs) (suc i) lt = ap (λ ys. 0 ∷ ys) (zeros_more xs i (omega (arith, lt)))
+
+pub zeros_step : (xs ys : List ℕ) (i : ℕ) → ys ≡ map {B = ℕ} (λ (p : ℕ). 0) (take i xs) ++ drop i xs → i < length xs → slice_set ys i 0 ≡ map {B = ℕ} (λ (p : ℕ). 0) (take (i + 1) xs) ++ drop (i + 1) xs
+zeros_step xs ys i is lt = ap (λ (zs : List ℕ). slice_set zs i 0) is ∙ zeros_more xs i lt ∙ ap (λ (n : ℕ). map {B = ℕ} (λ (p : ℕ). 0) (take n xs) ++ drop n xs) (let next : suc i ≡ i + 1 = omega arith in next)
+
+set_length : (xs : List ℕ) (i v : ℕ) → length (slice_set xs i v) ≡ length xs
+set_length [] i v = refl
+set_length (x ∷ xs) zero v = refl
+set_length (x ∷ xs) (suc i) v = let rest = set_length xs i v in omega (arith, rest)
+
+pub preferred_length : (o : Option Preferred) (ps : List ℕ) → length (with_preferred o ps) ≡ length ps
+preferred_length None ps = refl
+preferred_length (Some p) ps = set_length ps p.route p.server
+
+-- as many elements, put back into their vector
+pub put_back : {Z : Type 0} (v : Vec ℕ Z) (ws ws' : List ℕ) → ws ≡ ws' → length ws' ≡ length v.items → (with_items v ws).items ≡ ws'
+put_back v ws ws' is same = with_items_is v ws (ap (λ (xs : List ℕ). length xs) is ∙ same ∙ sym v.ok.0) ∙ is
+
+-- no asks, with this much room
+pub room_is : (i : Inquiries) (m n : ℕ) → i ≡ record { capacity = m; asks = [] } → m ≡ n → i ≡ record { capacity = n; asks = [] }
+room_is i m n is same = subst (λ (k : ℕ). i ≡ record { capacity = k; asks = [] }) same is
+
+pub none_of : (xs : List Waiting) → length xs ≡ 0 → xs ≡ []
+none_of [] e = refl
+none_of (x ∷ xs) e = absurd (omega (arith, e))

@@ -1,0 +1,10 @@
+use Rattle.std.proofs.Common.{◌∙◌, ap}
+use Rattle.step_values.specs.Values.{actions_of}
+use Rattle.step_rules.specs.Row.{left_alone}
+use Rattle.forwarder_core.proofs.Deciding.{expired_row, pushed}
+use Rattle.forwarder_core.proofs.forwarder.Forwarder.expire.Goals as goal
+
+pub returns-clause-row : goal.returns-clause-row
+returns-clause-row g c =
+    expired_row g.row.A.Denot c.args.moment c.args.self.now.state c.args.oldest.now c.args.others.now (left_alone c.args.oldest.now.question c.args.others.now c.args.self.now.state.asks) c.left_alone-closed.result _ c.requires c.left_alone-closed.ensures
+    (ap (λ xs. actions_of {A = g.row.A.Denot} xs) c.in_ok-push.ensures.ok ∙ pushed g.row.A.Denot _ c.in_ok-action.action _ _ c.in_ok-actions.ensures c.in_ok-action.ensures)

@@ -1,0 +1,10 @@
+use Rattle.forwarder_core.proofs.SpellingLaws.{written_fits, refused_fits_not}
+use Rattle.forwarder_core.proofs.spelled.text_within.Goals as goal
+
+pub returns-in-Ok : goal.returns-in-Ok
+returns-in-Ok g c = written_fits c.args.limit c.args.message.now c.in-Ok.text c.in-Ok.ensures.given
+
+pub returns-in-Err-TooLarge : goal.returns-in-Err-TooLarge
+returns-in-Err-TooLarge g c =
+    let large = rw c.in-Err-TooLarge.field-0-is at c.in-Err-TooLarge.ensures.given in
+    refused_fits_not c.args.limit c.args.message.now _ large

@@ -1,0 +1,28 @@
+-- What holds of a forwarder without any history.
+use Rattle.std.specs.Prelude.{◌≡◌, ℕ, ◌^◌, ◌<◌, ◌≤◌, List, length, Some}
+use Rattle.std.specs.List.{AllByRecursion}
+use Rattle.suffix_routes.specs.Values.{Config, IsConfig}
+use Rattle.outstanding.specs.Values.{Ask, Inquiries}
+use Rattle.step_rules.specs.State.{Waiting}
+use Rattle.step_rules.specs.Attempts.{peer_at}
+use Rattle.step_rules.specs.Progress.{AreTakenInTurn, IsTry}
+use Rattle.step_soundness.specs.Explains.{IsBelow, ArePreferred}
+
+-- a listed ask went to the server at its place, as one of the tries that an inquiry has, over a path that was given
+pub record IsKeptAsk (c : Config) (moment count : ℕ) (a : Ask) : Type 0 where
+  pub earlier : a.asked ≤ moment
+  pub server : peer_at c a.route a.server ≡ Some a.peer
+  pub tries : IsTry c a
+  pub path : IsBelow count a.path
+
+-- both lists are within their limits and in the order of time, no moment is past the effective one, and each preferred server is one of its group
+pub record IsKept (c : Config) (inquiries : Inquiries) (waiting : List Waiting) (preferred : List ℕ) (moment count : ℕ) : Type 0 where
+  pub config : IsConfig c
+  pub capacity : inquiries.capacity ≡ c.limits.inquiries
+  pub asks : AllByRecursion (IsKeptAsk c moment count) inquiries.asks
+  pub few : length waiting ≤ c.limits.questions
+  pub in_turn : AreTakenInTurn waiting
+  pub taken : AllByRecursion (λ x. x.taken ≤ moment) waiting
+  pub places : ArePreferred c.routes preferred
+  pub in_time : moment ≤ 2 ^ 62
+  pub counted : count < 2 ^ 64

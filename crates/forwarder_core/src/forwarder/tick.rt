@@ -1,0 +1,134 @@
+//! What the passing of time calls for: the oldest question or the oldest ask is served, where it is due.
+
+ghost use Rattle.std.specs.Prelude.{◌≡◌, ◌^◌, ◌≤◌, ◌∷◌, false, IfOk, Some, drop, map, slice_get};
+ghost use Rattle.std.specs.List.{list_any};
+ghost use Rattle.step_rules.specs.Row.{expiry_step, left_alone, attempt, question, row_of_item, row_of_tick, is_due_at, deadline_of, timeout_of};
+ghost use Rattle.step_rules.specs.Progress.{least};
+ghost use Rattle.forwarder_core.specs.Next.{closed_path, next_of, IsQuiet, CanChange};
+
+use crate::answers::failure;
+use crate::forwarder::Forwarder;
+use crate::lists::{comes_first, is_any_waiting_for, is_late, is_overdue};
+use crate::next::{Change, Next};
+use crate::replies::closes;
+use crate::state::Waiting;
+use outstanding::{Ask, Path};
+use retry_failover::Failure;
+use std::alloc::{AllocError, Allocator};
+use step_values::Why;
+
+impl<H: Drop, A: Allocator + Copy> Forwarder<H, A> {
+    /// The path of the question's ask, where no other question waits for it.
+    fn left_alone(&self, oldest: &Waiting<A>, others: &[Waiting<A>]) -> Option<Path>
+        ensures { result ≡ closed_path (left_alone oldest.now.question others.now self.now.state.asks) }
+    {
+        if is_any_waiting_for(&oldest.question, others) {
+            return None;
+        }
+        match self.inquiries.by_question(&oldest.question) {
+            Some(ask) => Some(ask.path),
+            None => None,
+        }
+    }
+
+    /// The oldest question has waited as long as it may. With the last one that waits for it, an ask is closed.
+    fn expire(
+        &self,
+        moment: u64,
+        oldest: &Waiting<A>,
+        others: &[Waiting<A>],
+    ) -> Result<Next<A>, AllocError>
+        requires { self.now.state.waiting ≡ oldest.now ∷ others.now }
+        ensures row { IfOk result (λ next. next_of moment self.now.state next ≡ expiry_step moment oldest.now others.now (left_alone oldest.now.question others.now self.now.state.asks) self.now.state) }
+        ensures fits { IfOk result (λ next. CanChange self.now.config moment self.now.state next.change) }
+    {
+        let closed = self.left_alone(oldest, others);
+        let mut actions = closes(self.alloc, closed)?;
+        let action = failure(self.alloc, oldest, Why::Deadline)?;
+        actions.push(action)?;
+        Ok(Next {
+            actions,
+            change: Change::Expire(closed),
+        })
+    }
+
+    /// The oldest question comes first.
+    fn on_question(
+        &self,
+        moment: u64,
+        words: [u32; 8],
+        oldest: &Waiting<A>,
+        others: &[Waiting<A>],
+    ) -> Result<Next<A>, AllocError>
+        requires { self.now.state.waiting ≡ oldest.now ∷ others.now }
+        ensures row { IfOk result (λ next. next_of moment self.now.state next ≡ row_of_item self.now.config moment words self.now.state (question oldest.now others.now)) }
+        ensures early { is_due_at self.now.config moment self.now.state ≡ false → IsQuiet result }
+        ensures fits { IfOk result (λ next. CanChange self.now.config moment self.now.state next.change) }
+    {
+        let _words = words;
+        if !is_overdue(&self.config, moment, oldest) {
+            return Ok(self.nothing());
+        }
+        self.expire(moment, oldest, others)
+    }
+
+    /// The oldest ask comes first.
+    fn on_attempt(
+        &self,
+        moment: u64,
+        words: [u32; 8],
+        oldest: &Ask<A>,
+    ) -> Result<Next<A>, AllocError>
+        requires first { slice_get self.now.state.asks 0 ≡ Some oldest.now }
+        requires later { self.now.state.moment ≤ moment }
+        requires in_time { moment ≤ 2 ^ 62 }
+        ensures row { IfOk result (λ next. next_of moment self.now.state next ≡ row_of_item self.now.config moment words self.now.state (attempt oldest.now)) }
+        ensures early { is_due_at self.now.config moment self.now.state ≡ false → IsQuiet result }
+        ensures fits { IfOk result (λ next. CanChange self.now.config moment self.now.state next.change) }
+    {
+        if !is_late(&self.config, moment, oldest) {
+            return Ok(self.nothing());
+        }
+        self.fail(moment, words, oldest.path, oldest, Failure::TimedOut)
+    }
+
+    /// Time has passed.
+    pub(crate) fn on_tick(&self, moment: u64, words: [u32; 8]) -> Result<Next<A>, AllocError>
+        requires later { self.now.state.moment ≤ moment }
+        requires in_time { moment ≤ 2 ^ 62 }
+        ensures row { IfOk result (λ next. next_of moment self.now.state next ≡ row_of_tick self.now.config moment words self.now.state) }
+        ensures early { is_due_at self.now.config moment self.now.state ≡ false → IsQuiet result }
+        ensures fits { IfOk result (λ next. CanChange self.now.config moment self.now.state next.change) }
+    {
+        match (self.waiting.split_first(), self.inquiries.oldest()) {
+            (None, None) => Ok(self.nothing()),
+            (None, Some(ask)) => self.on_attempt(moment, words, ask),
+            (Some((waiting, others)), None) => self.on_question(moment, words, waiting, others),
+            (Some((waiting, others)), Some(ask)) => {
+                if comes_first(&self.config, waiting, ask) {
+                    self.on_question(moment, words, waiting, others)
+                } else {
+                    self.on_attempt(moment, words, ask)
+                }
+            }
+        }
+    }
+
+    /// The deadline of the oldest question, in milliseconds.
+    pub(crate) fn first_deadline(&self) -> Option<u64>
+        ensures { result ≡ least (map (deadline_of self.now.config) self.now.state.waiting) }
+    {
+        let (oldest, _) = self.waiting.split_first()?;
+        Some(oldest.taken + self.config.limits.deadline_ms)
+    }
+
+    /// The moment from which the oldest ask is past its time, in milliseconds.
+    pub(crate) fn first_timeout(&self) -> Option<u64>
+        ensures { result ≡ least (map (timeout_of self.now.config) self.now.state.asks) }
+    {
+        match self.inquiries.next_due(self.config.limits.ask_ms) {
+            Some((due, _)) => Some(due),
+            None => None,
+        }
+    }
+}

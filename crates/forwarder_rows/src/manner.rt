@@ -1,0 +1,84 @@
+//! How the file of a row is run.
+
+use crate::sparing::run_sparingly;
+use replay_script::{ReplayFault, read_config, replay_run};
+use std::alloc::Global;
+use std::io::{Read, Write};
+use std::rt::Files;
+use std::{fs, io};
+
+/// The words that the first line of a script is handed: identifier 8 and port 1032 by the first, and by each further
+/// one the next identifier and the next port.
+const FIRST_WORDS: [u32; 8] = [
+    524_296, 589_833, 655_370, 720_907, 786_444, 851_981, 917_518, 983_055,
+];
+
+/// How the file of a row is run.
+#[derive(Clone, Copy)]
+pub(crate) enum Manner {
+    /// It is a script, which is replayed.
+    Plain,
+    /// It is a script, and each growth of each step is refused in turn.
+    Sparing,
+    /// It is a script whose lines have the words of the first one, each growth of each step is refused in turn, and it
+    /// is told after which lines more is due.
+    SameWords,
+    /// It is a configuration, which is checked.
+    Check,
+}
+
+impl Manner {
+    /// What a difference is told by.
+    pub(crate) fn name(self) -> &'static str {
+        match self {
+            Manner::Plain => "replayed",
+            Manner::Sparing => "replayed with refused growths",
+            Manner::SameWords => "stepped with refused growths",
+            Manner::Check => "checked",
+        }
+    }
+}
+
+/// What the program tells of a row.
+#[derive(Drop)]
+pub(crate) struct Told {
+    /// The lines that it prints.
+    pub stdout: Vec<u8>,
+    /// The line that tells its fault, or nothing.
+    pub stderr: String,
+}
+
+/// Runs the file of a row.
+pub(crate) fn told_by<R: Files + AllocGlobal>(
+    rt: &R,
+    manner: Manner,
+    row: &str,
+) -> io::Result<Told> {
+    let alloc = rt.alloc();
+    let file = fs::read(rt, row)?;
+    let mut reader = file.as_slice();
+    let mut stdout = Vec::new(alloc);
+    let ended = match manner {
+        Manner::Plain => replay_run(alloc, alloc, &mut reader, &mut stdout),
+        Manner::Sparing => run_sparingly(alloc, reader, None, &mut stdout),
+        Manner::SameWords => run_sparingly(alloc, reader, Some(FIRST_WORDS), &mut stdout),
+        Manner::Check => check(alloc, &mut reader, &mut stdout),
+    };
+    let stderr = match ended {
+        Ok(()) => String::new(alloc),
+        Err(fault) => format!(in alloc; "{fault}\n")?,
+    };
+    Ok(Told { stdout, stderr })
+}
+
+/// Prints how many routes the configuration has that the reader gives.
+fn check<R: Read, W: Write>(
+    alloc: Global,
+    reader: &mut R,
+    writer: &mut W,
+) -> Result<(), ReplayFault> {
+    let config = read_config(alloc, alloc, reader)?;
+    let routes = config.routes().len();
+    writeln!(writer, "ok {routes}")?;
+    Ok(())
+}

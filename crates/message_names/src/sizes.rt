@@ -1,0 +1,101 @@
+//! How many octets the names take that pointers lead to, remembered.
+//!
+//! `sizes` has a number for each of the first places of a message: the octets of the name that begins here, the zero
+//! octet at its end counted, or 0 where that is not known. With it a name that many pointers lead to is walked once;
+//! without, as an empty slice, each pointer walks it.
+
+ghost use Rattle.std.specs.Prelude.{◌≡◌, ◌≤◌, ◌<◌, Ok, IfSome, slice_index};
+ghost use Rattle.message_names.specs.Sizes.{AreSizes, size_behind};
+
+use crate::fault::Fault;
+use crate::walk::{Bound, Step, Walk, step_at};
+
+/// What is remembered of a place.
+fn known_size(sizes: &[u8], place: usize) -> Option<usize>
+    ensures { IfSome result (λ size. (0 < size) × (size ≡ slice_index sizes.now place)) }
+{
+    if place < sizes.len() && sizes[place] > 0 {
+        return Some(sizes[place] as usize);
+    }
+    None
+}
+
+/// The octets of the name at a place, behind labels of so many octets. Where a pointer leads to a place that is known,
+/// the walk ends.
+fn measure(bytes: &[u8], sizes: &[u8], start: usize, used: usize) -> Result<usize, Fault>
+    requires room { used ≤ 254 }
+    requires known { AreSizes bytes.now sizes.now }
+    ensures { result ≡ size_behind bytes.now start used }
+{
+    let mut walk = Walk::behind(bytes, start, used);
+    loop {
+        match step_at(bytes, walk)? {
+            Step::End => return Ok(walk.used + 1 - used),
+            Step::Label(len) => {
+                walk = Walk {
+                    offset: walk.offset + 1 + len,
+                    used: walk.used + len + 1,
+                    ..walk
+                };
+            }
+            Step::Pointer(target) => {
+                if let Some(size) = known_size(sizes, target) {
+                    if walk.used + size > 255 {
+                        return Err(Fault::NameLong);
+                    }
+                    return Ok(walk.used + size - used);
+                }
+                walk = Walk::behind(bytes, target, walk.used);
+            }
+        }
+    }
+}
+
+/// Remembers the octets of the name at a place, and of the names that begin on the way to its end, up to the first that
+/// is known.
+fn remember(bytes: &[u8], sizes: &mut [u8], start: usize, size: usize)
+    requires known { AreSizes bytes.now sizes.old }
+    requires read { size_behind bytes.now start 0 ≡ Ok size }
+    ensures { AreSizes bytes.now sizes.new }
+{
+    let mut walk = Walk::behind(bytes, start, 0);
+    while walk.offset < sizes.len() && sizes[walk.offset] == 0 {
+        let left = (size - walk.used) as u8;
+        sizes[walk.offset] = left;
+        match step_at(bytes, walk) {
+            Ok(Step::Label(len)) => {
+                walk = Walk {
+                    offset: walk.offset + 1 + len,
+                    used: walk.used + len + 1,
+                    ..walk
+                };
+            }
+            Ok(Step::Pointer(target)) => walk = Walk::behind(bytes, target, walk.used),
+            _ => return,
+        }
+    }
+}
+
+/// The octets of the name at a place, behind labels of so many octets. Over all calls with the same `sizes` each place
+/// is remembered once, and a place that is known is walked no more.
+pub(crate) fn size_of_name(
+    bytes: &[u8],
+    sizes: &mut [u8],
+    start: usize,
+    used: usize,
+) -> Result<usize, Fault>
+    requires room { used ≤ 254 }
+    requires known { AreSizes bytes.now sizes.old }
+    ensures exact { result ≡ size_behind bytes.now start used }
+    ensures known { AreSizes bytes.now sizes.new }
+{
+    if let Some(size) = known_size(sizes, start) {
+        if used + size > 255 {
+            return Err(Fault::NameLong);
+        }
+        return Ok(size);
+    }
+    let size = measure(bytes, sizes, start, used)?;
+    remember(bytes, sizes, start, size);
+    Ok(size)
+}

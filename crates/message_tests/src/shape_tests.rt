@@ -1,0 +1,131 @@
+//! The data of each type that has names in it, as it is read and written again.
+
+use dns_message::{MessageRef, write};
+use std::alloc::Global;
+use std::test::Fail;
+
+/// A type; its data in a message, where a.example stands at 12 and example at 14; the data written out in full; and the
+/// data as it is written again: with pointers where RFC 1035 3.3 has the type, in full where a later document has it
+/// (RFC 3597 4), and unchanged where the type has no name.
+const WORKED: [(u16, &str, &str, &str); 22] = [
+    // NS, MD, MF, CNAME, MB, MG, MR, PTR: a name (RFC 1035 3.3).
+    (2, "0162c00e", "0162076578616d706c6500", "0162c00e"),
+    (3, "0162c00e", "0162076578616d706c6500", "0162c00e"),
+    (4, "0162c00e", "0162076578616d706c6500", "0162c00e"),
+    (5, "0162c00e", "0162076578616d706c6500", "0162c00e"),
+    (7, "0162c00e", "0162076578616d706c6500", "0162c00e"),
+    (8, "0162c00e", "0162076578616d706c6500", "0162c00e"),
+    (9, "0162c00e", "0162076578616d706c6500", "0162c00e"),
+    (12, "0162c00e", "0162076578616d706c6500", "0162c00e"),
+    // SOA: two names and five numbers of 32 bits (3.3.13).
+    (
+        6,
+        "c00c0162c00e0000000100000002000000030000000400000005",
+        "0161076578616d706c65000162076578616d706c65000000000100000002000000030000000400000005",
+        "c00c0162c00e0000000100000002000000030000000400000005",
+    ),
+    // MINFO: two names (3.3.7).
+    (
+        14,
+        "0162c00ec00c",
+        "0162076578616d706c65000161076578616d706c6500",
+        "0162c00ec00c",
+    ),
+    // MX: a number of 16 bits and a name (3.3.9).
+    (
+        15,
+        "000a0162c00e",
+        "000a0162076578616d706c6500",
+        "000a0162c00e",
+    ),
+    // RP: two names (RFC 1183 2.2).
+    (
+        17,
+        "0162c00ec00c",
+        "0162076578616d706c65000161076578616d706c6500",
+        "0162076578616d706c65000161076578616d706c6500",
+    ),
+    // AFSDB: a number of 16 bits and a name (RFC 1183 1); RT the same (3.3).
+    (
+        18,
+        "00010162c00e",
+        "00010162076578616d706c6500",
+        "00010162076578616d706c6500",
+    ),
+    (
+        21,
+        "000a0162c00e",
+        "000a0162076578616d706c6500",
+        "000a0162076578616d706c6500",
+    ),
+    // PX: a number of 16 bits and two names (RFC 2163 4).
+    (
+        26,
+        "000a0162c00ec00c",
+        "000a0162076578616d706c65000161076578616d706c6500",
+        "000a0162076578616d706c65000161076578616d706c6500",
+    ),
+    // SRV: three numbers of 16 bits and a name (RFC 2782).
+    (
+        33,
+        "0000000100350162c00e",
+        "0000000100350162076578616d706c6500",
+        "0000000100350162076578616d706c6500",
+    ),
+    // NAPTR: two numbers of 16 bits, three texts and a name (RFC 3403 4.1).
+    (
+        35,
+        "0064000a0173075349502b44325500c00e",
+        "0064000a0173075349502b44325500076578616d706c6500",
+        "0064000a0173075349502b44325500076578616d706c6500",
+    ),
+    // A, NULL, TXT, AAAA and a type of nobody's: octets, whatever they look like.
+    (1, "c00cc00e", "c00cc00e", "c00cc00e"),
+    (10, "0162c00e", "0162c00e", "0162c00e"),
+    (16, "02c00e", "02c00e", "02c00e"),
+    (
+        28,
+        "c00cc00ec00cc00ec00cc00ec00cc00e",
+        "c00cc00ec00cc00ec00cc00ec00cc00e",
+        "c00cc00ec00cc00ec00cc00ec00cc00e",
+    ),
+    (65280, "0162c00e", "0162c00e", "0162c00e"),
+];
+
+/// A reply with one answer, which is of a.example and of this type and data.
+fn with_data(alloc: Global, kind: u16, digits: &str) -> Result<Vec<u8>, Fail> {
+    let mut octets: Vec<u8> = hex::decode(
+        alloc,
+        "0008850000010001000000000161076578616d706c650000010001c00c",
+    )?;
+    let data: Vec<u8> = hex::decode(alloc, digits)?;
+    octets.extend_from_slice(kind.to_be_bytes().as_slice())?;
+    octets.extend_from_slice(b"\x00\x01\x00\x00\x01\x2c".as_slice())?;
+    let len = u16::try_from(data.len())?;
+    octets.extend_from_slice(len.to_be_bytes().as_slice())?;
+    octets.extend_from_slice(&data)?;
+    Ok(octets)
+}
+
+#[test]
+fn data_of_every_shape_is_read_and_written_again(rt: HostRuntime) -> Result<(), Fail> {
+    for (kind, spelled, held, written) in &WORKED {
+        let octets = with_data(rt.alloc(), *kind, spelled)?;
+        let message = MessageRef::view(&octets)?.read_whole(rt.alloc())?;
+        let [record] = message.answers.as_slice() else {
+            return Err("one answer".into());
+        };
+        let held: Vec<u8> = hex::decode(rt.alloc(), held)?;
+        assert!(rt;
+            record.rdata.octets() == held.as_slice(),
+            "type {kind} read"
+        );
+        let text = write(rt.alloc(), &message, 65535)?;
+        let expected = with_data(rt.alloc(), *kind, written)?;
+        assert!(rt;
+            text.as_slice() == expected.as_slice(),
+            "type {kind} written"
+        );
+    }
+    Ok(())
+}

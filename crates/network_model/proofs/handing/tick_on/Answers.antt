@@ -1,0 +1,8 @@
+use Rattle.network_model.proofs.Handling.{ticks_again, ticks_end}
+use Rattle.network_model.proofs.handing.tick_on.Goals as goal
+
+pub loop-preserved : goal.loop-preserved
+loop-preserved g c = ticks_again _ _ _ _ c.loop-test.true c.loop.invariant c.hand_on.ensures
+
+pub returns : goal.returns
+returns g c = ticks_end _ _ _ _ c.loop-test.false c.loop.invariant c.hand_on.ensures

@@ -1,0 +1,5 @@
+use Rattle.network_model.proofs.Turns.{TurnsSoFar}
+use Rattle.network_model.proofs.serving.serve.Given as goal
+
+abbrev pub invariant-loop-turn : goal.invariant-loop-turn
+invariant-loop-turn g l = TurnsSoFar l._turn l.streams (record { running = l.fn.forwarder; told = g.W.Wire.told l.fn.wire; counts = l.initial.counts }) (record { running = l.forwarder; told = g.W.Wire.told l.wire; counts = l.counts })

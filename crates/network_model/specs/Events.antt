@@ -1,0 +1,174 @@
+-- The events that the arrivals of a wire stand for, and how a turn serves them.
+use Rattle.std.specs.Prelude.{◌≡◌, ℕ, suc, ◌+◌, ◌*◌, ◌≤◌, Bool, true, false, if◌then◌else◌, ◌==◌, List, [], ◌∷◌, ◌++◌, length, map, drop, Option, Some, None, option_map}
+use Rattle.std.specs.List.{filter_map}
+use Rattle.tcp_frames.specs.Frames.{frames_of}
+use Rattle.suffix_routes.specs.declared.peer.Peer.{Peer}
+use Rattle.suffix_routes.specs.Values.{Config}
+use Rattle.outstanding.specs.declared.ask.Path.{Path}
+use Rattle.outstanding.specs.declared.ask.Path.TheVariants.{Udp, Tcp}
+use Rattle.step_values.specs.declared.event.Client.TheVariants as client
+use Rattle.step_values.specs.Values.{Event, from_client, delivery, path_failed, tick, Action, ask_in, Handed, Outcome, Step}
+use Rattle.network_model.specs.Wire.{Arrival, nothing, client_datagram, client_stream, client_closed, server_datagram, server_stream, path_gone, Put}
+
+-- ---- streams
+
+-- the octets on a client's connection since the beginning or since it closed, once this has come too
+abbrev pub client_octets_with : ℕ → List ℕ → Option Arrival → List ℕ
+client_octets_with conn octets None = octets
+client_octets_with conn octets (Some nothing) = octets
+client_octets_with conn octets (Some (client_datagram from datagram)) = octets
+client_octets_with conn octets (Some (client_stream other piece)) = if conn == other then octets ++ piece else octets
+client_octets_with conn octets (Some (client_closed other)) = if conn == other then [] else octets
+client_octets_with conn octets (Some (server_datagram port from datagram)) = octets
+client_octets_with conn octets (Some (server_stream other from piece)) = octets
+client_octets_with conn octets (Some (path_gone path)) = octets
+
+-- the same on a connection to a server
+abbrev pub server_octets_with : ℕ → List ℕ → Option Arrival → List ℕ
+server_octets_with conn octets None = octets
+server_octets_with conn octets (Some nothing) = octets
+server_octets_with conn octets (Some (client_datagram from datagram)) = octets
+server_octets_with conn octets (Some (client_stream other piece)) = octets
+server_octets_with conn octets (Some (client_closed other)) = octets
+server_octets_with conn octets (Some (server_datagram port from datagram)) = octets
+server_octets_with conn octets (Some (server_stream other from piece)) = if conn == other then octets ++ piece else octets
+server_octets_with conn octets (Some (path_gone (Udp port))) = octets
+server_octets_with conn octets (Some (path_gone (Tcp other))) = if conn == other then [] else octets
+
+-- the octets on a connection since the first of these arrivals or since it closed, behind those that were there
+abbrev pub client_octets : ℕ → List ℕ → List (Option Arrival) → List ℕ
+client_octets conn octets [] = octets
+client_octets conn octets (a ∷ arrivals) = client_octets conn (client_octets_with conn octets a) arrivals
+
+abbrev pub server_octets : ℕ → List ℕ → List (Option Arrival) → List ℕ
+server_octets conn octets [] = octets
+server_octets conn octets (a ∷ arrivals) = server_octets conn (server_octets_with conn octets a) arrivals
+
+-- the messages whose frames a piece completes
+abbrev pub completed : List ℕ → List ℕ → List (List ℕ)
+completed before piece = drop (length (frames_of before)) (frames_of (before ++ piece))
+
+-- ---- what an arrival stands for
+
+abbrev pub client_message : ℕ → List ℕ → Event
+client_message conn message = from_client (client.Tcp conn) message
+
+abbrev pub server_message : ℕ → Peer → List ℕ → Event
+server_message conn from message = delivery (Tcp conn) from message
+
+-- Nothing, the end of a client's connection and a refused arrival stand for no event, a datagram for one, a piece of a
+-- stream for one for each frame that it completes, in order; the end of a path to a server is its failure.
+abbrev pub events_of : List (Option Arrival) → Option Arrival → List Event
+events_of past None = []
+events_of past (Some nothing) = []
+events_of past (Some (client_datagram from datagram)) = from_client (client.Udp from) datagram ∷ []
+events_of past (Some (client_stream conn piece)) = map (client_message conn) (completed (client_octets conn [] past) piece)
+events_of past (Some (client_closed conn)) = []
+events_of past (Some (server_datagram port from datagram)) = delivery (Udp port) from datagram ∷ []
+events_of past (Some (server_stream conn from piece)) = map (server_message conn from) (completed (server_octets conn [] past) piece)
+events_of past (Some (path_gone path)) = path_failed path ∷ []
+
+-- ---- events that are handed to the forwarder
+
+-- an event that was handed to the forwarder, its outcome, unless memory ran out, and what was put of it
+pub record Taken : Type 0 where
+  pub handed : Handed
+  pub answer : Option Outcome
+  pub puts : List Put
+
+abbrev pub actions_in : Option Outcome → List Action
+actions_in None = []
+actions_in (Some outcome) = outcome.actions
+
+-- what was put are its actions, in order
+abbrev pub PutsItsActions : Taken → Type 0
+PutsItsActions x = map (λ p. p.action) x.puts ≡ actions_in x.answer
+
+abbrev pub step_in : Taken → Option Step
+step_in x = option_map (λ outcome. record { handed = x.handed; outcome = outcome }) x.answer
+
+-- the steps that were made: an event that found no memory is none
+abbrev pub steps_in : List Taken → List Step
+steps_in taken = filter_map step_in taken
+
+-- the path of an ask that the wire refused
+abbrev pub refused_path : Put → Option Path
+refused_path p = if p.sent then None else option_map (λ ask. ask.path) (ask_in p.action)
+
+abbrev pub later : Option Path → Option Path → Option Path
+later last None = last
+later last (Some path) = Some path
+
+-- the path of the last ask that the wire refused; a step asks once at most
+abbrev pub failed_of : Option Path → List Put → Option Path
+failed_of last [] = last
+failed_of last (p ∷ puts) = failed_of (later last (refused_path p)) puts
+
+-- The event, if there is one, and behind each ask that the wire refused the failure of its path.
+abbrev pub IsChain : Option Event → List Taken → Type 0
+IsChain None [] = Unit {0}
+IsChain None (x ∷ taken) = ⊥
+IsChain (Some event) [] = ⊥
+IsChain (Some event) (x ∷ taken) = (x.handed.event ≡ event) × IsChain (option_map path_failed (failed_of None x.puts)) taken
+
+abbrev pub joined : List (List Taken) → List Taken
+joined [] = []
+joined (chain ∷ chains) = chain ++ joined chains
+
+-- for each event in order what was taken for it
+abbrev pub AreChains : List Event → List (List Taken) → Type 0
+AreChains [] [] = Unit {0}
+AreChains [] (chain ∷ chains) = ⊥
+AreChains (event ∷ events) [] = ⊥
+AreChains (event ∷ events) (chain ∷ chains) = IsChain (Some event) chain × AreChains events chains
+
+-- whether more is due; not where memory ran out
+abbrev pub more_in : Option Outcome → Bool
+more_in None = false
+more_in (Some outcome) = outcome.more
+
+-- whether more was due after the first step
+abbrev pub tells_more : List Taken → Bool
+tells_more [] = false
+tells_more (x ∷ taken) = more_in x.answer
+
+-- Ticks, if one is wanted, until one answers that nothing more is due, or finds no memory.
+abbrev pub AreTicks : Bool → List (List Taken) → Type 0
+AreTicks false [] = Unit {0}
+AreTicks false (chain ∷ chains) = ⊥
+AreTicks true [] = ⊥
+AreTicks true (chain ∷ chains) = IsChain (Some tick) chain × AreTicks (tells_more chain) chains
+
+-- ---- turns
+
+-- a turn: what arrived, what was taken for each of its events, and what was taken for each tick
+pub record Turn : Type 0 where
+  pub arrival : Option Arrival
+  pub served : List (List Taken)
+  pub ticks : List (List Taken)
+
+abbrev pub taken_in_turn : Turn → List Taken
+taken_in_turn t = joined t.served ++ joined t.ticks
+
+abbrev pub taken_in : List Turn → List Taken
+taken_in [] = []
+taken_in (t ∷ turns) = taken_in_turn t ++ taken_in turns
+
+-- A whole turn behind these arrivals: each event of its arrival, then ticks, no more than one and as many as questions
+-- and tries there can be.
+pub record IsTurn (c : Config) (past : List (Option Arrival)) (t : Turn) : Type 0 where
+  pub served : AreChains (events_of past t.arrival) t.served
+  pub ticks : AreTicks true t.ticks
+  pub few : length t.ticks ≤ suc (c.limits.questions + c.limits.inquiries * c.limits.tries)
+
+-- A turn in which memory ran out between two events of its arrival: those before were served.
+pub record IsCutShort (past : List (Option Arrival)) (t : Turn) : Type 0 where
+  pub done : List Event
+  pub left : List Event
+  pub events : events_of past t.arrival ≡ done ++ left
+  pub served : AreChains done t.served
+  pub ticks : t.ticks ≡ []
+
+abbrev pub AreTurns : Config → List (Option Arrival) → List Turn → Type 0
+AreTurns c past [] = Unit {0}
+AreTurns c past (t ∷ turns) = IsTurn c past t × AreTurns c (past ++ t.arrival ∷ []) turns

@@ -1,0 +1,113 @@
+-- What `serve` does over a wire.
+use Rattle.std.specs.Prelude.{◌≡◌, ℕ, ◌+◌, ◌-◌, ◌^◌, ◌≤◌, Bool, true, false, if◌then◌else◌, min, List, [], ◌∷◌, ◌++◌, length, map, Option, Some, None, Result, Ok, Err}
+use Rattle.std.specs.List.{AllByRecursion}
+use Rattle.std.specs.declared.alloc.AllocError.{AllocError}
+use Rattle.step_values.specs.Values.{ask_in, SentAsk, Outcome}
+use Rattle.step_rules.specs.State.{Running}
+use Rattle.step_rules.specs.Progress.{left_to_do}
+use Rattle.step_soundness.specs.Runs.{Run}
+use Rattle.network_model.specs.declared.counts.Served.{Served}
+use Rattle.network_model.specs.Wire.{Arrival, Put, Told, silence, ◌then◌, TellsMore, arrived}
+use Rattle.network_model.specs.Events.{Taken, PutsItsActions, steps_in, Turn, taken_in_turn, taken_in, AreTurns, IsCutShort}
+
+-- ---- what a wire is told of
+
+-- a moment and words for each event, and what was put of it
+abbrev pub told_of : Taken → Told
+told_of x = record { arrivals = []; puts = x.puts; moments = x.handed.now ∷ []; words = x.handed.words ∷ [] }
+
+abbrev pub told_of_all : List Taken → Told
+told_of_all [] = silence
+told_of_all (x ∷ taken) = told_of x then told_of_all taken
+
+abbrev pub told_in_turn : Turn → Told
+told_in_turn t = arrived t.arrival then told_of_all (taken_in_turn t)
+
+abbrev pub told_in : List Turn → Told
+told_in [] = silence
+told_in (t ∷ turns) = told_in_turn t then told_in turns
+
+-- ---- counts
+
+-- the event found no memory
+abbrev pub lost_by : Option Outcome → ℕ
+lost_by None = 1
+lost_by (Some outcome) = 0
+
+abbrev pub lost_in : List Taken → ℕ
+lost_in [] = 0
+lost_in (x ∷ taken) = lost_by x.answer + lost_in taken
+
+-- what was put is no ask, and the wire refused it
+abbrev pub refused_by : Option SentAsk → Bool → ℕ
+refused_by ask true = 0
+refused_by (Some ask) false = 0
+refused_by None false = 1
+
+abbrev pub refused_of : List Put → ℕ
+refused_of [] = 0
+refused_of (p ∷ puts) = refused_by (ask_in p.action) p.sent + refused_of puts
+
+abbrev pub refused_in : List Taken → ℕ
+refused_in [] = 0
+refused_in (x ∷ taken) = refused_of x.puts + refused_in taken
+
+abbrev pub missed_by : Option Arrival → ℕ
+missed_by None = 1
+missed_by (Some arrival) = 0
+
+-- how many arrivals the wire refused
+abbrev pub missed_in : List Turn → ℕ
+missed_in [] = 0
+missed_in (t ∷ turns) = missed_by t.arrival + missed_in turns
+
+-- a count that has come to its last value stays there
+abbrev pub capped : ℕ → ℕ
+capped n = min n (2 ^ 64 - 1)
+
+-- what a count adds to what it was
+abbrev pub Adds : ℕ → ℕ → ℕ → Type 0
+Adds before n after = before ≤ 2 ^ 64 - 1 → after ≡ capped (before + n)
+
+-- ---- what is done
+
+-- where the loop stands: the forwarder, what the wire told, and the counts
+pub record Standing : Type 0 where
+  pub running : Running
+  pub told : Option Told
+  pub counts : Served
+
+-- Between the two these events were handed to the forwarder: the steps are a run of it, and all that they do was put.
+pub record Does (before : Standing) (taken : List Taken) (after : Standing) : Type 0 where
+  pub config : after.running.config ≡ before.running.config
+  pub run : Run before.running.config before.running.state (steps_in taken) after.running.state
+  pub puts : AllByRecursion PutsItsActions taken
+  pub told : TellsMore before.told (told_of_all taken) after.told
+  pub lost : Adds before.counts.lost (lost_in taken) after.counts.lost
+  pub refused_puts : Adds before.counts.refused_puts (refused_in taken) after.counts.refused_puts
+  pub turns : after.counts.turns ≡ before.counts.turns
+  pub refused_arrivals : after.counts.refused_arrivals ≡ before.counts.refused_arrivals
+
+-- what a forwarder has left to do
+abbrev pub left : Running → ℕ
+left r = left_to_do r.config r.state
+
+-- A call of `serve` that was to take so many turns: whole ones, as many, or, where memory ran out, fewer and one cut short.
+abbrev pub Ends : Running → ℕ → List Turn → Result Served AllocError → Type 0
+Ends before wanted turns (Ok counts) = (length turns ≡ wanted) × AreTurns before.config [] turns × (counts ≡ record {
+  turns = wanted;
+  lost = capped (lost_in (taken_in turns));
+  refused_puts = capped (refused_in (taken_in turns));
+  refused_arrivals = capped (missed_in turns);
+})
+Ends before wanted turns (Err refused) = (whole : List Turn) × ((last : Turn) × (turns ≡ whole ++ last ∷ []) × (length turns ≤ wanted) × AreTurns before.config [] whole × IsCutShort (map (λ (t : Turn). t.arrival) whole) last)
+
+-- What `serve` does: its turns are those of the wire's arrivals, the steps are a run of the forwarder, what was put are
+-- the actions in order, and the wire tells of nothing else.
+pub record Serves (before : Running) (told_before : Option Told) (wanted : ℕ) (result : Result Served AllocError) (after : Running) (told_after : Option Told) : Type 0 where
+  pub turns : List Turn
+  pub ends : Ends before wanted turns result
+  pub config : after.config ≡ before.config
+  pub run : Run before.config before.state (steps_in (taken_in turns)) after.state
+  pub puts : AllByRecursion PutsItsActions (taken_in turns)
+  pub told : TellsMore told_before (told_in turns) told_after

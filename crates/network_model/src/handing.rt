@@ -1,0 +1,122 @@
+//! Events that are handed to the forwarder, and what is put of them.
+
+ghost use Rattle.std.specs.Prelude.{◌≡◌, ◌∷◌, [], None, option_map};
+ghost use Rattle.step_values.specs.Values.{event_of, action_of, actions_of, ask_in, tick};
+ghost use Rattle.network_model.specs.Handing.{Puts, Hands, HandsOn, Ticks};
+
+use crate::counts::Served;
+use crate::wire::Wire;
+use forwarder_core::Forwarder;
+use std::alloc::Allocator;
+use step_values::{Action, Event, Path};
+
+/// What came of one event.
+#[derive(Clone, Copy, Drop)]
+pub(crate) struct Handled {
+    /// The path of an ask that the wire refused.
+    pub failed: Option<Path>,
+    /// Something is due already.
+    pub more: bool,
+}
+
+/// The path of an ask.
+fn path_of_ask<A: Allocator>(action: &Action<A>) -> Option<Path>
+    ensures { result ≡ option_map (λ ask. ask.path) (ask_in (action_of action.now)) }
+{
+    match action {
+        Action::AskUdp { port, .. } => Some(Path::Udp(*port)),
+        Action::AskTcp { conn, .. } => Some(Path::Tcp(*conn)),
+        Action::CloseUdp { .. } | Action::CloseTcp { .. } | Action::Reply { .. } => None,
+    }
+}
+
+/// Puts one action. The answer is the path of the ask that was refused last.
+fn put<A: Allocator, W: Wire<A>>(
+    wire: &mut W,
+    counts: &mut Served,
+    action: &Action<A>,
+    failed: Option<Path>,
+) -> Option<Path>
+    ensures { Puts failed (action_of action.now ∷ []) result (W.told wire.old) (W.told wire.new) counts.old counts.new }
+{
+    match wire.put(action) {
+        Ok(()) => failed,
+        Err(_) => match path_of_ask(action) {
+            Some(path) => Some(path),
+            None => {
+                counts.refused_puts = counts.refused_puts.saturating_add(1);
+                failed
+            }
+        },
+    }
+}
+
+/// Puts actions in order. The answer is the path of the ask that was refused, if one was.
+fn put_all<A: Allocator, W: Wire<A>>(
+    wire: &mut W,
+    counts: &mut Served,
+    actions: &[Action<A>],
+) -> Option<Path>
+    ensures { Puts None (actions_of actions.now) result (W.told wire.old) (W.told wire.new) counts.old counts.new }
+{
+    let mut failed = None;
+    for action in actions {
+        failed = put(wire, counts, action, failed);
+    }
+    failed
+}
+
+/// Hands one event to the forwarder, and puts what comes of it. An event that finds no memory is lost.
+fn hand<H: Drop, A: Allocator + Copy, W: Wire<A>>(
+    wire: &mut W,
+    forwarder: &mut Forwarder<H, A>,
+    counts: &mut Served,
+    event: Event<A>,
+) -> Handled
+    ensures { Hands (event_of event) result.failed result.more (record { running = forwarder.old; told = W.told wire.old; counts = counts.old }) (record { running = forwarder.new; told = W.told wire.new; counts = counts.new }) }
+{
+    let now = wire.moment();
+    let words = wire.words();
+    match forwarder.step(now, words, event) {
+        Ok(outcome) => Handled {
+            failed: put_all(wire, counts, outcome.actions.as_slice()),
+            more: outcome.more,
+        },
+        Err(_) => {
+            counts.lost = counts.lost.saturating_add(1);
+            Handled {
+                failed: None,
+                more: false,
+            }
+        }
+    }
+}
+
+/// Hands an event to the forwarder, and behind each ask that the wire refuses the failure of its path. The answer is
+/// whether more was due after the event.
+pub(crate) fn hand_on<H: Drop, A: Allocator + Copy, W: Wire<A>>(
+    wire: &mut W,
+    forwarder: &mut Forwarder<H, A>,
+    counts: &mut Served,
+    event: Event<A>,
+) -> bool
+    ensures { HandsOn (event_of event) result (record { running = forwarder.old; told = W.told wire.old; counts = counts.old }) (record { running = forwarder.new; told = W.told wire.new; counts = counts.new }) }
+{
+    let handled = hand(wire, forwarder, counts, event);
+    let mut failed = handled.failed;
+    while let Some(path) = failed {
+        failed = hand(wire, forwarder, counts, Event::PathFailed { path }).failed;
+    }
+    handled.more
+}
+
+/// Hands ticks to the forwarder until one tells that nothing more is due, or finds no memory.
+pub(crate) fn tick_on<H: Drop, A: Allocator + Copy, W: Wire<A>>(
+    wire: &mut W,
+    forwarder: &mut Forwarder<H, A>,
+    counts: &mut Served,
+)
+    ensures { Ticks (record { running = forwarder.old; told = W.told wire.old; counts = counts.old }) (record { running = forwarder.new; told = W.told wire.new; counts = counts.new }) }
+{
+    while hand_on(wire, forwarder, counts, Event::Tick) {}
+}

@@ -1,0 +1,159 @@
+//! The loop over a wire.
+
+ghost use Rattle.std.specs.Prelude.{◌≡◌, OnOk, Some};
+ghost use Rattle.network_model.specs.Wire.{arrival_of, path_gone};
+ghost use Rattle.network_model.specs.Serving.{Serves};
+ghost use Rattle.network_model.specs.Streams.{events_by, Follows, ServesEvents, TakesArrival, TakesTurn};
+
+use crate::counts::Served;
+use crate::handing::{hand_on, tick_on};
+use crate::streams::{Sender, Streams, put_in, serve_piece, take_out};
+use crate::wire::{Arrival, Wire};
+use forwarder_core::Forwarder;
+use std::alloc::{AllocError, Allocator};
+use std::collections::BTreeMap;
+use step_values::{Client, Event, Path};
+use tcp_frames::pieces_continue;
+
+/// Forgets what is left of the stream on a path that is gone.
+fn forget_path<A: Allocator + Copy>(alloc: A, streams: &mut Streams<A>, path: Path)
+    ensures { Follows streams.old (Some (path_gone path)) streams.new }
+{
+    match path {
+        Path::Udp(_) => {}
+        Path::Tcp(conn) => {
+            take_out(alloc, &mut streams.servers, conn);
+        }
+    }
+}
+
+/// Serves the events of one arrival. `Err` where a frame reader could not be made, grow or give a frame.
+fn serve_arrival<H: Drop, A: Allocator + Copy, W: Wire<A>>(
+    alloc: A,
+    wire: &mut W,
+    forwarder: &mut Forwarder<H, A>,
+    counts: &mut Served,
+    streams: &mut Streams<A>,
+    arrival: Arrival<A>,
+) -> Result<(), AllocError>
+    ensures serves { ServesEvents (events_by streams.old (Some (arrival_of arrival))) result (record { running = forwarder.old; told = W.told wire.old; counts = counts.old }) (record { running = forwarder.new; told = W.told wire.new; counts = counts.new }) }
+    ensures follows { OnOk result (Follows streams.old (Some (arrival_of arrival)) streams.new) }
+{
+    match arrival {
+        Arrival::Nothing => {}
+        Arrival::ClientDatagram { from, bytes } => {
+            let client = Client::Udp(from);
+            hand_on(wire, forwarder, counts, Event::Client { client, bytes });
+        }
+        Arrival::ClientStream { conn, bytes } => {
+            let mut reader = take_out(alloc, &mut streams.clients, conn);
+            let sender = Sender::FromClient(conn);
+            serve_piece(
+                wire,
+                forwarder,
+                counts,
+                &mut reader,
+                sender,
+                bytes.as_slice(),
+            )?;
+            put_in(&mut streams.clients, conn, reader)?;
+        }
+        Arrival::ClientClosed { conn } => {
+            take_out(alloc, &mut streams.clients, conn);
+        }
+        Arrival::ServerDatagram { port, from, bytes } => {
+            let path = Path::Udp(port);
+            hand_on(
+                wire,
+                forwarder,
+                counts,
+                Event::Delivery { path, from, bytes },
+            );
+        }
+        Arrival::ServerStream { conn, from, bytes } => {
+            let mut reader = take_out(alloc, &mut streams.servers, conn);
+            let sender = Sender::FromServer(conn, from);
+            serve_piece(
+                wire,
+                forwarder,
+                counts,
+                &mut reader,
+                sender,
+                bytes.as_slice(),
+            )?;
+            put_in(&mut streams.servers, conn, reader)?;
+        }
+        Arrival::PathGone { path } => {
+            forget_path(alloc, streams, path);
+            hand_on(wire, forwarder, counts, Event::PathFailed { path });
+        }
+    }
+    Ok(())
+}
+
+/// Takes one arrival and serves its events; one that the wire refuses is counted.
+fn take_arrival<H: Drop, A: Allocator + Copy, W: Wire<A>>(
+    alloc: A,
+    wire: &mut W,
+    forwarder: &mut Forwarder<H, A>,
+    counts: &mut Served,
+    streams: &mut Streams<A>,
+) -> Result<(), AllocError>
+    ensures { TakesArrival streams.old result streams.new (record { running = forwarder.old; told = W.told wire.old; counts = counts.old }) (record { running = forwarder.new; told = W.told wire.new; counts = counts.new }) }
+{
+    match wire.arrival() {
+        Ok(arrival) => serve_arrival(alloc, wire, forwarder, counts, streams, arrival),
+        Err(_) => {
+            counts.refused_arrivals = counts.refused_arrivals.saturating_add(1);
+            Ok(())
+        }
+    }
+}
+
+/// One turn: an arrival with its events, then ticks.
+fn take_turn<H: Drop, A: Allocator + Copy, W: Wire<A>>(
+    alloc: A,
+    wire: &mut W,
+    forwarder: &mut Forwarder<H, A>,
+    counts: &mut Served,
+    streams: &mut Streams<A>,
+) -> Result<(), AllocError>
+    ensures { TakesTurn streams.old result streams.new (record { running = forwarder.old; told = W.told wire.old; counts = counts.old }) (record { running = forwarder.new; told = W.told wire.new; counts = counts.new }) }
+{
+    take_arrival(alloc, wire, forwarder, counts, streams)?;
+    tick_on(wire, forwarder, counts);
+    Ok(())
+}
+
+/// Serves so many turns over a wire. A turn takes one arrival and hands its events to the forwarder: a datagram is one,
+/// a piece of a stream is one for each frame that it completes, and the end of a path to a server is its failure. What
+/// the forwarder wants done of an event is put at once, in order; an ask that the wire refuses is the failure of its
+/// path, which comes next. Then ticks are handed in until one tells that nothing more is due. The wire gives a moment
+/// and words for each event.
+///
+/// It returns wherever the calls of its wire do. `Err` only where a frame reader could not be made, grow or give a
+/// frame; the forwarder is then as after the last event. An event that finds no memory is lost and counted.
+pub fn serve<H: Drop, A: Allocator + Copy, W: Wire<A>>(
+    alloc: A,
+    wire: &mut W,
+    forwarder: &mut Forwarder<H, A>,
+    turns: u64,
+) -> Result<Served, AllocError>
+    ensures { Serves forwarder.old (W.told wire.old) turns result forwarder.new (W.told wire.new) }
+{
+    pieces_continue();
+    let mut counts = Served {
+        turns,
+        lost: 0,
+        refused_puts: 0,
+        refused_arrivals: 0,
+    };
+    let mut streams = Streams {
+        clients: BTreeMap::new(alloc),
+        servers: BTreeMap::new(alloc),
+    };
+    for _turn in 0..turns {
+        take_turn(alloc, wire, forwarder, &mut counts, &mut streams)?;
+    }
+    Ok(counts)
+}

@@ -1,0 +1,112 @@
+//! What the loop asks of a wire.
+
+ghost use Rattle.std.specs.Prelude.{◌≡◌, ℕ, ◌<◌, Option, IfOk, OnErr, is_ok};
+ghost use Rattle.step_values.specs.Values.{action_of};
+ghost use Rattle.network_model.specs.Wire.{Told, TellsMore, arrival_of, given, arrived, was_put, moment_was, words_were};
+
+use plain_list::{Octets, PlainList};
+use std::alloc::{AllocError, Allocator, Global};
+use step_values::{Action, Path};
+use suffix_routes::Peer;
+
+/// What a wire gives.
+#[derive(Drop)]
+pub enum Arrival<A: Allocator = Global> {
+    Nothing,
+    /// A client's datagram.
+    ClientDatagram {
+        from: Peer,
+        bytes: Octets<A>,
+    },
+    /// A piece of the stream on a connection that a client opened, cut anywhere.
+    ClientStream {
+        conn: u64,
+        bytes: Octets<A>,
+    },
+    /// A client's connection is closed.
+    ClientClosed {
+        conn: u64,
+    },
+    /// A datagram at the port of an ask.
+    ServerDatagram {
+        port: u16,
+        from: Peer,
+        bytes: Octets<A>,
+    },
+    /// A piece of the stream on the connection of an ask, cut anywhere.
+    ServerStream {
+        conn: u64,
+        from: Peer,
+        bytes: Octets<A>,
+    },
+    /// The path of an ask is closed, or has failed.
+    PathGone {
+        path: Path,
+    },
+}
+
+impl<A: Allocator + Copy> Arrival<A> {
+    /// An equal arrival. `Err` where memory ran out.
+    pub fn copy(&self, alloc: A) -> Result<Arrival<A>, AllocError>
+        ensures { IfOk result (λ arrival. arrival ≡ self.now) }
+    {
+        match self {
+            Arrival::Nothing => Ok(Arrival::Nothing),
+            Arrival::ClientDatagram { from, bytes } => Ok(Arrival::ClientDatagram {
+                from: *from,
+                bytes: PlainList::copied(alloc, bytes.as_slice())?,
+            }),
+            Arrival::ClientStream { conn, bytes } => Ok(Arrival::ClientStream {
+                conn: *conn,
+                bytes: PlainList::copied(alloc, bytes.as_slice())?,
+            }),
+            Arrival::ClientClosed { conn } => Ok(Arrival::ClientClosed { conn: *conn }),
+            Arrival::ServerDatagram { port, from, bytes } => Ok(Arrival::ServerDatagram {
+                port: *port,
+                from: *from,
+                bytes: PlainList::copied(alloc, bytes.as_slice())?,
+            }),
+            Arrival::ServerStream { conn, from, bytes } => Ok(Arrival::ServerStream {
+                conn: *conn,
+                from: *from,
+                bytes: PlainList::copied(alloc, bytes.as_slice())?,
+            }),
+            Arrival::PathGone { path } => Ok(Arrival::PathGone { path: *path }),
+        }
+    }
+}
+
+/// The wire refused the call.
+#[derive(Clone, Copy, PartialEq, Eq, Debug, Drop)]
+pub struct WireFault;
+
+/// What carries messages to and from the forwarder, and knows the time.
+pub trait Wire<A: Allocator> {
+    /// What it gave and took so far; `None` claims nothing.
+    ghost told: { Self → Option Told };
+
+    /// How many faults it counted.
+    ghost fault_count: { Self → ℕ };
+
+    /// What arrived next. `Err` only where the wire met a fault and counted it; what arrived is lost then.
+    fn arrival(&mut self) -> Result<Arrival<A>, WireFault>
+        ensures tells { TellsMore (told self.old) (arrived (given result)) (told self.new) }
+        ensures faults { OnErr result (fault_count self.old < fault_count self.new) };
+
+    /// Does an action. `Err` only where the wire met a fault and counted it; the action is lost then.
+    fn put(&mut self, action: &Action<A>) -> Result<(), WireFault>
+        ensures tells { TellsMore (told self.old) (was_put (action_of action.now) (is_ok result)) (told self.new) }
+        ensures faults { OnErr result (fault_count self.old < fault_count self.new) };
+
+    /// The moment, in milliseconds.
+    fn moment(&mut self) -> u64
+        ensures tells { TellsMore (told self.old) (moment_was result) (told self.new) };
+
+    /// Fresh random words.
+    fn words(&mut self) -> [u32; 8]
+        ensures tells { TellsMore (told self.old) (words_were result) (told self.new) };
+
+    /// How many faults it counted; the count stays at its last value.
+    fn faults(&self) -> u64
+        ensures { result ≡ fault_count self.now };
+}

@@ -1,0 +1,116 @@
+-- Worked steps of time, computed: an ask at its time, the ask that follows it, deadlines, what is due, and which server is asked first.
+use Rattle.std.proofs.Common.{◌≡◌, ℕ, List, [], ◌∷◌, Some, false, true, refl}
+use Rattle.suffix_routes.specs.declared.peer.Peer.{Peer}
+use Rattle.suffix_routes.specs.Values.{Config, default_limits}
+use Rattle.dns_message.specs.Values.{Question}
+use Rattle.dns_message.specs.Writing.{◌▹◌, each, name_text, written}
+use Rattle.outstanding.specs.declared.ask.Path.TheVariants.{Udp, Tcp}
+use Rattle.outstanding.specs.Values.{Ask}
+use Rattle.retry_failover.specs.declared.Failure.TheVariants.{Truncated}
+use Rattle.step_values.specs.declared.event.Client.{Client}
+use Rattle.step_values.specs.declared.event.Client.TheVariants.{Udp as FromUdp}
+use Rattle.step_values.specs.declared.action.Why.TheVariants.{Exhausted, Deadline}
+use Rattle.step_values.specs.Values.{restart, ask_udp, ask_tcp, close_udp, send_reply}
+use Rattle.step_rules.specs.State.{Waiting, State}
+use Rattle.step_rules.specs.Attempts.{first_ask}
+use Rattle.step_rules.specs.Row.{Done, Happens, is_due_at, idle_step, preferring, row_of_failure, row_of_tick, start}
+
+abbrev first : Peer
+first = record { ip = 192 ∷ 0 ∷ 2 ∷ 1 ∷ []; port = 53 }
+
+abbrev second : Peer
+second = record { ip = 192 ∷ 0 ∷ 2 ∷ 2 ∷ []; port = 53 }
+
+abbrev client : Client
+client = FromUdp (record { ip = 10 ∷ 0 ∷ 0 ∷ 7 ∷ []; port = 40000 })
+
+-- names under a are asked of two servers
+abbrev config : Config
+config = record { listen = first; limits = default_limits; routes = record { suffix = []; servers = second ∷ first ∷ [] } ∷ record { suffix = (97 ∷ []) ∷ []; servers = first ∷ second ∷ [] } ∷ [] }
+
+-- a question waits as long as an ask is open
+abbrev impatient : Config
+impatient = record config { limits = record default_limits { deadline_ms = 1500 } }
+
+abbrev address : Question
+address = record { name = (97 ∷ []) ∷ []; kind = 1; class = 1 }
+
+abbrev query : ℕ → List ℕ
+query id = 0 ∷ id ∷ 1 ∷ 0 ∷ 0 ∷ 1 ∷ 0 ∷ 0 ∷ 0 ∷ 0 ∷ 0 ∷ 0 ∷ 1 ∷ 97 ∷ 0 ∷ 0 ∷ 1 ∷ 0 ∷ 1 ∷ []
+
+abbrev failure : List ℕ
+failure = 18 ∷ 52 ∷ 129 ∷ 130 ∷ 0 ∷ 1 ∷ 0 ∷ 0 ∷ 0 ∷ 0 ∷ 0 ∷ 0 ∷ 1 ∷ 97 ∷ 0 ∷ 0 ∷ 1 ∷ 0 ∷ 1 ∷ []
+
+-- the words of a step: identifier 8 and port 1032, then 16 and 1040
+abbrev words : List ℕ
+words = 524296 ∷ 1048592 ∷ []
+
+-- taken at this moment
+abbrev question : ℕ → Waiting
+question taken = record { client = client; header = record { id = 4660; qr = false; opcode = 0; aa = false; tc = false; rd = true; ra = false; z = 0; rcode = 0; counts = 1 ∷ 0 ∷ 0 ∷ 0 ∷ [] }; question = address; taken = taken }
+
+-- the first of its tries
+abbrev ask : Ask
+ask = record { question = address; route = 1; server = 0; peer = first; used = 1; path = Udp 1032; id = 8; asked = 1000 }
+
+abbrev last_ask : Ask
+last_ask = record ask { used = 4 }
+
+-- these wait for the ask; two asks went by TCP before
+abbrev state : Ask → List Waiting → State
+state a waiting = record { asks = a ∷ []; waiting = waiting; preferred = 0 ∷ 0 ∷ []; moment = 1000; tcp_asks = 2 }
+
+-- ---- the ask at its time
+
+-- a millisecond before its time nothing happens
+not_yet : row_of_tick config 2499 words (state ask (question 1000 ∷ [])) ≡ idle_step 2499 (state ask (question 1000 ∷ []))
+not_yet = refl
+
+-- then it is closed, and the next server is asked; the port that is given up counts as free
+next_try : row_of_tick config 2500 words (state ask (question 1000 ∷ []))
+    ≡ record { actions = close_udp 1032 ∷ ask_udp 1032 second (query 8) ∷ []; state = record (state ask (question 1000 ∷ [])) { asks = record ask { server = 1; peer = second; used = 2; asked = 2500 } ∷ []; moment = 2500 } }
+unfolding written ◌▹◌ each name_text
+next_try = refl
+
+-- the last try leaves nothing to ask
+last_try : row_of_tick config 2500 words (state last_ask (question 1000 ∷ []))
+    ≡ record { actions = close_udp 1032 ∷ send_reply client failure Exhausted ∷ []; state = record (state ask []) { asks = []; moment = 2500 } }
+unfolding written ◌▹◌ each name_text
+last_try = refl
+
+-- a truncated reply: the same server over TCP, on the next connection
+cut : row_of_failure config 1020 words ask Truncated (state ask (question 1000 ∷ []))
+    ≡ record { actions = close_udp 1032 ∷ ask_tcp 2 first (query 8) ∷ []; state = record (state ask (question 1000 ∷ [])) { asks = record ask { used = 2; path = Tcp 2; asked = 1020 } ∷ []; moment = 1020; tcp_asks = 3 } }
+unfolding written ◌▹◌ each name_text
+cut = refl
+
+-- ---- the question at its deadline
+
+-- at one moment the question comes first, and with the last one that waits its ask ends
+deadline : row_of_tick impatient 2500 words (state ask (question 1000 ∷ []))
+    ≡ record { actions = close_udp 1032 ∷ send_reply client failure Deadline ∷ []; state = record (state ask []) { asks = []; moment = 2500 } }
+unfolding written ◌▹◌ each name_text
+deadline = refl
+
+-- the oldest has its reply, and the ask goes on for the other one
+one_of_two : row_of_tick impatient 2500 words (state ask (question 1000 ∷ question 1001 ∷ []))
+    ≡ record { actions = send_reply client failure Deadline ∷ []; state = record (state ask (question 1001 ∷ [])) { moment = 2500 } }
+unfolding written ◌▹◌ each name_text
+one_of_two = refl
+
+-- ---- what is due
+
+due : (is_due_at config 2499 (state ask (question 1000 ∷ [])) ≡ false) × (is_due_at config 2500 (state ask (question 1000 ∷ [])) ≡ true)
+    × (is_due_at config 8999 (state (record ask { asked = 8000 }) (question 1000 ∷ [])) ≡ false) × (is_due_at config 9000 (state (record ask { asked = 8000 }) (question 1000 ∷ [])) ≡ true)
+due = (refl, refl, refl, refl)
+
+-- ---- which server is asked first
+
+-- the server that answered, on its own route alone
+kept : let after = preferring (record ask { server = 1 }) (start config) in
+    (first_ask config 3000 words address 1 after ≡ Some (record ask { server = 1; peer = second; asked = 3000 })) × (first_ask config 3000 words address 0 after ≡ Some (record ask { route = 0; peer = second; asked = 3000 }))
+kept = (refl, refl)
+
+-- a restart forgets it
+forgotten : (d : Done) → Happens config 9000 words (preferring (record ask { server = 1 }) (start config)) restart d → d ≡ record { actions = []; state = start config }
+forgotten d h = h

@@ -1,0 +1,28 @@
+-- What the table is for, as statements.
+use Rattle.std.specs.Prelude.{◌≡◌, ℕ, ◌+◌, ◌*◌, ◌<◌, ◌≤◌, Bool, true, false, nat_le, Option, Some, None}
+use Rattle.suffix_routes.specs.Values.{Config}
+use Rattle.step_values.specs.Values.{tick, Handed, Outcome}
+use Rattle.step_rules.specs.State.{State}
+use Rattle.step_rules.specs.Row.{is_due_at, effective, Row}
+use Rattle.step_rules.specs.Progress.{left_to_do, ServesSomething, next_due, IsInOrder}
+
+-- A step that serves something leaves less to do.
+abbrev pub LessIsLeft : Type 0
+LessIsLeft = (c : Config) (s : State) (h : Handed) (o : Outcome) (s' : State) → IsInOrder c s → Row c s h o s' → ServesSomething c (effective h.now s) s h.event → left_to_do c s' < left_to_do c s
+
+-- What is left is bounded by the limits.
+abbrev pub LeftIsBounded : Type 0
+LeftIsBounded = (c : Config) (s : State) → IsInOrder c s → left_to_do c s ≤ c.limits.questions + c.limits.inquiries * c.limits.tries
+
+-- Where something is due now, a tick serves something, at whatever later moment it comes.
+abbrev pub MoreIsServed : Type 0
+MoreIsServed = (c : Config) (s : State) (n : ℕ) → s.moment ≤ n → is_due_at c s.moment s ≡ true → ServesSomething c n s tick
+
+-- the moment has come, where there is one
+abbrev pub has_come : ℕ → Option ℕ → Bool
+has_come n None = false
+has_come n (Some m) = nat_le m n
+
+-- Something is due exactly from the next due moment on.
+abbrev pub NextDueTells : Type 0
+NextDueTells = (c : Config) (s : State) (n : ℕ) → is_due_at c n s ≡ has_come n (next_due c s)

@@ -1,0 +1,16 @@
+//! What the walk of a reply is good for.
+
+ghost use Rattle.trust_rank.specs.Laws.{ServersFit, WalkLeads};
+
+/// Aliases lead from the asked name one to the next, all on the route that was asked, and a last piece closes at the last
+/// name; a question for CNAME follows none. Fewer than eight stand before a last piece, one to eight lead to a name that
+/// has to be asked for, and a lame reply carries nothing.
+pub fn walk_leads()
+    ensures { WalkLeads }
+{}
+
+/// The name servers that a reply carries are NS sets of the asked class, on the route that was asked, each at or above
+/// the asked name.
+pub fn servers_fit()
+    ensures { ServersFit }
+{}

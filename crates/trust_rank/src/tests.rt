@@ -1,0 +1,152 @@
+//! Replies in octets, and what no contract can say: that memory is found where there is some.
+
+use crate::{Body, End, Piece, Walk, pieces};
+use dns_message::MessageRef;
+use refusing_allocator::Refusing;
+use std::alloc::{Allocator, Global};
+use std::test::Fail;
+use suffix_routes::{Config, RouteId};
+
+/// One route for all names.
+const CONFIG: &str = r#"version = 1
+[[route]]
+suffix = "."
+servers = ["192.0.2.1:53"]
+"#;
+
+/// The address of a.example is asked for. It is an alias of b.example, which has two addresses; and there is a name
+/// server of example.
+const ALIAS: &str =
+    "0008850000010003000100000161076578616d706c650000010001c00c000500010000003c00040162c00ec027000100010000012c0004c6336405c02700010001000002580004c6336406c00e0002000100000e100005026e73c00e";
+
+/// The name x.example is not there: TTL 3,600 and MINIMUM 600.
+const NAME_ERROR: &str =
+    "0008850300010000000100000178076578616d706c650000010001c00e0006000100000e10001d026e73c00e0168c00e0000000100000002000000030000000400000258";
+
+/// Forty addresses of a.example are counted.
+const FORTY: &str = "0008850000010028000000000161076578616d706c650000010001";
+
+/// Forty addresses of a.example: twenty, and then the same again.
+fn twenty_twice(heap: Global) -> Result<Vec<u8>, Fail> {
+    let mut octets = hex::decode(heap, FORTY)?;
+    for place in 0..40u8 {
+        octets.extend_from_slice(
+            b"\xc0\x0c\x00\x01\x00\x01\x00\x00\x01\x2c\x00\x04\xc0\x00\x02".as_slice(),
+        )?;
+        octets.push(place % 20)?;
+    }
+    Ok(octets)
+}
+
+/// What a message carries as the reply to its own question, with so many growths; `None` where one more was wanted.
+fn walked<'h>(
+    table_heap: Global,
+    heap: &'h Refusing<Global>,
+    octets: &[u8],
+    growths: u64,
+) -> Result<Option<Walk<&'h Refusing<Global>>>, Fail> {
+    let config = Config::read(table_heap, heap, CONFIG)?;
+    let view = MessageRef::view(octets)?;
+    let message = view.read_whole(heap)?;
+    let question = view.question(heap)?;
+    heap.allow(growths);
+    let walk = pieces(heap, &message, &question, RouteId { place: 0 }, &config);
+    heap.allow(u64::MAX);
+    Ok(walk.ok())
+}
+
+/// How many growths of the call are refused one after another, until it is done.
+fn refusals(table_heap: Global, octets: &[u8]) -> Result<u64, Fail> {
+    let heap = Refusing::new(table_heap);
+    let mut refused = 0u64;
+    for growths in 0..200u64 {
+        if walked(table_heap, &heap, octets, growths)?.is_some() {
+            break;
+        }
+        refused = refused.saturating_add(1);
+    }
+    Ok(refused)
+}
+
+/// Type, lifetime, rank, and how many data a set has.
+fn shown<A: Allocator>(piece: &Piece<A>) -> (Option<u16>, u32, u8, usize) {
+    let count = match &piece.body {
+        Body::Rows(rows) => rows.as_slice().len(),
+        _ => 0,
+    };
+    (piece.slot.kind, piece.lifetime, piece.rank, count)
+}
+
+#[test]
+fn an_alias_and_its_set(rt: HostRuntime) -> Result<(), Fail> {
+    let heap = Refusing::new(rt.alloc());
+    let octets = hex::decode(rt.alloc(), ALIAS)?;
+    let walk = walked(rt.alloc(), &heap, &octets, u64::MAX)?;
+    let Some(
+        Walk {
+            pieces,
+            authority,
+            end: End::Found,
+        },
+    ) = walk
+    else {
+        return Err(Fail::from("another walk"));
+    };
+    let [alias, set] = pieces.as_slice() else {
+        return Err(Fail::from("another walk"));
+    };
+    assert_eq!(rt; shown(alias), (Some(5), 60, 3, 1));
+    assert_eq!(rt; shown(set), (Some(1), 300, 1, 2));
+    assert_eq!(rt; shown(&set.copy(&heap)?), (Some(1), 300, 1, 2));
+    let [servers] = authority.as_slice() else {
+        return Err(Fail::from("another walk"));
+    };
+    assert_eq!(rt; shown(servers), (Some(2), 3600, 2, 1));
+    Ok(())
+}
+
+#[test]
+fn a_name_error(rt: HostRuntime) -> Result<(), Fail> {
+    let heap = Refusing::new(rt.alloc());
+    let octets = hex::decode(rt.alloc(), NAME_ERROR)?;
+    let walk = walked(rt.alloc(), &heap, &octets, u64::MAX)?;
+    let Some(
+        Walk {
+            pieces,
+            end: End::Denied,
+            ..
+        },
+    ) = walk
+    else {
+        return Err(Fail::from("another walk"));
+    };
+    let [denial] = pieces.as_slice() else {
+        return Err(Fail::from("another walk"));
+    };
+    assert_eq!(rt; shown(denial), (None, 600, 3, 0));
+    Ok(())
+}
+
+#[test]
+fn data_beyond_the_first_few(rt: HostRuntime) -> Result<(), Fail> {
+    let heap = Refusing::new(rt.alloc());
+    let octets = twenty_twice(rt.alloc())?;
+    let walk = walked(rt.alloc(), &heap, &octets, u64::MAX)?;
+    let Some(Walk { pieces, .. }) = walk else {
+        return Err(Fail::from("another walk"));
+    };
+    let [set] = pieces.as_slice() else {
+        return Err(Fail::from("another walk"));
+    };
+    assert_eq!(rt; shown(set), (Some(1), 300, 3, 20));
+    Ok(())
+}
+
+#[test]
+fn each_growth_is_refused(rt: HostRuntime) -> Result<(), Fail> {
+    let alias = refusals(rt.alloc(), &hex::decode(rt.alloc(), ALIAS)?)?;
+    let name_error = refusals(rt.alloc(), &hex::decode(rt.alloc(), NAME_ERROR)?)?;
+    let twenty = refusals(rt.alloc(), &twenty_twice(rt.alloc())?)?;
+    assert_eq!(rt; (alias, name_error, twenty), (15, 5, 28));
+    Ok(())
+}

@@ -1,0 +1,142 @@
+//! Turns over a wire that refuses calls, and turns without memory.
+
+use crate::worked::{QUESTION, answers, asks, closes, forwarder, piece, question, reply, wire};
+use network_model::{Arrival, Served, Wire, serve};
+use refusing_allocator::Refusing;
+use std::test::Fail;
+
+/// The calls are: the arrival, the ask that is refused, the close of its path, the next ask.
+#[test]
+fn a_refused_ask_is_a_failed_path(rt: HostRuntime) -> Result<(), Fail> {
+    let heap = Refusing::new(rt.alloc());
+    let mut forwarder = forwarder(&heap)?;
+    let mut wire = wire(&heap, question(&heap)?, Arrival::Nothing, &[1])?;
+    let served = serve(&heap, &mut wire, &mut forwarder, 2)?;
+    assert_eq!(rt;
+        served,
+        Served {
+            turns: 2,
+            lost: 0,
+            refused_puts: 0,
+            refused_arrivals: 0
+        }
+    );
+    assert_eq!(rt; wire.faults(), 1);
+    match wire.puts() {
+        [first, second, third] => {
+            assert!(rt; asks(first, false) && closes(second) && asks(third, true));
+        }
+        _ => assert!(rt; false),
+    }
+    Ok(())
+}
+
+#[test]
+fn a_refused_arrival_is_lost(rt: HostRuntime) -> Result<(), Fail> {
+    let heap = Refusing::new(rt.alloc());
+    let mut forwarder = forwarder(&heap)?;
+    let mut wire = wire(&heap, question(&heap)?, Arrival::Nothing, &[0])?;
+    let served = serve(&heap, &mut wire, &mut forwarder, 2)?;
+    assert_eq!(rt;
+        served,
+        Served {
+            turns: 2,
+            lost: 0,
+            refused_puts: 0,
+            refused_arrivals: 1
+        }
+    );
+    assert!(rt; wire.puts().is_empty());
+    Ok(())
+}
+
+/// The calls are: an arrival and the ask, an arrival, the close and the reply that is refused.
+#[test]
+fn a_refused_reply_is_counted(rt: HostRuntime) -> Result<(), Fail> {
+    let heap = Refusing::new(rt.alloc());
+    let mut forwarder = forwarder(&heap)?;
+    let mut wire = wire(&heap, question(&heap)?, reply(&heap)?, &[4])?;
+    let served = serve(&heap, &mut wire, &mut forwarder, 2)?;
+    assert_eq!(rt;
+        served,
+        Served {
+            turns: 2,
+            lost: 0,
+            refused_puts: 1,
+            refused_arrivals: 0
+        }
+    );
+    match wire.puts() {
+        [first, second, third] => {
+            assert!(rt; asks(first, true) && closes(second) && answers(third, false));
+        }
+        _ => assert!(rt; false),
+    }
+    Ok(())
+}
+
+#[test]
+fn a_reader_without_memory_ends_the_call(rt: HostRuntime) -> Result<(), Fail> {
+    let ample = Refusing::new(rt.alloc());
+    let heap = Refusing::new(rt.alloc());
+    let mut refused = 0u64;
+    for count in 0..20u64 {
+        let mut forwarder = forwarder(&ample)?;
+        let rest = piece(&ample, 3, &QUESTION[1..])?;
+        let mut wire = wire(&ample, piece(&ample, 3, b"\x00\x1b\x12")?, rest, &[])?;
+        heap.allow(count);
+        let served = serve(&heap, &mut wire, &mut forwarder, 2);
+        heap.allow(u64::MAX);
+        if served.is_ok() {
+            assert_eq!(rt; wire.puts().len(), 1);
+            break;
+        }
+        refused = refused.saturating_add(1);
+    }
+    assert_eq!(rt; refused, 4);
+    Ok(())
+}
+
+#[test]
+fn an_event_without_memory_is_lost(rt: HostRuntime) -> Result<(), Fail> {
+    let ample = Refusing::new(rt.alloc());
+    let heap = Refusing::new(rt.alloc());
+    let mut forwarder = forwarder(&heap)?;
+    let mut wire = wire(&ample, question(&ample)?, Arrival::Nothing, &[])?;
+    heap.allow(0);
+    let served = serve(&ample, &mut wire, &mut forwarder, 1)?;
+    heap.allow(u64::MAX);
+    assert_eq!(rt;
+        served,
+        Served {
+            turns: 1,
+            lost: 1,
+            refused_puts: 0,
+            refused_arrivals: 0
+        }
+    );
+    assert!(rt; wire.puts().is_empty());
+    Ok(())
+}
+
+#[test]
+fn a_wire_without_memory_refuses(rt: HostRuntime) -> Result<(), Fail> {
+    let ample = Refusing::new(rt.alloc());
+    let heap = Refusing::new(rt.alloc());
+    let mut forwarder = forwarder(&ample)?;
+    let mut wire = wire(&heap, question(&heap)?, Arrival::Nothing, &[])?;
+    heap.allow(0);
+    let served = serve(&ample, &mut wire, &mut forwarder, 1)?;
+    heap.allow(u64::MAX);
+    assert_eq!(rt;
+        served,
+        Served {
+            turns: 1,
+            lost: 0,
+            refused_puts: 0,
+            refused_arrivals: 1
+        }
+    );
+    assert_eq!(rt; wire.faults(), 1);
+    Ok(())
+}

@@ -1,0 +1,10 @@
+//! Tests of the loop over a wire in memory, of what no contract says: that memory is there, and what the wire's script
+//! gives and refuses.
+#![tactic(auto)]
+
+#[cfg(test)]
+mod faults;
+#[cfg(test)]
+mod turns;
+#[cfg(test)]
+mod worked;

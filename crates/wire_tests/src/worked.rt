@@ -1,0 +1,150 @@
+//! A worked question with its query, reply and answer, and the wires that carry them.
+
+use dns_name::Name;
+use forwarder_core::Forwarder;
+use lru::DefaultHasher;
+use network_model::{Arrival, ScriptTurn, ScriptWire};
+use plain_list::PlainList;
+use std::alloc::{AllocError, Allocator};
+use step_values::{Action, Client, Why};
+use suffix_routes::{Config, Limits, Peer, Route};
+
+pub(crate) const CLIENT: Peer = Peer {
+    ip: [10, 0, 0, 7],
+    port: 40000,
+};
+
+pub(crate) const SERVER: Peer = Peer {
+    ip: [192, 0, 2, 1],
+    port: 53,
+};
+
+/// The first word gives identifier 8 and port 1032, each further one the next identifier and the next port.
+pub(crate) const WORDS: [u32; 8] = [
+    524_296, 589_833, 655_370, 720_907, 786_444, 851_981, 917_518, 983_055,
+];
+
+/// A question for the address of a.example. The last four octets are its type and its class.
+pub(crate) const QUESTION: [u8; 27] =
+    *b"\x12\x34\x01\x00\x00\x01\x00\x00\x00\x00\x00\x00\x01a\x07example\x00\x00\x01\x00\x01";
+
+/// The same as a query.
+pub(crate) const QUERY: [u8; 27] =
+    *b"\x00\x08\x01\x00\x00\x01\x00\x00\x00\x00\x00\x00\x01a\x07example\x00\x00\x01\x00\x01";
+
+/// The server's reply: 198.51.100.5, for 300 seconds.
+pub(crate) const REPLY: &[u8] =
+    b"\x00\x08\x85\x00\x00\x01\x00\x01\x00\x00\x00\x00\x01a\x07example\x00\x00\x01\x00\x01\xc0\x0c\x00\x01\x00\x01\x00\x00\x01\x2c\x00\x04\xc6\x33\x64\x05";
+
+/// What the client gets.
+pub(crate) const ANSWER: &[u8] =
+    b"\x12\x34\x81\x80\x00\x01\x00\x01\x00\x00\x00\x00\x01a\x07example\x00\x00\x01\x00\x01\xc0\x0c\x00\x01\x00\x01\x00\x00\x01\x2c\x00\x04\xc6\x33\x64\x05";
+
+/// A forwarder with one route, for every name, with one server.
+pub(crate) fn forwarder<A: Allocator + Copy>(
+    alloc: A,
+) -> Result<Forwarder<DefaultHasher, A>, AllocError> {
+    let mut servers = PlainList::new(alloc);
+    servers.push(SERVER)?;
+    let route = Route {
+        suffix: Name::root(alloc),
+        servers,
+    };
+    let mut routes = PlainList::new(alloc);
+    routes.push(route)?;
+    let config = Config {
+        listen: SERVER,
+        limits: Limits::defaults(),
+        routes,
+    };
+    Forwarder::new(alloc, config, DefaultHasher::default())
+}
+
+/// The question comes by UDP.
+pub(crate) fn question<A: Allocator + Copy>(alloc: A) -> Result<Arrival<A>, AllocError> {
+    Ok(Arrival::ClientDatagram {
+        from: CLIENT,
+        bytes: PlainList::copied(alloc, &QUESTION)?,
+    })
+}
+
+/// The server's reply comes at the port of the query.
+pub(crate) fn reply<A: Allocator + Copy>(alloc: A) -> Result<Arrival<A>, AllocError> {
+    Ok(Arrival::ServerDatagram {
+        port: 1032,
+        from: SERVER,
+        bytes: PlainList::copied(alloc, REPLY)?,
+    })
+}
+
+/// A piece of the stream on a client's connection.
+pub(crate) fn piece<A: Allocator + Copy>(
+    alloc: A,
+    conn: u64,
+    bytes: &[u8],
+) -> Result<Arrival<A>, AllocError> {
+    Ok(Arrival::ClientStream {
+        conn,
+        bytes: PlainList::copied(alloc, bytes)?,
+    })
+}
+
+/// A wire on which these two arrive, at 1000 and at 1020, and that refuses the calls with these numbers.
+pub(crate) fn wire<A: Allocator + Copy>(
+    alloc: A,
+    first: Arrival<A>,
+    second: Arrival<A>,
+    refuse: &[u64],
+) -> Result<ScriptWire<A>, AllocError> {
+    let mut turns = Vec::new(alloc);
+    turns.push(ScriptTurn {
+        arrival: first,
+        moment: 1000,
+        words: WORDS,
+    })?;
+    turns.push(ScriptTurn {
+        arrival: second,
+        moment: 1020,
+        words: WORDS,
+    })?;
+    Ok(ScriptWire::new(alloc, turns, Vec::from_slice(alloc, refuse)?))
+}
+
+/// The query goes to the server from its port, and was or wasn't refused.
+pub(crate) fn asks<A: Allocator>(put: &(Action<A>, bool), taken: bool) -> bool {
+    match put {
+        (
+            Action::AskUdp {
+                port,
+                server,
+                bytes,
+            },
+            sent,
+        ) => *port == 1032
+            && *server == SERVER
+            && bytes.as_slice() == QUERY.as_slice()
+            && *sent == taken,
+        _ => false,
+    }
+}
+
+/// The port of the query is given up.
+pub(crate) fn closes<A: Allocator>(put: &(Action<A>, bool)) -> bool {
+    match put {
+        (Action::CloseUdp { port }, sent) => *port == 1032 && *sent,
+        _ => false,
+    }
+}
+
+/// The client gets its answer, or would have.
+pub(crate) fn answers<A: Allocator>(put: &(Action<A>, bool), taken: bool) -> bool {
+    match put {
+        (Action::Reply { client, bytes, why }, sent) => {
+            *client == Client::Udp(CLIENT)
+                && bytes.as_slice() == ANSWER
+                && *why == Why::Answered
+                && *sent == taken
+        }
+        _ => false,
+    }
+}
