@@ -120,7 +120,10 @@ pub(crate) fn asks<A: Allocator>(put: &(Action<A>, bool), taken: bool) -> bool {
                 bytes,
             },
             sent,
-        ) => *port == 1032 && *server == SERVER && bytes.as_slice() == QUERY.as_slice() && *sent == taken,
+        ) => *port == 1032
+            && *server == SERVER
+            && bytes.as_slice() == QUERY.as_slice()
+            && *sent == taken,
         _ => false,
     }
 }
