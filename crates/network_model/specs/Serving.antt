@@ -77,6 +77,9 @@ pub record Standing : Type 0 where
   pub told : Option Told
   pub counts : Served
 
+abbrev pub standing : Running → Option Told → Served → Standing
+standing running told counts = record { running = running; told = told; counts = counts }
+
 -- Between the two these events were handed to the forwarder: the steps are a run of it, and all that they do was put.
 pub record Does (before : Standing) (taken : List Taken) (after : Standing) : Type 0 where
   pub config : after.running.config ≡ before.running.config

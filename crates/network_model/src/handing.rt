@@ -2,6 +2,7 @@
 
 ghost use Rattle.std.specs.Prelude.{◌≡◌, ◌∷◌, [], None, option_map};
 ghost use Rattle.step_values.specs.Values.{event_of, action_of, actions_of, ask_in, tick};
+ghost use Rattle.network_model.specs.Serving.{standing};
 ghost use Rattle.network_model.specs.Handing.{Puts, Hands, HandsOn, Ticks};
 
 use crate::counts::Served;
@@ -73,7 +74,7 @@ fn hand<H: Drop, A: Allocator + Copy, W: Wire<A>>(
     counts: &mut Served,
     event: Event<A>,
 ) -> Handled
-    ensures { Hands (event_of event) result.failed result.more (record { running = forwarder.old; told = W.told wire.old; counts = counts.old }) (record { running = forwarder.new; told = W.told wire.new; counts = counts.new }) }
+    ensures { Hands (event_of event) result.failed result.more (standing forwarder.old (W.told wire.old) counts.old) (standing forwarder.new (W.told wire.new) counts.new) }
 {
     let now = wire.moment();
     let words = wire.words();
@@ -100,7 +101,7 @@ pub(crate) fn hand_on<H: Drop, A: Allocator + Copy, W: Wire<A>>(
     counts: &mut Served,
     event: Event<A>,
 ) -> bool
-    ensures { HandsOn (event_of event) result (record { running = forwarder.old; told = W.told wire.old; counts = counts.old }) (record { running = forwarder.new; told = W.told wire.new; counts = counts.new }) }
+    ensures { HandsOn (event_of event) result (standing forwarder.old (W.told wire.old) counts.old) (standing forwarder.new (W.told wire.new) counts.new) }
 {
     let handled = hand(wire, forwarder, counts, event);
     let mut failed = handled.failed;
@@ -116,7 +117,7 @@ pub(crate) fn tick_on<H: Drop, A: Allocator + Copy, W: Wire<A>>(
     forwarder: &mut Forwarder<H, A>,
     counts: &mut Served,
 )
-    ensures { Ticks (record { running = forwarder.old; told = W.told wire.old; counts = counts.old }) (record { running = forwarder.new; told = W.told wire.new; counts = counts.new }) }
+    ensures { Ticks (standing forwarder.old (W.told wire.old) counts.old) (standing forwarder.new (W.told wire.new) counts.new) }
 {
     while hand_on(wire, forwarder, counts, Event::Tick) {}
 }

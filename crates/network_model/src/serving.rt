@@ -2,7 +2,7 @@
 
 ghost use Rattle.std.specs.Prelude.{◌≡◌, OnOk, Some};
 ghost use Rattle.network_model.specs.Wire.{arrival_of, path_gone};
-ghost use Rattle.network_model.specs.Serving.{Serves};
+ghost use Rattle.network_model.specs.Serving.{standing, Serves};
 ghost use Rattle.network_model.specs.Streams.{events_by, Follows, ServesEvents, TakesArrival, TakesTurn};
 
 use crate::counts::Served;
@@ -36,7 +36,7 @@ fn serve_arrival<H: Drop, A: Allocator + Copy, W: Wire<A>>(
     streams: &mut Streams<A>,
     arrival: Arrival<A>,
 ) -> Result<(), AllocError>
-    ensures serves { ServesEvents (events_by streams.old (Some (arrival_of arrival))) result (record { running = forwarder.old; told = W.told wire.old; counts = counts.old }) (record { running = forwarder.new; told = W.told wire.new; counts = counts.new }) }
+    ensures serves { ServesEvents (events_by streams.old (Some (arrival_of arrival))) result (standing forwarder.old (W.told wire.old) counts.old) (standing forwarder.new (W.told wire.new) counts.new) }
     ensures follows { OnOk result (Follows streams.old (Some (arrival_of arrival)) streams.new) }
 {
     match arrival {
@@ -99,7 +99,7 @@ fn take_arrival<H: Drop, A: Allocator + Copy, W: Wire<A>>(
     counts: &mut Served,
     streams: &mut Streams<A>,
 ) -> Result<(), AllocError>
-    ensures { TakesArrival streams.old result streams.new (record { running = forwarder.old; told = W.told wire.old; counts = counts.old }) (record { running = forwarder.new; told = W.told wire.new; counts = counts.new }) }
+    ensures { TakesArrival streams.old result streams.new (standing forwarder.old (W.told wire.old) counts.old) (standing forwarder.new (W.told wire.new) counts.new) }
 {
     match wire.arrival() {
         Ok(arrival) => serve_arrival(alloc, wire, forwarder, counts, streams, arrival),
@@ -118,7 +118,7 @@ fn take_turn<H: Drop, A: Allocator + Copy, W: Wire<A>>(
     counts: &mut Served,
     streams: &mut Streams<A>,
 ) -> Result<(), AllocError>
-    ensures { TakesTurn streams.old result streams.new (record { running = forwarder.old; told = W.told wire.old; counts = counts.old }) (record { running = forwarder.new; told = W.told wire.new; counts = counts.new }) }
+    ensures { TakesTurn streams.old result streams.new (standing forwarder.old (W.told wire.old) counts.old) (standing forwarder.new (W.told wire.new) counts.new) }
 {
     take_arrival(alloc, wire, forwarder, counts, streams)?;
     tick_on(wire, forwarder, counts);

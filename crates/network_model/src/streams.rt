@@ -3,6 +3,7 @@
 ghost use Rattle.std.specs.Prelude.{◌≡◌, ◌==◌, ◌++◌, ℕ, [], if◌then◌else◌, map, OnOk};
 ghost use Rattle.tcp_frames.specs.Frames.{frames_of, unfinished_of};
 ghost use Rattle.step_values.specs.Values.{event_of};
+ghost use Rattle.network_model.specs.Serving.{standing};
 ghost use Rattle.network_model.specs.Streams.{left_on, message_from, ServesFrames, ServesEvents};
 
 use crate::counts::Served;
@@ -86,7 +87,7 @@ fn serve_frames<H: Drop, A: Allocator + Copy, W: Wire<A>>(
     reader: &mut FrameReader<A>,
     sender: Sender,
 ) -> Result<(), AllocError>
-    ensures { ServesFrames sender reader.old result reader.new (record { running = forwarder.old; told = W.told wire.old; counts = counts.old }) (record { running = forwarder.new; told = W.told wire.new; counts = counts.new }) }
+    ensures { ServesFrames sender reader.old result reader.new (standing forwarder.old (W.told wire.old) counts.old) (standing forwarder.new (W.told wire.new) counts.new) }
 {
     cut_does_not_matter();
     all_frames_are_taken();
@@ -106,7 +107,7 @@ pub(crate) fn serve_piece<H: Drop, A: Allocator + Copy, W: Wire<A>>(
     sender: Sender,
     piece: &[u8],
 ) -> Result<(), AllocError>
-    ensures serves { ServesEvents (map (message_from sender) (frames_of (reader.old ++ piece.now))) result (record { running = forwarder.old; told = W.told wire.old; counts = counts.old }) (record { running = forwarder.new; told = W.told wire.new; counts = counts.new }) }
+    ensures serves { ServesEvents (map (message_from sender) (frames_of (reader.old ++ piece.now))) result (standing forwarder.old (W.told wire.old) counts.old) (standing forwarder.new (W.told wire.new) counts.new) }
     ensures reader { OnOk result (reader.new ≡ unfinished_of (reader.old ++ piece.now)) }
 {
     reader.feed(piece)?;

@@ -3,6 +3,7 @@
 use crate::worked::{QUESTION, answers, asks, closes, forwarder, piece, question, reply, wire};
 use network_model::{Arrival, Served, Wire, serve};
 use refusing_allocator::Refusing;
+use std::alloc::{AllocError, Global};
 use std::test::Fail;
 
 /// The calls are: the arrival, the ask that is refused, the close of its path, the next ask.
@@ -28,25 +29,6 @@ fn a_refused_ask_is_a_failed_path(rt: HostRuntime) -> Result<(), Fail> {
         }
         _ => assert!(rt; false),
     }
-    Ok(())
-}
-
-#[test]
-fn a_refused_arrival_is_lost(rt: HostRuntime) -> Result<(), Fail> {
-    let heap = Refusing::new(rt.alloc());
-    let mut forwarder = forwarder(&heap)?;
-    let mut wire = wire(&heap, question(&heap)?, Arrival::Nothing, &[0])?;
-    let served = serve(&heap, &mut wire, &mut forwarder, 2)?;
-    assert_eq!(rt;
-        served,
-        Served {
-            turns: 2,
-            lost: 0,
-            refused_puts: 0,
-            refused_arrivals: 1
-        }
-    );
-    assert!(rt; wire.puts().is_empty());
     Ok(())
 }
 
@@ -97,17 +79,28 @@ fn a_reader_without_memory_ends_the_call(rt: HostRuntime) -> Result<(), Fail> {
     Ok(())
 }
 
+/// One turn with the question, while this heap refuses every growth.
+fn serve_refused<'a>(
+    own: &'a Refusing<Global>,
+    of_wire: &'a Refusing<Global>,
+    refusing: &'a Refusing<Global>,
+) -> Result<Served, AllocError> {
+    let mut forwarder = forwarder(own)?;
+    let mut wire = wire(of_wire, question(of_wire)?, Arrival::Nothing, &[])?;
+    refusing.allow(0);
+    let served = serve(own, &mut wire, &mut forwarder, 1);
+    refusing.allow(u64::MAX);
+    served
+}
+
+/// A forwarder without memory loses the event, a wire without memory refuses the arrival.
 #[test]
-fn an_event_without_memory_is_lost(rt: HostRuntime) -> Result<(), Fail> {
+fn without_memory_an_event_is_lost(rt: HostRuntime) -> Result<(), Fail> {
     let ample = Refusing::new(rt.alloc());
     let heap = Refusing::new(rt.alloc());
-    let mut forwarder = forwarder(&heap)?;
-    let mut wire = wire(&ample, question(&ample)?, Arrival::Nothing, &[])?;
-    heap.allow(0);
-    let served = serve(&ample, &mut wire, &mut forwarder, 1)?;
-    heap.allow(u64::MAX);
+    let lost = serve_refused(&heap, &ample, &heap)?;
     assert_eq!(rt;
-        served,
+        lost,
         Served {
             turns: 1,
             lost: 1,
@@ -115,21 +108,9 @@ fn an_event_without_memory_is_lost(rt: HostRuntime) -> Result<(), Fail> {
             refused_arrivals: 0
         }
     );
-    assert!(rt; wire.puts().is_empty());
-    Ok(())
-}
-
-#[test]
-fn a_wire_without_memory_refuses(rt: HostRuntime) -> Result<(), Fail> {
-    let ample = Refusing::new(rt.alloc());
-    let heap = Refusing::new(rt.alloc());
-    let mut forwarder = forwarder(&ample)?;
-    let mut wire = wire(&heap, question(&heap)?, Arrival::Nothing, &[])?;
-    heap.allow(0);
-    let served = serve(&ample, &mut wire, &mut forwarder, 1)?;
-    heap.allow(u64::MAX);
+    let refused = serve_refused(&ample, &heap, &heap)?;
     assert_eq!(rt;
-        served,
+        refused,
         Served {
             turns: 1,
             lost: 0,
@@ -137,6 +118,5 @@ fn a_wire_without_memory_refuses(rt: HostRuntime) -> Result<(), Fail> {
             refused_arrivals: 1
         }
     );
-    assert_eq!(rt; wire.faults(), 1);
     Ok(())
 }
