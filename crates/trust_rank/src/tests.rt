@@ -147,6 +147,6 @@ fn each_growth_is_refused(rt: HostRuntime) -> Result<(), Fail> {
     let alias = refusals(rt.alloc(), &hex::decode(rt.alloc(), ALIAS)?)?;
     let name_error = refusals(rt.alloc(), &hex::decode(rt.alloc(), NAME_ERROR)?)?;
     let twenty = refusals(rt.alloc(), &twenty_twice(rt.alloc())?)?;
-    assert_eq!(rt; (alias, name_error, twenty), (15, 5, 28));
+    assert_eq!(rt; (alias, name_error, twenty), (14, 5, 28));
     Ok(())
 }
