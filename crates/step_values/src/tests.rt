@@ -27,7 +27,7 @@ fn delivers<A: Allocator + Copy>(alloc: A) -> Result<Handed<A>, AllocError> {
 fn is_delivery<A: Allocator>(handed: &Handed<A>) -> bool {
     match &handed.event {
         Event::Delivery { path, from, bytes } => {
-            *path == Path::Udp(1032) && *from == PEER && bytes.as_slice() == b"\x00\x08"
+            *path == Path::Udp(1032) && *from == PEER && bytes.as_slice() == b"\x00\x08".as_slice()
         }
         _ => false,
     }
@@ -52,7 +52,7 @@ fn copies_are_equal(rt: HostRuntime) -> Result<(), Fail> {
     match reply.copy(&heap)? {
         Action::Reply { client, bytes, why } => {
             assert!(rt; client == Client::Tcp(7) && why == Why::NoRoute);
-            assert_eq!(rt; bytes.as_slice(), b"\x12\x34");
+            assert_eq!(rt; bytes.as_slice(), b"\x12\x34".as_slice());
         }
         _ => assert!(rt; false),
     }
