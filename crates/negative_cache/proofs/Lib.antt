@@ -1,0 +1,6 @@
+pub mod Options
+pub mod Depths
+pub mod Climbing
+pub mod Fitting
+pub mod Forgetting
+pub mod Nearest
