@@ -42,7 +42,7 @@ fn found_for(
     kind: u16,
     moment: u64,
 ) -> Result<(&'static str, &'static str), Fail> {
-    let config = Config::read(alloc, ROUTES)?;
+    let config = Config::read(alloc, alloc, ROUTES)?;
     let name = Name::from_text(alloc, name)?;
     let by_name = word(&find(cache, &name, 1, kind, moment, &config));
     let by_key = word(&find_by_key(cache, &name.key(), 1, kind, moment, &config));
