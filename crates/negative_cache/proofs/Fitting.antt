@@ -26,12 +26,8 @@ use Rattle.negative_cache.specs.Bodies.{is_set, is_no_data}
 use Rattle.negative_cache.specs.Finding.{only, typed_entry, alias_at, is_on, name_error_of, name_error_on, nearest, found_or, found}
 use Rattle.negative_cache.specs.Laws.{IsLiving, IsOfType, Denies, Fits, FoundFits, PromotionKeepsFound}
 use Rattle.negative_cache.proofs.Options.{only_some, option_decides}
+use Rattle.negative_cache.proofs.Choosing.{or_holds, found_holds}
 use Rattle.negative_cache.proofs.Depths.{error_slot}
-
--- what was found so, or what comes next
-pub or_fits : (F : Found → Type 0) (so : Held → Found) (o : Option Held) (next : Found) → ((h : Held) → o ≡ Some h → F (so h)) → F next → F (found_or so o next)
-or_fits F so (Some h) next f n = f h refl
-or_fits F so None next f n = n
 
 -- ---- entries of a type
 
@@ -85,10 +81,11 @@ denial_fits routes moment entries q h e =
 
 pub found_fits : FoundFits
 found_fits routes moment entries q =
-    or_fits (Fits routes moment entries q) rows (only is_set (typed_entry moment entries (lowered q.name) q.class q.kind)) _ (λ h e. typed moment entries q q.kind is_set h e)
-    (or_fits (Fits routes moment entries q) alias (alias_at moment entries (lowered q.name) q.class q.kind) _ (λ h e. alias_fits moment entries q h (q.kind == 5) refl e)
-    (or_fits (Fits routes moment entries q) no_data (only is_no_data (typed_entry moment entries (lowered q.name) q.class q.kind)) _ (λ h e. typed moment entries q q.kind is_no_data h e)
-    (or_fits (Fits routes moment entries q) denied (nearest (name_error_on routes (route_of routes (lowered q.name)) moment entries q.class) (lowered q.name)) miss (λ h e. denial_fits routes moment entries q h e) tt)))
+    found_holds (Fits routes moment entries q) routes moment entries q
+    (λ h e. typed moment entries q q.kind is_set h e)
+    (λ h e. alias_fits moment entries q h (q.kind == 5) refl e)
+    (λ h e. typed moment entries q q.kind is_no_data h e)
+    (or_holds (Fits routes moment entries q) denied (nearest (name_error_on routes (route_of routes (lowered q.name)) moment entries q.class) (lowered q.name)) miss (λ h e. denial_fits routes moment entries q h e) tt)
 
 -- ---- a promotion
 

@@ -4,7 +4,8 @@ use Rattle.std.specs.Prelude.{is_none}
 use Rattle.std.specs.Bool.{Decides}
 use Rattle.std.specs.List.{AllByRecursion}
 use Rattle.std.proofs.lemmas.Bool.{eq-eqb}
-use Rattle.std.proofs.lemmas.Bool.Decides.{Decides-eqb, Decides-and, Decides-or, Decides-like, same_from_decides}
+use Rattle.std.specs.Cmp.{first_so, second_so}
+use Rattle.std.proofs.lemmas.Bool.Decides.{Decides-eqb}
 use Rattle.dns_name.specs.Labels.{lowered, IsSame, IsUnder}
 use Rattle.dns_name.proofs.CallerLemmas.{lowered_again, same_as_many_labels, longer_is_under, is_under_decides}
 use Rattle.trust_rank.specs.declared.slot.Slot.{Slot}
@@ -30,6 +31,27 @@ pub forgotten_is : (class : ℕ) (name : List (List ℕ)) (entries : List Held) 
 forgotten_is class [] entries = refl
 forgotten_is class (label ∷ name) entries = refl
 
+-- ---- tests
+
+and_true : (a b : Bool) → a ≡ true → b ≡ true → (a && b) ≡ true
+and_true true b h k = k
+and_true false b h k = absurd cc
+
+or_true : (a b : Bool) → (a || b) ≡ true → (a ≡ true) ⊎ (b ≡ true)
+or_true true b h = inl refl
+or_true false b h = inr h
+
+true_or : (a b : Bool) → (a ≡ true) ⊎ (b ≡ true) → (a || b) ≡ true
+true_or true b h = refl
+true_or false b (inl h) = absurd cc
+true_or false b (inr h) = h
+
+one_test : (a b : Bool) → (a ≡ true → b ≡ true) → (b ≡ true → a ≡ true) → a ≡ b
+one_test true true f g = refl
+one_test true false f g = sym (f refl)
+one_test false true f g = g refl
+one_test false false f g = refl
+
 -- ---- which entries deny a name
 
 -- what `denies` tells
@@ -37,7 +59,18 @@ abbrev IsDenied : List (List ℕ) → ℕ → Held → Type 0
 IsDenied name class h = ((is_name_error h.piece ≡ true) × (h.piece.slot.class ≡ class)) × IsUnder name h.piece.slot.key
 
 denies_decides : (name : List (List ℕ)) (class : ℕ) (h : Held) → Decides (denies name class h) (IsDenied name class h)
-denies_decides name class h = Decides-and _ _ (Decides-and _ _ ((λ e. e), (λ e. e)) (Decides-eqb h.piece.slot.class class)) (is_under_decides name h.piece.slot.key)
+denies_decides name class h =
+    let error = is_name_error h.piece in
+    let of_class = h.piece.slot.class == class in
+    let under = is_under name h.piece.slot.key in (
+      λ e. (
+        (first_so error of_class (first_so (error && of_class) under e), (Decides-eqb h.piece.slot.class class).0 (second_so error of_class (first_so (error && of_class) under e))),
+        (is_under_decides name h.piece.slot.key).0 (second_so (error && of_class) under e),
+      ),
+      λ d. and_true (error && of_class) under
+          (and_true error of_class d.0.0 ((Decides-eqb h.piece.slot.class class).1 d.0.1))
+          ((is_under_decides name h.piece.slot.key).1 d.1),
+    )
 
 -- a key is in lower case
 abbrev pub IsLower : Held → Type 0
@@ -73,28 +106,37 @@ at_root key [] back e same = subst (λ (n : List (List ℕ)). IsSame n key) (sym
 at_root key (first ∷ front) back e same = absurd cc
 
 denies_root : (class : ℕ) (h : Held) → IsLower h → denies [] class h ≡ of_slot (error_slot class (lowered [])) h
-denies_root class h lower =
-    same_from_decides (denies [] class h) (of_slot (error_slot class (lowered [])) h) (denies_decides [] class h)
-    (Decides-like (of_slot (error_slot class (lowered [])) h) (own_denies [] class h lower)
-    (λ (d : IsDenied [] class h). slot_of_same [] class h lower d.0 (at_root h.piece.slot.key d.1.0 d.1.1 d.1.2 d.1.3))
-    (slots_decide (error_slot class (lowered [])) h.piece.slot))
+denies_root class h lower = one_test (denies [] class h) (of_slot (error_slot class (lowered [])) h) to from
+  where
+    to : denies [] class h ≡ true → of_slot (error_slot class (lowered [])) h ≡ true
+    to e =
+        let d = (denies_decides [] class h).0 e in
+        (slots_decide (error_slot class (lowered [])) h.piece.slot).1 (slot_of_same [] class h lower d.0 (at_root h.piece.slot.key d.1.0 d.1.1 d.1.2 d.1.3))
+
+    from : of_slot (error_slot class (lowered [])) h ≡ true → denies [] class h ≡ true
+    from e = (denies_decides [] class h).1 (own_denies [] class h lower ((slots_decide (error_slot class (lowered [])) h.piece.slot).0 e))
 
 denies_higher : (label : List ℕ) (name : List (List ℕ)) (class : ℕ) (h : Held) → IsLower h → denies (label ∷ name) class h ≡ (of_slot (error_slot class (lowered (label ∷ name))) h || denies name class h)
-denies_higher label name class h lower =
-    let own = of_slot (error_slot class (lowered (label ∷ name))) h in
-    same_from_decides (denies (label ∷ name) class h) (own || denies name class h) (denies_decides (label ∷ name) class h)
-    (Decides-like (own || denies name class h) to from (Decides-or own (denies name class h) (slots_decide (error_slot class (lowered (label ∷ name))) h.piece.slot) (denies_decides name class h)))
+denies_higher label name class h lower = one_test (denies (label ∷ name) class h) (of_slot (error_slot class (lowered (label ∷ name))) h || denies name class h) to from
   where
-    to : (error_slot class (lowered (label ∷ name)) ≡ h.piece.slot) ⊎ IsDenied name class h → IsDenied (label ∷ name) class h
-    to (inl e) = own_denies (label ∷ name) class h lower e
-    to (inr d) = (d.0, longer_is_under label name h.piece.slot.key d.1)
+    either : (is_name_error h.piece ≡ true) × (h.piece.slot.class ≡ class) → IsSame (label ∷ name) h.piece.slot.key ⊎ IsUnder name h.piece.slot.key
+        → (of_slot (error_slot class (lowered (label ∷ name))) h ≡ true) ⊎ (denies name class h ≡ true)
+    either d (inl same) = inl ((slots_decide (error_slot class (lowered (label ∷ name))) h.piece.slot).1 (slot_of_same (label ∷ name) class h lower d same))
+    either d (inr under) = inr ((denies_decides name class h).1 (d, under))
 
-    back_from : (is_name_error h.piece ≡ true) × (h.piece.slot.class ≡ class) → IsSame (label ∷ name) h.piece.slot.key ⊎ IsUnder name h.piece.slot.key → (error_slot class (lowered (label ∷ name)) ≡ h.piece.slot) ⊎ IsDenied name class h
-    back_from d (inl same) = inl (slot_of_same (label ∷ name) class h lower d same)
-    back_from d (inr under) = inr (d, under)
+    to : denies (label ∷ name) class h ≡ true → (of_slot (error_slot class (lowered (label ∷ name))) h || denies name class h) ≡ true
+    to e =
+        let d = (denies_decides (label ∷ name) class h).0 e in
+        true_or (of_slot (error_slot class (lowered (label ∷ name))) h) (denies name class h) (either d.0 (one_higher label name h.piece.slot.key d.1.0 d.1.1 d.1.2 d.1.3))
 
-    from : IsDenied (label ∷ name) class h → (error_slot class (lowered (label ∷ name)) ≡ h.piece.slot) ⊎ IsDenied name class h
-    from d = back_from d.0 (one_higher label name h.piece.slot.key d.1.0 d.1.1 d.1.2 d.1.3)
+    whole : (of_slot (error_slot class (lowered (label ∷ name))) h ≡ true) ⊎ (denies name class h ≡ true) → denies (label ∷ name) class h ≡ true
+    whole (inl e) = (denies_decides (label ∷ name) class h).1 (own_denies (label ∷ name) class h lower ((slots_decide (error_slot class (lowered (label ∷ name))) h.piece.slot).0 e))
+    whole (inr e) =
+        let d = (denies_decides name class h).0 e in
+        (denies_decides (label ∷ name) class h).1 (d.0, longer_is_under label name h.piece.slot.key d.1)
+
+    from : (of_slot (error_slot class (lowered (label ∷ name))) h || denies name class h) ≡ true → denies (label ∷ name) class h ≡ true
+    from e = whole (or_true (of_slot (error_slot class (lowered (label ∷ name))) h) (denies name class h) e)
 
 -- ---- one after another is all at once
 
@@ -137,10 +179,6 @@ pub forgotten_all : (class : ℕ) (name : List (List ℕ)) (entries : List Held)
 forgotten_all class name entries formed = all_lower_forgotten class name entries (all_of (λ h. IsPiece h.piece) IsLower lower_key entries formed)
 
 -- ---- nothing to forget
-
-and_true : (a b : Bool) → a ≡ true → b ≡ true → (a && b) ≡ true
-and_true true b h k = k
-and_true false b h k = absurd cc
 
 under_is_short : (name key : List (List ℕ)) → IsUnder name key → length key ≤ length name
 under_is_short name key under = omega (arith, ap length under.2, length-append under.0 under.1, same_as_many_labels under.1 key under.3)

@@ -1,4 +1,5 @@
 pub mod Options
+pub mod Choosing
 pub mod Depths
 pub mod Climbing
 pub mod Fitting

@@ -17,15 +17,14 @@ use Rattle.record_cache.specs.Ageing.{is_alive}
 use Rattle.record_cache.specs.Entries.{of_slot, entry_of, AreApart}
 use Rattle.record_cache.specs.Laws.{Among}
 use Rattle.record_cache.proofs.CallerLemmas.{slots_decide, among_holds, entry_has_slot}
-use Rattle.negative_cache.specs.Values.{Found, rows, alias, no_data, denied, miss}
-use Rattle.negative_cache.specs.Bodies.{is_set, is_no_data}
-use Rattle.negative_cache.specs.Finding.{only, typed_entry, alias_at, is_on, name_error_of, name_error_on, nearest, found_or}
+use Rattle.negative_cache.specs.Values.{denied, miss}
+use Rattle.negative_cache.specs.Finding.{only, is_on, name_error_of, name_error_on, nearest, found_or}
 use Rattle.negative_cache.specs.Laws.{IsLiving, Denies, IsNearer, NearestIsFound}
 use Rattle.negative_cache.proofs.Options.{only_some, only_true, option_decides}
 use Rattle.negative_cache.proofs.Depths.{error_slot}
 use Rattle.negative_cache.proofs.Climbing.{nearest_here}
 use Rattle.negative_cache.proofs.Forgetting.{kind_none, lower_key}
-use Rattle.negative_cache.proofs.Fitting.{or_fits}
+use Rattle.negative_cache.proofs.Choosing.{found_holds}
 
 -- each entry is the one of its slot
 among_is_entry : (entries : List Held) (h : Held) → AreApart entries → Among h entries → entry_of h.piece.slot entries ≡ Some h
@@ -79,7 +78,5 @@ module _ (routes : List Route) (moment : ℕ) (entries : List Held) (q : Questio
 
 pub nearest_is_found : NearestIsFound
 nearest_is_found routes moment entries q other apart formed living denies =
-    or_fits (λ f. IsNearer f other) rows (only is_set (typed_entry moment entries (lowered q.name) q.class q.kind)) _ (λ h e. tt)
-    (or_fits (λ f. IsNearer f other) alias (alias_at moment entries (lowered q.name) q.class q.kind) _ (λ h e. tt)
-    (or_fits (λ f. IsNearer f other) no_data (only is_no_data (typed_entry moment entries (lowered q.name) q.class q.kind)) _ (λ h e. tt)
-    (denial_near routes moment entries q other apart living denies (lower_key other (among_holds (λ h. IsPiece h.piece) entries other formed living.among)))))
+    found_holds (λ f. IsNearer f other) routes moment entries q (λ h e. tt) (λ h e. tt) (λ h e. tt)
+    (denial_near routes moment entries q other apart living denies (lower_key other (among_holds (λ h. IsPiece h.piece) entries other formed living.among)))

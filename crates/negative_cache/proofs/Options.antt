@@ -1,5 +1,5 @@
 -- What is there, where it passes a test.
-use Rattle.std.proofs.Common.{◌≡◌, ℕ, Bool, true, false, if◌then◌else◌, nat_eq, Option, None, Some, refl, ap, subst}
+use Rattle.std.proofs.Common.{◌≡◌, ℕ, Bool, true, false, if◌then◌else◌, nat_eq, Option, None, Some, refl, sym, ap, subst, ◌∙◌}
 use Rattle.std.specs.Option.{option_eq}
 use Rattle.std.specs.Bool.{Decides}
 use Rattle.std.proofs.lemmas.Bool.Decides.{Decides-eqb}
@@ -19,6 +19,16 @@ only_true test h is = rw is refl
 
 pub only_false : (test : Held → Bool) (h : Held) → test h ≡ false → only test (Some h) ≡ None
 only_false test h is = rw is refl
+
+-- the answers of code that tests what is there
+pub absent : (test : Held → Bool) (o : Option Held) → o ≡ None → None ≡ only test o
+absent test o is = sym (ap (only test) is)
+
+pub passes : (test : Held → Bool) (o : Option Held) (h : Held) (b : Bool) → o ≡ Some h → b ≡ test h → b ≡ true → Some h ≡ only test o
+passes test o h b is told yes = sym (ap (only test) is ∙ only_true test h (sym told ∙ yes))
+
+pub fails : (test : Held → Bool) (o : Option Held) (h : Held) (b : Bool) → o ≡ Some h → b ≡ test h → b ≡ false → None ≡ only test o
+fails test o h b is told no = sym (ap (only test) is ∙ only_false test h (sym told ∙ no))
 
 -- the test of optional numbers is true exactly where they are equal
 pub option_decides : (a b : Option ℕ) → Decides (option_eq nat_eq a b) (a ≡ b)
