@@ -93,8 +93,10 @@ impl<A: Allocator + Copy> Answer<A> {
         requires { asked.now.opcode < 16 }
         ensures { IfOk result (λ text. text ≡ over_udp (written (full_answer asked.now self)) (written (cut_answer asked.now self))) }
     {
-        let (alloc, rcode) = (self.alloc, self.rcode);
-        match self.within(asked, UDP_LIMIT)? {
+        let alloc = self.alloc;
+        let rcode = self.rcode;
+        let whole = self.within(asked, UDP_LIMIT)?;
+        match whole {
             Some(text) => Ok(text),
             None => bare_text(alloc, asked, true, rcode),
         }
@@ -105,7 +107,8 @@ impl<A: Allocator + Copy> Answer<A> {
         requires { asked.now.opcode < 16 }
         ensures { Gives (λ text. text) result (over_tcp (written (full_answer asked.now self))) }
     {
-        match self.within(asked, TCP_LIMIT)? {
+        let whole = self.within(asked, TCP_LIMIT)?;
+        match whole {
             Some(text) => Ok(text),
             None => Err(Fault::TooLarge),
         }
