@@ -43,7 +43,8 @@ use Rattle.step_soundness.proofs.SetLaws.{EndsAtSet, ends_at_set, end_piece_is, 
 use Rattle.step_soundness.proofs.Listed.{on_path-shown, ask_on-is, shown_from}
 use Rattle.step_soundness.proofs.Matching.{judged_parts, MatchFacts, match_facts}
 use Rattle.step_soundness.proofs.Attempts.{peer_within, preferred_put}
-use Rattle.step_soundness.proofs.Cases.{OwnsReply, Speaks, waits_later}
+use Rattle.step_soundness.proofs.Actions.{OwnsReply, Speaks}
+use Rattle.step_soundness.proofs.Cases.{waits_later}
 use Rattle.step_soundness.proofs.Failures as failures
 
 module _ (c : Config) (past : List Step) (w : List (List ℕ)) (s : State) (x : Explains c past w s) (now : ℕ) (words : List ℕ) (unkept : ℕ) (more : Bool) (path : Path) (from : Peer) (octets : List ℕ) where

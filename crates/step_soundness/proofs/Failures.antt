@@ -43,7 +43,8 @@ use Rattle.step_soundness.proofs.Asking.{still_earlier, closes_one, others_tried
 use Rattle.step_soundness.proofs.Attempts.{IsAskBy, ask_by-some, ask_by-none, udp-some, udp-none, tcp-some, tcp-none, peer_within, peer_there}
 use Rattle.step_soundness.proofs.Listed.{on_path-shown, ask_on-is, drawn-shown, drawn_fresh, free_then, none_above, drawn_numbered, drawn_last, without_shorter, none_same}
 use Rattle.step_soundness.proofs.Nexts.{IsNext, next_tried, next_right, MayFollow, listed_next, all_below, append_nil, gave_up, asked_next, asked_again}
-use Rattle.step_soundness.proofs.Cases.{OwnsReply, Speaks, step_of, AskedAt, IsRightNext, waits_later, listed_settled, closes_settled, idle_explained, settled_explained}
+use Rattle.step_soundness.proofs.Actions.{OwnsReply, Speaks, AskedAt, IsRightNext, listed_settled, closes_settled}
+use Rattle.step_soundness.proofs.Cases.{step_of, waits_later, idle_explained, settled_explained}
 use Rattle.step_history.proofs.Moments.{moment_small}
 
 -- what closes an ask of a question closes one of each equal question

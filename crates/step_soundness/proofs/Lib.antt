@@ -8,6 +8,7 @@ pub mod Listed
 pub mod Asking
 pub mod Due
 pub mod Attempts
+pub mod Actions
 pub mod Cases
 pub mod Matching
 pub mod Nexts

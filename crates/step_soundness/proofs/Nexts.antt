@@ -26,7 +26,7 @@ use Rattle.step_rules.specs.Row.{ask_list}
 use Rattle.step_soundness.specs.Explains.{Tried, IsBelow}
 use Rattle.step_soundness.proofs.AskText.{ask_reads}
 use Rattle.step_soundness.proofs.Attempts.{serves}
-use Rattle.step_soundness.proofs.Cases.{IsRightNext}
+use Rattle.step_soundness.proofs.Actions.{IsRightNext}
 
 -- what is known of an ask for a question that comes next
 pub record IsNext (c : Config) (now : List Step) (q : Question) (a : Ask) : Type 0 where

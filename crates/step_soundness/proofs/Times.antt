@@ -23,7 +23,8 @@ use Rattle.step_soundness.proofs.Fates.{All-filter, fates_in, fated, fated_fates
 use Rattle.step_soundness.proofs.Asking.{all_tried_on, closes_none}
 use Rattle.step_soundness.proofs.Listed.{ask_on-is, own_on}
 use Rattle.step_soundness.proofs.Nexts.{listed_next, all_below, append_nil}
-use Rattle.step_soundness.proofs.Cases.{OwnsReply, AreFated, Speaks, step_of, closes_settled, waits_later, settled_explained}
+use Rattle.step_soundness.proofs.Actions.{OwnsReply, AreFated, Speaks, closes_settled}
+use Rattle.step_soundness.proofs.Cases.{step_of, waits_later, settled_explained}
 use Rattle.step_soundness.proofs.Failures as failures
 
 -- the ask on a path is the one on its own path
