@@ -3,7 +3,8 @@
 ghost use Rattle.std.specs.Prelude.{◌≤◌};
 
 use dns_message::{
-    Fault, Header, Message, MessageParts, MessageRef, QuestionRef, Rdata, Record, RowsRef, write_parts,
+    Fault, Header, Message, MessageParts, MessageRef, QuestionRef, Rdata, Record, RowsRef,
+    write_parts,
 };
 use dns_name::Name;
 use refusing_allocator::Refusing;
@@ -182,9 +183,15 @@ fn many_names_have_their_pointers(rt: HostRuntime) -> Result<(), Fail> {
     let mut octets = Vec::new(alloc);
     forty_owners(alloc, &mut octets)?;
     assert_eq!(rt; octets.len(), 12 + 40 * 13 + 40 * 12);
-    assert!(rt; octets.starts_with(b"\x00\x01\x81\x80\x00\x00\x00\x50\x00\x00\x00\x00\x01\x00\x00"));
+    assert!(rt;
+        octets.starts_with(b"\x00\x01\x81\x80\x00\x00\x00\x50\x00\x00\x00\x00\x01\x00\x00")
+    );
     for (place, pointer) in [(532, 12), (544, 25), (724, 220), (736, 233), (1000, 519)] {
-        assert_eq!(rt; octets.get(place + 1).copied(), Some((pointer % 256) as u8), "at {place}");
+        assert_eq!(rt;
+            octets.get(place + 1).copied(),
+            Some((pointer % 256) as u8),
+            "at {place}"
+        );
     }
     Ok(())
 }
