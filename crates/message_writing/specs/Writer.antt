@@ -1,6 +1,8 @@
 -- What a writer holds.
-use Rattle.std.specs.Prelude.{◌≡◌, ◌≤◌, ◌<◌, ℕ, List, [], length, Option, Some, Result, Ok, Err}
-use Rattle.std.specs.Option.{option_map}
+use Rattle.std.specs.Prelude.{◌≡◌, ◌≤◌, ◌<◌, ℕ, List, [], ◌∷◌, length, Option, Some, None, Result, Ok, Err, if◌then◌else◌}
+use Rattle.std.specs.Borrow.{Bor}
+use Rattle.std.specs.Option.{option_map, option_or}
+use Rattle.std.specs.Str.{bytes_eq}
 use Rattle.std.specs.Ordering.{nat_cmp}
 use Rattle.std.specs.Cmp.Lexicographic.{slice_cmp}
 use Rattle.std.specs.BTreeMap.{get_by}
@@ -10,12 +12,33 @@ use Rattle.message_names.specs.declared.fault.Fault.TheVariants.{TooLarge, Memor
 use Rattle.message_reading.specs.declared.shape.Part.{Part}
 use Rattle.message_reading.specs.declared.shape.Part.TheVariants.{Name}
 use Rattle.message_writing.specs.Fields.{Field, named, plain, first_field}
+use Rattle.message_writing.specs.declared.pointers.Pointers.{Pointers}
 use Rattle.message_writing.specs.declared.writer.Writer.{Writer}
 use Rattle.message_writing.specs.Writing.{Text, Writing, place_of, pointer_to, after}
 
+abbrev pub KnownName : Type 0
+KnownName = Bor (List ℕ) × ℕ
+
+-- the pointer that stands beside these octets
+unfoldable pub pointer_among : List KnownName → List ℕ → Option ℕ
+pointer_among [] octets = None
+pointer_among (entry ∷ entries) octets = if bytes_eq entry.0.now octets then Some entry.1 else pointer_among entries octets
+
 -- the pointer to a name with these octets
+abbrev pub pointer_known : {A : Type 0} → Pointers A → List ℕ → Option ℕ
+pointer_known ps octets = option_or (pointer_among ps.few.items octets) (get_by (λ k. slice_cmp nat_cmp octets k.now) ps.many)
+
 abbrev pub pointer_in : {A : Type 0} → Writer A → List ℕ → Option ℕ
-pointer_in w octets = get_by (λ k. slice_cmp nat_cmp octets k.now) w.pointers
+pointer_in w octets = pointer_known w.pointers octets
+
+-- what was known is known, and so is this name
+abbrev pub IsPutIn : {A : Type 0} → Pointers A → Pointers A → List ℕ → ℕ → Type 0
+IsPutIn old new octets pointer = (other : List ℕ) → pointer_known new other ≡ (if bytes_eq octets other then Some pointer else pointer_known old other)
+
+-- this is the pointer to a name that is not the root
+pub record IsKnown {A : Type 0} (w : Writer A) (octets : List ℕ) (pointer : ℕ) : Type 0 where
+  pub is : pointer_in w octets ≡ Some pointer
+  pub some : 0 < length octets
 
 -- The writer holds this text: its octets, and for each name that begins at a place a pointer to the earliest one.
 pub record Holds {A : Type 0} (w : Writer A) (t : Text) : Type 0 where
