@@ -1,6 +1,5 @@
 -- What is found is alive, fits the question, and is the nearest.
-use Rattle.std.proofs.Common.{◌≡◌, ◌≢◌, ℕ, ◌<◌, ◌≤◌, Bool, true, false, cond, if◌then◌else◌, ◌&&◌, ◌==◌, nat_lt, nat_eq, ◌⊎◌, inl, inr, List, [], ◌∷◌, length, filter, Option, None, Some, refl, sym, ap, subst, ◌∙◌, arith}
-use Rattle.std.specs.Option.{option_eq}
+use Rattle.std.proofs.Common.{◌≡◌, ◌≢◌, ℕ, ◌≤◌, Bool, true, false, cond, if◌then◌else◌, ◌&&◌, ◌==◌, nat_lt, ◌⊎◌, inl, inr, List, [], ◌∷◌, length, filter, Option, None, Some, refl, ap, subst, arith}
 use Rattle.std.specs.List.{find}
 use Rattle.std.specs.Cmp.{first_so, second_so}
 use Rattle.std.proofs.lemmas.Bool.{eq-eqb}
@@ -15,7 +14,7 @@ use Rattle.record_cache.proofs.CallerLemmas.{among_filter}
 use Rattle.negative_cache.specs.Values.{Found, rows, alias, no_data, denied, miss}
 use Rattle.negative_cache.specs.Entries.{is_set, is_no_data, denies}
 use Rattle.negative_cache.specs.Finding.{is_of_type, is_on_route, set_for, alias_for, no_data_for, is_denial_for, nearer, nearest, denial_for, found_or, found}
-use Rattle.negative_cache.specs.Laws.{IsLiving, IsTyped, IsDenial, Fits, FoundFits, IsNearer, NearestIsFound}
+use Rattle.negative_cache.specs.Laws.{IsTyped, IsDenial, Fits, FoundFits, IsNearer, NearestIsFound}
 use Rattle.negative_cache.proofs.Options.{option_decides}
 use Rattle.negative_cache.proofs.Denying.{and_true}
 

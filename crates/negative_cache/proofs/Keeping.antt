@@ -10,15 +10,12 @@ use Rattle.dns_message.specs.Values.{Question}
 use Rattle.suffix_routes.specs.Values.{Route}
 use Rattle.suffix_routes.specs.Routes.{route_of}
 use Rattle.suffix_routes.proofs.CallerLemmas.{route_of_respects_same}
-use Rattle.trust_rank.specs.declared.slot.Slot.{Slot}
-use Rattle.trust_rank.specs.Values.{Piece}
 use Rattle.trust_rank.specs.Replacing.{same_kind, is_name_error}
-use Rattle.trust_rank.specs.Formed.{IsPiece}
 use Rattle.record_cache.specs.Values.{Held}
 use Rattle.record_cache.specs.Ageing.{is_alive}
 use Rattle.record_cache.specs.Entries.{promoted, AreHeld}
 use Rattle.record_cache.proofs.CallerLemmas.{promotion_keeps_entry, promoted_are_held}
-use Rattle.negative_cache.specs.Values.{Found, rows, alias, no_data, denied, miss}
+use Rattle.negative_cache.specs.Values.{rows, alias, no_data, denied, miss}
 use Rattle.negative_cache.specs.Entries.{is_set, is_no_data}
 use Rattle.negative_cache.specs.Finding.{nearest, found_or, found}
 use Rattle.negative_cache.specs.BySlot.{slots_of, found_by_slot}
@@ -33,9 +30,9 @@ equal_questions_find_the_same routes moment entries kind class name other same =
     let route = route_of_respects_same routes name other same in
     let under : (h : Held) → is_under name h.piece.slot.key ≡ is_under other h.piece.slot.key = λ h. is_under_respects name other h.piece.slot.key h.piece.slot.key same (same_reflexive h.piece.slot.key) in
     λ i. found_or rows (typed (same i) kind is_set)
-        (found_or alias (if kind == 5 then None else typed (same i) 5 is_set)
-        (found_or no_data (typed (same i) kind is_no_data)
-        (found_or denied (nearest (filter (λ h. is_alive moment h && option_eq nat_eq (route_of routes h.piece.slot.key) (route i) && (is_name_error h.piece && (class == h.piece.slot.class) && under h i)) entries)) miss)))
+    (found_or alias (if kind == 5 then None else typed (same i) 5 is_set)
+    (found_or no_data (typed (same i) kind is_no_data)
+    (found_or denied (nearest (filter (λ h. is_alive moment h && option_eq nat_eq (route_of routes h.piece.slot.key) (route i) && (is_name_error h.piece && (class == h.piece.slot.class) && under h i)) entries)) miss)))
 
 -- ---- a promotion
 

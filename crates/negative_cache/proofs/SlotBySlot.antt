@@ -1,5 +1,5 @@
 -- The code's way, slot by slot, ends where the definition says.
-use Rattle.std.proofs.Common.{◌≡◌, ℕ, ◌+◌, ◌<◌, ◌≤◌, Bool, true, false, cond, if◌then◌else◌, ◌&&◌, ◌||◌, ◌==◌, nat_lt, List, [], ◌∷◌, length, filter, Option, None, Some, refl, sym, ap, subst, ◌∙◌, arith}
+use Rattle.std.proofs.Common.{◌≡◌, ℕ, ◌<◌, Bool, true, false, cond, if◌then◌else◌, ◌&&◌, ◌||◌, ◌==◌, nat_lt, List, [], ◌∷◌, length, filter, Option, None, Some, refl, sym, ap, subst, ◌∙◌, arith}
 use Rattle.std.specs.List.{find, AllByRecursion}
 use Rattle.std.specs.Option.{option_or}
 use Rattle.std.proofs.lemmas.Bool.Decides.{nat_tests}
@@ -13,10 +13,10 @@ use Rattle.record_cache.specs.Values.{Held}
 use Rattle.record_cache.specs.Ageing.{is_alive}
 use Rattle.record_cache.specs.Entries.{of_slot, entry_of, AreApart}
 use Rattle.record_cache.proofs.CallerLemmas.{slots_decide, slots_are_the_same, entry_has_slot, none_behind}
-use Rattle.negative_cache.specs.Values.{Found, rows, alias, no_data, denied, miss}
+use Rattle.negative_cache.specs.Values.{rows, alias, no_data, denied, miss}
 use Rattle.negative_cache.specs.Entries.{is_set, is_no_data, denies}
-use Rattle.negative_cache.specs.Finding.{is_of_type, is_on_route, set_for, alias_for, no_data_for, is_denial_for, nearer, nearest, denial_for, found_or, found}
-use Rattle.negative_cache.specs.BySlot.{slots_of, only, typed_entry, alias_at, is_on, climbed, nearest_error, found_by_slot}
+use Rattle.negative_cache.specs.Finding.{is_of_type, is_on_route, set_for, nearer, nearest, denial_for, found_or, found}
+use Rattle.negative_cache.specs.BySlot.{slots_of, only, typed_entry, is_on, climbed, nearest_error, found_by_slot}
 use Rattle.negative_cache.proofs.Options.{only_some, only_both}
 use Rattle.negative_cache.proofs.Denying.{error_slot, IsLower, all_lower, denies_root, denies_higher, denies_is_short}
 use Rattle.negative_cache.proofs.Climbing.{or_none, lower_higher}
@@ -66,8 +66,8 @@ module _ (moment : ℕ) (entries : List Held) (q : Question) (apart : AreApart e
       only_both (is_alive moment) P (entry_of (slot kind) entries)
       ∙ sym (find_entry (slot kind) (λ h. is_alive moment h && P h) entries apart)
       ∙ find_same (λ h. of_slot (slot kind) h && (is_alive moment h && P h)) (λ h. is_of_type q kind h && (is_alive moment h && P h)) entries
-          (all_of IsLower (λ h. (of_slot (slot kind) h && (is_alive moment h && P h)) ≡ (is_of_type q kind h && (is_alive moment h && P h)))
-          (λ h l. ap (λ b. b && (is_alive moment h && P h)) (slots_are_the_same (slot kind) h.piece.slot low l)) entries lower)
+      (all_of IsLower (λ h. (of_slot (slot kind) h && (is_alive moment h && P h)) ≡ (is_of_type q kind h && (is_alive moment h && P h)))
+      (λ h l. ap (λ b. b && (is_alive moment h && P h)) (slots_are_the_same (slot kind) h.piece.slot low l)) entries lower)
 
   alias_is : (five : Bool) → (if five then None else only is_set (typed_entry moment (slots_of entries) q.name q.class 5)) ≡ (if five then None else set_for moment entries q 5)
   alias_is five = ap (λ o. if five then None else o) (typed_is 5 is_set)
@@ -184,15 +184,15 @@ near_is T class [] es apart lower low =
     ∙ ap (option_or (only T (entry_of s es))) (sym (none_pass T es))
     ∙ joined T (λ h. false) s es apart (all_are (λ h. false ≡ true → IsShorter 0 h) (λ h is. absurd cc) es)
     ∙ ap nearest (filter_same (λ h. T h && (of_slot s h || false)) (λ h. T h && denies [] class h) es
-        (all_of IsLower (λ h. (T h && (of_slot s h || false)) ≡ (T h && denies [] class h))
-        (λ h l. ap (λ b. T h && b) (or_false (of_slot s h) ∙ sym (denies_root class h l))) es lower))
+    (all_of IsLower (λ h. (T h && (of_slot s h || false)) ≡ (T h && denies [] class h))
+    (λ h l. ap (λ b. T h && b) (or_false (of_slot s h) ∙ sym (denies_root class h l))) es lower))
 near_is T class (label ∷ key) es apart lower low =
     let s : Slot = error_slot class (label ∷ key) in
     ap (option_or (only T (entry_of s es))) (near_is T class key es apart lower (lower_higher (label ∷ key) key label refl low))
     ∙ joined T (denies key class) s es apart (all_are (λ h. denies key class h ≡ true → IsShorter (length (label ∷ key)) h) (λ h is. omega (arith, denies_is_short key class h is)) es)
     ∙ ap nearest (filter_same (λ h. T h && (of_slot s h || denies key class h)) (λ h. T h && denies (label ∷ key) class h) es
-        (all_of IsLower (λ h. (T h && (of_slot s h || denies key class h)) ≡ (T h && denies (label ∷ key) class h))
-        (λ h l. ap (λ b. T h && b) ((λ i. of_slot (error_slot class (sym low i)) h || denies key class h) ∙ sym (denies_higher label key class h l))) es lower))
+    (all_of IsLower (λ h. (T h && (of_slot s h || denies key class h)) ≡ (T h && denies (label ∷ key) class h))
+    (λ h l. ap (λ b. T h && b) ((λ i. of_slot (error_slot class (sym low i)) h || denies key class h) ∙ sym (denies_higher label key class h l))) es lower))
 
 denial_is : (routes : List Route) (moment : ℕ) (entries : List Held) (q : Question) → AreApart entries → AllByRecursion IsLower entries → lowered q.name ≡ q.name
     → nearest_error routes moment (slots_of entries) q.class q.name ≡ denial_for routes moment entries q

@@ -21,4 +21,4 @@ pub returns : goal.returns
 returns g c =
     c.nearest_above.ensures
     ∙ sym (own_is_none c.args.config.now.routes c.args.moment c.args.class c.args.cache.now.entries c.args.key.now
-        (subst (λ (k : List (List ℕ)). name_error_of c.args.moment (slots_of c.args.cache.now.entries) c.args.class k ≡ None) c.octets-octets.ensures.labels (sym c.in_default.ensures)))
+    (subst (λ (k : List (List ℕ)). name_error_of c.args.moment (slots_of c.args.cache.now.entries) c.args.class k ≡ None) c.octets-octets.ensures.labels (sym c.in_default.ensures)))

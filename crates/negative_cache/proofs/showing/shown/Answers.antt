@@ -1,4 +1,4 @@
-use Rattle.std.proofs.Common.{◌≡◌, ℕ, ◌≤◌, ◌*◌, List, length, sym, ap, subst, ◌∙◌, arith}
+use Rattle.std.proofs.Common.{ℕ, ◌≤◌, ◌*◌, List, length, sym, ap, subst, ◌∙◌, arith}
 use Rattle.dns_name.specs.Labels.{labels_of}
 use Rattle.dns_name.proofs.CallerLemmas.{labels_of_nothing}
 use Rattle.record_cache.specs.Values.{Held, Cache}
