@@ -2,13 +2,14 @@
 #![tactic(auto)]
 
 mod carried;
+mod look_ups;
 mod many_wait;
 
 use anyhow::Result;
 use std::env;
 use std::process::ExitCode;
 
-const USAGE: &str = "usage: bench many_wait QUESTION REPLY, or bench carried REPLY";
+const USAGE: &str = "usage: bench many_wait QUESTION REPLY, bench carried REPLY, or bench look_ups";
 
 /// Measures what the arguments ask for; `None` where they ask for nothing.
 fn run(rt: &HostRuntime) -> Result<Option<()>> {
@@ -22,6 +23,7 @@ fn run(rt: &HostRuntime) -> Result<Option<()>> {
             many_wait::measure(rt, question.as_str(), reply.as_str())?;
         }
         ("carried", Some(reply), None) => carried::measure(rt, reply.as_str())?,
+        ("look_ups", None, None) => look_ups::measure(rt)?,
         _ => return Ok(None),
     }
     Ok(Some(()))

@@ -1,5 +1,5 @@
-//! Tests of the cache from outside: against a plain list, with many names, with refused growths, by depths, and as time
-//! passes.
+//! Tests of the cache from outside: against a plain list, with many names, with refused growths, by depths, as time
+//! passes, and of look-ups.
 #![tactic(auto)]
 
 #[cfg(test)]
@@ -8,6 +8,8 @@ mod ageing;
 mod agreement;
 #[cfg(test)]
 mod depths;
+#[cfg(test)]
+mod look_ups;
 #[cfg(test)]
 mod many;
 #[cfg(test)]

@@ -1,12 +1,14 @@
 //! Refused growths.
 
 use crate::samples::Denial;
-use dns_name::NameFault;
+use dns_name::{Name, NameFault};
 use lru::DefaultHasher;
+use negative_cache::{Found, find, find_by_key, shown};
 use record_cache::{Cache, Offered};
 use refusing_allocator::Refusing;
 use std::alloc::Global;
 use std::test::Fail;
+use suffix_routes::Config;
 
 /// Offers a denial with so many growths granted, its own octets aside.
 fn offer_within<'a>(
@@ -114,6 +116,32 @@ fn other_calls_take_no_memory(rt: HostRuntime) -> Result<(), Fail> {
     cache.forget(&slot);
     assert_eq!(rt; cache.len(), 0);
     cache.clear();
+    assert!(rt; Box::new(&heap, 0u8).is_ok(), "one growth was granted");
+    assert!(rt; Box::new(&heap, 0u8).is_err(), "and no more");
+    Ok(())
+}
+
+/// The same of look-ups: at, under and beside a name error, and where it is forgotten.
+#[test]
+fn look_ups_take_no_memory(rt: HostRuntime) -> Result<(), Fail> {
+    let alloc = rt.alloc();
+    let heap = Refusing::new(alloc);
+    let text = "version = 1\n[[route]]\nsuffix = \".\"\nservers = [\"192.0.2.1:53\"]\n";
+    let config = Config::read(alloc, &heap, text)?;
+    let mut cache = Cache::new(&heap, 2, DefaultHasher::default())?;
+    Denial::of("x.example", None).offer(&heap, &mut cache, 1000)?;
+    let under = Name::from_text(&heap, "a.x.example")?;
+    let beside = Name::from_text(&heap, "y.example")?;
+    heap.allow(1);
+    assert!(rt; matches!(find(&cache, &under, 1, 1, 2000, &config), Found::Denied(_)));
+    assert!(rt;
+        matches!(
+            find_by_key(&cache, &beside.key(), 1, 1, 2000, &config),
+            Found::Miss
+        )
+    );
+    shown(&mut cache, &under, 1);
+    assert_eq!(rt; cache.len(), 0);
     assert!(rt; Box::new(&heap, 0u8).is_ok(), "one growth was granted");
     assert!(rt; Box::new(&heap, 0u8).is_err(), "and no more");
     Ok(())

@@ -5,7 +5,7 @@ ghost use Rattle.std.specs.Char.{to_ascii_lowercase};
 ghost use Rattle.dns_name.specs.Key.{padded};
 ghost use Rattle.dns_name.specs.Labels.{labels_of, IsLaidOut, IsUnder, lowered, parent_of};
 
-use crate::labels::split_label;
+use crate::labels::{Labels, labels_in, split_label};
 use crate::name::{Name, ends_in};
 use std::alloc::Allocator;
 use std::hash::{Hash, Hasher};
@@ -71,7 +71,7 @@ impl NameKey {
     pub fn parent(&self) -> Option<NameKey>
         ensures { result ≡ parent_of self.now }
     {
-        let (_, rest) = split_label(self.name_octets())?;
+        let (_, rest) = split_label(self.octets())?;
         Some(key_of(rest))
     }
 
@@ -79,16 +79,25 @@ impl NameKey {
     pub fn is_under<A: Allocator>(&self, suffix: &Name<A>) -> bool
         ensures { IsTrue result ↔ IsUnder self.now suffix.now }
     {
-        ends_in(self.name_octets(), suffix.octets())
+        ends_in(self.octets(), suffix.octets())
     }
 
-    /// The octets of the name, without the zero octet at their end.
-    fn name_octets(&self) -> &[u8]
+    /// The octets of the name in lower case, each label behind its length, and no zero octet at their end. It takes no
+    /// memory.
+    pub fn octets(&self) -> &[u8]
         ensures laid { IsLaidOut result.now }
         ensures labels { labels_of result.now ≡ self.now }
         ensures lower { lowered self.now ≡ self.now }
     {
         &self.octets[..usize::from(self.len) - 1]
+    }
+
+    /// The labels of the name in lower case from left to right, at most 127. It takes no memory.
+    pub fn labels(&self) -> Labels<'_>
+        ensures labels { result ≡ self.now }
+        ensures few { length self.now ≤ 127 }
+    {
+        labels_in(self.octets())
     }
 }
 

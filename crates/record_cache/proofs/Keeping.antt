@@ -27,7 +27,7 @@ unkept_is_new moment room piece entries same = unkept (is_outranked moment piece
 
 -- ---- who stays
 
-among_filter : (test : Held → Bool) (es : List Held) (h : Held) → Among h es → test h ≡ true → Among h (filter test es)
+pub among_filter : (test : Held → Bool) (es : List Held) (h : Held) → Among h es → test h ≡ true → Among h (filter test es)
 among_filter test [] h among passes = among
 among_filter test (e ∷ es) h (inl same) passes = (elim (test e) as (λ b. test e ≡ b → Among h (cond b (e ∷ filter test es) (filter test es))) [
   | true ↦ λ is. inl same

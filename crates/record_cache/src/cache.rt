@@ -144,9 +144,10 @@ impl<H: BuildHasher + Drop, A: Allocator + Copy> Cache<H, A> {
     }
 
     /// Whether a name error of a name with so many labels is held, alive or dead: where none is, no look-up for one is
-    /// needed. It takes no memory, and looks at no entry.
+    /// needed. It takes no memory, and looks at no entry. `held` says again what holds of all entries.
     pub fn has_name_error(&self, depth: usize) -> bool
-        ensures { result ≡ has_name_error depth self.now.entries }
+        ensures told { result ≡ has_name_error depth self.now.entries }
+        ensures held { AreHeld self.now }
     {
         self.name_errors.has(depth)
     }

@@ -1,5 +1,5 @@
 use Rattle.dns_name.proofs.KeyOf.{key_lower}
-use Rattle.dns_name.proofs.key.NameKey.name_octets.Goals as goal
+use Rattle.dns_name.proofs.key.NameKey.octets.Goals as goal
 
 pub returns-clause-lower : goal.returns-clause-lower
 returns-clause-lower c = rw (← c.self.view_is) (key_lower c.self.inside.octets c.self.inside.len c.self.invariant)

@@ -1,0 +1,7 @@
+use Rattle.std.proofs.Common.{subst}
+use Rattle.dns_name.specs.Labels.{IsName}
+use Rattle.dns_name.proofs.LabelLaws.{few_labels}
+use Rattle.dns_name.proofs.key.NameKey.labels.Goals as goal
+
+pub returns-clause-few : goal.returns-clause-few
+returns-clause-few c = few_labels _ (subst IsName c.octets.ensures.labels c.octets.ensures.laid.name)

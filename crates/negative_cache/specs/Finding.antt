@@ -1,0 +1,64 @@
+-- What a look-up finds among the entries: RFC 1034 3.6.2, RFC 2308 2, RFC 8020 2. No two entries are of one slot.
+use Rattle.std.specs.Prelude.{ℕ, Bool, nat_eq, nat_lt, if◌then◌else◌, ◌==◌, ◌&&◌, List, [], ◌∷◌, length, filter, Option, Some, None}
+use Rattle.std.specs.List.{find}
+use Rattle.std.specs.Option.{option_eq}
+use Rattle.dns_message.specs.Values.{Question}
+use Rattle.suffix_routes.specs.Values.{Route}
+use Rattle.suffix_routes.specs.Routes.{route_of}
+use Rattle.trust_rank.specs.Replacing.{same_slot}
+use Rattle.record_cache.specs.Values.{Held}
+use Rattle.record_cache.specs.Ageing.{is_alive}
+use Rattle.negative_cache.specs.Values.{Found, rows, alias, no_data, denied, miss}
+use Rattle.negative_cache.specs.Entries.{is_set, is_no_data, denies}
+
+-- of the question's name and class, and of this type
+abbrev pub is_of_type : Question → ℕ → Held → Bool
+is_of_type q kind h = same_slot (record { key = q.name; class = q.class; kind = Some kind }) h.piece.slot
+
+-- its name has the route of the question's name
+abbrev pub is_on_route : List Route → Question → Held → Bool
+is_on_route routes q h = option_eq nat_eq (route_of routes h.piece.slot.key) (route_of routes q.name)
+
+-- the living set of this type
+abbrev pub set_for : ℕ → List Held → Question → ℕ → Option Held
+set_for moment entries q kind = find (λ h. is_of_type q kind h && (is_alive moment h && is_set h)) entries
+
+-- the living alias of the name; a question for aliases follows none (RFC 1034 3.6.2)
+abbrev pub alias_for : ℕ → List Held → Question → Option Held
+alias_for moment entries q = if q.kind == 5 then None else set_for moment entries q 5
+
+-- the living NODATA of the type
+abbrev pub no_data_for : ℕ → List Held → Question → Option Held
+no_data_for moment entries q = find (λ h. is_of_type q q.kind h && (is_alive moment h && is_no_data h)) entries
+
+-- a living name error at or above the question's name, on its route
+abbrev pub is_denial_for : List Route → ℕ → Question → Held → Bool
+is_denial_for routes moment q h = is_alive moment h && is_on_route routes q h && denies q.name q.class h
+
+-- of two, the one whose name has more labels
+abbrev pub nearer : Held → Option Held → Held
+nearer h None = h
+nearer h (Some other) = if nat_lt (length h.piece.slot.key) (length other.piece.slot.key) then other else h
+
+-- the one whose name has the most labels
+abbrev pub nearest : List Held → Option Held
+nearest [] = None
+nearest (h ∷ entries) = Some (nearer h (nearest entries))
+
+-- the nearest name error for the question
+abbrev pub denial_for : List Route → ℕ → List Held → Question → Option Held
+denial_for routes moment entries q = nearest (filter (is_denial_for routes moment q) entries)
+
+-- what was found so, else the next
+abbrev pub found_or : (Held → Found) → Option Held → Found → Found
+found_or so (Some h) next = so h
+found_or so None next = next
+
+-- The first of these that is there: the set of the type, the alias, NODATA of the type, and the nearest name error at or
+-- above the name whose own name is on the route of the name. So a set below a name error is found until it ends.
+abbrev pub found : List Route → ℕ → List Held → Question → Found
+found routes moment entries q =
+    found_or rows (set_for moment entries q q.kind)
+    (found_or alias (alias_for moment entries q)
+    (found_or no_data (no_data_for moment entries q)
+    (found_or denied (denial_for routes moment entries q) miss)))

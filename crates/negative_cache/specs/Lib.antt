@@ -1,0 +1,6 @@
+pub mod Values
+pub mod Entries
+pub mod Finding
+pub mod Showing
+pub mod BySlot
+pub mod Laws

@@ -1,0 +1,26 @@
+//! What the definitions of look-ups are good for.
+
+ghost use Rattle.negative_cache.specs.Laws.{EqualQuestionsFindTheSame, FoundFits, NearestIsFound, PromotionKeepsFound, ShownIsReplaced};
+
+/// What a look-up finds is one of the entries and alive. It is in the slot of the question or in that of an alias, or it is
+/// a name error of the name or of one above it, of the class, and on the name's route.
+pub fn found_fits()
+    ensures { FoundFits }
+{}
+
+/// Where a living name error on the name's route denies the name, a look-up doesn't miss, and no name error that it finds
+/// is farther from the name.
+pub fn nearest_is_found()
+    ensures { NearestIsFound }
+{}
+
+/// What a look-up finds rests on no promotion, and on no spelling of the name.
+pub fn found_is_settled()
+    ensures promoted { PromotionKeepsFound }
+    ensures spelled { EqualQuestionsFindTheSame }
+{}
+
+/// The name errors that `shown` forgets, before a set or NODATA is offered, are those whose place it takes.
+pub fn shown_is_replaced()
+    ensures { ShownIsReplaced }
+{}

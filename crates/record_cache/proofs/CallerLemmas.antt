@@ -1,0 +1,45 @@
+-- What the proofs of crates above cite of the cache.
+use Rattle.std.proofs.Common.{◌≡◌, ℕ, Bool, true, false, List, ◌∷◌, filter, None, Some}
+use Rattle.std.specs.Bool.{Decides}
+use Rattle.std.specs.List.{AllByRecursion}
+use Rattle.dns_name.specs.Labels.{lowered}
+use Rattle.trust_rank.specs.declared.slot.Slot.{Slot}
+use Rattle.trust_rank.specs.Replacing.{same_slot}
+use Rattle.record_cache.specs.Values.{Held}
+use Rattle.record_cache.specs.Entries.{is_slot, of_slot, entry_of, without, promoted, AreApart, AreHeld}
+use Rattle.record_cache.specs.Laws.{Among}
+use Rattle.record_cache.proofs.Slots as slots
+use Rattle.record_cache.proofs.Lists as lists
+use Rattle.record_cache.proofs.Keeping as keeping
+
+-- the test of slots is true exactly where they are one
+pub slots_decide : (a b : Slot) → Decides (is_slot a b) (a ≡ b)
+slots_decide = slots.is_slot_decides
+
+-- slots with keys in lower case are one where they are the same
+pub slots_are_the_same : (a b : Slot) → lowered a.key ≡ a.key → lowered b.key ≡ b.key → is_slot a b ≡ same_slot a b
+slots_are_the_same = keeping.one_slot_is_the_same
+
+-- the entry of a slot is of that slot
+pub entry_has_slot : (slot : Slot) (entries : List Held) (h : Held) → entry_of slot entries ≡ Some h → slot ≡ h.piece.slot
+entry_has_slot slot entries h found = lists.slot_is slot h (lists.entry_is_of slot entries h found)
+
+-- behind the entry of a slot none is of it
+pub none_behind : (slot : Slot) (h : Held) (entries : List Held) → AreApart (h ∷ entries) → of_slot slot h ≡ true → AllByRecursion (λ e. of_slot slot e ≡ false) entries
+none_behind = lists.none_behind
+
+-- an entry that passes a test is among those that do
+pub among_filter : (test : Held → Bool) (entries : List Held) (h : Held) → Among h entries → test h ≡ true → Among h (filter test entries)
+among_filter = keeping.among_filter
+
+-- where no entry is of a slot, forgetting it changes nothing
+pub nothing_to_forget : (slot : Slot) (entries : List Held) → entry_of slot entries ≡ None → without slot entries ≡ entries
+nothing_to_forget = lists.without_absent
+
+-- a promotion changes no slot's entry, and nothing that holds of all entries
+pub promotion_keeps_entry : (slot other : Slot) (entries : List Held) → AreApart entries → entry_of other (promoted slot entries) ≡ entry_of other entries
+promotion_keeps_entry = keeping.promoted_are_found
+
+pub promoted_are_held : (capacity : ℕ) (slot : Slot) (entries : List Held) → AreHeld (record { capacity = capacity; entries = entries })
+    → AreHeld (record { capacity = capacity; entries = promoted slot entries })
+promoted_are_held = lists.held_promoted
