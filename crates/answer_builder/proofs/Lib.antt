@@ -1,0 +1,4 @@
+pub mod Short
+pub mod Texts
+pub mod Chains
+pub mod Worked

@@ -1,0 +1,13 @@
+//! Answers to clients, written as messages: RFC 1035 4.1, RFC 2308 2 and 3.
+#![tactic(auto)]
+
+mod answer;
+mod asked;
+mod building;
+mod fault;
+mod records;
+mod text;
+
+pub use asked::{Asked, Transport};
+pub use building::{build, failure};
+pub use fault::Fault;
