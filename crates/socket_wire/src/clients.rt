@@ -1,7 +1,5 @@
 //! The connections of clients.
 
-ghost use Rattle.std.specs.Prelude.{◌≡◌, ◌<◌, ◌≤◌, ◌+◌, IfOk, OnErr};
-
 use crate::framing::Within;
 use crate::unsent::Unsent;
 use mio::net::TcpStream;
@@ -157,8 +155,6 @@ impl<A: Allocator + Copy> ClientStream<A> {
 #[derive(Drop)]
 pub(crate) struct Clients<A: Allocator> {
     open: BTreeMap<u64, ClientStream<A>, A>,
-    /// The number of the next one.
-    next: u64,
 }
 
 impl<A: Allocator + Copy> Clients<A> {
@@ -166,13 +162,7 @@ impl<A: Allocator + Copy> Clients<A> {
     pub fn new(alloc: A) -> Clients<A> {
         Clients {
             open: BTreeMap::new(alloc),
-            next: 0,
         }
-    }
-
-    /// The number of the next connection; `None` where every number was given.
-    pub fn next(&self) -> Option<u64> {
-        (self.next < u64::MAX).then_some(self.next)
     }
 
     /// No further one may be opened.
@@ -184,14 +174,16 @@ impl<A: Allocator + Copy> Clients<A> {
         self.open.len()
     }
 
-    /// Lists a connection under the next number. `Err` where memory ran out.
-    pub fn admit(&mut self, alloc: A, stream: TcpStream, now: u64) -> Result<(), AllocError> {
-        let conn = self.next;
-        if conn < u64::MAX {
-            self.next = conn + 1;
-            self.open
-                .insert(conn, ClientStream::new(alloc, stream, now))?;
-        }
+    /// Lists a connection under its number. `Err` where memory ran out.
+    pub fn admit(
+        &mut self,
+        alloc: A,
+        conn: u64,
+        stream: TcpStream,
+        now: u64,
+    ) -> Result<(), AllocError> {
+        self.open
+            .insert(conn, ClientStream::new(alloc, stream, now))?;
         Ok(())
     }
 

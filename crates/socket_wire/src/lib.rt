@@ -6,6 +6,7 @@ mod asks;
 mod clients;
 mod framing;
 mod moments;
+mod numbers;
 mod origin;
 mod readiness;
 mod receive_buffer;

@@ -33,7 +33,6 @@ impl<A: Allocator> Round<A> {
     }
 }
 
-
 /// What may be ready: told by the system, or to be tried all the same. Each stays until it said that it would block.
 #[derive(Drop)]
 pub(crate) struct Readiness<A: Allocator> {

@@ -3,6 +3,7 @@
 use crate::address::{address_of, peer_of};
 use crate::asks::ask_socket;
 use crate::clients::{Clients, Heard};
+use crate::numbers::Numbers;
 use crate::origin::Origin;
 use crate::readiness::Readiness;
 use crate::receive_buffer::widen;
@@ -55,6 +56,7 @@ pub(crate) struct Sockets<'a, R: Net, A: Allocator> {
     datagrams: UdpSocket,
     connections: TcpListener,
     clients: Clients<A>,
+    numbers: Numbers,
     asks: BTreeMap<u16, UdpSocket, A>,
     servers: BTreeMap<u64, ServerStream<A>, A>,
     /// Connections that were closed and whose end is not told yet.
@@ -86,6 +88,7 @@ impl<'a, R: Net, A: Allocator + Copy> Sockets<'a, R, A> {
             datagrams,
             connections,
             clients: Clients::new(alloc),
+            numbers: Numbers::new(),
             asks: BTreeMap::new(alloc),
             servers: BTreeMap::new(alloc),
             closed: VecDeque::new(alloc),
@@ -249,13 +252,13 @@ impl<'a, R: Net, A: Allocator + Copy> Sockets<'a, R, A> {
         if self.clients.is_full() && !self.close_oldest() {
             return Ok(());
         }
-        let Some(conn) = self.clients.next() else {
+        let Some(conn) = self.numbers.give() else {
             return Ok(());
         };
         stream.set_nodelay(true)?;
         self.readiness.watch(&mut stream, Origin::Client(conn))?;
         self.keep_room()?;
-        self.clients.admit(self.alloc, stream, now)?;
+        self.clients.admit(self.alloc, conn, stream, now)?;
         Ok(())
     }
 
@@ -383,8 +386,7 @@ impl<'a, R: Net, A: Allocator + Copy> Sockets<'a, R, A> {
             }
             Action::Reply { client, bytes, .. } => match client {
                 Client::Udp(peer) => {
-                    self.datagrams
-                        .send_to(bytes.as_slice(), address_of(*peer))?;
+                    self.datagrams.send_to(bytes.as_slice(), address_of(*peer))?;
                     Ok(())
                 }
                 Client::Tcp(conn) => self.reply(*conn, bytes.as_slice(), now),
@@ -409,7 +411,14 @@ impl<'a, R: Net, A: Allocator + Copy> Sockets<'a, R, A> {
     /// Begins a connection, and sends a query as soon as it stands.
     fn ask_tcp(&mut self, conn: u64, server: Peer, query: &[u8]) -> io::Result<()> {
         self.keep_room()?;
-        let opened = match ServerStream::open(self.rt, self.alloc, &self.readiness, conn, server, query) {
+        let opened = match ServerStream::open(
+            self.rt,
+            self.alloc,
+            &self.readiness,
+            conn,
+            server,
+            query,
+        ) {
             Err(error) if self.makes_room(&error) => {
                 ServerStream::open(self.rt, self.alloc, &self.readiness, conn, server, query)
             }
