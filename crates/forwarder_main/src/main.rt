@@ -9,6 +9,7 @@ mod serving;
 mod tests;
 
 pub use replay_script::{ReplayFault, replay_run};
+pub use socket_wire::MioWire;
 use std::process::ExitCode;
 
 fn main(rt: HostRuntime) -> ExitCode {
