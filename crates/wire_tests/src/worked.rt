@@ -3,7 +3,7 @@
 use dns_name::Name;
 use forwarder_core::Forwarder;
 use lru::DefaultHasher;
-use network_model::{Arrival, ScriptTurn, ScriptWire};
+use network_model::{Arrival, ScriptTurn, ScriptWire, Served};
 use plain_list::PlainList;
 use std::alloc::{AllocError, Allocator};
 use step_values::{Action, Client, Why};
@@ -180,6 +180,16 @@ pub(crate) fn answers<A: Allocator>(put: &(Action<A>, bool), taken: bool) -> boo
                 && *sent == taken
         }
         _ => false,
+    }
+}
+
+/// So many turns, in which so many puts were refused and nothing was lost.
+pub(crate) fn counted(turns: u64, refused_puts: u64) -> Served {
+    Served {
+        turns,
+        lost: 0,
+        refused_puts,
+        refused_arrivals: 0,
     }
 }
 
