@@ -1,13 +1,20 @@
 //! The commands.
 
 use crate::fault::Fault;
+use crate::serving::serve_config;
 use replay_script::{ReplayFault, read_config, replay_run};
 use std::io::{BufWriter, Write};
-use std::rt::{Env, Files};
+use std::net::Net;
+use std::random::RandomSource;
+use std::rt::{Clock, Env, Files};
 use std::{env, fs, io};
+use suffix_routes::Config;
 
 /// Does what the arguments say.
-pub fn run<R: Env + Files + Input + Print + AllocGlobal>(rt: &R) -> Result<(), Fault> {
+pub fn run<R>(rt: &R) -> Result<(), Fault>
+where
+    R: Env + Files + Input + Print + AllocGlobal + Net + Clock + RandomSource,
+{
     let mut args = env::args(rt)?;
     let _program = args.next();
     let Some(command) = args.next() else {
@@ -22,6 +29,15 @@ pub fn run<R: Env + Files + Input + Print + AllocGlobal>(rt: &R) -> Result<(), F
             println!(rt; "ok {routes}")?;
             Ok(())
         }
+        "serve" => {
+            let (Some(path), Some(turns), None) = (args.next(), args.next(), args.next()) else {
+                return Err(Fault::Usage);
+            };
+            let Some(turns) = turns_in(turns.as_str()) else {
+                return Err(Fault::Usage);
+            };
+            serve(rt, path.as_str(), turns)
+        }
         "replay" => {
             if args.next().is_some() {
                 return Err(Fault::Usage);
@@ -32,12 +48,35 @@ pub fn run<R: Env + Files + Input + Print + AllocGlobal>(rt: &R) -> Result<(), F
     }
 }
 
-/// How many routes the configuration in a file has. `Device` where the file can't be read or passes 16,777,216 octets,
-/// `Config` where the configuration is refused, `Memory` where memory ran out.
-pub fn check<R: Files + AllocGlobal>(rt: &R, path: &str) -> Result<usize, ReplayFault> {
+/// The number that 1 to 20 decimal digits write, where 64 bits have it.
+fn turns_in(text: &str) -> Option<u64> {
+    if text.len() > 20 || !text.bytes().all(|octet| octet.is_ascii_digit()) {
+        return None;
+    }
+    text.parse().ok()
+}
+
+/// The configuration in a file. `Device` where the file can't be read or passes 16,777,216 octets, `Config` where the
+/// configuration is refused, `Memory` where memory ran out.
+fn load<R: Files + AllocGlobal>(rt: &R, path: &str) -> Result<Config, ReplayFault> {
     let mut file = fs::open(rt, path)?;
-    let config = read_config(rt.alloc(), rt.alloc(), &mut file)?;
-    Ok(config.routes().len())
+    read_config(rt.alloc(), rt.alloc(), &mut file)
+}
+
+/// How many routes the configuration in a file has, or as [`load`].
+pub fn check<R: Files + AllocGlobal>(rt: &R, path: &str) -> Result<usize, ReplayFault> {
+    Ok(load(rt, path)?.routes().len())
+}
+
+/// Serves so many turns by the configuration in a file, and prints what was counted.
+fn serve<R>(rt: &R, path: &str, turns: u64) -> Result<(), Fault>
+where
+    R: Files + Print + AllocGlobal + Net + Clock + RandomSource,
+{
+    let config = load(rt, path)?;
+    let served = serve_config(rt, rt.alloc(), config, turns)?;
+    println!(rt; "turns {} lost {}", served.turns, served.lost)?;
+    Ok(())
 }
 
 /// Replays standard input. What was printed before a fault is written out, too.

@@ -1,13 +1,15 @@
-//! The forwarder's program: `forwarder check FILE` tells whether a configuration is accepted, and `forwarder replay`
-//! runs the events of a script and prints each action.
+//! The forwarder's program: `forwarder check FILE` tells whether a configuration is accepted, `forwarder replay` runs the
+//! events of a script and prints each action, and `forwarder serve FILE TURNS` serves clients over sockets.
 #![tactic(auto)]
 
 mod commands;
 mod fault;
+mod serving;
 #[cfg(test)]
 mod tests;
 
 pub use replay_script::{ReplayFault, replay_run};
+pub use socket_wire::MioWire;
 use std::process::ExitCode;
 
 fn main(rt: HostRuntime) -> ExitCode {

@@ -2,8 +2,9 @@
 
 use crate::commands::check;
 use crate::fault::Fault;
+use crate::serving::serve_config;
 use refusing_allocator::Refusing;
-use replay_script::{ReplayFault, replay_run};
+use replay_script::{ReplayFault, read_config, replay_run};
 use std::io::{ErrorKind, Read};
 use std::test::Fail;
 use std::{fs, io};
@@ -13,6 +14,14 @@ const CONFIG: &[u8] = b"version = 1
 [[route]]
 suffix = \".\"
 servers = [\"192.0.2.1:53\"]
+";
+
+/// One that is served on this machine.
+const SERVED: &[u8] = b"version = 1
+listen = \"127.0.0.1:15365\"
+[[route]]
+suffix = \".\"
+servers = [\"127.0.0.1:15366\"]
 ";
 
 /// The configuration, and a question for the address of a.example.
@@ -86,6 +95,27 @@ fn each_growth_is_refused(rt: HostRuntime) -> Result<(), Fail> {
     }
     assert!(rt; 0 < refused && refused < 1000);
     Ok(())
+}
+
+#[test]
+fn a_service_that_finds_no_memory(rt: HostRuntime) {
+    let heap = Refusing::new(rt.alloc());
+    let mut refused = 0u64;
+    for count in 0..100 {
+        let mut input = SERVED;
+        let Ok(config) = read_config(rt.alloc(), &heap, &mut input) else {
+            break;
+        };
+        heap.allow(count);
+        let ended = serve_config(&rt, &heap, config, 0);
+        heap.allow(u64::MAX);
+        if ended.is_ok() {
+            break;
+        }
+        assert_eq!(rt; ended, Err(ReplayFault::Memory), "{count} granted");
+        refused = count + 1;
+    }
+    assert!(rt; 0 < refused && refused < 100);
 }
 
 #[test]

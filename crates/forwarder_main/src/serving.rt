@@ -1,0 +1,27 @@
+//! The service: a forwarder over sockets.
+
+use forwarder_core::Forwarder;
+use network_model::{Served, serve};
+use replay_script::ReplayFault;
+use socket_wire::MioWire;
+use std::alloc::Allocator;
+use std::hash::RandomState;
+use std::net::Net;
+use std::random::RandomSource;
+use std::rt::Clock;
+use suffix_routes::Config;
+
+/// Makes a forwarder of the configuration and serves so many turns at its address. `Device` where the address can't be
+/// listened at, `Memory` where memory ran out.
+pub fn serve_config<R: Net + Clock + RandomSource, A: Allocator + Copy>(
+    rt: &R,
+    alloc: A,
+    config: Config<A>,
+    turns: u64,
+) -> Result<Served, ReplayFault> {
+    let mut wire = MioWire::new(rt, alloc, config.listen, config.limits.deadline_ms)?;
+    let hasher = RandomState::new(rt)?;
+    let mut forwarder = Forwarder::new(alloc, config, hasher)?;
+    let served = serve(alloc, &mut wire, &mut forwarder, turns)?;
+    Ok(served)
+}

@@ -1,0 +1,18 @@
+//! A wire over sockets: clients and servers by UDP and over TCP, without waiting on any of them.
+#![tactic(auto)]
+
+mod address;
+mod asks;
+mod clients;
+mod framing;
+mod moments;
+mod numbers;
+mod origin;
+mod readiness;
+mod receive_buffer;
+mod servers;
+mod sockets;
+mod unsent;
+mod wire;
+
+pub use wire::MioWire;

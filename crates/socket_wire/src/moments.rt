@@ -1,0 +1,39 @@
+//! Moments that never fall.
+
+ghost use Rattle.std.specs.Prelude.{◌≡◌, ◌≤◌};
+
+use std::io;
+use std::rt::Clock;
+use std::time::Instant;
+
+/// Milliseconds since it was made, by the system's monotonic clock.
+#[derive(Drop)]
+pub(crate) struct Moments<'a, R: Clock> {
+    rt: &'a R,
+    started: Instant,
+    /// The last moment that was told.
+    pub last: u64,
+}
+
+impl<'a, R: Clock> Moments<'a, R> {
+    /// `Err` where the clock fails.
+    pub fn new(rt: &'a R) -> io::Result<Moments<'a, R>> {
+        Ok(Moments {
+            rt,
+            started: Instant::now(rt)?,
+            last: 0,
+        })
+    }
+
+    /// The moment; the last one again where the clock fails or goes back.
+    pub fn now(&mut self) -> u64
+        ensures told { result ≡ self.new.last }
+        ensures rises { self.old.last ≤ self.new.last }
+    {
+        if let Ok(spent) = self.started.elapsed(self.rt) {
+            let moment = u64::try_from(spent.as_millis()).unwrap_or(u64::MAX);
+            self.last = self.last.max(moment);
+        }
+        self.last
+    }
+}

@@ -1,0 +1,29 @@
+//! Numbers of connections.
+
+ghost use Rattle.std.specs.Prelude.{◌≡◌, ◌+◌, IfSome, IfNone};
+
+/// Gives each number once, in order.
+#[derive(Drop)]
+pub(crate) struct Numbers {
+    /// The next one; the last number of 64 bits is never given.
+    next: u64,
+}
+
+impl Numbers {
+    /// All numbers from 0 on.
+    pub fn new() -> Numbers
+        ensures { result.next ≡ 0 }
+    {
+        Numbers { next: 0 }
+    }
+
+    /// A number that was never given before, since each is the one behind the last; `None` where none is left.
+    pub fn give(&mut self) -> Option<u64>
+        ensures next { IfSome result (λ number. (number ≡ self.old.next) × (self.new.next ≡ number + 1)) }
+        ensures none { IfNone result (self.new.next ≡ self.old.next) }
+    {
+        let number = self.next;
+        self.next = number.checked_add(1)?;
+        Some(number)
+    }
+}

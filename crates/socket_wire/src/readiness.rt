@@ -1,0 +1,155 @@
+//! What may be ready, and which of it is tried next.
+
+use crate::origin::Origin;
+use mio::event::Source;
+use mio::{Events, Interest, Poll, Token};
+use std::alloc::Allocator;
+use std::collections::BTreeSet;
+use std::io;
+use std::net::Net;
+use std::time::Duration;
+
+/// How many events are taken of the system at once.
+const EVENTS: usize = 64;
+
+/// Sockets that may be ready, by their tokens; they are tried in turn.
+#[derive(Drop)]
+struct Round<A: Allocator> {
+    tokens: BTreeSet<usize, A>,
+    /// The one that was tried last.
+    last: usize,
+}
+
+impl<A: Allocator> Round<A> {
+    /// The next one after that which was tried last.
+    fn next(&mut self) -> Option<Origin> {
+        let after = self.last.saturating_add(1);
+        let next = match self.tokens.range(after..).next() {
+            Some(token) => *token,
+            None => *self.tokens.first()?,
+        };
+        self.last = next;
+        Origin::of(Token(next))
+    }
+}
+
+/// What may be ready: told by the system, or to be tried all the same. Each stays until it said that it would block.
+#[derive(Drop)]
+pub(crate) struct Readiness<A: Allocator> {
+    poll: Poll,
+    events: Events<A>,
+    /// The socket for datagrams of clients may be ready.
+    datagrams: bool,
+    /// The listener and the connections of clients.
+    streams: Round<A>,
+    /// The sockets and connections of asks.
+    servers: Round<A>,
+    turn: u8,
+}
+
+impl<A: Allocator + Copy> Readiness<A> {
+    /// `Err` where the system refuses, or memory ran out.
+    pub fn new(net: &impl Net, alloc: A) -> io::Result<Readiness<A>> {
+        Ok(Readiness {
+            poll: Poll::new(net)?,
+            events: Events::with_capacity(alloc, EVENTS)?,
+            datagrams: true,
+            streams: Round {
+                tokens: BTreeSet::new(alloc),
+                last: 0,
+            },
+            servers: Round {
+                tokens: BTreeSet::new(alloc),
+                last: 0,
+            },
+            turn: 0,
+        })
+    }
+
+    /// Has the system tell when the socket can be read from.
+    pub fn watch_reads<S: Source>(&self, socket: &mut S, origin: Origin) -> io::Result<()> {
+        let registry = self.poll.registry();
+        registry.register(socket, origin.token(), Interest::READABLE)
+    }
+
+    /// Has the system tell when the socket can be read from or written to.
+    pub fn watch<S: Source>(&self, socket: &mut S, origin: Origin) -> io::Result<()> {
+        let both = Interest::READABLE | Interest::WRITABLE;
+        self.poll.registry().register(socket, origin.token(), both)
+    }
+
+    /// Waits until something is ready, for so many milliseconds at most.
+    pub fn wait(&mut self, pause: u64) {
+        let pause = Some(Duration::from_millis(pause));
+        if self.poll.poll(&mut self.events, pause).is_err() {
+            return;
+        }
+        for event in &self.events {
+            let token = event.token();
+            match Origin::of(token) {
+                Some(Origin::Datagrams) => self.datagrams = true,
+                Some(Origin::Connections | Origin::Client(_)) => {
+                    let _ = self.streams.tokens.insert(token.0);
+                }
+                Some(Origin::Ask(_) | Origin::Server(_)) => {
+                    let _ = self.servers.tokens.insert(token.0);
+                }
+                None => {}
+            }
+        }
+    }
+
+    /// The socket may be ready. Where memory ran out it isn't noted; then it is tried when its turn comes.
+    pub fn add(&mut self, origin: Origin) {
+        let Token(number) = origin.token();
+        match origin {
+            Origin::Datagrams => self.datagrams = true,
+            Origin::Connections | Origin::Client(_) => {
+                let _ = self.streams.tokens.insert(number);
+            }
+            Origin::Ask(_) | Origin::Server(_) => {
+                let _ = self.servers.tokens.insert(number);
+            }
+        }
+    }
+
+    /// The socket said that it would block.
+    pub fn remove(&mut self, origin: Origin) {
+        let Token(number) = origin.token();
+        match origin {
+            Origin::Datagrams => self.datagrams = false,
+            Origin::Connections | Origin::Client(_) => {
+                let _was = self.streams.tokens.remove(&number);
+            }
+            Origin::Ask(_) | Origin::Server(_) => {
+                let _was = self.servers.tokens.remove(&number);
+            }
+        }
+    }
+
+    /// Nothing may be ready.
+    pub fn is_empty(&self) -> bool {
+        !self.datagrams && self.streams.tokens.is_empty() && self.servers.tokens.is_empty()
+    }
+
+    /// No socket of an ask may be ready.
+    pub fn has_no_server(&self) -> bool {
+        self.servers.tokens.is_empty()
+    }
+
+    /// The next one to be tried: of clients and of asks alternately, of clients' datagrams and streams alternately.
+    pub fn next(&mut self) -> Option<Origin> {
+        for _ in 0..4u8 {
+            self.turn = (self.turn & 3) + 1;
+            let next = match self.turn & 3 {
+                1 => self.datagrams.then_some(Origin::Datagrams),
+                3 => self.streams.next(),
+                _ => self.servers.next(),
+            };
+            if next.is_some() {
+                return next;
+            }
+        }
+        None
+    }
+}
