@@ -1,5 +1,5 @@
-//! Tests of the cache from outside: against a plain list, with many names, with refused growths, by depths, as time
-//! passes, and of look-ups.
+//! Tests of what replies carry, from their octets, and of the cache: against a plain list, with many names, with refused
+//! growths, by depths, as time passes, and of look-ups.
 #![tactic(auto)]
 
 #[cfg(test)]
@@ -18,3 +18,5 @@ mod memory;
 mod plain;
 #[cfg(test)]
 mod samples;
+#[cfg(test)]
+mod walks;

@@ -4,6 +4,9 @@
 //! This is the public face of the crates below it: names at a place of a message, reading, and writing.
 #![tactic(auto)]
 
+mod laws;
+
+pub use laws::what_is_written_is_read_back;
 pub use message_names::Fault;
 pub use message_reading::{
     Header, Message, MessageRef, Question, QuestionRef, Rdata, Record, Records, Span, messages_are_spelled,

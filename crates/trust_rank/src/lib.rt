@@ -16,6 +16,3 @@ pub use piece::{Body, Piece};
 pub use slot::Slot;
 pub use walk::{End, Walk};
 pub use walking::pieces;
-
-#[cfg(test)]
-mod tests;

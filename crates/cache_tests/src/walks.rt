@@ -1,11 +1,11 @@
 //! Replies in octets, and what no contract can say: that memory is found where there is some.
 
-use crate::{Body, End, Piece, Walk, pieces};
 use dns_message::MessageRef;
 use refusing_allocator::Refusing;
 use std::alloc::{Allocator, Global};
 use std::test::Fail;
 use suffix_routes::{Config, RouteId};
+use trust_rank::{Body, End, Piece, Walk, pieces};
 
 /// One route for all names.
 const CONFIG: &str = r#"version = 1
