@@ -4,10 +4,10 @@ use Rattle.std.proofs.lemmas.List.{append-nil, length-append, length-take, lengt
 use Rattle.message_names.specs.declared.fault.Fault.{Fault}
 use Rattle.message_names.specs.declared.fault.Fault.TheVariants.{Short, LabelForm, Pointer, NameLong, Rdata, TooLarge, Memory, NoQuestion}
 use Rattle.message_writing.specs.declared.writer.Writer.{Writer}
-use Rattle.message_writing.specs.Writing.{Text, Writing, as_is, after, ◌▹◌, each, octets16, octets32, with_length, name_text, question_text, head_text, data_text}
+use Rattle.message_writing.specs.Writing.{Text, Writing, as_is, after, ◌▹◌, each, octets16, with_length, name_text, question_text}
 use Rattle.std.specs.List.{AllByRecursion}
 use Rattle.dns_name.specs.Labels.{IsName}
-use Rattle.message_writing.specs.Written.{IsQuestion, IsRecord}
+use Rattle.message_writing.specs.Written.{IsQuestion}
 use Rattle.message_reading.specs.Values.{Question, Record}
 use Rattle.message_writing.specs.Borrowed.{record_of}
 use Rattle.message_writing.specs.Writer.{Holds, Writes, HoldsText, Refused}

@@ -1,8 +1,7 @@
 -- The records of sets, written one set behind another.
-use Rattle.std.proofs.Common.{◌≡◌, ℕ, ◌+◌, ◌<◌, ◌≤◌, List, [], ◌∷◌, ◌++◌, length, take, drop, get_or, refl, sym, ap, subst, ◌∙◌, arith}
-use Rattle.std.specs.Prelude.{map, flat_map}
+use Rattle.std.proofs.Common.{◌≡◌, ℕ, ◌+◌, ◌<◌, ◌≤◌, List, [], ◌∷◌, ◌++◌, length, take, get_or, refl, sym, ap, subst, ◌∙◌, arith}
 use Rattle.std.specs.List.{AllByRecursion}
-use Rattle.std.proofs.lemmas.List.{append-nil, length-append, length-map, take_more, take_all}
+use Rattle.std.proofs.lemmas.List.{append-nil, length-append, length-map, take_more}
 use Rattle.std.proofs.lemmas.List.Folds.{length-flat_map-take}
 use Rattle.std.proofs.lemmas.Grind.{flat_map-append}
 use Rattle.message_names.specs.declared.fault.Fault.{Fault}
@@ -12,7 +11,7 @@ use Rattle.message_writing.specs.declared.writer.Writer.{Writer}
 use Rattle.message_writing.specs.Writing.{Text, Writing, as_is, after, ◌▹◌, each, record_text}
 use Rattle.message_writing.specs.Written.{IsRecord}
 use Rattle.message_writing.specs.Borrowed.{record_of, records_of, records_in}
-use Rattle.message_writing.specs.Writer.{Holds, Writes, Refused}
+use Rattle.message_writing.specs.Writer.{Writes, Refused}
 use Rattle.message_writing.proofs.WriterLaws.{after_both, both, writes_nothing}
 
 -- ---- two writings that give one text

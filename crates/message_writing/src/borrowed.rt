@@ -5,7 +5,8 @@ use message_reading::{Header, QuestionRef, Rdata};
 use std::alloc::{Allocator, Global};
 use std::marker::Model;
 
-/// Records of one owner, type, class and TTL, whose data is borrowed row by row. Contracts see the list of these records.
+/// Records of one owner, type, class and TTL, whose data is borrowed row by row. Contracts see the list of these
+/// records.
 #[derive(Drop)]
 pub struct RowsRef<'a, A: Allocator = Global> {
     pub owner: &'a Name<A>,

@@ -184,9 +184,8 @@ pub fn write<A: Allocator + Copy>(
 
 /// The octets that `write` gives of the message with these parts, put into a vector in the place of what it has.
 ///
-/// A vector with room for them, of capacity `limit` at most, is not made larger; beside it memory is taken only where
-/// more than a few names begin in the octets. `TooLarge` and `Memory` as `write` tells them; then nothing is said of what
-/// the vector has, which keeps its room.
+/// A vector with room for them is not made larger; beside it memory is taken only where more than 16 names begin in
+/// the octets. `TooLarge` and `Memory` as `write` tells them; then the vector has some octets or none.
 pub fn write_parts<A: Allocator + Copy>(
     alloc: A,
     octets: &mut Vec<u8, A>,

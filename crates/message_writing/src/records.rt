@@ -1,6 +1,6 @@
 //! Questions and records, written one behind another: RFC 1035 4.1.2 and 4.1.3.
 
-ghost use Rattle.std.specs.Prelude.{◌≡◌, ◌≤◌, ◌<◌, ℕ, List, length, OnOk};
+ghost use Rattle.std.specs.Prelude.{◌≤◌, ◌<◌, ℕ, List, length, OnOk};
 ghost use Rattle.std.specs.Option.{IfSome};
 ghost use Rattle.std.specs.List.{AllByRecursion};
 ghost use Rattle.dns_name.specs.Labels.{labels_of, IsLaidOut};

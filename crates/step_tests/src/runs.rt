@@ -64,7 +64,7 @@ fn a_run_over_a_list(rt: HostRuntime) -> Result<(), Fail> {
     }
     // The configuration takes 2 growths and a new forwarder one; a step takes one more for each of its two copies, and
     // the first for the list.
-    assert_eq!(rt; refused, 2 + 1 + (11 + 3) + (24 + 2));
+    assert_eq!(rt; refused, 2 + 1 + (10 + 3) + (23 + 2));
     Ok(())
 }
 
@@ -90,6 +90,6 @@ fn a_recorded_run(rt: HostRuntime) -> Result<(), Fail> {
         assert!(rt; are_worked(recorded.steps()), "after {count}");
     }
     // Those of the step, and the copy of its event.
-    assert_eq!(rt; refused, 24 + 1);
+    assert_eq!(rt; refused, 23 + 1);
     Ok(())
 }

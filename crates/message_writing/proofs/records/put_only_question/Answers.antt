@@ -1,6 +1,5 @@
 use Rattle.std.proofs.lemmas.Result.{err_from_is_err_and}
 use Rattle.message_writing.specs.Writing.{question_text}
-use Rattle.message_writing.proofs.WriterLaws.{writes_nothing}
 use Rattle.message_writing.proofs.WriterSets.{none_written, one_written, one_refused}
 use Rattle.message_writing.proofs.records.put_only_question.Goals as goal
 

@@ -2,7 +2,7 @@ use Rattle.std.proofs.Common.{ℕ, List, ap, drop, subst}
 use Rattle.std.proofs.lemmas.Result.{err_from_is_err_and}
 use Rattle.dns_name.specs.Labels.{labels_of}
 use Rattle.message_writing.specs.Writing.{Writing, each, record_text}
-use Rattle.message_writing.proofs.WriterLaws.{begins, stays_if_known}
+use Rattle.message_writing.proofs.WriterLaws.{stays_if_known}
 use Rattle.message_writing.proofs.WriterRecords.{all_so_far, all_of_them, holds_on, element_refused, element_written, list_written, refused_as, writes_as}
 use Rattle.message_writing.proofs.WriterSets.{row_text, IsRow, set_text, set_all}
 use Rattle.message_writing.proofs.records.put_set.Goals as goal
