@@ -132,22 +132,25 @@ impl<A: Allocator + Copy> ClientStream<A> {
         }
     }
 
-    /// Replies, behind the reply's length. `Err` where memory ran out, and then nothing has changed; false where the
-    /// connection is over, since it takes nothing any more or too much is left.
-    pub fn reply(&mut self, alloc: A, reply: &[u8], now: u64) -> Result<bool, AllocError> {
+    /// Replies, behind the reply's length, and tells whether the connection goes on. `Err` where the reply is lost: of
+    /// the kind `OutOfMemory` where memory ran out, and then nothing has changed; else the connection is over, since it
+    /// takes nothing any more or too much is left.
+    pub fn reply(&mut self, alloc: A, reply: &[u8], now: u64) -> io::Result<bool> {
         if self.unsent.len().saturating_add(reply.len()) > MOST_UNSENT - 2 {
-            return Ok(false);
+            return Err(io::Error::from(ErrorKind::WouldBlock));
         }
         let Ok(framed) = frame(alloc, reply) else {
-            return Err(AllocError);
+            return Err(io::Error::from(ErrorKind::OutOfMemory));
         };
-        if self.unsent.is_empty() {
+        let was_empty = self.unsent.is_empty();
+        self.unsent.push(framed)?;
+        if was_empty {
             self.took = now;
         }
-        self.unsent.push(framed)?;
         self.unanswered = self.unanswered.saturating_sub(1);
         self.active = now;
-        Ok(self.send(now).is_ok() && !self.is_done())
+        self.send(now)?;
+        Ok(!self.is_done())
     }
 }
 

@@ -21,6 +21,14 @@ struct Round<A: Allocator> {
 }
 
 impl<A: Allocator> Round<A> {
+    /// Nothing; it takes no memory.
+    fn new(alloc: A) -> Round<A> {
+        Round {
+            tokens: BTreeSet::new(alloc),
+            last: 0,
+        }
+    }
+
     /// The next one after that which was tried last.
     fn next(&mut self) -> Option<Origin> {
         let after = self.last.saturating_add(1);
@@ -33,17 +41,52 @@ impl<A: Allocator> Round<A> {
     }
 }
 
-/// What may be ready: told by the system, or to be tried all the same. Each stays until it said that it would block.
+/// What may be ready.
 #[derive(Drop)]
-pub(crate) struct Readiness<A: Allocator> {
-    poll: Poll,
-    events: Events<A>,
-    /// The socket for datagrams of clients may be ready.
+struct Ready<A: Allocator> {
+    /// The socket for datagrams of clients.
     datagrams: bool,
     /// The listener and the connections of clients.
     streams: Round<A>,
     /// The sockets and connections of asks.
     servers: Round<A>,
+}
+
+impl<A: Allocator + Copy> Ready<A> {
+    /// Where memory ran out it isn't noted.
+    fn add(&mut self, origin: Origin) {
+        let Token(number) = origin.token();
+        match origin {
+            Origin::Datagrams => self.datagrams = true,
+            Origin::Connections | Origin::Client(_) => {
+                let _ = self.streams.tokens.insert(number);
+            }
+            Origin::Ask(_) | Origin::Server(_) => {
+                let _ = self.servers.tokens.insert(number);
+            }
+        }
+    }
+
+    fn remove(&mut self, origin: Origin) {
+        let Token(number) = origin.token();
+        match origin {
+            Origin::Datagrams => self.datagrams = false,
+            Origin::Connections | Origin::Client(_) => {
+                let _was = self.streams.tokens.remove(&number);
+            }
+            Origin::Ask(_) | Origin::Server(_) => {
+                let _was = self.servers.tokens.remove(&number);
+            }
+        }
+    }
+}
+
+/// What may be ready: told by the system, or to be tried all the same. Each stays until it said that it would block.
+#[derive(Drop)]
+pub(crate) struct Readiness<A: Allocator> {
+    poll: Poll,
+    events: Events<A>,
+    ready: Ready<A>,
     turn: u8,
 }
 
@@ -53,14 +96,10 @@ impl<A: Allocator + Copy> Readiness<A> {
         Ok(Readiness {
             poll: Poll::new(net)?,
             events: Events::with_capacity(alloc, EVENTS)?,
-            datagrams: true,
-            streams: Round {
-                tokens: BTreeSet::new(alloc),
-                last: 0,
-            },
-            servers: Round {
-                tokens: BTreeSet::new(alloc),
-                last: 0,
+            ready: Ready {
+                datagrams: true,
+                streams: Round::new(alloc),
+                servers: Round::new(alloc),
             },
             turn: 0,
         })
@@ -85,56 +124,32 @@ impl<A: Allocator + Copy> Readiness<A> {
             return;
         }
         for event in &self.events {
-            let token = event.token();
-            match Origin::of(token) {
-                Some(Origin::Datagrams) => self.datagrams = true,
-                Some(Origin::Connections | Origin::Client(_)) => {
-                    let _ = self.streams.tokens.insert(token.0);
-                }
-                Some(Origin::Ask(_) | Origin::Server(_)) => {
-                    let _ = self.servers.tokens.insert(token.0);
-                }
-                None => {}
+            if let Some(origin) = Origin::of(event.token()) {
+                self.ready.add(origin);
             }
         }
     }
 
     /// The socket may be ready. Where memory ran out it isn't noted; then it is tried when its turn comes.
     pub fn add(&mut self, origin: Origin) {
-        let Token(number) = origin.token();
-        match origin {
-            Origin::Datagrams => self.datagrams = true,
-            Origin::Connections | Origin::Client(_) => {
-                let _ = self.streams.tokens.insert(number);
-            }
-            Origin::Ask(_) | Origin::Server(_) => {
-                let _ = self.servers.tokens.insert(number);
-            }
-        }
+        self.ready.add(origin);
     }
 
     /// The socket said that it would block.
     pub fn remove(&mut self, origin: Origin) {
-        let Token(number) = origin.token();
-        match origin {
-            Origin::Datagrams => self.datagrams = false,
-            Origin::Connections | Origin::Client(_) => {
-                let _was = self.streams.tokens.remove(&number);
-            }
-            Origin::Ask(_) | Origin::Server(_) => {
-                let _was = self.servers.tokens.remove(&number);
-            }
-        }
+        self.ready.remove(origin);
     }
 
     /// Nothing may be ready.
     pub fn is_empty(&self) -> bool {
-        !self.datagrams && self.streams.tokens.is_empty() && self.servers.tokens.is_empty()
+        !self.ready.datagrams
+            && self.ready.streams.tokens.is_empty()
+            && self.ready.servers.tokens.is_empty()
     }
 
     /// No socket of an ask may be ready.
     pub fn has_no_server(&self) -> bool {
-        self.servers.tokens.is_empty()
+        self.ready.servers.tokens.is_empty()
     }
 
     /// The next one to be tried: of clients and of asks alternately, of clients' datagrams and streams alternately.
@@ -142,9 +157,9 @@ impl<A: Allocator + Copy> Readiness<A> {
         for _ in 0..4u8 {
             self.turn = (self.turn & 3) + 1;
             let next = match self.turn & 3 {
-                1 => self.datagrams.then_some(Origin::Datagrams),
-                3 => self.streams.next(),
-                _ => self.servers.next(),
+                1 => self.ready.datagrams.then_some(Origin::Datagrams),
+                3 => self.ready.streams.next(),
+                _ => self.ready.servers.next(),
             };
             if next.is_some() {
                 return next;

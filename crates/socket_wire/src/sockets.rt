@@ -435,15 +435,23 @@ impl<'a, R: Net, A: Allocator + Copy> Sockets<'a, R, A> {
         error.raw_os_error() == Some(libc::EMFILE) && self.close_oldest()
     }
 
-    /// Replies on a client's connection. Where it is over, it is closed.
+    /// Replies on a client's connection. `Err` where the reply is lost. A connection that is over is closed.
     fn reply(&mut self, conn: u64, reply: &[u8], now: u64) -> io::Result<()> {
         let Some(client) = self.clients.get_mut(conn) else {
             return Err(io::Error::from(ErrorKind::NotConnected));
         };
-        if client.reply(self.alloc, reply, now)? {
-            return Ok(());
+        match client.reply(self.alloc, reply, now) {
+            Ok(true) => Ok(()),
+            Ok(false) => {
+                self.close_client(conn);
+                Ok(())
+            }
+            Err(error) => {
+                if error.kind() != ErrorKind::OutOfMemory {
+                    self.close_client(conn);
+                }
+                Err(error)
+            }
         }
-        self.close_client(conn);
-        Ok(())
     }
 }
