@@ -6,3 +6,4 @@ pub mod SlotBySlot
 pub mod Fitting
 pub mod Keeping
 pub mod Forgetting
+pub mod Worked
