@@ -39,10 +39,8 @@ pub(crate) fn nearest_name_error<'a, H: BuildHasher + Drop, A: Allocator + Copy>
     moment: u64,
     config: &Config<A>,
 ) -> Option<&'a Held<A>>
-    ensures {
-        option_copied result
-        ≡ nearest_error config.now.routes moment (slots_of cache.now.entries) class key.now
-    }
+    ensures { option_copied result
+        ≡ nearest_error config.now.routes moment (slots_of cache.now.entries) class key.now }
 {
     let octets = key.octets();
     if !has_name_error_below(cache, octets.len() / 2 + 1) {
@@ -63,11 +61,9 @@ fn nearest_above<'a, H: BuildHasher + Drop, A: Allocator + Copy>(
     moment: u64,
     config: &Config<A>,
 ) -> Option<&'a Held<A>>
-    ensures {
-        option_copied result
+    ensures { option_copied result
         ≡ above (name_error_on config.now.routes (route_of config.now.routes key.now) moment
-            (slots_of cache.now.entries) class) key.now
-    }
+        (slots_of cache.now.entries) class) key.now }
 {
     let mut rest = key.octets();
     let mut depth = key.labels().count();
@@ -95,11 +91,9 @@ fn name_error_on<'a, H: BuildHasher + Drop, A: Allocator + Copy>(
     requires laid { IsLaidOut octets.now }
     requires lower { lowered (labels_of octets.now) ≡ labels_of octets.now }
     requires depth { depth ≡ length (labels_of octets.now) }
-    ensures {
-        option_copied result
+    ensures { option_copied result
         ≡ name_error_on config.now.routes (route_of config.now.routes asked.now) moment
-            (slots_of cache.now.entries) class (labels_of octets.now)
-    }
+        (slots_of cache.now.entries) class (labels_of octets.now) }
 {
     let held = name_error_of(cache, octets, depth, class, moment)?;
     if has_route_of(config, &held.piece.slot.key, asked) {

@@ -32,10 +32,8 @@ pub fn find<'a, H: BuildHasher + Drop, A: Allocator + Copy>(
     moment: u64,
     config: &Config<A>,
 ) -> Found<'a, A>
-    ensures {
-        found_of result
-        ≡ found config.now.routes moment cache.now.entries (record { name = name.now; kind = kind; class = class })
-    }
+    ensures { found_of result
+        ≡ found config.now.routes moment cache.now.entries (record { name = name.now; kind = kind; class = class }) }
 {
     find_by_key(cache, &name.key(), class, kind, moment, config)
 }
@@ -50,10 +48,8 @@ pub fn find_by_key<'a, H: BuildHasher + Drop, A: Allocator + Copy>(
     moment: u64,
     config: &Config<A>,
 ) -> Found<'a, A>
-    ensures {
-        (name : List (List ℕ)) → lowered name ≡ key.now → found_of result
-        ≡ found config.now.routes moment cache.now.entries (record { name = name; kind = kind; class = class })
-    }
+    ensures { (name : List (List ℕ)) → lowered name ≡ key.now → found_of result
+        ≡ found config.now.routes moment cache.now.entries (record { name = name; kind = kind; class = class }) }
 {
     look_up(cache, key, class, kind, moment, config)
 }
@@ -67,10 +63,8 @@ fn look_up<'a, H: BuildHasher + Drop, A: Allocator + Copy>(
     moment: u64,
     config: &Config<A>,
 ) -> Found<'a, A>
-    ensures found {
-        found_of result
-        ≡ found_by_slot config.now.routes moment (slots_of cache.now.entries) key.now class kind
-    }
+    ensures found { found_of result
+        ≡ found_by_slot config.now.routes moment (slots_of cache.now.entries) key.now class kind }
     ensures held { AreHeld cache.now }
 {
     let own = typed_entry(cache, key, class, kind, moment);

@@ -44,12 +44,10 @@ fn forget_name_error<H: BuildHasher + Drop, A: Allocator + Copy>(
 )
     requires laid { IsLaidOut octets.now }
     requires depth { depth ≡ length (labels_of octets.now) }
-    ensures forgotten {
-        cache.new ≡ record cache.old {
-            entries = without (record { key = lowered (labels_of octets.now); class = class; kind = None })
-                cache.old.entries
-        }
-    }
+    ensures forgotten { cache.new ≡ record cache.old {
+      entries = without (record { key = lowered (labels_of octets.now); class = class; kind = None })
+          cache.old.entries;
+    } }
     ensures held { AreHeld cache.old }
 {
     if !cache.has_name_error(depth) {

@@ -9,7 +9,8 @@ use std::env;
 use std::net::{Ipv4Addr, SocketAddr, SocketAddrV4};
 use std::process::ExitCode;
 
-const USAGE: &str = "usage: socket_bench echo PORT, socket_bench answer PORT, or socket_bench relay PORT SERVER";
+const USAGE: &str =
+    "usage: socket_bench echo PORT, socket_bench answer PORT, or socket_bench relay PORT SERVER";
 
 /// This port of this machine.
 fn local(port: u16) -> SocketAddr {

@@ -85,7 +85,9 @@ impl<R: Net, A: Allocator + Copy> Relay<'_, R, A> {
 
     /// A question and a reply, each where one is there.
     fn turn(&mut self) {
-        if self.readable && let Ok(false) = self.take_question() {
+        if self.readable
+            && let Ok(false) = self.take_question()
+        {
             self.readable = false;
         }
         if self.ready.is_empty() {

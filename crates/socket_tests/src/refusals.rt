@@ -35,7 +35,10 @@ fn a_port_in_use_and_a_client_that_is_gone(rt: HostRuntime) -> Result<(), Fail> 
     assert!(rt; wire.put(&Action::CloseUdp { port: 15360 }).is_ok());
     assert!(rt; wire.put(&ask(rt.alloc(), 15360)?).is_ok());
     assert!(rt; wire.put(&reply(rt.alloc(), Client::Tcp(0))?).is_err());
-    assert!(rt; wire.put(&reply(rt.alloc(), Client::Udp(local(0)))?).is_err());
+    assert!(rt;
+        wire.put(&reply(rt.alloc(), Client::Udp(local(0)))?)
+            .is_err()
+    );
     assert_eq!(rt; wire.faults(), 3);
     assert!(rt; MioWire::new(&rt, rt.alloc(), local(15358), 1000).is_err());
     Ok(())

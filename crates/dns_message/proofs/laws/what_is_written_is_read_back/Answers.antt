@@ -9,6 +9,6 @@ returns-clause-back c = λ message is counted shapes short. spelled_message_is_r
 
 pub returns-clause-one : goal.returns-clause-one
 returns-clause-one c = λ first second is counted shapes short is' counted' shapes' short' alike.
-  one_message_is_spelled (written second) first second
+    one_message_is_spelled (written second) first second
     (subst (λ octets. Spells octets first) alike (written_message_is_spelled first is counted shapes short))
     (written_message_is_spelled second is' counted' shapes' short')
