@@ -53,6 +53,18 @@ impl<A: Allocator + Copy> Unsent<A> {
         self.octets.len() - self.taken
     }
 
+    /// Keeps no more octets that were taken than are left, so that a stream which is slow for ever keeps little. No more
+    /// are copied than were taken. `Err` where memory ran out.
+    fn forget_taken(&mut self) -> Result<(), AllocError>
+        ensures { self.new ≡ self.old }
+    {
+        if self.taken > self.len() {
+            self.octets = Vec::from_slice(self.alloc, &self.octets[self.taken..])?;
+            self.taken = 0;
+        }
+        Ok(())
+    }
+
     /// Puts octets last. `Err` where memory ran out, and then nothing has changed.
     pub fn push(&mut self, more: Octets<A>) -> Result<(), AllocError>
         ensures ok { OnOk result (self.new ≡ self.old ++ more) }
@@ -63,6 +75,7 @@ impl<A: Allocator + Copy> Unsent<A> {
             self.taken = 0;
             return Ok(());
         }
+        self.forget_taken()?;
         self.octets.extend_from_slice(more.as_slice())?;
         Ok(())
     }
