@@ -8,8 +8,7 @@ use dns_message::{
 };
 use dns_name::Name;
 use refusing_allocator::Refusing;
-use std::alloc::{Allocator, Global};
-use std::slice;
+use std::alloc::{AllocError, Allocator, Global};
 use std::test::Fail;
 
 /// An alias, a set of two addresses of its target, and a zone's record: aliases in order, then the set.
@@ -34,22 +33,30 @@ fn put<A: Allocator + Copy>(
     write_parts(alloc, octets, message, limit)
 }
 
-/// The record as a set of one.
-fn set_of<'a, A: Allocator>(entry: &'a Record<A>) -> RowsRef<'a, A> {
+/// The records' data, beside the record whose owner, type, class and TTL they share.
+fn set_of<'a, A: Allocator>(entry: &'a Record<A>, rows: &'a [Rdata<A>]) -> RowsRef<'a, A> {
     RowsRef {
         owner: &entry.owner,
         kind: entry.kind,
         class: entry.class,
         ttl: entry.ttl,
-        rows: slice::from_ref(&entry.rdata),
+        rows,
     }
 }
 
-/// The text of these messages' parts: alias, addresses, zone's record.
+/// The data of the three sets of an answer.
+#[derive(Drop)]
+struct Rows<A: Allocator> {
+    alias: Vec<Rdata<A>, A>,
+    addresses: Vec<Rdata<A>, A>,
+    zone: Vec<Rdata<A>, A>,
+}
+
+/// The text of the message from borrowed parts: alias, addresses, the zone's record.
 fn answer_into<A: Allocator + Copy>(
     alloc: A,
     message: &Message<A>,
-    addresses: &[Rdata<A>],
+    rows: &Rows<A>,
     octets: &mut Vec<u8, A>,
     limit: usize,
 ) -> Result<(), Fault>
@@ -62,14 +69,8 @@ fn answer_into<A: Allocator + Copy>(
     ) else {
         return Err(Fault::NoQuestion);
     };
-    let answers = [
-        set_of(alias),
-        RowsRef {
-            rows: addresses,
-            ..set_of(first)
-        },
-    ];
-    let authority = [set_of(zone)];
+    let answers = [set_of(alias, &rows.alias), set_of(first, &rows.addresses)];
+    let authority = [set_of(zone, &rows.zone)];
     let parts = MessageParts {
         header: message.header,
         question: Some(QuestionRef::of(question)),
@@ -79,12 +80,28 @@ fn answer_into<A: Allocator + Copy>(
     put(alloc, octets, &parts, limit)
 }
 
-/// The two addresses of the answer.
-fn addresses<A: Allocator + Copy>(alloc: A) -> Result<Vec<Rdata<A>, A>, Fault> {
+/// Copies of the data of these records.
+fn copied<A: Allocator + Copy>(
+    alloc: A,
+    entries: &[Record<A>],
+) -> Result<Vec<Rdata<A>, A>, AllocError> {
     let mut rows = Vec::new(alloc);
-    rows.push(Rdata::new(Vec::from_slice(alloc, &[203, 0, 113, 99])?))?;
-    rows.push(Rdata::new(Vec::from_slice(alloc, &[203, 0, 113, 100])?))?;
+    for entry in entries {
+        rows.push(entry.rdata.copy(alloc)?)?;
+    }
     Ok(rows)
+}
+
+/// The data of the answer: one alias, two addresses, the zone's.
+fn rows_of<A: Allocator + Copy>(alloc: A, message: &Message<A>) -> Result<Rows<A>, Fault> {
+    let Some((alias, addresses)) = message.answers.as_slice().split_at_checked(1) else {
+        return Err(Fault::NoQuestion);
+    };
+    Ok(Rows {
+        alias: copied(alloc, alias)?,
+        addresses: copied(alloc, addresses)?,
+        zone: copied(alloc, message.authority.as_slice())?,
+    })
 }
 
 #[test]
@@ -92,11 +109,11 @@ fn sets_are_written_like_their_records(rt: HostRuntime) -> Result<(), Fail> {
     let alloc = rt.alloc();
     let whole = hex::decode(alloc, ANSWER)?;
     let message = MessageRef::view(&whole)?.read_whole(alloc)?;
-    let rows = addresses(alloc)?;
+    let rows = rows_of(alloc, &message)?;
     let mut octets = Vec::from_slice(alloc, b"what stood here before")?;
     answer_into(alloc, &message, &rows, &mut octets, 512)?;
     assert_eq!(rt; hex::encode(alloc, &octets)?.as_str(), ANSWER);
-    for limit in [0, 12, 40, whole.len() - 1] {
+    for limit in [0, 12, 40, whole.len().saturating_sub(1)] {
         assert_eq!(rt;
             answer_into(alloc, &message, &rows, &mut octets, limit.min(65535)).err(),
             Some(Fault::TooLarge),
@@ -113,7 +130,7 @@ fn a_vector_with_room_is_not_made_larger(rt: HostRuntime) -> Result<(), Fail> {
     let heap = Refusing::new(rt.alloc());
     let whole = hex::decode(rt.alloc(), ANSWER)?;
     let message = MessageRef::view(&whole)?.read_whole(&heap)?;
-    let rows = addresses(&heap)?;
+    let rows = rows_of(&heap, &message)?;
     let mut octets = Vec::with_capacity(&heap, 512)?;
     heap.allow(0);
     let done = answer_into(&heap, &message, &rows, &mut octets, 512);
@@ -144,7 +161,8 @@ fn forty_owners<A: Allocator + Copy>(alloc: A, octets: &mut Vec<u8, A>) -> Resul
         owner.append(&[label])?;
         owners.push(owner)?;
     }
-    let rows = [Rdata::new(Vec::new(alloc))];
+    let mut rows = Vec::new(alloc);
+    rows.push(Rdata::new(Vec::new(alloc)))?;
     let mut sets = Vec::new(alloc);
     for _ in 0..2u32 {
         for owner in owners.as_slice() {
@@ -153,7 +171,7 @@ fn forty_owners<A: Allocator + Copy>(alloc: A, octets: &mut Vec<u8, A>) -> Resul
                 kind: 16,
                 class: 1,
                 ttl: 0,
-                rows: &rows,
+                rows: rows.as_slice(),
             })?;
         }
     }
