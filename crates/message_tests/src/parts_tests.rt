@@ -1,14 +1,12 @@
-//! Messages that are written from borrowed parts.
+//! What the writing of borrowed parts takes of memory.
 
 ghost use Rattle.std.specs.Prelude.{◌≤◌};
 
 use dns_message::{
-    Fault, Header, Message, MessageParts, MessageRef, QuestionRef, Rdata, Record, RowsRef,
-    write_parts,
+    Fault, Message, MessageParts, MessageRef, QuestionRef, Rdata, Record, RowsRef, write_parts,
 };
-use dns_name::Name;
 use refusing_allocator::Refusing;
-use std::alloc::{AllocError, Allocator, Global};
+use std::alloc::{AllocError, Allocator};
 use std::test::Fail;
 
 /// An alias, a set of two addresses of its target, and a zone's record: aliases in order, then the set.
@@ -105,27 +103,6 @@ fn rows_of<A: Allocator + Copy>(alloc: A, message: &Message<A>) -> Result<Rows<A
 }
 
 #[test]
-fn sets_are_written_like_their_records(rt: HostRuntime) -> Result<(), Fail> {
-    let alloc = rt.alloc();
-    let whole = hex::decode(alloc, ANSWER)?;
-    let message = MessageRef::view(&whole)?.read_whole(alloc)?;
-    let rows = rows_of(alloc, &message)?;
-    let mut octets = Vec::from_slice(alloc, b"what stood here before")?;
-    answer_into(alloc, &message, &rows, &mut octets, 512)?;
-    assert_eq!(rt; hex::encode(alloc, &octets)?.as_str(), ANSWER);
-    for limit in [0, 12, 40, whole.len().saturating_sub(1)] {
-        assert_eq!(rt;
-            answer_into(alloc, &message, &rows, &mut octets, limit.min(65535)).err(),
-            Some(Fault::TooLarge),
-            "at {limit}"
-        );
-    }
-    answer_into(alloc, &message, &rows, &mut octets, whole.len().min(65535))?;
-    assert_eq!(rt; hex::encode(alloc, &octets)?.as_str(), ANSWER);
-    Ok(())
-}
-
-#[test]
 fn a_vector_with_room_is_not_made_larger(rt: HostRuntime) -> Result<(), Fail> {
     let heap = Refusing::new(rt.alloc());
     let whole = hex::decode(rt.alloc(), ANSWER)?;
@@ -150,66 +127,5 @@ fn a_vector_with_room_is_not_made_larger(rt: HostRuntime) -> Result<(), Fail> {
         refused = count + 1;
     }
     assert_eq!(rt; refused, 5, "growths in all");
-    Ok(())
-}
-
-/// Forty owners, each in two sets of one record: their first places are more than are looked up one by one.
-fn forty_owners<A: Allocator + Copy>(alloc: A, octets: &mut Vec<u8, A>) -> Result<(), Fault> {
-    let mut owners = Vec::new(alloc);
-    for label in 0..40u8 {
-        let mut owner = Name::root(alloc);
-        owner.append(&[label])?;
-        owners.push(owner)?;
-    }
-    let mut rows = Vec::new(alloc);
-    rows.push(Rdata::new(Vec::new(alloc)))?;
-    let mut sets = Vec::new(alloc);
-    for _ in 0..2u32 {
-        for owner in owners.as_slice() {
-            sets.push(RowsRef {
-                owner,
-                kind: 16,
-                class: 1,
-                ttl: 0,
-                rows: rows.as_slice(),
-            })?;
-        }
-    }
-    let parts = MessageParts {
-        header: Header {
-            id: 1,
-            qr: true,
-            opcode: 0,
-            aa: false,
-            tc: false,
-            rd: true,
-            ra: true,
-            z: 0,
-            rcode: 0,
-            counts: [0; 4],
-        },
-        question: None,
-        answers: &sets,
-        authority: &[],
-    };
-    put(alloc, octets, &parts, 65535)
-}
-
-#[test]
-fn many_names_have_their_pointers(rt: HostRuntime) -> Result<(), Fail> {
-    let alloc: Global = rt.alloc();
-    let mut octets = Vec::new(alloc);
-    forty_owners(alloc, &mut octets)?;
-    assert_eq!(rt; octets.len(), 12 + 40 * 13 + 40 * 12);
-    assert!(rt;
-        octets.starts_with(b"\x00\x01\x81\x80\x00\x00\x00\x50\x00\x00\x00\x00\x01\x00\x00")
-    );
-    for (place, pointer) in [(532, 12), (544, 25), (724, 220), (736, 233), (1000, 519)] {
-        assert_eq!(rt;
-            octets.get(place + 1).copied(),
-            Some((pointer % 256) as u8),
-            "at {place}"
-        );
-    }
     Ok(())
 }
