@@ -1,0 +1,103 @@
+-- The messages that clients get: RFC 1035 4.1, RFC 2308 2 and 3.
+use Rattle.std.specs.Prelude.{◌≤◌, ℕ, Bool, true, false, List, [], ◌∷◌, length, map, Option, Some, None}
+use Rattle.std.specs.List.{flat_map}
+use Rattle.dns_message.specs.Header.{Header}
+use Rattle.dns_message.specs.Values.{Question, Record, Message}
+use Rattle.trust_rank.specs.Values.{Body, rows, no_data, denied, Piece}
+use Rattle.record_cache.specs.Values.{Held}
+use Rattle.record_cache.specs.Ageing.{seconds_left}
+use Rattle.answer_builder.specs.Values.{Asked, Sections}
+
+-- ---- the records of a piece, with so many seconds to live
+
+-- a record of a set of this type
+abbrev pub record_of : ℕ → Piece → ℕ → List ℕ → Record
+record_of ttl p kind octets = record { owner = p.owner; kind = kind; class = p.slot.class; ttl = ttl; rdata = octets }
+
+abbrev pub records_in : ℕ → Piece → Option ℕ → Body → List Record
+records_in ttl p (Some kind) (rows each) = map (record_of ttl p kind) each
+records_in ttl p (Some kind) (no_data soa) = []
+records_in ttl p (Some kind) (denied soa) = []
+records_in ttl p None body = []
+
+-- the records of a set, in its order; a denial has none
+abbrev pub set_records : ℕ → Piece → List Record
+set_records ttl p = records_in ttl p p.slot.kind p.body
+
+abbrev pub aged : ℕ → Option Record → List Record
+aged ttl None = []
+aged ttl (Some soa) = record { owner = soa.owner; kind = soa.kind; class = soa.class; ttl = ttl; rdata = soa.rdata } ∷ []
+
+-- the SOA of a denial, if it has one; a set has none: RFC 2308 3
+abbrev pub soa_records : ℕ → Body → List Record
+soa_records ttl (rows each) = []
+soa_records ttl (no_data soa) = aged ttl soa
+soa_records ttl (denied soa) = aged ttl soa
+
+-- 3 for a name error, else 0: RFC 1035 4.1.1, RFC 2308 2
+abbrev pub rcode_of : Body → ℕ
+rcode_of (rows each) = 0
+rcode_of (no_data soa) = 0
+rcode_of (denied soa) = 3
+
+-- ---- a chain: aliases, each at the name that the one before it leads to, and the set or denial at its end
+
+-- all records of a piece have the whole seconds that are left of it at the moment: RFC 1035 3.2.1, RFC 2181 5.2
+abbrev pub answers_of : ℕ → Held → List Record
+answers_of moment h = set_records (seconds_left moment h) h.piece
+
+abbrev pub last_of : Held → List Held → Held
+last_of h [] = h
+last_of h (other ∷ chain) = last_of other chain
+
+abbrev pub authority_of : ℕ → Held → List Record
+authority_of moment h = soa_records (seconds_left moment h) h.piece.body
+
+-- the answer section has the aliases in order and the set; the authority section, the SOA of the denial at the end
+abbrev pub sections_of : ℕ → List Held → Sections
+sections_of moment [] = record { answers = []; authority = []; rcode = 0 }
+sections_of moment (h ∷ chain) = record {
+  answers = flat_map (answers_of moment) (h ∷ chain);
+  authority = authority_of moment (last_of h chain);
+  rcode = rcode_of (last_of h chain).piece.body;
+}
+
+-- each was accepted at the moment or before it
+abbrev pub IsEarlier : ℕ → Held → Type 0
+IsEarlier moment h = h.accepted ≤ moment
+
+-- ---- messages
+
+abbrev pub questions_of : Option Question → List Question
+questions_of None = []
+questions_of (Some q) = q ∷ []
+
+-- identifier, opcode and RD as they came; QR and RA set, AA and Z clear: RFC 1035 4.1.1
+abbrev pub answer_header : Asked → Bool → ℕ → List ℕ → Header
+answer_header a cut rcode counts = record { id = a.id; qr = true; opcode = a.opcode; aa = false; tc = cut; rd = a.rd; ra = true; z = 0; rcode = rcode; counts = counts }
+
+-- the question as it came, then the sections; the counts are those of the lists
+abbrev pub answer_message : Asked → Bool → Sections → Message
+answer_message a cut s = record {
+  header = answer_header a cut s.rcode (length (questions_of a.question) ∷ length s.answers ∷ length s.authority ∷ 0 ∷ []);
+  questions = questions_of a.question;
+  answers = s.answers;
+  authority = s.authority;
+  additional = [];
+}
+
+-- a response code alone
+abbrev pub bare : ℕ → Sections
+bare rcode = record { answers = []; authority = []; rcode = rcode }
+
+-- all of the answer
+abbrev pub full_answer : Asked → Sections → Message
+full_answer a s = answer_message a false s
+
+-- the question alone, with TC and the same response code: RFC 1035 4.1.1, RFC 2181 9
+abbrev pub cut_answer : Asked → Sections → Message
+cut_answer a s = answer_message a true (bare s.rcode)
+
+-- the answer to a question that was not answered: a response code alone
+abbrev pub error_response : Asked → ℕ → Message
+error_response a rcode = answer_message a false (bare rcode)

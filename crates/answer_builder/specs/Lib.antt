@@ -1,0 +1,5 @@
+pub mod Values
+pub mod Answers
+pub mod Transports
+pub mod Faults
+pub mod Building

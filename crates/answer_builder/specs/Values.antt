@@ -1,0 +1,16 @@
+-- What a contract sees of questions and answers.
+use Rattle.std.specs.Prelude.{ℕ, Bool, List, Option}
+use Rattle.dns_message.specs.Values.{Question, Record}
+
+-- what a client asked, as far as its answer repeats it: RFC 1035 4.1.1 and 4.1.2
+pub record Asked : Type 0 where
+  pub id : ℕ
+  pub opcode : ℕ
+  pub rd : Bool
+  pub question : Option Question
+
+-- what an answer says of the question: two sections and the response code
+pub record Sections : Type 0 where
+  pub answers : List Record
+  pub authority : List Record
+  pub rcode : ℕ

@@ -1,0 +1,35 @@
+//! What a client asked, and over what.
+
+use dns_message::Question;
+use std::alloc::{Allocator, Global};
+use std::marker::Model;
+
+/// What a client asked, as far as its answer repeats it (RFC 1035 4.1.1 and 4.1.2).
+#[derive(Drop)]
+pub struct Asked<A: Allocator = Global> {
+    /// The identifier.
+    pub id: u16,
+    /// 4 bits, as they came.
+    pub opcode: u8,
+    /// Recursion is desired.
+    pub rd: bool,
+    /// The question, spelled as it came; `None` where the answer has no question.
+    pub question: Option<Question<A>>,
+}
+
+impl<A: Allocator> Model for Asked<A> {
+    ghost use Rattle.answer_builder.specs.Values.{Asked};
+
+    ghost Value = { Asked };
+
+    ghost view = { λ a. record { id = a.id; opcode = a.opcode; rd = a.rd; question = a.question } };
+}
+
+/// What carries an answer.
+#[derive(Clone, Copy, Debug, PartialEq, Eq)]
+pub enum Transport {
+    /// At most 512 octets (RFC 1035 4.2.1).
+    Udp,
+    /// At most 65,535 octets (RFC 1035 4.2.2).
+    Tcp,
+}

@@ -1,0 +1,80 @@
+-- From a name to the names above it.
+use Rattle.std.proofs.Common.{◌≡◌, ℕ, ◌+◌, ◌<◌, true, false, nat_eq, List, [], ◌∷◌, length, Option, None, Some, refl, ap, sym, subst, ◌∙◌, arith}
+use Rattle.std.specs.Option.{option_or}
+use Rattle.dns_name.specs.Labels.{lowered}
+use Rattle.suffix_routes.specs.Values.{Route}
+use Rattle.suffix_routes.specs.Routes.{route_of}
+use Rattle.record_cache.specs.Values.{Held}
+use Rattle.record_cache.specs.Ageing.{is_alive}
+use Rattle.record_cache.specs.Entries.{entry_of, has_name_error}
+use Rattle.record_cache.proofs.CallerLemmas.{entry_has_slot}
+use Rattle.negative_cache.specs.Finding.{only, is_on, name_error_of, name_error_on, nearest, above}
+use Rattle.negative_cache.proofs.Options.{only_some, only_true, option_decides}
+use Rattle.negative_cache.proofs.Depths.{error_slot, no_name_error}
+
+abbrev There : Type 0
+There = List (List ℕ) → Option Held
+
+or_none : (o : Option Held) → o ≡ option_or o None
+or_none None = refl
+or_none (Some h) = refl
+
+-- the nearest is that of the name itself, else the nearest above
+pub nearest_is : (there : There) (key : List (List ℕ)) → nearest there key ≡ option_or (there key) (above there key)
+nearest_is there [] = or_none (there [])
+nearest_is there (label ∷ key) = refl
+
+pub nearest_here : (there : There) (key : List (List ℕ)) (h : Held) → there key ≡ Some h → nearest there key ≡ Some h
+nearest_here there key h is = nearest_is there key ∙ ap (λ o. option_or o (above there key)) is
+
+pub nearest_higher : (there : There) (key : List (List ℕ)) → there key ≡ None → nearest there key ≡ above there key
+nearest_higher there key is = nearest_is there key ∙ ap (λ o. option_or o (above there key)) is
+
+-- where none is held of so few labels, none is near
+pub none_near : (routes : List Route) (route : Option ℕ) (moment class : ℕ) (entries : List Held) (key : List (List ℕ))
+    → ((d : ℕ) → d < length key + 1 → has_name_error d entries ≡ false) → nearest (name_error_on routes route moment entries class) key ≡ None
+none_near routes route moment class entries [] none = ap (only (is_on routes route)) (no_name_error moment class [] entries (none 0 (omega arith)))
+none_near routes route moment class entries (label ∷ key) none =
+    nearest_higher (name_error_on routes route moment entries class) (label ∷ key)
+    (ap (only (is_on routes route)) (no_name_error moment class (label ∷ key) entries (none (length (label ∷ key)) (omega arith))))
+    ∙ none_near routes route moment class entries key (λ d less. none d (omega arith))
+
+-- ---- the name's own
+
+-- the entry that is found is of the name
+pub error_key : (moment class : ℕ) (entries : List Held) (key : List (List ℕ)) (h : Held) → name_error_of moment entries class key ≡ Some h → error_slot class key ≡ h.piece.slot
+error_key moment class entries key h found = entry_has_slot (error_slot class key) entries h (only_some (is_alive moment) (entry_of (error_slot class key) entries) h found).0
+
+-- the name has its own route
+own_route : (routes : List Route) (moment class : ℕ) (entries : List Held) (key : List (List ℕ)) (h : Held) → name_error_of moment entries class key ≡ Some h → is_on routes (route_of routes key) h ≡ true
+own_route routes moment class entries key h found =
+    (option_decides (route_of routes h.piece.slot.key) (route_of routes key)).1 (ap (λ s. route_of routes s.key) (sym (error_key moment class entries key h found)))
+
+pub own_is_nearest : (routes : List Route) (moment class : ℕ) (entries : List Held) (key : List (List ℕ)) (h : Held) → name_error_of moment entries class key ≡ Some h
+    → nearest (name_error_on routes (route_of routes key) moment entries class) key ≡ Some h
+own_is_nearest routes moment class entries key h found =
+    nearest_here (name_error_on routes (route_of routes key) moment entries class) key h
+    (ap (only (is_on routes (route_of routes key))) found ∙ only_true (is_on routes (route_of routes key)) h (own_route routes moment class entries key h found))
+
+pub own_is_none : (routes : List Route) (moment class : ℕ) (entries : List Held) (key : List (List ℕ)) → name_error_of moment entries class key ≡ None
+    → nearest (name_error_on routes (route_of routes key) moment entries class) key ≡ above (name_error_on routes (route_of routes key) moment entries class) key
+own_is_none routes moment class entries key none =
+    nearest_higher (name_error_on routes (route_of routes key) moment entries class) key (ap (only (is_on routes (route_of routes key))) none)
+
+-- ---- one name higher
+
+-- the labels behind the first one are in lower case too
+pub lower_higher : (rest higher : List (List ℕ)) (label : List ℕ) → rest ≡ label ∷ higher → lowered rest ≡ rest → lowered higher ≡ higher
+lower_higher rest higher label is lower = let both : lowered (label ∷ higher) ≡ label ∷ higher = subst (λ (r : List (List ℕ)). lowered r ≡ r) is lower in cc
+
+-- what is above a name is the nearest of the name one label higher
+above_higher : (there : There) (asked rest higher : List (List ℕ)) (label : List ℕ) → rest ≡ label ∷ higher → above there rest ≡ above there asked → nearest there higher ≡ above there asked
+above_higher there asked rest higher label is left = sym (ap (above there) is) ∙ left
+
+pub found_higher : (there : There) (asked rest higher : List (List ℕ)) (label : List ℕ) (h : Held) → rest ≡ label ∷ higher → above there rest ≡ above there asked → there higher ≡ Some h
+    → Some h ≡ above there asked
+found_higher there asked rest higher label h is left found = sym (nearest_here there higher h found) ∙ above_higher there asked rest higher label is left
+
+pub none_higher : (there : There) (asked rest higher : List (List ℕ)) (label : List ℕ) → rest ≡ label ∷ higher → above there rest ≡ above there asked → there higher ≡ None
+    → above there higher ≡ above there asked
+none_higher there asked rest higher label is left none = sym (nearest_higher there higher none) ∙ above_higher there asked rest higher label is left

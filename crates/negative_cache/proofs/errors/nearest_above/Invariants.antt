@@ -1,0 +1,17 @@
+use Rattle.std.proofs.Common.{◌≡◌, length}
+use Rattle.dns_name.specs.Labels.{labels_of, lowered, IsLaidOut}
+use Rattle.suffix_routes.specs.Routes.{route_of}
+use Rattle.negative_cache.specs.Finding.{above, name_error_on}
+use Rattle.negative_cache.proofs.errors.nearest_above.Given as goal
+
+abbrev pub invariant-loop-higher : goal.invariant-loop-higher
+invariant-loop-higher g l = record {
+  laid : IsLaidOut l.rest;
+  lower : lowered (labels_of l.rest) ≡ labels_of l.rest;
+  depth : l.depth ≡ length (labels_of l.rest);
+  left : above (name_error_on l.config.routes (route_of l.config.routes l.key) l.moment l.cache.entries l.class) (labels_of l.rest)
+      ≡ above (name_error_on l.config.routes (route_of l.config.routes l.key) l.moment l.cache.entries l.class) l.key;
+}
+
+abbrev pub decreases-loop-higher : goal.decreases-loop-higher
+decreases-loop-higher g l = length l.rest

@@ -1,0 +1,20 @@
+-- What a contract sees of what a look-up found.
+use Rattle.record_cache.specs.Values.{Held}
+use Rattle.negative_cache.specs.declared.found.Found.{Found as OwnedFound}
+use Rattle.negative_cache.specs.declared.found.Found.TheVariants as owned
+
+-- the set of the type; an alias in its place (RFC 1034 3.6.2); NODATA (RFC 2308 2.2); a name error of the name or of one
+-- above it (RFC 2308 2.1, RFC 8020 2); or nothing that is alive
+pub data Found : Type 0 where
+  rows : Held → Found
+  alias : Held → Found
+  no_data : Held → Found
+  denied : Held → Found
+  miss : Found
+
+abbrev pub found_of : {A : Type 0} → OwnedFound A → Found
+found_of (owned.Rows held) = rows held.now
+found_of (owned.Alias held) = alias held.now
+found_of (owned.NoData held) = no_data held.now
+found_of (owned.Denied held) = denied held.now
+found_of owned.Miss = miss

@@ -1,0 +1,130 @@
+//! Name errors of a name and of the names above it.
+
+ghost use Rattle.std.specs.Prelude.{◌≡◌, ◌<◌, ℕ, length, false, nat_eq};
+ghost use Rattle.std.specs.Option.{option_copied, option_eq};
+ghost use Rattle.dns_name.specs.Labels.{labels_of, lowered, IsLaidOut};
+ghost use Rattle.suffix_routes.specs.Routes.{route_of};
+ghost use Rattle.record_cache.specs.Entries.{has_name_error};
+ghost use Rattle.negative_cache.specs.Finding.{above, name_error_of, name_error_on, nearest};
+
+use crate::living::living_entry;
+use dns_name::{NameKey, split_label};
+use record_cache::{Cache, Held};
+use std::alloc::Allocator;
+use std::hash::BuildHasher;
+use suffix_routes::Config;
+use trust_rank::Slot;
+
+/// Whether a name error is held of a name with fewer labels than this.
+pub(crate) fn has_name_error_below<H: BuildHasher + Drop, A: Allocator + Copy>(
+    cache: &Cache<H, A>,
+    depth: usize,
+) -> bool
+    ensures { result ≡ false → (d : ℕ) → d < depth → has_name_error d cache.now.entries ≡ false }
+{
+    for fewer in 0..depth {
+        if cache.has_name_error(fewer) {
+            return true;
+        }
+    }
+    false
+}
+
+/// The living name error of the name that these octets are, which has so many labels.
+fn name_error_of<'a, H: BuildHasher + Drop, A: Allocator + Copy>(
+    cache: &'a Cache<H, A>,
+    octets: &[u8],
+    depth: usize,
+    class: u16,
+    moment: u64,
+) -> Option<&'a Held<A>>
+    requires laid { IsLaidOut octets.now }
+    requires lower { lowered (labels_of octets.now) ≡ labels_of octets.now }
+    requires depth { depth ≡ length (labels_of octets.now) }
+    ensures { option_copied result ≡ name_error_of moment cache.now.entries class (labels_of octets.now) }
+{
+    if !cache.has_name_error(depth) {
+        return None;
+    }
+    let slot = Slot {
+        key: NameKey::from_octets(octets),
+        class,
+        kind: None,
+    };
+    living_entry(cache, &slot, moment)
+}
+
+/// Whether the names with these keys have one route, or both none.
+fn has_route_of<A: Allocator>(config: &Config<A>, key: &NameKey, other: &NameKey) -> bool
+    ensures { result ≡ option_eq nat_eq (route_of config.now.routes key.now) (route_of config.now.routes other.now) }
+{
+    config.route_of_key(key) == config.route_of_key(other)
+}
+
+/// The nearest living name error of the name or of one above it whose own name has the route of the name. A route is looked
+/// up only where a living one of a name above is met.
+pub(crate) fn nearest_name_error<'a, H: BuildHasher + Drop, A: Allocator + Copy>(
+    cache: &'a Cache<H, A>,
+    key: &NameKey,
+    class: u16,
+    moment: u64,
+    config: &Config<A>,
+) -> Option<&'a Held<A>>
+    ensures { option_copied result ≡ nearest (name_error_on config.now.routes (route_of config.now.routes key.now) moment cache.now.entries class) key.now }
+{
+    let octets = key.octets();
+    if !has_name_error_below(cache, octets.len() / 2 + 1) {
+        return None;
+    }
+    let depth = key.labels().count();
+    if let Some(held) = name_error_of(cache, octets, depth, class, moment) {
+        return Some(held);
+    }
+    nearest_above(cache, key, class, moment, config)
+}
+
+/// The living name error of the name that these octets are, which has so many labels, where that name has the route of the
+/// name that is asked for.
+fn name_error_on<'a, H: BuildHasher + Drop, A: Allocator + Copy>(
+    cache: &'a Cache<H, A>,
+    octets: &[u8],
+    depth: usize,
+    class: u16,
+    moment: u64,
+    config: &Config<A>,
+    asked: &NameKey,
+) -> Option<&'a Held<A>>
+    requires laid { IsLaidOut octets.now }
+    requires lower { lowered (labels_of octets.now) ≡ labels_of octets.now }
+    requires depth { depth ≡ length (labels_of octets.now) }
+    ensures { option_copied result ≡ name_error_on config.now.routes (route_of config.now.routes asked.now) moment cache.now.entries class (labels_of octets.now) }
+{
+    let held = name_error_of(cache, octets, depth, class, moment)?;
+    if has_route_of(config, &held.piece.slot.key, asked) {
+        Some(held)
+    } else {
+        None
+    }
+}
+
+/// The nearest living name error of the names above a name whose own name has the route of the name.
+fn nearest_above<'a, H: BuildHasher + Drop, A: Allocator + Copy>(
+    cache: &'a Cache<H, A>,
+    key: &NameKey,
+    class: u16,
+    moment: u64,
+    config: &Config<A>,
+) -> Option<&'a Held<A>>
+    ensures { option_copied result ≡ above (name_error_on config.now.routes (route_of config.now.routes key.now) moment cache.now.entries class) key.now }
+{
+    let mut rest = key.octets();
+    let mut depth = key.labels().count();
+    while let Some((_, higher)) = split_label(rest) {
+        rest = higher;
+        depth -= 1;
+        if let Some(held) = name_error_on(cache, rest, depth, class, moment, config, key) {
+            return Some(held);
+        }
+    }
+    None
+}

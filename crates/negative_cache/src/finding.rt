@@ -1,0 +1,97 @@
+//! What the cache holds for a question.
+
+ghost use Rattle.std.specs.Prelude.{◌≡◌};
+ghost use Rattle.std.specs.Option.{option_copied};
+ghost use Rattle.negative_cache.specs.Finding.{alias_at, found, found_by_key, typed_entry};
+ghost use Rattle.negative_cache.specs.Values.{found_of};
+
+use crate::errors::nearest_name_error;
+use crate::found::Found;
+use crate::living::{living_entry, no_data_in, set_in};
+use dns_name::{Name, NameKey};
+use record_cache::{Cache, Held};
+use std::alloc::Allocator;
+use std::hash::BuildHasher;
+use suffix_routes::Config;
+use trust_rank::Slot;
+
+/// The type CNAME.
+const CNAME: u16 = 5;
+
+/// What the cache holds for a question at a moment, in milliseconds: the first that is alive of the set of the type, the
+/// alias where another type is asked for (RFC 1034 3.6.2), NODATA of the type (RFC 2308 2.2), and the nearest name error of
+/// the name or of one above it (RFC 8020 2) whose own name has the route of the name. It takes no memory.
+pub fn find<'a, H: BuildHasher + Drop, A: Allocator + Copy>(
+    cache: &'a Cache<H, A>,
+    name: &Name<A>,
+    class: u16,
+    kind: u16,
+    moment: u64,
+    config: &Config<A>,
+) -> Found<'a, A>
+    ensures { found_of result ≡ found config.now.routes moment cache.now.entries (record { name = name.now; kind = kind; class = class }) }
+{
+    find_by_key(cache, &name.key(), class, kind, moment, config)
+}
+
+/// What `find` gives for a name that has this key. A route is looked up only where a living name error of a name above it
+/// is met. It takes no memory.
+pub fn find_by_key<'a, H: BuildHasher + Drop, A: Allocator + Copy>(
+    cache: &'a Cache<H, A>,
+    key: &NameKey,
+    class: u16,
+    kind: u16,
+    moment: u64,
+    config: &Config<A>,
+) -> Found<'a, A>
+    ensures { found_of result ≡ found_by_key config.now.routes moment cache.now.entries key.now class kind }
+{
+    let own = typed_entry(cache, key, class, kind, moment);
+    if let Some(held) = set_in(own) {
+        return Found::Rows(held);
+    }
+    if let Some(held) = alias_at(cache, key, class, kind, moment) {
+        return Found::Alias(held);
+    }
+    if let Some(held) = no_data_in(own) {
+        return Found::NoData(held);
+    }
+    match nearest_name_error(cache, key, class, moment, config) {
+        Some(held) => Found::Denied(held),
+        None => Found::Miss,
+    }
+}
+
+/// The entry of a name, class and type, where it is alive.
+fn typed_entry<'a, H: BuildHasher + Drop, A: Allocator + Copy>(
+    cache: &'a Cache<H, A>,
+    key: &NameKey,
+    class: u16,
+    kind: u16,
+    moment: u64,
+) -> Option<&'a Held<A>>
+    ensures { option_copied result ≡ typed_entry moment cache.now.entries key.now class kind }
+{
+    let slot = Slot {
+        key: *key,
+        class,
+        kind: Some(kind),
+    };
+    living_entry(cache, &slot, moment)
+}
+
+/// The living alias at a name. A question for CNAME follows none.
+fn alias_at<'a, H: BuildHasher + Drop, A: Allocator + Copy>(
+    cache: &'a Cache<H, A>,
+    key: &NameKey,
+    class: u16,
+    kind: u16,
+    moment: u64,
+) -> Option<&'a Held<A>>
+    ensures { option_copied result ≡ alias_at moment cache.now.entries key.now class kind }
+{
+    if kind == CNAME {
+        return None;
+    }
+    set_in(typed_entry(cache, key, class, CNAME, moment))
+}

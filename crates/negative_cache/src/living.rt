@@ -1,0 +1,63 @@
+//! The entry of a slot, where it is alive.
+
+ghost use Rattle.std.specs.Prelude.{◌≡◌};
+ghost use Rattle.std.specs.Option.{option_copied};
+ghost use Rattle.negative_cache.specs.Bodies.{is_no_data, is_set};
+ghost use Rattle.negative_cache.specs.Finding.{living_entry, only};
+
+use record_cache::{Cache, Held};
+use std::alloc::Allocator;
+use std::hash::BuildHasher;
+use trust_rank::{Body, Slot};
+
+/// The entry of a slot, where it is alive at a moment in milliseconds.
+pub(crate) fn living_entry<'a, H: BuildHasher + Drop, A: Allocator + Copy>(
+    cache: &'a Cache<H, A>,
+    slot: &Slot,
+    moment: u64,
+) -> Option<&'a Held<A>>
+    ensures { option_copied result ≡ living_entry moment cache.now.entries slot.now }
+{
+    let held = cache.peek(slot)?;
+    if held.is_alive(moment) {
+        Some(held)
+    } else {
+        None
+    }
+}
+
+/// Whether an entry is a set.
+fn is_set<A: Allocator>(held: &Held<A>) -> bool
+    ensures { result ≡ is_set held.now }
+{
+    match &held.piece.body {
+        Body::Rows(_) => true,
+        _ => false,
+    }
+}
+
+/// Whether an entry is NODATA.
+fn is_no_data<A: Allocator>(held: &Held<A>) -> bool
+    ensures { result ≡ is_no_data held.now }
+{
+    match &held.piece.body {
+        Body::NoData(_) => true,
+        _ => false,
+    }
+}
+
+/// The entry, where it is a set.
+pub(crate) fn set_in<A: Allocator>(held: Option<&Held<A>>) -> Option<&Held<A>>
+    ensures { option_copied result ≡ only is_set (option_copied held.entry) }
+{
+    let held = held?;
+    if is_set(held) { Some(held) } else { None }
+}
+
+/// The entry, where it is NODATA.
+pub(crate) fn no_data_in<A: Allocator>(held: Option<&Held<A>>) -> Option<&Held<A>>
+    ensures { option_copied result ≡ only is_no_data (option_copied held.entry) }
+{
+    let held = held?;
+    if is_no_data(held) { Some(held) } else { None }
+}

@@ -1,0 +1,59 @@
+//! What a set or NODATA shows to be there.
+
+ghost use Rattle.std.specs.Prelude.{◌≡◌, length, None};
+ghost use Rattle.dns_name.specs.Labels.{labels_of, lowered, IsLaidOut};
+ghost use Rattle.record_cache.specs.Entries.{AreHeld, without};
+ghost use Rattle.negative_cache.specs.Showing.{shown};
+
+use crate::errors::has_name_error_below;
+use dns_name::{Name, NameKey, split_label};
+use record_cache::Cache;
+use std::alloc::Allocator;
+use std::hash::BuildHasher;
+use trust_rank::Slot;
+
+/// Forgets the name errors of the class, of the name and of the names above it, which a set or NODATA at the name shows
+/// to be there (RFC 8020 2); and nothing else. It takes no memory.
+pub fn shown<H: BuildHasher + Drop, A: Allocator + Copy>(
+    cache: &mut Cache<H, A>,
+    name: &Name<A>,
+    class: u16,
+)
+    ensures { cache.new ≡ record cache.old { entries = shown name.now class cache.old.entries } }
+{
+    let mut rest = name.octets();
+    if !has_name_error_below(cache, rest.len() / 2 + 1) {
+        return;
+    }
+    let mut depth = name.labels().count();
+    forget_name_error(cache, rest, depth, class);
+    while let Some((_, higher)) = split_label(rest) {
+        rest = higher;
+        depth -= 1;
+        forget_name_error(cache, rest, depth, class);
+    }
+}
+
+/// Forgets the name error of the name that these octets are, which has so many labels. `held` says what holds of all
+/// entries.
+fn forget_name_error<H: BuildHasher + Drop, A: Allocator + Copy>(
+    cache: &mut Cache<H, A>,
+    octets: &[u8],
+    depth: usize,
+    class: u16,
+)
+    requires laid { IsLaidOut octets.now }
+    requires depth { depth ≡ length (labels_of octets.now) }
+    ensures forgotten { cache.new ≡ record cache.old { entries = without (record { key = lowered (labels_of octets.now); class = class; kind = None }) cache.old.entries } }
+    ensures held { AreHeld cache.old }
+{
+    if !cache.has_name_error(depth) {
+        return;
+    }
+    let slot = Slot {
+        key: NameKey::from_octets(octets),
+        class,
+        kind: None,
+    };
+    cache.forget(&slot);
+}
