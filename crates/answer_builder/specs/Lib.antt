@@ -1,5 +1,3 @@
 pub mod Values
 pub mod Answers
 pub mod Transports
-pub mod Faults
-pub mod Building

@@ -1,73 +1,64 @@
--- What a look-up finds among the entries: RFC 1034 3.6.2, RFC 2308 2, RFC 8020 2. Names are keys here: in lower case.
-use Rattle.std.specs.Prelude.{ℕ, Bool, nat_eq, if◌then◌else◌, ◌==◌, List, [], ◌∷◌, Option, Some, None}
-use Rattle.std.specs.Option.{option_eq, option_or}
-use Rattle.dns_name.specs.Labels.{lowered}
+-- What a look-up finds among the entries: RFC 1034 3.6.2, RFC 2308 2, RFC 8020 2. No two entries are of one slot.
+use Rattle.std.specs.Prelude.{ℕ, Bool, nat_eq, nat_lt, if◌then◌else◌, ◌==◌, ◌&&◌, List, [], ◌∷◌, length, filter, Option, Some, None}
+use Rattle.std.specs.List.{find}
+use Rattle.std.specs.Option.{option_eq}
 use Rattle.dns_message.specs.Values.{Question}
 use Rattle.suffix_routes.specs.Values.{Route}
 use Rattle.suffix_routes.specs.Routes.{route_of}
-use Rattle.trust_rank.specs.declared.slot.Slot.{Slot}
+use Rattle.trust_rank.specs.Replacing.{same_slot}
 use Rattle.record_cache.specs.Values.{Held}
 use Rattle.record_cache.specs.Ageing.{is_alive}
-use Rattle.record_cache.specs.Entries.{entry_of}
 use Rattle.negative_cache.specs.Values.{Found, rows, alias, no_data, denied, miss}
-use Rattle.negative_cache.specs.Bodies.{is_set, is_no_data}
+use Rattle.negative_cache.specs.Entries.{is_set, is_no_data, denies}
 
--- what is there, where it passes the test
-abbrev pub only : (Held → Bool) → Option Held → Option Held
-only test None = None
-only test (Some h) = if test h then Some h else None
+-- of the question's name and class, and of this type
+abbrev pub is_of_type : Question → ℕ → Held → Bool
+is_of_type q kind h = same_slot (record { key = q.name; class = q.class; kind = Some kind }) h.piece.slot
 
--- the entry of a slot, where it is alive
-abbrev pub living_entry : ℕ → List Held → Slot → Option Held
-living_entry moment entries slot = only (is_alive moment) (entry_of slot entries)
+-- its name has the route of the question's name
+abbrev pub is_on_route : List Route → Question → Held → Bool
+is_on_route routes q h = option_eq nat_eq (route_of routes h.piece.slot.key) (route_of routes q.name)
 
--- the entry of a name, class and type, where it is alive
-abbrev pub typed_entry : ℕ → List Held → List (List ℕ) → ℕ → ℕ → Option Held
-typed_entry moment entries key class kind = living_entry moment entries (record { key = key; class = class; kind = Some kind })
+-- the living set of this type
+abbrev pub set_for : ℕ → List Held → Question → ℕ → Option Held
+set_for moment entries q kind = find (λ h. is_of_type q kind h && (is_alive moment h && is_set h)) entries
 
--- the alias at a name; a question for CNAME follows none (RFC 1034 3.6.2)
-abbrev pub alias_at : ℕ → List Held → List (List ℕ) → ℕ → ℕ → Option Held
-alias_at moment entries key class kind = if kind == 5 then None else only is_set (typed_entry moment entries key class 5)
+-- the living alias of the name; a question for aliases follows none (RFC 1034 3.6.2)
+abbrev pub alias_for : ℕ → List Held → Question → Option Held
+alias_for moment entries q = if q.kind == 5 then None else set_for moment entries q 5
 
--- ---- name errors
+-- the living NODATA of the type
+abbrev pub no_data_for : ℕ → List Held → Question → Option Held
+no_data_for moment entries q = find (λ h. is_of_type q q.kind h && (is_alive moment h && is_no_data h)) entries
 
--- the name of an entry is on this route
-abbrev pub is_on : List Route → Option ℕ → Held → Bool
-is_on routes route h = option_eq nat_eq (route_of routes h.piece.slot.key) route
+-- a living name error at or above the question's name, on its route
+abbrev pub is_denial_for : List Route → ℕ → Question → Held → Bool
+is_denial_for routes moment q h = is_alive moment h && is_on_route routes q h && denies q.name q.class h
 
--- the name error of this very name, where it is alive
-abbrev pub name_error_of : ℕ → List Held → ℕ → List (List ℕ) → Option Held
-name_error_of moment entries class key = living_entry moment entries (record { key = key; class = class; kind = None })
+-- of two, the one whose name has more labels
+abbrev pub nearer : Held → Option Held → Held
+nearer h None = h
+nearer h (Some other) = if nat_lt (length h.piece.slot.key) (length other.piece.slot.key) then other else h
 
--- and where its name is on the route
-abbrev pub name_error_on : List Route → Option ℕ → ℕ → List Held → ℕ → List (List ℕ) → Option Held
-name_error_on routes route moment entries class key = only (is_on routes route) (name_error_of moment entries class key)
+-- the one whose name has the most labels
+abbrev pub nearest : List Held → Option Held
+nearest [] = None
+nearest (h ∷ entries) = Some (nearer h (nearest entries))
 
--- what is there for the nearest of a name and the names above it for which something is there
-abbrev pub nearest : (List (List ℕ) → Option Held) → List (List ℕ) → Option Held
-nearest there [] = there []
-nearest there (label ∷ key) = option_or (there (label ∷ key)) (nearest there key)
-
--- the same of the names above it alone
-abbrev pub above : (List (List ℕ) → Option Held) → List (List ℕ) → Option Held
-above there [] = None
-above there (label ∷ key) = nearest there key
-
--- ---- the whole
+-- the nearest name error for the question
+abbrev pub denial_for : List Route → ℕ → List Held → Question → Option Held
+denial_for routes moment entries q = nearest (filter (is_denial_for routes moment q) entries)
 
 -- what was found so, else the next
 abbrev pub found_or : (Held → Found) → Option Held → Found → Found
 found_or so (Some h) next = so h
 found_or so None next = next
 
--- The first of these that is alive: the set of the type, the alias, NODATA of the type, and the nearest name error at or
--- above the name whose own name is on the route of the name.
-abbrev pub found_by_key : List Route → ℕ → List Held → List (List ℕ) → ℕ → ℕ → Found
-found_by_key routes moment entries key class kind =
-    found_or rows (only is_set (typed_entry moment entries key class kind))
-    (found_or alias (alias_at moment entries key class kind)
-    (found_or no_data (only is_no_data (typed_entry moment entries key class kind))
-    (found_or denied (nearest (name_error_on routes (route_of routes key) moment entries class) key) miss)))
-
+-- The first of these that is there: the set of the type, the alias, NODATA of the type, and the nearest name error at or
+-- above the name whose own name is on the route of the name. So a set below a name error is found until it ends.
 abbrev pub found : List Route → ℕ → List Held → Question → Found
-found routes moment entries q = found_by_key routes moment entries (lowered q.name) q.class q.kind
+found routes moment entries q =
+    found_or rows (set_for moment entries q q.kind)
+    (found_or alias (alias_for moment entries q)
+    (found_or no_data (no_data_for moment entries q)
+    (found_or denied (denial_for routes moment entries q) miss)))

@@ -1,5 +1,6 @@
 pub mod Values
-pub mod Bodies
+pub mod Entries
 pub mod Finding
 pub mod Showing
+pub mod BySlot
 pub mod Laws

@@ -1,14 +1,6 @@
 //! Look-ups among what is kept of replies, name errors at and above a name among it (RFC 2308, RFC 8020).
 #![tactic(auto)]
 
-mod errors;
-mod finding;
 mod found;
-mod laws;
-mod living;
-mod showing;
 
-pub use finding::{find, find_by_key};
 pub use found::Found;
-pub use laws::{found_fits, nearest_is_found, promotion_keeps_found};
-pub use showing::shown;

@@ -1,0 +1,70 @@
+-- The code's way to what is found: slot by slot, from a name to the names above it. Names are keys here: in lower case.
+use Rattle.std.specs.Prelude.{ℕ, Bool, nat_eq, if◌then◌else◌, ◌==◌, List, [], ◌∷◌, Option, Some, None}
+use Rattle.std.specs.Option.{option_eq, option_or}
+use Rattle.suffix_routes.specs.Values.{Route}
+use Rattle.suffix_routes.specs.Routes.{route_of}
+use Rattle.trust_rank.specs.declared.slot.Slot.{Slot}
+use Rattle.record_cache.specs.Values.{Held}
+use Rattle.record_cache.specs.Ageing.{is_alive}
+use Rattle.record_cache.specs.Entries.{entry_of}
+use Rattle.negative_cache.specs.Values.{Found, rows, alias, no_data, denied, miss}
+use Rattle.negative_cache.specs.Entries.{is_set, is_no_data}
+use Rattle.negative_cache.specs.Finding.{found_or}
+
+-- the entries as what each slot has
+abbrev pub Slots : Type 0
+Slots = Slot → Option Held
+
+abbrev pub slots_of : List Held → Slots
+slots_of entries slot = entry_of slot entries
+
+-- what is there, where it passes the test
+abbrev pub only : (Held → Bool) → Option Held → Option Held
+only test None = None
+only test (Some h) = if test h then Some h else None
+
+-- the entry of a slot, where it is alive
+abbrev pub living_entry : ℕ → Slots → Slot → Option Held
+living_entry moment slots slot = only (is_alive moment) (slots slot)
+
+-- the entry of a name, class and type, where it is alive
+abbrev pub typed_entry : ℕ → Slots → List (List ℕ) → ℕ → ℕ → Option Held
+typed_entry moment slots key class kind = living_entry moment slots (record { key = key; class = class; kind = Some kind })
+
+-- the alias at a name
+abbrev pub alias_at : ℕ → Slots → List (List ℕ) → ℕ → ℕ → Option Held
+alias_at moment slots key class kind = if kind == 5 then None else only is_set (typed_entry moment slots key class 5)
+
+-- the name error of this very name, where it is alive
+abbrev pub name_error_of : ℕ → Slots → ℕ → List (List ℕ) → Option Held
+name_error_of moment slots class key = living_entry moment slots (record { key = key; class = class; kind = None })
+
+-- the name of an entry is on this route
+abbrev pub is_on : List Route → Option ℕ → Held → Bool
+is_on routes route h = option_eq nat_eq (route_of routes h.piece.slot.key) route
+
+-- the same, where its name is on the route
+abbrev pub name_error_on : List Route → Option ℕ → ℕ → Slots → ℕ → List (List ℕ) → Option Held
+name_error_on routes route moment slots class key = only (is_on routes route) (name_error_of moment slots class key)
+
+-- what is there for the first of a name and the names above it for which something is there
+abbrev pub climbed : (List (List ℕ) → Option Held) → List (List ℕ) → Option Held
+climbed there [] = there []
+climbed there (label ∷ key) = option_or (there (label ∷ key)) (climbed there key)
+
+-- the same of the names above it alone
+abbrev pub above : (List (List ℕ) → Option Held) → List (List ℕ) → Option Held
+above there [] = None
+above there (label ∷ key) = climbed there key
+
+-- the nearest name error for a name
+abbrev pub nearest_error : List Route → ℕ → Slots → ℕ → List (List ℕ) → Option Held
+nearest_error routes moment slots class key = climbed (name_error_on routes (route_of routes key) moment slots class) key
+
+-- what a look-up finds
+abbrev pub found_by_slot : List Route → ℕ → Slots → List (List ℕ) → ℕ → ℕ → Found
+found_by_slot routes moment slots key class kind =
+    found_or rows (only is_set (typed_entry moment slots key class kind))
+    (found_or alias (alias_at moment slots key class kind)
+    (found_or no_data (only is_no_data (typed_entry moment slots key class kind))
+    (found_or denied (nearest_error routes moment slots class key) miss)))
