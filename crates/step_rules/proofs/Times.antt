@@ -7,13 +7,15 @@ use Rattle.dns_message.specs.Writing.{◌▹◌, each, name_text, written}
 use Rattle.outstanding.specs.declared.ask.Path.TheVariants.{Udp, Tcp}
 use Rattle.outstanding.specs.Values.{Ask}
 use Rattle.retry_failover.specs.declared.Failure.TheVariants.{Truncated}
+use Rattle.trust_rank.specs.Values.{rows}
+use Rattle.record_cache.specs.Values.{Held}
 use Rattle.step_values.specs.declared.event.Client.{Client}
 use Rattle.step_values.specs.declared.event.Client.TheVariants.{Udp as FromUdp}
 use Rattle.step_values.specs.declared.action.Why.TheVariants.{Exhausted, Deadline}
 use Rattle.step_values.specs.Values.{restart, ask_udp, ask_tcp, close_udp, send_reply}
 use Rattle.step_rules.specs.State.{Waiting, State}
 use Rattle.step_rules.specs.Attempts.{first_ask}
-use Rattle.step_rules.specs.Steps.{Done, idle_step, preferring, start}
+use Rattle.step_rules.specs.Steps.{Done, idle_step, preferring, start, with_entries}
 use Rattle.step_rules.specs.Row.{Happens, is_due_at, row_of_failure, row_of_tick}
 
 abbrev first : Peer
@@ -112,6 +114,13 @@ kept : let after = preferring (record ask { server = 1 }) (start config) in
     (first_ask config 3000 words address 1 after ≡ Some (record ask { server = 1; peer = second; asked = 3000 })) × (first_ask config 3000 words address 0 after ≡ Some (record ask { route = 0; peer = second; asked = 3000 }))
 kept = (refl, refl)
 
--- a restart forgets it
-forgotten : (d : Done) → Happens config 9000 words (preferring (record ask { server = 1 }) (start config)) restart d → d ≡ record { actions = []; unkept = 0; state = start config }
+-- a set that is kept
+abbrev kept_set : Held
+kept_set = record {
+  piece = record { owner = address.name; slot = record { key = address.name; class = 1; kind = Some 1 }; body = rows ((198 ∷ 51 ∷ 100 ∷ 5 ∷ []) ∷ []); lifetime = 300; rank = 3; route = 1 };
+  accepted = 1020;
+}
+
+-- a restart forgets it, and what was kept
+forgotten : (d : Done) → Happens config 9000 words (with_entries (kept_set ∷ []) (preferring (record ask { server = 1 }) (start config))) restart d → d ≡ record { actions = []; unkept = 0; state = start config }
 forgotten d h = h

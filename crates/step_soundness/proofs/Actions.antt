@@ -17,7 +17,7 @@ use Rattle.step_history.specs.History.{ShownAsk, asks_after, unlisted, listed, i
 use Rattle.step_history.specs.Draws.{ask_message}
 use Rattle.step_history.specs.Sound.{among, Owns, EachOwned}
 use Rattle.step_history.specs.Asked.{AsksRight, AreRightAsks}
-use Rattle.step_rules.specs.Row.{Fate, gets, waits, reply_in, replies, closes, closing, without_ask, asks, asks_by, ask_list, tcp_count}
+use Rattle.step_rules.specs.Steps.{Fate, gets, waits, reply_in, replies, closes, closing, without_ask, asks, asks_by, ask_list, tcp_count}
 use Rattle.step_soundness.specs.Explains.{shown, Waits}
 use Rattle.step_soundness.proofs.Fates.{Distinct, fates_in, owner_in, owners_by, Fated}
 

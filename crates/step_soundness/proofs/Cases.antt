@@ -13,13 +13,14 @@ use Rattle.outstanding.specs.Lists.{same_path, AreListed}
 use Rattle.outstanding.specs.Values.{Ask}
 use Rattle.step_values.specs.declared.action.Why.{Why}
 use Rattle.step_values.specs.Values.{Action, send_reply, Handed, Step}
-use Rattle.step_history.specs.Pieces.{Held}
+use Rattle.record_cache.specs.Values.{Held}
 use Rattle.step_history.specs.History.{is_restart, moment_at, asks_after, listed, tcp_asks_in, tcp_asks, closes_path, takes_question, NothingAccepted, Sends}
 use Rattle.step_history.specs.Carried.{CarriedInEra}
 use Rattle.step_history.specs.Sound.{among, unanswered, RightReply, EachOwned, Replies, FromCache, SameAsEarlierFromCache}
 use Rattle.step_history.specs.Asked.{AreRightAsks}
 use Rattle.step_rules.specs.State.{Waiting, State}
-use Rattle.step_rules.specs.Row.{Fate, gets, waits, reply_in, replies, still_waiting, closes, closing, without_ask, asks, asks_by, ask_list, tcp_count, start, is_due_at}
+use Rattle.step_rules.specs.Steps.{Fate, gets, waits, reply_in, replies, still_waiting, closes, closing, without_ask, asks, asks_by, ask_list, tcp_count, start}
+use Rattle.step_rules.specs.Row.{is_due_at}
 use Rattle.step_soundness.specs.Explains.{shown, Waits, Tried, IsBelow, ArePreferred, Explains}
 use Rattle.step_soundness.proofs.Fates.{All-append, All-weaker, All-filter, Distinct, fates_in, numbers_in, owners_by, left_by, left_firsts, left_seconds, All-owners, Distinct-owners, left_each}
 use Rattle.step_history.proofs.Moments.{moment_later}
@@ -54,7 +55,7 @@ waits_later c s past x i run h = record {
 pub each_later : (c : Config) (s : Step) (past : List Step) (zs : List (Waiting × ℕ)) → is_restart s ≡ false → AllByRecursion (λ z. Waits c past z.0 z.1) zs → AllByRecursion (λ z. Waits c (s ∷ past) z.0 z.1) zs
 each_later c s past zs run h = All-weaker (λ z. Waits c past z.0 z.1) (λ z. Waits c (s ∷ past) z.0 z.1) (λ z k. waits_later c s past z.0 z.1 run k) zs h
 
-few_one : (v : Fate) (xs : List Waiting) (n : ℕ) → length xs ≤ n → length (cons_option (Rattle.step_rules.specs.Row.waiting_in v) xs) ≤ suc n
+few_one : (v : Fate) (xs : List Waiting) (n : ℕ) → length xs ≤ n → length (cons_option (Rattle.step_rules.specs.Steps.waiting_in v) xs) ≤ suc n
 few_one (gets a) xs n h = omega (arith, h)
 few_one (waits y) xs n h = omega (arith, h)
 

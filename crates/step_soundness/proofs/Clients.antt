@@ -26,7 +26,8 @@ use Rattle.step_history.specs.Causes.{is_unserved}
 use Rattle.step_history.specs.Sound.{unanswered, RightReply, Replies}
 use Rattle.step_rules.specs.State.{Waiting, State}
 use Rattle.step_rules.specs.Attempts.{peer_at, over_udp, preferred_on, first_ask}
-use Rattle.step_rules.specs.Row.{Done, reply_step, gives_up, asks, ask_list, tcp_count, is_due_at, row_of_opening, row_of_new_inquiry, row_of_inquiry, row_of_route, row_of_question, row_of_request}
+use Rattle.step_rules.specs.Steps.{Done, reply_step, gives_up, asks, ask_list, tcp_count}
+use Rattle.step_rules.specs.Row.{is_due_at, row_of_opening, row_of_new_inquiry, row_of_inquiry, row_of_route, row_of_question, row_of_request}
 use Rattle.step_soundness.specs.Explains.{shown, Waits, IsBelow, Explains}
 use Rattle.step_soundness.proofs.Fates.{All-append}
 use Rattle.step_soundness.proofs.AskText.{read_well}
@@ -161,7 +162,7 @@ module _ (c : Config) (past : List Step) (w : List (List ℕ)) (s : State) (x : 
         closes_nothing : (port : ℕ) → Rattle.step_history.specs.History.closes_path (Udp port) (asks a ∷ []) ≡ is_freed port None
         closes_nothing port = by a.path
           where
-            by : (p : Path) → Rattle.step_history.specs.History.closes_path (Udp port) (Rattle.step_rules.specs.Row.asks_by p a ∷ []) ≡ false
+            by : (p : Path) → Rattle.step_history.specs.History.closes_path (Udp port) (Rattle.step_rules.specs.Steps.asks_by p a ∷ []) ≡ false
             by (Udp k) = refl
             by (Tcp k) = refl
 

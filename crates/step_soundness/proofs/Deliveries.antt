@@ -33,7 +33,8 @@ use Rattle.step_history.specs.Carried.{CarriedInEra, Justified}
 use Rattle.step_history.specs.Answers.{Chain}
 use Rattle.step_history.specs.Replies.{full_answer, truncated, sized_for, error_response}
 use Rattle.step_rules.specs.State.{Waiting, State}
-use Rattle.step_rules.specs.Row.{Done, Fate, gets, waits, answered_over, answered, waits_for, is_given, end_piece, timeout_of, row_of_end, row_of_message, row_of_verdict, row_of_delivery}
+use Rattle.step_rules.specs.Steps.{Done, Fate, gets, waits, answered, waits_for}
+use Rattle.step_rules.specs.Row.{answered_over, is_given, end_piece, timeout_of, row_of_end, row_of_message, row_of_verdict, row_of_delivery}
 use Rattle.step_soundness.specs.Explains.{shown, Waits, Tried, ArePreferred, Explains}
 use Rattle.step_history.proofs.Since.{carried_since}
 use Rattle.step_soundness.proofs.Fates.{Fated}

@@ -25,7 +25,7 @@ use Rattle.retry_failover.specs.Table.{next_server, after_failure}
 use Rattle.step_values.specs.declared.action.Why.{Why}
 use Rattle.step_values.specs.declared.action.Why.TheVariants.{NoPort, Exhausted}
 use Rattle.step_values.specs.Values.{Event, request_in, Action, Handed, Step}
-use Rattle.step_history.specs.Pieces.{Held}
+use Rattle.record_cache.specs.Values.{Held}
 use Rattle.step_history.specs.History.{is_restart_event, is_taken_request, moment_at, listed, tcp_asks, on_path, closes_path, takes_question, Look, NothingAccepted}
 use Rattle.step_history.specs.Carried.{CarriedInEra}
 use Rattle.step_history.specs.Draws.{drawn, drawn_by_tcp}
@@ -35,7 +35,8 @@ use Rattle.step_history.specs.Sound.{unanswered, RightReply, FromCache, AsksIn}
 use Rattle.step_history.specs.Replies.{error_response}
 use Rattle.step_rules.specs.State.{Waiting, State}
 use Rattle.step_rules.specs.Attempts.{peer_at, over_udp, over_tcp, freed_by, plan_of, next_ask}
-use Rattle.step_rules.specs.Row.{Done, Fate, gets, waits, gives_up, waits_for, fails, asks, asks_by, ask_list, tcp_count, closing, replies, closing_step, settling_step, expiry_step, without_ask, is_due_at, row_of_attempt, row_of_next, row_of_failure, row_of_failed_path, deadline_of, timeout_of, Item, question, attempt, nothing, first_item, left_alone, row_of_item, row_of_tick}
+use Rattle.step_rules.specs.Steps.{Done, Fate, gets, waits, gives_up, waits_for, fails, asks, asks_by, ask_list, tcp_count, closing, replies, closing_step, settling_step, without_ask}
+use Rattle.step_rules.specs.Row.{expiry_step, is_due_at, row_of_attempt, row_of_next, row_of_failure, row_of_failed_path, deadline_of, timeout_of, Item, question, attempt, nothing, first_item, left_alone, row_of_item, row_of_tick}
 use Rattle.step_soundness.specs.Explains.{shown, Waits, Tried, IsBelow, ArePreferred, Explains}
 use Rattle.step_soundness.proofs.Names.{same_question-sym, same_question-trans}
 use Rattle.step_soundness.proofs.Fates.{All-append, All-filter, Fated, fates_in, fated, fated_fates, fated_numbers, fated_each}
@@ -152,7 +153,7 @@ module _ (c : Config) (past : List Step) (w : List (List ℕ)) (s : State) (x : 
         settled_explained c past w s x handed unkept more n (Some a) (fated fate x.numbers_of) next preferred carried (actions_by (map fate s.waiting) next)
         (closing_step n a fate next (record s { preferred = preferred })).state
         (ap (λ (vs : List Fate). actions_by vs next) (sym (fates_eq fate)))
-        (λ i. record { asks = without_path a.path s.asks ++ ask_list next; waiting = Rattle.step_rules.specs.Row.still_waiting (sym (fates_eq fate) i); preferred = preferred; moment = n; tcp_asks = s.tcp_asks + tcp_count next })
+        (λ i. record { asks = without_path a.path s.asks ++ ask_list next; waiting = Rattle.step_rules.specs.Steps.still_waiting (sym (fates_eq fate) i); preferred = preferred; moment = n; tcp_asks = s.tcp_asks + tcp_count next })
         (runs, moment_now (actions_by (map fate s.waiting) next)) takes (no_question (actions_by (map fate s.waiting) next))
         (fated_numbers fate x.numbers_of)
         (let long = ap length (fates_eq fate) ∙ length-map s.waiting fate in let few = x.few in omega (arith, long, few))

@@ -3,7 +3,9 @@ pub mod Numbers
 pub mod Names
 pub mod AskText
 pub mod Messages
-pub mod SetLaws
+pub mod Slots
+pub mod Justifying
+pub mod Walking
 pub mod Listed
 pub mod Asking
 pub mod Due

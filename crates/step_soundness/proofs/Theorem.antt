@@ -4,7 +4,8 @@ use Rattle.std.specs.Prelude.{min, max}
 use Rattle.suffix_routes.specs.Values.{Config, IsConfig}
 use Rattle.step_values.specs.Values.{Event, from_client, delivery, path_failed, tick, restart, Handed, Outcome, Step}
 use Rattle.step_rules.specs.State.{State}
-use Rattle.step_rules.specs.Row.{Done, start, is_due_at, Happens, HandsOctets, Row}
+use Rattle.step_rules.specs.Steps.{Done, start}
+use Rattle.step_rules.specs.Row.{is_due_at, Happens, HandsOctets, Row}
 use Rattle.step_soundness.specs.Explains.{Explains}
 use Rattle.step_soundness.proofs.Attempts.{preferred_first}
 use Rattle.step_soundness.proofs.Cases.{step_of, restart_explained}

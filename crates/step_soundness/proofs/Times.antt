@@ -17,7 +17,8 @@ use Rattle.step_values.specs.Values.{path_failed, tick, Action, Step}
 use Rattle.step_history.specs.History.{moment_at, NothingAccepted}
 use Rattle.step_history.specs.Replies.{error_response}
 use Rattle.step_rules.specs.State.{Waiting, State}
-use Rattle.step_rules.specs.Row.{Done, Fate, gets, waits, gives_up, asks, ask_list, closing, replies, settling_step, expiry_step, without_ask, is_due_at, row_of_failure, row_of_failed_path, deadline_of, timeout_of, Item, question, attempt, nothing, first_item, left_alone, row_of_item, row_of_tick, waits_for}
+use Rattle.step_rules.specs.Steps.{Done, Fate, gets, waits, gives_up, asks, ask_list, closing, replies, settling_step, without_ask, waits_for}
+use Rattle.step_rules.specs.Row.{expiry_step, is_due_at, row_of_failure, row_of_failed_path, deadline_of, timeout_of, Item, question, attempt, nothing, first_item, left_alone, row_of_item, row_of_tick}
 use Rattle.step_soundness.specs.Explains.{Waits, Tried, IsBelow, Explains}
 use Rattle.step_soundness.proofs.Fates.{All-filter, fates_in, fated, fated_fates, fated_numbers}
 use Rattle.step_soundness.proofs.Asking.{all_tried_on, closes_none}
@@ -128,7 +129,7 @@ module _ (c : Config) (past : List Step) (w : List (List ℕ)) (s : State) (x : 
     expired_by o on (z ∷ zs) e more_is =
         settled_explained c past w s x (record { now = now; words = words; event = tick }) unkept more n o gs None s.preferred x.carried (actions o) (expiry_step n y others o s).state
         (ap (λ (vs : List Fate). closing o ++ (replies vs ++ [])) (sym fates_are))
-        (λ i. record { asks = without_ask o s.asks ++ []; waiting = Rattle.step_rules.specs.Row.still_waiting (sym fates_are i); preferred = s.preferred; moment = n; tcp_asks = s.tcp_asks + 0 })
+        (λ i. record { asks = without_ask o s.asks ++ []; waiting = Rattle.step_rules.specs.Steps.still_waiting (sym fates_are i); preferred = s.preferred; moment = n; tcp_asks = s.tcp_asks + 0 })
         (refl, moment_now (actions o)) refl (λ q octets f. f.0)
         (ap (λ is. z.1 ∷ is) (fated_numbers (λ v. waits v) zs) ∙ ap (map (λ (v : Waiting × ℕ). v.1)) (sym e))
         (let long : length (fates_in gs) ≡ length (y ∷ others) = ap length fates_are ∙ ap (λ k. Rattle.std.proofs.Common.suc k) (length-map others (λ v. waits v)) in let few = x.few in let is : length s.waiting ≡ length (y ∷ others) = ap length first in omega (arith, long, few, is))
