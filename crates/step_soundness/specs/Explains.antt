@@ -9,14 +9,11 @@ use Rattle.suffix_routes.specs.Values.{Config, Route, IsConfig}
 use Rattle.step_values.specs.Values.{Step}
 use Rattle.step_history.specs.Names.{route_of}
 use Rattle.dns_message.specs.Header.{header_in}
-use Rattle.record_cache.specs.Values.{Held}
-use Rattle.record_cache.specs.Entries.{AreHeld}
 use Rattle.answer_builder.specs.Values.{Asked}
 use Rattle.step_values.specs.declared.event.Client.{Client}
 use Rattle.step_history.specs.Answers.{Leads}
 use Rattle.step_history.specs.Replies.{asked_in}
 use Rattle.step_history.specs.History.{Look, InEra, moment_at, ShownAsk, listed, tcp_asks, Reads, Sends, takes_question}
-use Rattle.step_history.specs.Carried.{CarriedInEra}
 use Rattle.step_history.specs.Draws.{ask_message}
 use Rattle.step_history.specs.Causes.{is_unserved, LastFailed}
 use Rattle.step_history.specs.Sound.{Sound, unanswered}
@@ -28,7 +25,7 @@ use Rattle.outstanding.specs.declared.ask.Path.TheVariants.{Udp, Tcp}
 use Rattle.outstanding.specs.Values.{Ask}
 use Rattle.outstanding.specs.Lists.{AreListed}
 use Rattle.step_history.specs.Asked.{AsksWell}
-use Rattle.step_soundness.specs.Kept.{IsKept, AreStillFound}
+use Rattle.step_soundness.specs.Kept.{IsCached}
 
 -- an ask as its action showed it
 abbrev pub shown : Ask → ShownAsk
@@ -96,13 +93,7 @@ pub record Explains (c : Config) (past : List Step) (w : List (List ℕ)) (s : S
   pub tried : AllByRecursion (Tried c past) s.asks
   pub connections : AllByRecursion (λ a. IsBelow s.tcp_asks a.path) s.asks
   pub preferred : ArePreferred c.routes s.preferred
-  pub carried : List Held
-  pub carried_is : CarriedInEra c past carried
-  -- what is kept of it, and what was answered from that
-  pub capacity : s.cache.capacity ≡ c.limits.cache
-  pub held : AreHeld s.cache
-  pub kept : AllByRecursion (IsKept c carried s.moment) s.cache.entries
-  pub found : AreStillFound c s.moment s.cache.entries past
+  pub cache : IsCached c past s.moment s.cache
   -- the waiting questions, each with the number of its step
   pub numbers_of : List (Waiting × ℕ)
   pub waiting : map (λ z. z.0) numbers_of ≡ s.waiting

@@ -1,5 +1,6 @@
 -- How a history explains what is kept of replies, and what was answered from it.
 use Rattle.std.specs.Prelude.{◌≡◌, ℕ, ◌<◌, ◌≤◌, false, List, [], ◌∷◌, ◌++◌, Some, ◌⊎◌}
+use Rattle.std.specs.List.{AllByRecursion}
 use Rattle.std.specs.Option.{IfSome}
 use Rattle.dns_name.specs.Labels.{IsName}
 use Rattle.dns_message.specs.Header.{Header}
@@ -9,13 +10,14 @@ use Rattle.dns_message.specs.Written.{IsRecord}
 use Rattle.suffix_routes.specs.Values.{Config}
 use Rattle.trust_rank.specs.Values.{Body, rows, no_data, denied, Piece}
 use Rattle.trust_rank.specs.Walks.{most_aliases}
-use Rattle.record_cache.specs.Values.{Held}
+use Rattle.record_cache.specs.Values.{Held, Cache}
+use Rattle.record_cache.specs.Entries.{AreHeld}
 use Rattle.answer_builder.specs.Values.{Asked}
 use Rattle.answer_builder.specs.Answers.{sections_of, full_answer, cut_answer}
 use Rattle.step_values.specs.declared.event.Client.{Client}
 use Rattle.step_values.specs.Values.{Step}
 use Rattle.step_history.specs.History.{is_restart, moment_at, NothingAccepted}
-use Rattle.step_history.specs.Carried.{NotReplaced}
+use Rattle.step_history.specs.Carried.{CarriedInEra, NotReplaced}
 use Rattle.step_history.specs.Replies.{asked_in, answer_text, cut_text, sized_for}
 use Rattle.step_history.specs.Sound.{FromCache}
 use Rattle.step_rules.specs.LookingUp.{Looked, ends, look_up}
@@ -69,3 +71,12 @@ AreStillFound c t entries [] = Unit {0}
 AreStillFound c t entries (s ∷ past) =
     is_restart s ≡ false → moment_at (s ∷ past) ≡ t → NothingAccepted c s past
     → ((q : Question) (octets : List ℕ) → FromCache s q octets → IsStillFound c t entries q octets) × AreStillFound c t entries past
+
+-- what is kept of the replies, and what was answered from it, is explained by what was carried
+pub record IsCached (c : Config) (past : List Step) (moment : ℕ) (cache : Cache) : Type 0 where
+  pub carried : List Held
+  pub carried_is : CarriedInEra c past carried
+  pub capacity : cache.capacity ≡ c.limits.cache
+  pub held : AreHeld cache
+  pub kept : AllByRecursion (IsKept c carried moment) cache.entries
+  pub found : AreStillFound c moment cache.entries past
