@@ -37,7 +37,7 @@ use Rattle.step_soundness.proofs.Texts.{CanBeTold, CanBeRepeated, answer_spelled
 
 -- ---- a client's message
 
-pub comes_later : (s : Step) (past : List Step) (client : Client) (a : Asked) (i : ℕ) → is_restart s ≡ false → Comes past client a i → Comes (s ∷ past) client a i
+abbrev pub comes_later : (s : Step) (past : List Step) (client : Client) (a : Asked) (i : ℕ) → is_restart s ≡ false → Comes past client a i → Comes (s ∷ past) client a i
 comes_later s past client a i run k = record {
   asked = k.asked;
   before = k.before;

@@ -15,7 +15,7 @@ use Rattle.step_values.specs.declared.action.Why.{Why}
 use Rattle.step_values.specs.Values.{Action, send_reply, Handed, Step}
 use Rattle.record_cache.specs.Values.{Cache}
 use Rattle.step_history.specs.History.{is_restart, moment_at, asks_after, listed, tcp_asks_in, tcp_asks, closes_path, takes_question, NothingAccepted, Sends}
-use Rattle.step_history.specs.Sound.{among, unanswered, RightReply, EachOwned, Replies, FromCache, SameAsEarlierFromCache}
+use Rattle.step_history.specs.Sound.{among, unanswered, Owns, EachOwned, Replies, FromCache, SameAsEarlierFromCache}
 use Rattle.step_history.specs.Asked.{AreRightAsks}
 use Rattle.step_rules.specs.State.{Waiting, State}
 use Rattle.step_rules.specs.Steps.{Fate, gets, waits, reply_in, replies, still_waiting, closes, closing, without_ask, asks, asks_by, ask_list, tcp_count, start}
@@ -248,16 +248,16 @@ module _ (c : Config) (past : List Step) (w : List (List ℕ)) (s : State) (x : 
   not_yet (i ∷ is) b = ap (λ v. v || among (length past) is) (ne_eqb i (length past) (λ e. let lt : i < length past = b.0 in omega (arith, lt, e))) ∙ not_yet is b.1
 
   -- a question that gets its reply at once
-  pub at_once_explained : (client : Client) (octets request : List ℕ) (why : Why) (cache : Cache) (after : State) → after ≡ record s { cache = cache; moment = n } → IsNow (send_reply client octets why ∷ []) → takes_question h.event ≡ true
-      → NothingAccepted c (step_of h (send_reply client octets why ∷ []) unkept more) past → Sends h.event client request
-      → RightReply (record { config = c; asked = step_of h (send_reply client octets why ∷ []) unkept more; before = past; now = step_of h (send_reply client octets why ∷ []) unkept more ∷ past }) client request (length (unanswered past (concat w))) why octets
+  pub at_once_explained : (client : Client) (octets : List ℕ) (why : Why) (cache : Cache) (after : State) → after ≡ record s { cache = cache; moment = n } → IsNow (send_reply client octets why ∷ []) → takes_question h.event ≡ true
+      → NothingAccepted c (step_of h (send_reply client octets why ∷ []) unkept more) past
+      → Owns c (step_of h (send_reply client octets why ∷ []) unkept more ∷ past) (concat w) (length past) (record { client = client; octets = octets; why = why })
       → ((q : Question) (text : List ℕ) → FromCache (step_of h (send_reply client octets why ∷ []) unkept more) q text → SameAsEarlierFromCache c (moment_at (step_of h (send_reply client octets why ∷ []) unkept more ∷ past)) q text past)
       → IsCached c (step_of h (send_reply client octets why ∷ []) unkept more ∷ past) n cache
       → more ≡ is_due_at c n after
       → Explains c (step_of h (send_reply client octets why ∷ []) unkept more ∷ past) ((length past ∷ []) ∷ w) after
-  at_once_explained client octets request why cache after after_is now takes nothing sent right same cached more_is = explained c past w s after step (length past ∷ []) x (record {
+  at_once_explained client octets why cache after after_is now takes nothing mine same cached more_is = explained c past w s after step (length past ∷ []) x (record {
     runs = now.0;
-    owned = (record { asked = step; before = past; in_era = inl refl; number = refl; request = request; sent = sent; taken = takes; right = right }, not_yet (concat w) x.owners, refl);
+    owned = (mine, not_yet (concat w) x.owners, refl);
     same = same;
     moment = ap (λ (st : State). st.moment) after_is ∙ now.1;
     tcp = ap (λ (st : State). st.tcp_asks) after_is ∙ x.tcp ∙ plus_none (tcp_asks past);
