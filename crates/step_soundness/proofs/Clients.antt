@@ -101,7 +101,7 @@ module _ (c : Config) (past : List Step) (w : List (List ℕ)) (s : State) (x : 
     y = taken_now n client (header_in request) q
 
     -- the message, as it comes
-    comes : (actions : List Action) → Comes (step actions ∷ past) client y.asked (length past)
+    abbrev comes : (actions : List Action) → Comes (step actions ∷ past) client y.asked (length past)
     comes actions = record {
       asked = step actions;
       before = past;

@@ -27,7 +27,7 @@ use Rattle.step_values.specs.declared.event.Client.TheVariants.{Udp as FromUdp, 
 use Rattle.step_values.specs.declared.action.Why.TheVariants.{TooLarge}
 use Rattle.step_values.specs.Values.{delivery, Delivered, Action, Step}
 use Rattle.step_history.specs.Names.{route_of}
-use Rattle.trust_rank.specs.Values.{Walk}
+use Rattle.trust_rank.specs.Values.{Piece}
 use Rattle.trust_rank.specs.Walks.{walk_of}
 use Rattle.step_history.specs.History.{moment_at, ShownAsk, listed, on_path, counts_as_lame, Matches, Accepts, Carries, NothingAccepted}
 use Rattle.step_rules.specs.State.{Waiting, State}
