@@ -1,3 +1,4 @@
 pub mod Moments
 pub mod Since
 mod Worked
+mod WorkedPieces

@@ -67,10 +67,10 @@ header_short m = then_short _ (as_is (octets16 (length m.additional))) 10 2
     (then_short (as_is (octets16 m.header.id)) (as_is (octets16 _)) 2 2 (λ ps p. omega arith) (λ ps p. omega arith))
     (λ ps p. omega arith)) (λ ps p. omega arith)) (λ ps p. omega arith)) (λ ps p. omega arith)
 
-ask_short : (id : ℕ) (q : Question) → IsName q.name → length (written (ask_message id q)) ≤ 65535
+alone_short : (h : Header) (q : Question) → IsName q.name → length (written (record { header = h; questions = q ∷ []; answers = []; authority = []; additional = [] })) ≤ 65535
 unfolding written
-ask_short id q name =
-    let m : Message = ask_message id q in
+alone_short h q name =
+    let m : Message = record { header = h; questions = q ∷ []; answers = []; authority = []; additional = [] } in
     let short : size_of q.name ≤ 255 = name.short in
     let all = then_short (header_text m ▹ each question_text (q ∷ []) ▹ each record_text [] ▹ each record_text []) (each record_text []) (12 + (size_of q.name + 2 + 2 + 0) + 0 + 0) 0
     (then_short (header_text m ▹ each question_text (q ∷ []) ▹ each record_text []) (each record_text []) (12 + (size_of q.name + 2 + 2 + 0) + 0) 0
@@ -78,9 +78,16 @@ ask_short id q name =
     (then_short (header_text m) (each question_text (q ∷ [])) 12 (size_of q.name + 2 + 2 + 0) (header_short m) (one_short q)) none_short) none_short) none_short [] 0 in
     omega (arith, all, short)
 
+-- so is each message that has a question alone
+pub question_short : (m : Message) (q : Question) → m.questions ≡ q ∷ [] → m.answers ≡ [] → m.authority ≡ [] → m.additional ≡ [] → IsName q.name → length (written m) ≤ 65535
+question_short m q questions answers authority additional name =
+    subst (λ (x : Message). length (written x) ≤ 65535)
+    (λ i. record { header = m.header; questions = sym questions i; answers = sym answers i; authority = sym authority i; additional = sym additional i })
+    (alone_short m.header q name)
+
 -- ---- it reads back
 
-number_small : (octets : List ℕ) (o : ℕ) → AreOctets octets → o + 2 ≤ length octets → number16 octets o < 65536
+pub number_small : (octets : List ℕ) (o : ℕ) → AreOctets octets → o + 2 ≤ length octets → number16 octets o < 65536
 number_small octets o are there =
     let high : slice_index octets o < 256 = are o 0 (omega (arith, there)) in
     let low : slice_index octets (o + 1) < 256 = are (o + 1) 0 (omega (arith, there)) in
@@ -133,7 +140,7 @@ ask_reads id q question small = (reads_back, ap (λ (h : Header). h.id) there.0)
       answers = tt;
       authority = tt;
       additional = tt;
-    }) refl (record { answers = tt; authority = tt; additional = tt }) (ask_short id q question.name)
+    }) refl (record { answers = tt; authority = tt; additional = tt }) (alone_short (ask_message id q).header q question.name)
 
     there : (header_in (written (ask_message id q)) ≡ (ask_message id q).header) × (12 ≤ length (written (ask_message id q)))
     there = header_there (written (ask_message id q)) (ask_message id q).header spelled.header

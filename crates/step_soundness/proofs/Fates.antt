@@ -5,7 +5,7 @@ use Rattle.std.specs.List.{filter_map, cons_option, AllByRecursion}
 use Rattle.std.proofs.lemmas.Bool.{eqb-false, eq-eqb, ne_eqb, cond-true, cond-false}
 use Rattle.step_values.specs.Values.{Action}
 use Rattle.step_rules.specs.State.{Waiting}
-use Rattle.step_rules.specs.Row.{Fate, gets, waits, waiting_in, still_waiting}
+use Rattle.step_rules.specs.Steps.{Fate, gets, waits, waiting_in, still_waiting}
 use Rattle.step_history.specs.Sound.{among}
 
 pub All-weaker : {X : Type 0} (P Q : X → Type 0) → ((x : X) → P x → Q x) → (xs : List X) → AllByRecursion P xs → AllByRecursion Q xs

@@ -1,3 +1,4 @@
+pub mod Kept
 pub mod Explains
 pub mod Runs
 pub mod Laws
