@@ -13,5 +13,6 @@ pub use Rattle.message_reading.specs.Messages
 pub use Rattle.message_reading.specs.Spans
 pub use Rattle.message_writing.specs.Fields
 pub use Rattle.message_writing.specs.Writing
+pub use Rattle.message_writing.specs.Borrowed
 pub use Rattle.message_writing.specs.Writer
 pub use Rattle.message_writing.specs.Written

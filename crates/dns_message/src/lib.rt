@@ -6,7 +6,7 @@
 
 pub use message_names::Fault;
 pub use message_reading::{
-    Header, Message, MessageRef, Question, Rdata, Record, Records, Span, messages_are_spelled,
+    Header, Message, MessageRef, Question, QuestionRef, Rdata, Record, Records, Span, messages_are_spelled,
     names_are_written_out, spans_are_records, what_stands_is_read,
 };
-pub use message_writing::{what_is_written_is_spelled, write};
+pub use message_writing::{MessageParts, RowsRef, what_is_written_is_spelled, write, write_parts};

@@ -6,6 +6,7 @@ mod data;
 mod header;
 mod laws;
 mod message;
+mod question_ref;
 mod records;
 mod shape;
 mod spans;
@@ -16,6 +17,7 @@ pub use laws::{
     messages_are_spelled, names_are_written_out, spans_are_records, what_stands_is_read,
 };
 pub use message::{Message, Question, Rdata, Record};
+pub use question_ref::QuestionRef;
 pub use shape::{Part, Shape, shape_of};
 pub use spans::{Records, Span};
 pub use view::MessageRef;

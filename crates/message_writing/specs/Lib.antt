@@ -1,4 +1,5 @@
 pub mod Fields
 pub mod Writing
+pub mod Borrowed
 pub mod Writer
 pub mod Written

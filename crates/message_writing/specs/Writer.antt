@@ -13,9 +13,26 @@ use Rattle.message_writing.specs.Fields.{Field, named, plain, first_field}
 use Rattle.message_writing.specs.declared.writer.Writer.{Writer}
 use Rattle.message_writing.specs.Writing.{Text, Writing, place_of, pointer_to, after}
 
+-- the pointer that stands beside these octets
+unfoldable pub pointer_among : List KnownName → List ℕ → Option ℕ
+pointer_among [] octets = None
+pointer_among (entry ∷ entries) octets = if bytes_eq entry.0.now octets then Some entry.1 else pointer_among entries octets
+
 -- the pointer to a name with these octets
+abbrev pub pointer_known : {A : Type 0} → Pointers A → List ℕ → Option ℕ
+pointer_known ps octets = option_or (pointer_among ps.few.items octets) (get_by (λ k. slice_cmp nat_cmp octets k.now) ps.many)
+
 abbrev pub pointer_in : {A : Type 0} → Writer A → List ℕ → Option ℕ
-pointer_in w octets = get_by (λ k. slice_cmp nat_cmp octets k.now) w.pointers
+pointer_in w octets = pointer_known w.pointers octets
+
+-- what was known is known, and so is this name
+abbrev pub IsPutIn : {A : Type 0} → Pointers A → Pointers A → List ℕ → ℕ → Type 0
+IsPutIn old new octets pointer = (other : List ℕ) → pointer_known new other ≡ (if bytes_eq octets other then Some pointer else pointer_known old other)
+
+-- this is the pointer to a name that is not the root
+pub record IsKnown {A : Type 0} (w : Writer A) (octets : List ℕ) (pointer : ℕ) : Type 0 where
+  pub is : pointer_in w octets ≡ Some pointer
+  pub some : 0 < length octets
 
 -- The writer holds this text: its octets, and for each name that begins at a place a pointer to the earliest one.
 pub record Holds {A : Type 0} (w : Writer A) (t : Text) : Type 0 where

@@ -1,5 +1,5 @@
 -- The one text of a message: RFC 1035 4.1. A name's longest end that was written before is a pointer to where it was first: RFC 1035 4.1.4.
-use Rattle.std.specs.Prelude.{ℕ, ◌+◌, ◌*◌, ◌/◌, ◌%◌, ◌≤◌, List, [], ◌∷◌, ◌++◌, length, Option, Some, None, Result, Ok, Err, Bool, true, false, nat_le, nat_lt, if◌then◌else◌}
+use Rattle.std.specs.Prelude.{ℕ, ◌+◌, ◌*◌, ◌/◌, ◌%◌, ◌≤◌, List, [], ◌∷◌, ◌++◌, length, Option, Some, None, Result, Ok, Err, Bool, true, false, nat_le, nat_lt, slice_index, if◌then◌else◌}
 use Rattle.std.specs.Str.{bytes_eq}
 use Rattle.std.specs.Cmp.Lexicographic.{pointwise}
 use Rattle.dns_name.specs.Labels.{label_octets}
@@ -128,11 +128,15 @@ bit false weight = 0
 abbrev pub flags_of : Header → ℕ
 flags_of h = bit h.qr 32768 + h.opcode * 2048 + bit h.aa 1024 + bit h.tc 512 + bit h.rd 256 + bit h.ra 128 + h.z * 16 + h.rcode
 
--- the header, with the counts of the lists: RFC 1035 4.1.1
+-- the header, with these counts: RFC 1035 4.1.1
+abbrev pub counted_header : Header → List ℕ → Writing
+counted_header h counts =
+    as_is (octets16 h.id) ▹ as_is (octets16 (flags_of h)) ▹ as_is (octets16 (slice_index counts 0)) ▹ as_is (octets16 (slice_index counts 1))
+    ▹ as_is (octets16 (slice_index counts 2)) ▹ as_is (octets16 (slice_index counts 3))
+
+-- the header, with the counts of the lists
 abbrev pub header_text : Message → Writing
-header_text m =
-    as_is (octets16 m.header.id) ▹ as_is (octets16 (flags_of m.header)) ▹ as_is (octets16 (length m.questions)) ▹ as_is (octets16 (length m.answers))
-    ▹ as_is (octets16 (length m.authority)) ▹ as_is (octets16 (length m.additional))
+header_text m = counted_header m.header (length m.questions ∷ length m.answers ∷ length m.authority ∷ length m.additional ∷ [])
 
 abbrev pub message_text : Message → Writing
 message_text m =

@@ -1,13 +1,14 @@
 //! The data of records, written with pointers where its type allows them.
 
-ghost use Rattle.std.specs.Prelude.{◌≡◌, ◌≤◌, ◌<◌, [], length, OnOk, take, drop, IsTrue, is_some, MatchOption, None};
+ghost use Rattle.std.specs.Prelude.{◌≡◌, ◌≤◌, ◌<◌, ◌+◌, ◌++◌, [], length, OnOk, take, drop, IsTrue, is_some, MatchOption, None};
 ghost use Rattle.dns_name.specs.Labels.{IsLaidOut};
 ghost use Rattle.message_writing.specs.Fields.{fields_of, first_field};
-ghost use Rattle.message_writing.specs.Writing.{data_text, field_text, by_fields};
-ghost use Rattle.message_writing.specs.Writer.{Writes, IsFirst, field_in};
+ghost use Rattle.message_writing.specs.Writing.{octets16, as_is, with_length, data_text, field_text, by_fields};
+ghost use Rattle.message_writing.specs.Writer.{Writes, Puts, HoldsText, IsFirst, field_in};
 
 use crate::writer::Writer;
-use message_names::{Bound, skip_name};
+use byteorder::{BigEndian, ByteOrder};
+use message_names::{Bound, Fault, skip_name};
 use message_reading::{Part, shape_of};
 use std::alloc::{AllocError, Allocator};
 
@@ -92,19 +93,68 @@ fn put_parts<'a, A: Allocator + Copy>(
     Ok(())
 }
 
-/// Writes the data of a record of this type.
+/// Puts a number in the place of two octets.
+fn set_u16(octets: &mut [u8], offset: usize, number: u16)
+    requires { offset + 2 ≤ length octets.old }
+    ensures { octets.new ≡ take offset octets.old ++ octets16 number ++ drop (offset + 2) octets.old }
+{
+    BigEndian::write_u16(&mut octets[offset..offset + 2], number);
+}
+
+/// Writes octets that are these parts behind their length.
+fn put_parts_with_length<'a, A: Allocator + Copy>(
+    writer: &mut Writer<'a, A>,
+    parts: &[Part],
+    octets: &'a [u8],
+    limit: usize,
+) -> Result<(), Fault>
+    requires parts { IsTrue (is_some (fields_of parts.now octets.now)) }
+    requires holds { HoldsText writer.old }
+    requires limit { limit ≤ 65535 }
+    ensures { Puts limit result writer.old writer.new (with_length (by_fields (fields_of parts.now octets.now) octets.now)) (Unit {0}) }
+{
+    let start = writer.octets.len();
+    writer.put(&[0, 0])?;
+    put_parts(writer, parts, octets)?;
+    writer.check(limit)?;
+    let len = writer.octets.len() - start - 2;
+    set_u16(&mut writer.octets, start, len as u16);
+    Ok(())
+}
+
+/// Writes octets with no name in them behind their length, nothing where the limit does not let them.
+fn put_plain_with_length<'a, A: Allocator + Copy>(
+    writer: &mut Writer<'a, A>,
+    octets: &[u8],
+    limit: usize,
+) -> Result<(), Fault>
+    requires { limit ≤ 65535 }
+    ensures { Puts limit result writer.old writer.new (with_length (as_is octets.now)) (Unit {0}) }
+{
+    if octets.len() + 2 > writer.room(limit) {
+        return Err(Fault::TooLarge);
+    }
+    writer.put_u16(octets.len() as u16)?;
+    writer.put(octets)?;
+    Ok(())
+}
+
+/// Writes the data of a record of this type behind its length, as far as the limit lets it.
 #[tactic(auto, unfolding(crate::specs::Writing::data_text))]
-pub(crate) fn put_data<'a, A: Allocator + Copy>(
+pub(crate) fn put_with_length<'a, A: Allocator + Copy>(
     writer: &mut Writer<'a, A>,
     kind: u16,
     rdata: &'a [u8],
-) -> Result<(), AllocError>
-    ensures { OnOk result (Writes writer.old writer.new (data_text kind rdata.now)) }
+    limit: usize,
+) -> Result<(), Fault>
+    requires holds { HoldsText writer.old }
+    requires limit { limit ≤ 65535 }
+    ensures { Puts limit result writer.old writer.new (with_length (data_text kind rdata.now)) (Unit {0}) }
 {
     match shape_of(kind) {
         Some(shape) if shape.compressed && are_parts(shape.parts, rdata) => {
-            put_parts(writer, shape.parts, rdata)
+            put_parts_with_length(writer, shape.parts, rdata, limit)
         }
-        _ => writer.put(rdata),
+        _ => put_plain_with_length(writer, rdata, limit),
     }
 }

@@ -2,11 +2,14 @@
 //! before.
 #![tactic(auto)]
 
+mod borrowed;
 mod data;
 mod laws;
 mod message;
+mod pointers;
 mod records;
 mod writer;
 
+pub use borrowed::{MessageParts, RowsRef};
 pub use laws::what_is_written_is_spelled;
-pub use message::write;
+pub use message::{write, write_parts};

@@ -1,20 +1,23 @@
 //! Writing messages as octets: RFC 1035 4.1.
 
-ghost use Rattle.std.specs.Prelude.{◌≡◌, ◌↔◌, ◌≤◌, ◌<◌, OnOk, IfOk, IfErr, IsTrue};
-ghost use Rattle.message_names.specs.Reading.{Gives};
+ghost use Rattle.std.specs.Prelude.{◌≡◌, ◌↔◌, ◌≤◌, ◌<◌, length, Ok, OnOk, IfOk, IfErr, IsTrue, MatchOption, MatchResult};
+ghost use Rattle.message_names.specs.Reading.{Gives, Fails};
 ghost use Rattle.message_names.specs.declared.fault.Fault.TheVariants.{Memory};
 ghost use Rattle.message_reading.specs.Header.{FitsBits};
 ghost use Rattle.message_reading.specs.Messages.{Spells, HasShapes};
-ghost use Rattle.message_writing.specs.Writing.{bit, flags_of, CanBeCounted, header_text, message_text, written_within};
+ghost use Rattle.message_writing.specs.Writing.{bit, flags_of, counted_header, CanBeCounted, message_text, written_within};
+ghost use Rattle.message_writing.specs.Borrowed.{records_in};
 ghost use Rattle.message_writing.specs.Written.{IsMessage, IsCounted};
 ghost use Rattle.message_writing.specs.Writer.{Writes, Puts, HoldsText};
 
-use crate::records::{put_questions, put_records};
+use crate::borrowed::{MessageParts, RowsRef};
+use crate::records::{put_question, put_questions, put_records, put_sets};
 use crate::writer::Writer;
 use message_names::Fault;
 use message_reading::{Header, Message};
 use plain_list::Octets;
 use std::alloc::{AllocError, Allocator};
+use std::mem;
 
 /// The greatest count that a header holds (RFC 1035 4.1.1).
 const LAST_COUNT: usize = 65535;
@@ -55,21 +58,35 @@ fn can_be_counted<A: Allocator>(message: &Message<A>) -> bool
     message.questions.as_slice().len().max(records) <= LAST_COUNT
 }
 
-/// Writes the header, with the counts of the lists.
+/// How many records the sets have; `None` where a header cannot count them.
+fn count_of<A: Allocator>(sets: &[RowsRef<A>]) -> Option<u16>
+    ensures { MatchOption result (65535 < length (records_in sets.now)) (λ count. count ≡ length (records_in sets.now)) }
+{
+    let mut count = 0;
+    for set in sets {
+        count += set.rows.len();
+        if count > LAST_COUNT {
+            return None;
+        }
+    }
+    Some(count as u16)
+}
+
+/// Writes the header with these counts: questions, answers, authority, additional.
 fn put_header<'a, A: Allocator + Copy>(
     writer: &mut Writer<'a, A>,
-    message: &Message<A>,
+    header: &Header,
+    counts: [u16; 4],
 ) -> Result<(), AllocError>
-    requires bits { FitsBits message.now.header }
-    requires counts { CanBeCounted message.now }
-    ensures { OnOk result (Writes writer.old writer.new (header_text message.now) × (message.now.header.id < 65536)) }
+    requires { FitsBits header.now }
+    ensures { OnOk result (Writes writer.old writer.new (counted_header header.now counts) × (header.now.id < 65536)) }
 {
-    writer.put_u16(message.header.id)?;
-    writer.put_u16(flags_of(&message.header))?;
-    writer.put_u16(message.questions.as_slice().len() as u16)?;
-    writer.put_u16(message.answers.as_slice().len() as u16)?;
-    writer.put_u16(message.authority.as_slice().len() as u16)?;
-    writer.put_u16(message.additional.as_slice().len() as u16)?;
+    writer.put_u16(header.id)?;
+    writer.put_u16(flags_of(header))?;
+    writer.put_u16(counts[0])?;
+    writer.put_u16(counts[1])?;
+    writer.put_u16(counts[2])?;
+    writer.put_u16(counts[3])?;
     Ok(())
 }
 
@@ -85,13 +102,49 @@ fn put_message<'a, A: Allocator + Copy>(
     requires counts { CanBeCounted message.now }
     ensures { Puts limit result writer.old writer.new (message_text message.now) (IsMessage message.now) }
 {
-    put_header(writer, message)?;
+    let questions = message.questions.as_slice();
+    let answers = message.answers.as_slice();
+    let authority = message.authority.as_slice();
+    let additional = message.additional.as_slice();
+    let counts = [
+        questions.len() as u16,
+        answers.len() as u16,
+        authority.len() as u16,
+        additional.len() as u16,
+    ];
+    put_header(writer, &message.header, counts)?;
     writer.check(limit)?;
-    put_questions(writer, message.questions.as_slice(), limit)?;
-    put_records(writer, message.answers.as_slice(), limit)?;
-    put_records(writer, message.authority.as_slice(), limit)?;
-    put_records(writer, message.additional.as_slice(), limit)?;
-    Ok(())
+    put_questions(writer, questions, limit)?;
+    put_records(writer, answers, limit)?;
+    put_records(writer, authority, limit)?;
+    put_records(writer, additional, limit)
+}
+
+/// Writes a message of borrowed parts, as far as the limit lets it.
+fn put_parts<'a, A: Allocator + Copy>(
+    writer: &mut Writer<'a, A>,
+    message: &'a MessageParts<'a, A>,
+    limit: usize,
+) -> Result<(), Fault>
+    requires holds { HoldsText writer.old }
+    requires limit { limit ≤ 65535 }
+    requires bits { FitsBits message.now.header }
+    ensures { Puts limit result writer.old writer.new (message_text message.now) (IsMessage message.now) }
+{
+    let Some(answers) = count_of(message.answers) else {
+        return Err(Fault::TooLarge);
+    };
+    let Some(authority) = count_of(message.authority) else {
+        return Err(Fault::TooLarge);
+    };
+    let questions = message.question.is_some() as u16;
+    put_header(writer, &message.header, [questions, answers, authority, 0])?;
+    writer.check(limit)?;
+    if let Some(question) = &message.question {
+        put_question(writer, question, limit)?;
+    }
+    put_sets(writer, message.answers, limit)?;
+    put_sets(writer, message.authority, limit)
 }
 
 /// The octets of a message, with the counts of its lists in the header; those in `header.counts` are not looked at.
@@ -115,11 +168,40 @@ pub fn write<A: Allocator + Copy>(
     if !can_be_counted(message) {
         return Err(Fault::TooLarge);
     }
-    let mut writer = Writer::new(alloc);
+    let mut writer = Writer::new(alloc, Vec::new(alloc));
     put_message(&mut writer, message, limit)?;
     let Writer {
         octets,
         pointers: _,
     } = writer;
     Ok(Octets::from_vec(octets))
+}
+
+/// The octets that `write` gives of the message with these parts, put into a vector in the place of what it has.
+///
+/// A vector with room for them, of capacity `limit` at most, is not made larger; beside it memory is taken only where
+/// more than a few names begin in the octets. `TooLarge` and `Memory` as `write` tells them; then nothing is said of what
+/// the vector has, which keeps its room.
+pub fn write_parts<A: Allocator + Copy>(
+    alloc: A,
+    octets: &mut Vec<u8, A>,
+    message: &MessageParts<A>,
+    limit: usize,
+) -> Result<(), Fault>
+    requires limit { limit ≤ 65535 }
+    requires bits { FitsBits message.now.header }
+    ensures given { MatchResult result (λ _. written_within limit message.now ≡ Ok octets.new.items) (λ fault. Fails fault (written_within limit message.now)) }
+    ensures counted { IfErr result (λ fault. fault ≡ Memory → CanBeCounted message.now) }
+    ensures spelled { OnOk result (IsCounted message.now → HasShapes message.now → Spells octets.new.items message.now) }
+{
+    let mut room = mem::replace(octets, Vec::new(alloc));
+    room.clear();
+    let mut writer = Writer::new(alloc, room);
+    let done = put_parts(&mut writer, message, limit);
+    let Writer {
+        octets: text,
+        pointers: _,
+    } = writer;
+    *octets = text;
+    done
 }

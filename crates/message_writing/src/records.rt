@@ -1,29 +1,34 @@
 //! Questions and records, written one behind another: RFC 1035 4.1.2 and 4.1.3.
 
-ghost use Rattle.std.specs.Prelude.{◌≡◌, ◌≤◌, ◌<◌, ◌+◌, ◌++◌, List, length, take, drop, OnOk};
-ghost use Rattle.message_writing.specs.Writing.{octets16, with_length, each, data_text, question_text, head_text, record_text};
+ghost use Rattle.std.specs.Prelude.{◌≡◌, ◌≤◌, ◌<◌, ◌+◌, ◌++◌, List, length, take, drop, OnOk, None};
+ghost use Rattle.std.specs.Option.{IfSome};
 ghost use Rattle.std.specs.List.{AllByRecursion};
+ghost use Rattle.dns_name.specs.Labels.{labels_of, IsLaidOut};
+ghost use Rattle.message_reading.specs.Values.{Question, Record};
+ghost use Rattle.message_writing.specs.Writing.{octets16, with_length, each, as_is, data_text, question_text, head_text, record_text};
+ghost use Rattle.message_writing.specs.Borrowed.{record_of, records_in};
 ghost use Rattle.message_writing.specs.Written.{IsQuestion, IsRecord};
-ghost use Rattle.message_writing.specs.Writer.{Writes, Puts, HoldsText};
+ghost use Rattle.message_writing.specs.Writer.{Writes, Puts, HoldsText, IsKnown};
 
-use crate::data::put_data;
+use crate::borrowed::RowsRef;
+use crate::data::put_with_length;
 use crate::writer::Writer;
-use byteorder::{BigEndian, ByteOrder};
 use message_names::Fault;
-use message_reading::{Question, Record};
+use message_reading::{Question, QuestionRef, Record};
 use std::alloc::{AllocError, Allocator};
 
-/// Writes a question.
-fn put_question<'a, A: Allocator + Copy>(
+/// Writes a question, as far as the limit lets it.
+pub(crate) fn put_question<'a, A: Allocator + Copy>(
     writer: &mut Writer<'a, A>,
-    question: &'a Question<A>,
-) -> Result<(), AllocError>
-    ensures { OnOk result (Writes writer.old writer.new (question_text question.now) × IsQuestion question.now) }
+    question: &QuestionRef<'a>,
+    limit: usize,
+) -> Result<(), Fault>
+    ensures { Puts limit result writer.old writer.new (question_text question.now) (IsQuestion question.now) }
 {
-    writer.put_name(question.name.octets())?;
-    writer.put_u16(question.kind)?;
-    writer.put_u16(question.class)?;
-    Ok(())
+    writer.put_name(question.name())?;
+    writer.put_u16(question.kind())?;
+    writer.put_u16(question.class())?;
+    writer.check(limit)
 }
 
 /// Writes the questions, as far as the limit lets them.
@@ -36,67 +41,54 @@ pub(crate) fn put_questions<'a, A: Allocator + Copy>(
     ensures { Puts limit result writer.old writer.new (each question_text questions.now) (AllByRecursion IsQuestion questions.now) }
 {
     for question in questions {
-        put_question(writer, question)?;
-        writer.check(limit)?;
+        put_question(writer, &QuestionRef::of(question), limit)?;
     }
     Ok(())
 }
 
-/// Writes what stands before the data of a record and its length.
+/// What the records of a set have in common.
+#[derive(Clone, Copy)]
+struct Head<'a> {
+    /// The owner's labels, each behind its length, without the zero octet.
+    owner: &'a [u8],
+    kind: u16,
+    class: u16,
+    ttl: u32,
+}
+
+/// Writes what stands before the data of a record and its length. This is the pointer to its owner, if any.
 fn put_head<'a, A: Allocator + Copy>(
     writer: &mut Writer<'a, A>,
-    entry: &'a Record<A>,
+    head: Head<'a>,
+    known: Option<u16>,
 ) -> Result<(), AllocError>
-    ensures { OnOk result (Writes writer.old writer.new (head_text entry.now) × IsRecord entry.now) }
+    requires laid { IsLaidOut head.owner.now }
+    requires known { IfSome known (λ pointer. IsKnown writer.old head.owner.now pointer) }
+    ensures { (rdata : List ℕ) → OnOk result (Writes writer.old writer.new (head_text (record_of (labels_of head.owner.now) head.kind head.class head.ttl rdata))) }
 {
-    writer.put_name(entry.owner.octets())?;
-    writer.put_u16(entry.kind)?;
-    writer.put_u16(entry.class)?;
-    writer.put_u32(entry.ttl)?;
+    writer.put_known(head.owner, known)?;
+    writer.put_u16(head.kind)?;
+    writer.put_u16(head.class)?;
+    writer.put_u32(head.ttl)?;
     Ok(())
 }
 
-/// Puts a number in the place of two octets.
-fn set_u16(octets: &mut [u8], offset: usize, number: u16)
-    requires { offset + 2 ≤ length octets.old }
-    ensures { octets.new ≡ take offset octets.old ++ octets16 number ++ drop (offset + 2) octets.old }
-{
-    BigEndian::write_u16(&mut octets[offset..offset + 2], number);
-}
-
-/// Writes the data of a record of this type behind its length.
-fn put_with_length<'a, A: Allocator + Copy>(
+/// Writes a record with this data, as far as the limit lets it. This is the pointer to its owner, if any.
+fn put_row<'a, A: Allocator + Copy>(
     writer: &mut Writer<'a, A>,
-    kind: u16,
+    head: Head<'a>,
+    known: Option<u16>,
     rdata: &'a [u8],
     limit: usize,
 ) -> Result<(), Fault>
+    requires laid { IsLaidOut head.owner.now }
+    requires known { IfSome known (λ pointer. IsKnown writer.old head.owner.now pointer) }
     requires holds { HoldsText writer.old }
     requires limit { limit ≤ 65535 }
-    ensures { Puts limit result writer.old writer.new (with_length (data_text kind rdata.now)) (Unit {0}) }
+    ensures { let record = record_of (labels_of head.owner.now) head.kind head.class head.ttl rdata.now in Puts limit result writer.old writer.new (record_text record) (IsRecord record) }
 {
-    let start = writer.octets.len();
-    writer.put(&[0, 0])?;
-    put_data(writer, kind, rdata)?;
-    writer.check(limit)?;
-    let len = writer.octets.len() - start - 2;
-    set_u16(&mut writer.octets, start, len as u16);
-    Ok(())
-}
-
-/// Writes a record, as far as the limit lets it.
-fn put_record<'a, A: Allocator + Copy>(
-    writer: &mut Writer<'a, A>,
-    entry: &'a Record<A>,
-    limit: usize,
-) -> Result<(), Fault>
-    requires holds { HoldsText writer.old }
-    requires limit { limit ≤ 65535 }
-    ensures { Puts limit result writer.old writer.new (record_text entry.now) (IsRecord entry.now) }
-{
-    put_head(writer, entry)?;
-    put_with_length(writer, entry.kind, entry.rdata.octets(), limit)?;
-    Ok(())
+    put_head(writer, head, known)?;
+    put_with_length(writer, head.kind, rdata, limit)
 }
 
 /// Writes the records, as far as the limit lets them.
@@ -112,6 +104,69 @@ pub(crate) fn put_records<'a, A: Allocator + Copy>(
 {
     for entry in records {
         put_record(writer, entry, limit)?;
+    }
+    Ok(())
+}
+
+/// Writes a record, as far as the limit lets it.
+fn put_record<'a, A: Allocator + Copy>(
+    writer: &mut Writer<'a, A>,
+    entry: &'a Record<A>,
+    limit: usize,
+) -> Result<(), Fault>
+    requires holds { HoldsText writer.old }
+    requires limit { limit ≤ 65535 }
+    ensures { Puts limit result writer.old writer.new (record_text entry.now) (IsRecord entry.now) }
+{
+    let head = Head {
+        owner: entry.owner.octets(),
+        kind: entry.kind,
+        class: entry.class,
+        ttl: entry.ttl,
+    };
+    put_row(writer, head, None, entry.rdata.octets(), limit)
+}
+
+/// Writes the records of a set, as far as the limit lets them. Their owner is looked up until it has a pointer.
+fn put_set<'a, A: Allocator + Copy>(
+    writer: &mut Writer<'a, A>,
+    set: &'a RowsRef<'a, A>,
+    limit: usize,
+) -> Result<(), Fault>
+    requires holds { HoldsText writer.old }
+    requires limit { limit ≤ 65535 }
+    requires within { length writer.old.octets.items ≤ limit }
+    ensures { Puts limit result writer.old writer.new (each record_text set.now) (AllByRecursion IsRecord set.now) }
+{
+    let head = Head {
+        owner: set.owner.octets(),
+        kind: set.kind,
+        class: set.class,
+        ttl: set.ttl,
+    };
+    let mut known = None;
+    for rdata in set.rows {
+        if known.is_none() {
+            known = writer.known(head.owner);
+        }
+        put_row(writer, head, known, rdata.octets(), limit)?;
+    }
+    Ok(())
+}
+
+/// Writes the records of the sets, as far as the limit lets them.
+pub(crate) fn put_sets<'a, A: Allocator + Copy>(
+    writer: &mut Writer<'a, A>,
+    sets: &'a [RowsRef<'a, A>],
+    limit: usize,
+) -> Result<(), Fault>
+    requires holds { HoldsText writer.old }
+    requires limit { limit ≤ 65535 }
+    requires within { length writer.old.octets.items ≤ limit }
+    ensures { Puts limit result writer.old writer.new (each record_text (records_in sets.now)) (AllByRecursion IsRecord (records_in sets.now)) }
+{
+    for set in sets {
+        put_set(writer, set, limit)?;
     }
     Ok(())
 }

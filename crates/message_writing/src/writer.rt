@@ -1,15 +1,16 @@
 //! Octets that are written from the front, with pointers to the names in them.
 
-ghost use Rattle.std.specs.Prelude.{◌≡◌, ◌≤◌, ◌<◌, ◌∷◌, ℕ, List, length, OnOk, None, MatchResult};
+ghost use Rattle.std.specs.Prelude.{◌≡◌, ◌≤◌, ◌<◌, ◌-◌, ◌∷◌, [], ℕ, List, length, OnOk, None, MatchResult};
+ghost use Rattle.std.specs.Option.{IfSome};
 ghost use Rattle.dns_name.specs.Labels.{labels_of, IsLaidOut, IsLabel};
 ghost use Rattle.message_writing.specs.Writing.{as_is, octets16, octets32, name_text, label_text};
-ghost use Rattle.message_writing.specs.Writer.{Writes, IsEmpty, pointer_in};
+ghost use Rattle.message_writing.specs.Writer.{Writes, IsEmpty, IsKnown, pointer_in};
 
+use crate::pointers::Pointers;
 use byteorder::{BigEndian, ByteOrder};
 use dns_name::split_label;
 use message_names::Fault;
 use std::alloc::{AllocError, Allocator};
-use std::collections::BTreeMap;
 
 /// The last offset that the 14 bits of a pointer reach (RFC 1035 4.1.4).
 const LAST_PLACE: usize = 16383;
@@ -21,18 +22,19 @@ const POINTER: u16 = 0xC000;
 #[derive(Drop)]
 pub(crate) struct Writer<'a, A: Allocator> {
     pub octets: Vec<u8, A>,
-    /// The names that begin in the octets, each without its zero octet, and a pointer to the first place of each.
-    pub pointers: BTreeMap<&'a [u8], u16, A>,
+    /// The names that begin in the octets.
+    pub pointers: Pointers<'a, A>,
 }
 
 impl<'a, A: Allocator + Copy> Writer<'a, A> {
-    /// Nothing; it takes no memory.
-    pub fn new(alloc: A) -> Writer<'a, A>
+    /// Nothing, in a vector of no octets; it takes no memory.
+    pub fn new(alloc: A, octets: Vec<u8, A>) -> Writer<'a, A>
+        requires { octets.items ≡ [] }
         ensures { IsEmpty result }
     {
         Writer {
-            octets: Vec::new(alloc),
-            pointers: BTreeMap::new(alloc),
+            octets,
+            pointers: Pointers::new(alloc),
         }
     }
 
@@ -76,13 +78,6 @@ impl<'a, A: Allocator + Copy> Writer<'a, A> {
         Ok(())
     }
 
-    /// The pointer to the first place of a name, letter case included.
-    fn pointer_to(&self, name: &[u8]) -> Option<u16>
-        ensures { result ≡ pointer_in self.now name.now }
-    {
-        self.pointers.get(name).copied()
-    }
-
     /// Writes the name with these octets, its longest end that is known as a pointer.
     pub fn put_name(&mut self, name: &'a [u8]) -> Result<(), AllocError>
         requires { IsLaidOut name.now }
@@ -90,7 +85,7 @@ impl<'a, A: Allocator + Copy> Writer<'a, A> {
     {
         let mut rest = name;
         while let Some((label, after)) = split_label(rest) {
-            if let Some(pointer) = self.pointer_to(rest) {
+            if let Some(pointer) = self.pointers.find(rest) {
                 self.put_u16(pointer)?;
                 return Ok(());
             }
@@ -99,6 +94,35 @@ impl<'a, A: Allocator + Copy> Writer<'a, A> {
         }
         self.put(&[0])?;
         Ok(())
+    }
+
+    /// The pointer to this name, where there is one.
+    pub fn known(&self, name: &[u8]) -> Option<u16>
+        ensures { IfSome result (λ pointer. IsKnown self.now name.now pointer) }
+    {
+        if name.is_empty() {
+            return None;
+        }
+        self.pointers.find(name)
+    }
+
+    /// Writes this name, to which this is the pointer, if any.
+    pub fn put_known(&mut self, name: &'a [u8], known: Option<u16>) -> Result<(), AllocError>
+        requires laid { IsLaidOut name.now }
+        requires known { IfSome known (λ pointer. IsKnown self.old name.now pointer) }
+        ensures { OnOk result (Writes self.old self.new (name_text (labels_of name.now))) }
+    {
+        match known {
+            Some(pointer) => self.put_u16(pointer),
+            None => self.put_name(name),
+        }
+    }
+
+    /// How many octets the limit leaves.
+    pub fn room(&self, limit: usize) -> usize
+        ensures { result ≡ limit - length self.now.octets.items }
+    {
+        limit.saturating_sub(self.octets.len())
     }
 
     /// `TooLarge` where more octets were written than the limit.

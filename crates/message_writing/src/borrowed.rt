@@ -1,0 +1,46 @@
+//! Messages that are put together from borrowed things.
+
+use dns_name::Name;
+use message_reading::{Header, QuestionRef, Rdata};
+use std::alloc::{Allocator, Global};
+use std::marker::Model;
+
+/// Records of one owner, type, class and TTL, whose data is borrowed row by row. Contracts see the list of these records.
+#[derive(Drop)]
+pub struct RowsRef<'a, A: Allocator = Global> {
+    pub owner: &'a Name<A>,
+    pub kind: u16,
+    pub class: u16,
+    /// In seconds.
+    pub ttl: u32,
+    pub rows: &'a [Rdata<A>],
+}
+
+impl<'a, A: Allocator> Model for RowsRef<'a, A> {
+    ghost use Rattle.std.specs.Prelude.{List};
+    ghost use Rattle.message_reading.specs.Values.{Record};
+    ghost use Rattle.message_writing.specs.Borrowed.{records_of};
+
+    ghost Value = { List Record };
+
+    ghost view = { λ r. records_of r.owner.now r.kind r.class r.ttl r.rows.now };
+}
+
+/// A message that is put together from borrowed things, without an additional section. Contracts see the message.
+#[derive(Drop)]
+pub struct MessageParts<'a, A: Allocator = Global> {
+    /// Its counts are not looked at.
+    pub header: Header,
+    pub question: Option<QuestionRef<'a>>,
+    pub answers: &'a [RowsRef<'a, A>],
+    pub authority: &'a [RowsRef<'a, A>],
+}
+
+impl<'a, A: Allocator> Model for MessageParts<'a, A> {
+    ghost use Rattle.message_reading.specs.Values.{Message};
+    ghost use Rattle.message_writing.specs.Borrowed.{message_of};
+
+    ghost Value = { Message };
+
+    ghost view = { λ m. message_of m.header m.question m.answers.now m.authority.now };
+}

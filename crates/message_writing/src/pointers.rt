@@ -1,0 +1,65 @@
+//! The names that begin in octets, and where each began first.
+
+ghost use Rattle.std.specs.Prelude.{◌≡◌, ◌<◌, None, OnOk, length};
+ghost use Rattle.message_writing.specs.Writer.{pointer_among, pointer_known, IsPutIn};
+
+use arrayvec::ArrayVec;
+use std::alloc::{AllocError, Allocator};
+use std::collections::BTreeMap;
+
+/// So many names are found one by one, without memory; further ones by a map.
+const FEW: usize = 16;
+
+/// Names, each without its zero octet, and a pointer to the first place of each.
+#[derive(Drop)]
+pub(crate) struct Pointers<'a, A: Allocator> {
+    few: ArrayVec<(&'a [u8], u16), FEW>,
+    many: BTreeMap<&'a [u8], u16, A>,
+}
+
+/// The pointer that stands beside a name.
+fn pointer_among(few: &[(&[u8], u16)], name: &[u8]) -> Option<u16>
+    ensures { result ≡ pointer_among few.now name.now }
+{
+    for (known, pointer) in few {
+        if *known == name {
+            return Some(*pointer);
+        }
+    }
+    None
+}
+
+impl<'a, A: Allocator + Copy> Pointers<'a, A> {
+    /// None; it takes no memory.
+    pub fn new(alloc: A) -> Pointers<'a, A>
+        ensures { (name : List ℕ) → pointer_known result name ≡ None }
+    {
+        Pointers {
+            few: ArrayVec::new(),
+            many: BTreeMap::new(alloc),
+        }
+    }
+
+    /// The pointer to a name, letter case included.
+    pub fn find(&self, name: &[u8]) -> Option<u16>
+        ensures { result ≡ pointer_known self.now name.now }
+    {
+        if let Some(pointer) = pointer_among(self.few.as_slice(), name) {
+            return Some(pointer);
+        }
+        self.many.get(name).copied()
+    }
+
+    /// Remembers a name that is not known. It takes memory once there are more than a few.
+    pub fn insert(&mut self, name: &'a [u8], pointer: u16) -> Result<(), AllocError>
+        requires { pointer_known self.old name.now ≡ None }
+        ensures { OnOk result (IsPutIn self.old self.new name.now pointer) }
+    {
+        if self.few.is_full() {
+            self.many.insert(name, pointer)?;
+            return Ok(());
+        }
+        self.few.push((name, pointer));
+        Ok(())
+    }
+}
