@@ -1,6 +1,8 @@
+pub mod PointerLaws
 pub mod WriterLaws
 pub mod WriterFields
 pub mod WriterRecords
+pub mod WriterSets
 pub mod WriterMessages
 pub mod RoundTrip
 pub mod RoundTripData

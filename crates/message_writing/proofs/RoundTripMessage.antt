@@ -1,6 +1,8 @@
 -- What was written stands there: questions, records and whole messages.
-use Rattle.std.proofs.Common.{◌≡◌, ℕ, ◌+◌, ◌*◌, ◌/◌, ◌%◌, ◌<◌, ◌≤◌, Bool, true, false, List, [], ◌∷◌, ◌++◌, length, drop, get_or, Some, refl, sym, ap, subst, ◌∙◌, append_assoc, arith}
+use Rattle.std.proofs.Common.{◌≡◌, ℕ, ◌+◌, ◌*◌, ◌/◌, ◌%◌, ◌<◌, ◌≤◌, Bool, true, false, List, [], ◌∷◌, ◌++◌, length, drop, get_or, Some, Result, Ok, Err, refl, sym, ap, subst, ◌∙◌, append_assoc, arith}
+use Rattle.std.specs.Prelude.{OnOk}
 use Rattle.std.specs.List.{AllByRecursion}
+use Rattle.message_names.specs.declared.fault.Fault.{Fault}
 use Rattle.std.proofs.lemmas.List.{append-nil, length-append, get_or-drop}
 use Rattle.std.proofs.lemmas.Bool.{le-ltb}
 use Rattle.message_reading.specs.declared.header.Header.{Header}
@@ -13,7 +15,7 @@ use Rattle.message_reading.specs.Records.{QuestionAt, RecordAt, InRow}
 use Rattle.message_reading.specs.Messages.{Spells, HasShapes}
 use Rattle.message_writing.specs.Writing.{Text, Writing, as_is, after, ◌▹◌, each, octets16, octets32, name_text, question_text, head_text, record_text, data_text, with_length, bit, flags_of, header_text, message_text, written}
 use Rattle.message_writing.specs.declared.writer.Writer.{Writer}
-use Rattle.message_writing.specs.Writer.{Writes, IsEmpty}
+use Rattle.message_writing.specs.Writer.{Writes, IsEmpty, Puts}
 use Rattle.message_writing.specs.Written.{IsQuestion, IsRecord, IsMessage, IsCounted}
 use Rattle.message_writing.proofs.WriterLaws.{after_both}
 use Rattle.message_writing.proofs.WriterMessages.{nothing, written_after, lists_short}
@@ -326,3 +328,9 @@ spelled_whole limit old new m le empty step within is counted shapes =
     let whole : new.octets.items ≡ written m = (step nothing empty).octets ∙ written_after m in
     let P : List ℕ → Type 0 = λ bytes. Spells bytes m in
     subst P (sym whole) (message_spelled m is counted shapes (omega (arith, within, le, ap length whole)))
+
+-- what the writer did with all of it, where that is no fault
+pub spelled_done : {A : Type 0} (limit : ℕ) (done : Result (Unit {0}) Fault) (old new : Writer A) (m : Message) → limit ≤ 65535 → IsEmpty old → Puts limit done old new (message_text m) (IsMessage m)
+    → OnOk done (IsCounted m → HasShapes m → Spells new.octets.items m)
+spelled_done limit (Ok x) old new m le empty puts = λ counted shapes. spelled_whole limit old new m le empty puts.0 puts.1 puts.2 counted shapes
+spelled_done limit (Err fault) old new m le empty refused = tt

@@ -1,20 +1,16 @@
 -- What a writer holds after something more was written.
 use Rattle.std.proofs.Common.{◌≡◌, ℕ, ◌+◌, ◌<◌, ◌≤◌, Bool, true, false, cond, List, [], ◌∷◌, ◌++◌, length, Option, Some, None, refl, sym, ap, ◌∙◌, append_assoc, arith}
 use Rattle.std.specs.Bool.{Decides}
-use Rattle.std.specs.Option.{option_map}
-use Rattle.std.specs.Ordering.{nat_cmp}
-use Rattle.std.specs.Cmp.Lexicographic.{slice_cmp}
-use Rattle.std.specs.BTreeMap.{UpdatesBy}
+use Rattle.std.specs.Option.{option_map, IfSome}
 use Rattle.std.specs.Str.{bytes_eq}
 use Rattle.std.proofs.lemmas.List.{append-nil, length-append}
 use Rattle.std.proofs.lemmas.Bool.{lt-leb, le-leb}
-use Rattle.std.proofs.lemmas.Map.Text.{btree_map_updates_str}
 use Rattle.std.proofs.lemmas.Slice.Eq.{slice_eq-Decides, bytes_eq-Decides}
 use Rattle.dns_name.specs.Labels.{labels_of, octets_of, label_octets, IsLaidOut, Splits}
 use Rattle.dns_name.proofs.CallerLemmas.{labels_of_octets, labels_of_nothing}
 use Rattle.message_writing.specs.declared.writer.Writer.{Writer}
 use Rattle.message_writing.specs.Writing.{Place, Text, Writing, as_is, after, ◌▹◌, labels_eq, place_of, pointer_to, octets16, places_at, label_text, name_text}
-use Rattle.message_writing.specs.Writer.{Holds, Writes, pointer_in}
+use Rattle.message_writing.specs.Writer.{Holds, HoldsText, Writes, IsKnown, IsPutIn, pointer_in}
 
 -- ---- one thing behind another
 
@@ -131,21 +127,14 @@ holds_far old new label rest far grown same t h =
       pointers = λ name. rw (none, same, append-nil) (h.pointers name);
     }
 
-abbrev Updated : {A : Type 0} → Writer A → Writer A → List ℕ → ℕ → Type 0
-Updated old new octets pointer = UpdatesBy (λ x y. slice_cmp nat_cmp x.now y.now) (λ k. slice_cmp nat_cmp octets k.now) old.pointers new.pointers (Some pointer)
-
-updated_at : {A : Type 0} (old new : Writer A) (octets : List ℕ) (pointer : ℕ) (q : List (List ℕ)) → Updated old new octets pointer
-    → pointer_in new (octets_of q) ≡ cond (bytes_eq octets (octets_of q)) (Some pointer) (pointer_in old (octets_of q))
-updated_at old new octets pointer q updated = btree_map_updates_str octets old.pointers new.pointers (Some pointer) updated (octets_of q)
-
 -- a label that a pointer reaches, of a name that was not known
 pub holds_near : {A : Type 0} (old new : Writer A) (label : List ℕ) (rest : List (List ℕ)) (octets : List ℕ) (pointer : ℕ) → IsLaidOut octets → labels_of octets ≡ label ∷ rest
-    → length old.octets.items ≤ 16383 → pointer_in old octets ≡ None → pointer ≡ pointer_to (length old.octets.items) → Updated old new octets pointer
+    → length old.octets.items ≤ 16383 → pointer_in old octets ≡ None → pointer ≡ pointer_to (length old.octets.items) → IsPutIn old.pointers new.pointers octets pointer
     → new.octets.items ≡ (old.octets.items ++ length label ∷ []) ++ label → Writes old new (label_text label rest)
 unfolding after
 holds_near old new label rest octets pointer laid begins_ near unknown pointer_is updated grown t h = record {
   octets = grown ∙ append_assoc old.octets.items (length label ∷ []) label ∙ ap (λ (o : List ℕ). o ++ label_octets label) h.octets;
-  pointers = λ q. rw (updated_at old new octets pointer q updated, places_near (length t.octets) (label ∷ rest) (omega (arith, ap length h.octets)))
+  pointers = λ q. rw (updated (octets_of q), places_near (length t.octets) (label ∷ rest) (omega (arith, ap length h.octets)))
       (by_test q (bytes_eq octets (octets_of q)) refl);
 }
   where
@@ -182,9 +171,9 @@ unknown_left w octets label behind laid splits unknown u h =
     rw splits.labels (label_left u label (labels_of behind) (rw splits.labels at none))
 
 -- a name to which the writer has a pointer
-pub known_left : {A : Type 0} (w : Writer A) (octets label behind : List ℕ) (pointer : ℕ) → IsLaidOut octets → Splits octets label behind → pointer_in w octets ≡ Some pointer
+pub known_left : {A : Type 0} (w : Writer A) (octets label : List ℕ) (rest : List (List ℕ)) (pointer : ℕ) → IsLaidOut octets → labels_of octets ≡ label ∷ rest → pointer_in w octets ≡ Some pointer
     → (u : Text) → Holds w u → after u (name_text (labels_of octets)) ≡ after u (as_is (octets16 pointer))
-known_left w octets label behind pointer laid splits known u h =
+known_left w octets label rest pointer laid labels known u h =
     let at : pointer_in w (octets_of (labels_of octets)) ≡ Some pointer = rw laid.whole known in
     known_by (place_of u.places (labels_of octets)) refl (sym (h.pointers (labels_of octets)) ∙ at)
   where
@@ -192,4 +181,47 @@ known_left w octets label behind pointer laid splits known u h =
     known_by None there is = absurd cc
     known_by (Some p) there is =
         let e : pointer_to p ≡ pointer = cc in
-        rw (splits.labels, ← e) (pointer_left u label (labels_of behind) p (rw splits.labels at there))
+        rw (labels, ← e) (pointer_left u label rest p (rw labels at there))
+
+-- ---- a pointer that is looked up once
+
+-- its pointer is the whole of a known name
+pub known_written : {A : Type 0} (w v : Writer A) (octets : List ℕ) (pointer : ℕ) → IsLaidOut octets → IsKnown w octets pointer → Writes w v (as_is (octets16 pointer)) → Writes w v (name_text (labels_of octets))
+known_written w v octets pointer laid known step t h = written_by (labels_of octets) refl
+  where
+    written_by : (ls : List (List ℕ)) → labels_of octets ≡ ls → Holds v (after t (name_text (labels_of octets)))
+    written_by [] none =
+        let empty : octets ≡ octets_of [] = sym laid.whole ∙ ap octets_of none in
+        absurd (omega (arith, known.some, ap length empty))
+    written_by (label ∷ rest) is = rw (known_left w octets label rest pointer laid is known.is t h) (step t h)
+
+place_stays : (ps qs : List Place) (name : List (List ℕ)) (o : ℕ) → place_of ps name ≡ Some o → place_of (ps ++ qs) name ≡ Some o
+place_stays [] qs name o there = absurd cc
+place_stays (p ∷ ps) qs name o there = stays_by (labels_eq p.name name) (place_stays ps qs name o) there
+  where
+    stays_by : (b : Bool) → (place_of ps name ≡ Some o → place_of (ps ++ qs) name ≡ Some o) → cond b (Some p.offset) (place_of ps name) ≡ Some o → cond b (Some p.offset) (place_of (ps ++ qs) name) ≡ Some o
+    stays_by true more is = is
+    stays_by false more is = more is
+
+-- what is written behind leaves the pointer of a name as it is
+pub stays_known : {A : Type 0} (old new : Writer A) (w : Writing) (octets : List ℕ) (pointer : ℕ) → IsLaidOut octets → HoldsText old → Writes old new w → IsKnown old octets pointer → IsKnown new octets pointer
+unfolding after
+stays_known old new w octets pointer laid (t, h) step known = record { is = known_by (place_of t.places (labels_of octets)) refl; some = known.some }
+  where
+    known_by : (r : Option ℕ) → place_of t.places (labels_of octets) ≡ r → pointer_in new octets ≡ Some pointer
+    known_by None there =
+        let was : pointer_in old (octets_of (labels_of octets)) ≡ None = h.pointers (labels_of octets) ∙ ap (option_map pointer_to) there in
+        let none : pointer_in old octets ≡ None = rw laid.whole at was in
+        absurd (cc (none, known.is))
+    known_by (Some o) there =
+        let was : pointer_in old (octets_of (labels_of octets)) ≡ Some (pointer_to o) = h.pointers (labels_of octets) ∙ ap (option_map pointer_to) there in
+        let is : pointer_in new (octets_of (labels_of octets)) ≡ Some (pointer_to o) =
+        (step t h).pointers (labels_of octets) ∙ ap (option_map pointer_to) (place_stays t.places (w t.places (length t.octets)).places (labels_of octets) o there) in
+        let before : pointer_in old octets ≡ Some (pointer_to o) = rw laid.whole at was in
+        let now : pointer_in new octets ≡ Some (pointer_to o) = rw laid.whole at is in
+        now ∙ sym before ∙ known.is
+
+pub stays_if_known : {A : Type 0} (old new : Writer A) (w : Writing) (octets : List ℕ) (known : Option ℕ) → IsLaidOut octets → HoldsText old → Writes old new w → IfSome known (λ pointer. IsKnown old octets pointer)
+    → IfSome known (λ pointer. IsKnown new octets pointer)
+stays_if_known old new w octets None laid holds step known = tt
+stays_if_known old new w octets (Some pointer) laid holds step known = stays_known old new w octets pointer laid holds step known

@@ -1,15 +1,18 @@
 -- A whole message, written within a limit.
-use Rattle.std.proofs.Common.{◌≡◌, ℕ, ◌+◌, ◌<◌, ◌≤◌, max, leb, Bool, true, false, List, [], ◌∷◌, ◌++◌, length, Ok, Err, refl, ap, ◌∙◌, arith, ◌⊎◌, inl, inr}
+use Rattle.std.proofs.Common.{◌≡◌, ℕ, ◌+◌, ◌<◌, ◌≤◌, max, leb, Bool, true, false, List, [], ◌∷◌, ◌++◌, length, Result, Ok, Err, refl, ap, ◌∙◌, arith, ◌⊎◌, inl, inr}
 use Rattle.std.proofs.lemmas.List.{length-append}
 use Rattle.std.proofs.lemmas.Bool.{cases_lt, lt-ltb, le-ltb, leb-true, le-leb}
 use Rattle.message_names.specs.declared.fault.Fault.{Fault}
 use Rattle.message_names.specs.declared.fault.Fault.TheVariants.{Short, LabelForm, Pointer, NameLong, Rdata, TooLarge, Memory, NoQuestion}
 use Rattle.message_writing.specs.declared.writer.Writer.{Writer}
+use Rattle.std.specs.Prelude.{slice_index, MatchResult}
+use Rattle.message_reading.specs.declared.header.Header.{Header}
 use Rattle.message_reading.specs.Values.{Question, Record, Message}
 use Rattle.message_names.specs.Reading.{Fails}
-use Rattle.message_writing.specs.Writing.{Text, Place, Writing, as_is, after, ◌▹◌, each, octets16, octets32, with_length, name_text, question_text, head_text, record_text, data_text, header_text, message_text, written, written_within, flags_of, CanBeCounted}
-use Rattle.message_writing.specs.Writer.{Writes, IsEmpty, Refused}
+use Rattle.message_writing.specs.Writing.{Text, Place, Writing, as_is, after, ◌▹◌, each, octets16, octets32, with_length, name_text, question_text, head_text, record_text, data_text, counted_header, list_counts, header_text, message_text, written, written_within, flags_of, CanBeCounted}
+use Rattle.message_writing.specs.Writer.{Writes, IsEmpty, Puts, Refused}
 use Rattle.message_writing.proofs.WriterLaws.{after_both, both}
+use Rattle.message_writing.proofs.WriterSets.{none_written}
 use Rattle.message_writing.proofs.WriterRecords.{after_long, refused_behind, refused_as, writes_as}
 
 -- ---- how long a text is at least
@@ -46,19 +49,22 @@ record_some r =
 abbrev pub AllCounted : ℕ → Message → Type 0
 AllCounted n m = (length m.questions ≤ n) × (length m.answers ≤ n) × (length m.authority ≤ n) × (length m.additional ≤ n)
 
-pub lists_short : (m : Message) → AllCounted (length (written m)) m
-unfolding written
-lists_short m =
+lists_within : (m : Message) (places : List Place) (o : ℕ) → AllCounted (length (message_text m places o).octets) m
+lists_within m places o =
     let q : Writing = each question_text m.questions in
     let a : Writing = each record_text m.answers in
     let n : Writing = each record_text m.authority in
     let d : Writing = each record_text m.additional in
     let h : Writing = header_text m in (
-      front_long _ (h ▹ q ▹ a ▹ n) d (front_long _ (h ▹ q ▹ a) n (front_long _ (h ▹ q) a (back_long _ h q (each_long question_text question_some m.questions)))) [] 0,
-      front_long _ (h ▹ q ▹ a ▹ n) d (front_long _ (h ▹ q ▹ a) n (back_long _ (h ▹ q) a (each_long record_text record_some m.answers))) [] 0,
-      front_long _ (h ▹ q ▹ a ▹ n) d (back_long _ (h ▹ q ▹ a) n (each_long record_text record_some m.authority)) [] 0,
-      back_long _ (h ▹ q ▹ a ▹ n) d (each_long record_text record_some m.additional) [] 0,
+      front_long _ (h ▹ q ▹ a ▹ n) d (front_long _ (h ▹ q ▹ a) n (front_long _ (h ▹ q) a (back_long _ h q (each_long question_text question_some m.questions)))) places o,
+      front_long _ (h ▹ q ▹ a ▹ n) d (front_long _ (h ▹ q ▹ a) n (back_long _ (h ▹ q) a (each_long record_text record_some m.answers))) places o,
+      front_long _ (h ▹ q ▹ a ▹ n) d (back_long _ (h ▹ q ▹ a) n (each_long record_text record_some m.authority)) places o,
+      back_long _ (h ▹ q ▹ a ▹ n) d (each_long record_text record_some m.additional) places o,
     )
+
+pub lists_short : (m : Message) → AllCounted (length (written m)) m
+unfolding written
+lists_short m = lists_within m [] 0
 
 too_long : (limit : ℕ) (m : Message) → limit < length (written m) → written_within limit m ≡ Err TooLarge
 unfolding written_within
@@ -69,15 +75,14 @@ unfolding written_within
 fits_in limit m within = rw (le-ltb limit (length (written m)) within) refl
 
 -- a message whose lists no header can count is too large for every limit
-pub uncounted : (limit : ℕ) (m : Message) (b : Bool) → limit ≤ 65535 → (CanBeCounted m → b ≡ true) → b ≡ false → written_within limit m ≡ Err TooLarge
-uncounted limit m b le counts no_ = by (cases_lt limit (length (written m)))
+pub uncounted : (limit : ℕ) (m : Message) → limit ≤ 65535 → (CanBeCounted m → ⊥) → written_within limit m ≡ Err TooLarge
+uncounted limit m le not_ = by (cases_lt limit (length (written m)))
   where
     by : (limit < length (written m)) ⊎ (length (written m) ≤ limit) → written_within limit m ≡ Err TooLarge
     by (inl passed) = too_long limit m passed
     by (inr within) =
         let short = lists_short m in
-        let all = counts (record { questions = omega (arith, short.0, within); answers = omega (arith, short.1, within); authority = omega (arith, short.2, within); additional = omega (arith, short.3, within) }) in
-        absurd (cc (all, no_))
+        absurd (not_ (record { questions = omega (arith, short.0, within); answers = omega (arith, short.1, within); authority = omega (arith, short.2, within); additional = omega (arith, short.3, within) }))
 
 -- ---- the whole
 
@@ -102,6 +107,12 @@ pub written_whole : {A : Type 0} (limit : ℕ) (old new : Writer A) (m : Message
 written_whole limit old new m empty step within =
     let whole : new.octets.items ≡ written m = (step nothing empty).octets ∙ written_after m in
     rw whole (fits_in limit m (rw (← whole) within))
+
+-- what the writer did with all of it
+pub whole_done : {A : Type 0} (limit : ℕ) (done : Result (Unit {0}) Fault) (old new : Writer A) (m : Message) (fact : Type 0) → IsEmpty old → Puts limit done old new (message_text m) fact
+    → MatchResult done (λ _. written_within limit m ≡ Ok new.octets.items) (λ fault. Fails fault (written_within limit m))
+whole_done limit (Ok x) old new m fact empty puts = written_whole limit old new m empty puts.0 puts.1
+whole_done limit (Err fault) old new m fact empty refused = refused_whole limit fault old m empty refused
 
 -- ---- a part that is refused, and more behind it
 
@@ -158,22 +169,31 @@ pub section_written : {A X : Type 0} (w u v : Writer A) (before : Writing) (text
 section_written w u v before text xs ys same first step =
     both w u v before (each text ys) first (writes_as u v (each text xs) (each text ys) (ap (each text) same) step)
 
-pub header_written : {A : Type 0} (w0 w1 w2 w3 w4 w5 w6 : Writer A) (m : Message) (number flags : ℕ) (qs : List Question) (as_ ns ds : List Record) → number ≡ m.header.id → flags ≡ flags_of m.header → qs ≡ m.questions → as_ ≡ m.answers → ns ≡ m.authority → ds ≡ m.additional
-    → Writes w0 w1 (as_is (octets16 number)) → Writes w1 w2 (as_is (octets16 flags)) → Writes w2 w3 (as_is (octets16 (length qs))) → Writes w3 w4 (as_is (octets16 (length as_))) → Writes w4 w5 (as_is (octets16 (length ns))) → Writes w5 w6 (as_is (octets16 (length ds)))
-    → Writes w0 w6 (header_text m)
-header_written w0 w1 w2 w3 w4 w5 w6 m number flags qs as_ ns ds i f q a n d s1 s2 s3 s4 s5 s6 =
-    let count : ℕ → Writing = λ k. as_is (octets16 k) in
-    let id : Writing = count m.header.id in
-    let bits : Writing = count (flags_of m.header) in
-    both w0 w5 w6 (id ▹ bits ▹ count (length m.questions) ▹ count (length m.answers) ▹ count (length m.authority)) (count (length m.additional))
-    (both w0 w4 w5 (id ▹ bits ▹ count (length m.questions) ▹ count (length m.answers)) (count (length m.authority))
-    (both w0 w3 w4 (id ▹ bits ▹ count (length m.questions)) (count (length m.answers))
-    (both w0 w2 w3 (id ▹ bits) (count (length m.questions))
-    (both w0 w1 w2 id bits (writes_as w0 w1 (count number) id (ap count i) s1) (writes_as w1 w2 (count flags) bits (ap count f) s2))
-    (writes_as w2 w3 (count (length qs)) (count (length m.questions)) (ap (λ (x : List Question). count (length x)) q) s3))
-    (writes_as w3 w4 (count (length as_)) (count (length m.answers)) (ap (λ (x : List Record). count (length x)) a) s4))
-    (writes_as w4 w5 (count (length ns)) (count (length m.authority)) (ap (λ (x : List Record). count (length x)) n) s5))
-    (writes_as w5 w6 (count (length ds)) (count (length m.additional)) (ap (λ (x : List Record). count (length x)) d) s6)
+pub header_written : {A : Type 0} (w0 w1 w2 w3 w4 w5 w6 : Writer A) (h : Header) (flags : ℕ) (counts : List ℕ) → flags ≡ flags_of h
+    → Writes w0 w1 (as_is (octets16 h.id)) → Writes w1 w2 (as_is (octets16 flags)) → Writes w2 w3 (as_is (octets16 (slice_index counts 0))) → Writes w3 w4 (as_is (octets16 (slice_index counts 1)))
+    → Writes w4 w5 (as_is (octets16 (slice_index counts 2))) → Writes w5 w6 (as_is (octets16 (slice_index counts 3))) → Writes w0 w6 (counted_header h counts)
+header_written w0 w1 w2 w3 w4 w5 w6 h flags counts f s1 s2 s3 s4 s5 s6 =
+    let number : ℕ → Writing = λ k. as_is (octets16 k) in
+    let id : Writing = number h.id in
+    let bits : Writing = number (flags_of h) in
+    let count : ℕ → Writing = λ i. number (slice_index counts i) in
+    both w0 w5 w6 (id ▹ bits ▹ count 0 ▹ count 1 ▹ count 2) (count 3)
+    (both w0 w4 w5 (id ▹ bits ▹ count 0 ▹ count 1) (count 2)
+    (both w0 w3 w4 (id ▹ bits ▹ count 0) (count 1)
+    (both w0 w2 w3 (id ▹ bits) (count 0) (both w0 w1 w2 id bits s1 (writes_as w1 w2 (number flags) bits (ap number f) s2)) s3) s4) s5) s6
+
+-- the header of a message, from its lists
+pub header_of_lists : {A : Type 0} (w v : Writer A) (m : Message) (h : Header) (qs : List Question) (as_ ns ds : List Record) → h ≡ m.header → qs ≡ m.questions → as_ ≡ m.answers → ns ≡ m.authority → ds ≡ m.additional
+    → Writes w v (counted_header h (length qs ∷ length as_ ∷ length ns ∷ length ds ∷ [])) → Writes w v (header_text m)
+header_of_lists w v m h qs as_ ns ds eh eq ea en ed step = writes_as w v _ (header_text m) (rw (eh, eq, ea, en, ed) refl) step
+
+-- and from its counts
+pub header_of_counts : {A : Type 0} (w v : Writer A) (m : Message) (h : Header) (counts : List ℕ) → h ≡ m.header → counts ≡ list_counts m → Writes w v (counted_header h counts) → Writes w v (header_text m)
+header_of_counts w v m h counts eh ec step = writes_as w v _ (header_text m) (rw (eh, ec) refl) step
+
+-- nothing is left where there are no further records
+pub no_more_written : {A : Type 0} (w v : Writer A) (m : Message) → [] ≡ m.additional → Writes w v (to_authority m) → Writes w v (message_text m)
+no_more_written w v m none step = section_written w v v (to_authority m) record_text [] m.additional none step (none_written v record_text)
 
 pub most_counted : (m : Message) (a b c d n : ℕ) → a ≡ length m.answers → b ≡ length m.authority → c ≡ length m.additional → d ≡ length m.questions → n ≡ max d (max (max a b) c)
     → (leb n 65535 ≡ true → CanBeCounted m) × (CanBeCounted m → leb n 65535 ≡ true)

@@ -9,8 +9,9 @@ use Rattle.std.specs.List.{AllByRecursion}
 use Rattle.dns_name.specs.Labels.{IsName}
 use Rattle.message_writing.specs.Written.{IsQuestion, IsRecord}
 use Rattle.message_reading.specs.Values.{Question, Record}
+use Rattle.message_writing.specs.Borrowed.{record_of}
 use Rattle.message_writing.specs.Writer.{Holds, Writes, HoldsText, Refused}
-use Rattle.message_writing.proofs.WriterLaws.{GoesOn, after_both, along, goes_on, all_done}
+use Rattle.message_writing.proofs.WriterLaws.{GoesOn, after_both, along, both, goes_on, all_done}
 
 pub after_long : (t : Text) (w : Writing) → length t.octets ≤ length (after t w).octets
 unfolding after
@@ -81,22 +82,45 @@ length_set t w full xs start len start_is len_is full_is set =
     let behind : drop (start + 2) full ≡ text = ap (drop (start + 2)) (full_is ∙ (zeroed t w).octets) ∙ drop_at (t.octets ++ 0 ∷ 0 ∷ []) text (start + 2) (omega (arith, length-append t.octets (0 ∷ 0 ∷ []), start_is)) in
     set ∙ rw (front, behind, len_is) (append_assoc t.octets (octets16 (length text)) text)
 
+-- octets with no name in them, behind their length
+plain_after : (t : Text) (xs : List ℕ) → after t (with_length (as_is xs)) ≡ after t (as_is (octets16 (length xs)) ▹ as_is xs)
+unfolding after with_length ◌▹◌
+plain_after t xs = refl
+
+pub plain_written : {A : Type 0} (old mid new : Writer A) (xs : List ℕ) → Writes old mid (as_is (octets16 (length xs))) → Writes mid new (as_is xs) → Writes old new (with_length (as_is xs))
+plain_written old mid new xs len step t h = rw (plain_after t xs) (both old mid new (as_is (octets16 (length xs))) (as_is xs) len step t h)
+
+plain_size : (t : Text) (xs : List ℕ) → length (after t (with_length (as_is xs))).octets ≡ length t.octets + 2 + length xs
+unfolding after with_length
+plain_size t xs = omega (arith, length-append t.octets (octets16 (length xs) ++ xs), length-append (octets16 (length xs)) xs)
+
+pub plain_refused : {A : Type 0} (limit : ℕ) (t : Text) (xs : List ℕ) (w : Writer A) → Holds w t → limit < length w.octets.items + 2 + length xs → limit < length (after t (with_length (as_is xs))).octets
+plain_refused limit t xs w h passed = omega (arith, passed, plain_size t xs, ap length h.octets)
+
+pub plain_long : {A : Type 0} (old new : Writer A) (xs : List ℕ) → HoldsText old → Writes old new (with_length (as_is xs)) → length new.octets.items ≡ length old.octets.items + 2 + length xs
+plain_long old new xs (t, h) step = omega (arith, ap length (step t h).octets, plain_size t xs, ap length h.octets)
+
 -- ---- from what the fields hold to the plain values
 
 pub writes_as : {A : Type 0} (old new : Writer A) (a b : Writing) → a ≡ b → Writes old new a → Writes old new b
 writes_as old new a b same step t h = let P : Writing → Type 0 = λ w. Holds new (after t w) in subst P same (step t h)
 
-pub question_fields : (q : Question) (labels name : List (List ℕ)) (kind class : ℕ) → record { name = name; kind = kind; class = class } ≡ q → labels ≡ name
-    → (name_text labels ▹ as_is (octets16 kind) ▹ as_is (octets16 class)) ≡ question_text q
-question_fields q labels name kind class is same = rw (same, ← is) refl
+-- a question, field by field
+pub question_written : {A : Type 0} (w0 w1 w2 w3 : Writer A) (q : Question) (labels : List (List ℕ)) (kind class : ℕ) → labels ≡ q.name → kind ≡ q.kind → class ≡ q.class
+    → Writes w0 w1 (name_text labels) → Writes w1 w2 (as_is (octets16 kind)) → Writes w2 w3 (as_is (octets16 class)) → Writes w0 w3 (question_text q)
+question_written w0 w1 w2 w3 q labels kind class named is_kind is_class name step last =
+    let number : ℕ → Writing = λ n. as_is (octets16 n) in
+    both w0 w2 w3 (name_text q.name ▹ number q.kind) (number q.class)
+    (both w0 w1 w2 (name_text q.name) (number q.kind) (writes_as w0 w1 (name_text labels) (name_text q.name) (ap name_text named) name) (writes_as w1 w2 (number kind) (number q.kind) (ap number is_kind) step))
+    (writes_as w2 w3 (number class) (number q.class) (ap number is_class) last)
 
-pub head_fields : (r : Record) (labels owner : List (List ℕ)) (kind class ttl : ℕ) (rdata : List ℕ) → record { owner = owner; kind = kind; class = class; ttl = ttl; rdata = rdata } ≡ r → labels ≡ owner
-    → (name_text labels ▹ as_is (octets16 kind) ▹ as_is (octets16 class) ▹ as_is (octets32 ttl)) ≡ head_text r
-head_fields r labels owner kind class ttl rdata is same = rw (same, ← is) refl
+pub question_is : (q : Question) (labels : List (List ℕ)) (kind class : ℕ) → labels ≡ q.name → kind ≡ q.kind → class ≡ q.class → IsName labels → kind < 65536 → class < 65536 → IsQuestion q
+question_is q labels kind class named is_kind is_class name k c = record { name = subst IsName named name; kind = omega (arith, is_kind, k); class = omega (arith, is_class, c) }
 
-pub data_fields : (r : Record) (owner : List (List ℕ)) (kind class ttl : ℕ) (rdata octets : List ℕ) → record { owner = owner; kind = kind; class = class; ttl = ttl; rdata = rdata } ≡ r → octets ≡ rdata
-    → with_length (data_text kind octets) ≡ with_length (data_text r.kind r.rdata)
-data_fields r owner kind class ttl rdata octets is same = rw (same, ← is) refl
+-- a record, from what its fields hold
+pub record_as : (r : Record) (labels owner : List (List ℕ)) (kind class ttl : ℕ) (octets rdata : List ℕ) → record { owner = owner; kind = kind; class = class; ttl = ttl; rdata = rdata } ≡ r → labels ≡ owner → octets ≡ rdata
+    → record_of labels kind class ttl octets ≡ r
+record_as r labels owner kind class ttl octets rdata is named same = rw (named, same) is
 
 -- ---- the loops over a list
 
@@ -178,13 +202,6 @@ set_length start number xs whole inside set =
 
 pub refused_as : {A : Type 0} (limit : ℕ) (fault : Fault) (old : Writer A) (a b : Writing) → a ≡ b → Refused limit fault old a → Refused limit fault old b
 refused_as limit fault old a b same refused = let P : Writing → Type 0 = λ w. Refused limit fault old w in subst P same refused
-
-pub question_is : (q : Question) (labels name : List (List ℕ)) (kind class : ℕ) → record { name = name; kind = kind; class = class } ≡ q → labels ≡ name → IsName labels → kind < 65536 → class < 65536 → IsQuestion q
-question_is q labels name kind class is same named k c = subst IsQuestion is (record { name = subst IsName same named; kind = k; class = c })
-
-pub record_is : (r : Record) (labels owner : List (List ℕ)) (kind class ttl : ℕ) (rdata : List ℕ) → record { owner = owner; kind = kind; class = class; ttl = ttl; rdata = rdata } ≡ r → labels ≡ owner → IsName labels → kind < 65536 → class < 65536
-    → ttl < 4294967296 → IsRecord r
-record_is r labels owner kind class ttl rdata is same named k c t = subst IsRecord is (record { owner = subst IsName same named; kind = k; class = c; ttl = t })
 
 -- ---- what holds of each element
 

@@ -1,6 +1,8 @@
 -- What a writer holds.
-use Rattle.std.specs.Prelude.{◌≡◌, ◌≤◌, ◌<◌, ℕ, List, [], length, Option, Some, Result, Ok, Err}
-use Rattle.std.specs.Option.{option_map}
+use Rattle.std.specs.Prelude.{◌≡◌, ◌≤◌, ◌<◌, ℕ, List, [], ◌∷◌, length, Option, Some, None, Result, Ok, Err, if◌then◌else◌}
+use Rattle.std.specs.Borrow.{Bor}
+use Rattle.std.specs.Option.{option_map, option_or}
+use Rattle.std.specs.Str.{bytes_eq}
 use Rattle.std.specs.Ordering.{nat_cmp}
 use Rattle.std.specs.Cmp.Lexicographic.{slice_cmp}
 use Rattle.std.specs.BTreeMap.{get_by}
@@ -10,8 +12,12 @@ use Rattle.message_names.specs.declared.fault.Fault.TheVariants.{TooLarge, Memor
 use Rattle.message_reading.specs.declared.shape.Part.{Part}
 use Rattle.message_reading.specs.declared.shape.Part.TheVariants.{Name}
 use Rattle.message_writing.specs.Fields.{Field, named, plain, first_field}
+use Rattle.message_writing.specs.declared.pointers.Pointers.{Pointers}
 use Rattle.message_writing.specs.declared.writer.Writer.{Writer}
 use Rattle.message_writing.specs.Writing.{Text, Writing, place_of, pointer_to, after}
+
+abbrev pub KnownName : Type 0
+KnownName = Bor (List ℕ) × ℕ
 
 -- the pointer that stands beside these octets
 unfoldable pub pointer_among : List KnownName → List ℕ → Option ℕ

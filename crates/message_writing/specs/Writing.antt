@@ -134,9 +134,12 @@ counted_header h counts =
     as_is (octets16 h.id) ▹ as_is (octets16 (flags_of h)) ▹ as_is (octets16 (slice_index counts 0)) ▹ as_is (octets16 (slice_index counts 1))
     ▹ as_is (octets16 (slice_index counts 2)) ▹ as_is (octets16 (slice_index counts 3))
 
+abbrev pub list_counts : Message → List ℕ
+list_counts m = length m.questions ∷ length m.answers ∷ length m.authority ∷ length m.additional ∷ []
+
 -- the header, with the counts of the lists
 abbrev pub header_text : Message → Writing
-header_text m = counted_header m.header (length m.questions ∷ length m.answers ∷ length m.authority ∷ length m.additional ∷ [])
+header_text m = counted_header m.header (list_counts m)
 
 abbrev pub message_text : Message → Writing
 message_text m =

@@ -128,7 +128,8 @@ fn put_plain_with_length<'a, A: Allocator + Copy>(
     octets: &[u8],
     limit: usize,
 ) -> Result<(), Fault>
-    requires { limit ≤ 65535 }
+    requires holds { HoldsText writer.old }
+    requires limit { limit ≤ 65535 }
     ensures { Puts limit result writer.old writer.new (with_length (as_is octets.now)) (Unit {0}) }
 {
     if octets.len() + 2 > writer.room(limit) {

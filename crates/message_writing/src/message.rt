@@ -5,13 +5,13 @@ ghost use Rattle.message_names.specs.Reading.{Gives, Fails};
 ghost use Rattle.message_names.specs.declared.fault.Fault.TheVariants.{Memory};
 ghost use Rattle.message_reading.specs.Header.{FitsBits};
 ghost use Rattle.message_reading.specs.Messages.{Spells, HasShapes};
-ghost use Rattle.message_writing.specs.Writing.{bit, flags_of, counted_header, CanBeCounted, message_text, written_within};
+ghost use Rattle.message_writing.specs.Writing.{bit, flags_of, counted_header, list_counts, CanBeCounted, message_text, written_within};
 ghost use Rattle.message_writing.specs.Borrowed.{records_in};
 ghost use Rattle.message_writing.specs.Written.{IsMessage, IsCounted};
 ghost use Rattle.message_writing.specs.Writer.{Writes, Puts, HoldsText};
 
 use crate::borrowed::{MessageParts, RowsRef};
-use crate::records::{put_question, put_questions, put_records, put_sets};
+use crate::records::{put_only_question, put_questions, put_records, put_sets};
 use crate::writer::Writer;
 use message_names::Fault;
 use message_reading::{Header, Message};
@@ -64,12 +64,22 @@ fn count_of<A: Allocator>(sets: &[RowsRef<A>]) -> Option<u16>
 {
     let mut count = 0;
     for set in sets {
-        count += set.rows.len();
-        if count > LAST_COUNT {
+        if set.rows.len() > LAST_COUNT - count {
             return None;
         }
+        count += set.rows.len();
     }
     Some(count as u16)
+}
+
+/// The counts of the lists; `None` where a header has no room for them.
+fn counts_of<A: Allocator>(message: &MessageParts<A>) -> Option<[u16; 4]>
+    ensures { MatchOption result (CanBeCounted message.now → ⊥) (λ counts. CanBeCounted message.now × (counts ≡ list_counts message.now)) }
+{
+    let questions = message.question.is_some() as u16;
+    let answers = count_of(message.answers)?;
+    let authority = count_of(message.authority)?;
+    Some([questions, answers, authority, 0])
 }
 
 /// Writes the header with these counts: questions, answers, authority, additional.
@@ -117,34 +127,29 @@ fn put_message<'a, A: Allocator + Copy>(
     put_questions(writer, questions, limit)?;
     put_records(writer, answers, limit)?;
     put_records(writer, authority, limit)?;
-    put_records(writer, additional, limit)
+    put_records(writer, additional, limit)?;
+    Ok(())
 }
 
-/// Writes a message of borrowed parts, as far as the limit lets it.
+/// Writes a message of borrowed parts with these counts of its lists, as far as the limit lets it.
 fn put_parts<'a, A: Allocator + Copy>(
     writer: &mut Writer<'a, A>,
     message: &'a MessageParts<'a, A>,
+    counts: [u16; 4],
     limit: usize,
 ) -> Result<(), Fault>
     requires holds { HoldsText writer.old }
     requires limit { limit ≤ 65535 }
     requires bits { FitsBits message.now.header }
+    requires counts { counts ≡ list_counts message.now }
     ensures { Puts limit result writer.old writer.new (message_text message.now) (IsMessage message.now) }
 {
-    let Some(answers) = count_of(message.answers) else {
-        return Err(Fault::TooLarge);
-    };
-    let Some(authority) = count_of(message.authority) else {
-        return Err(Fault::TooLarge);
-    };
-    let questions = message.question.is_some() as u16;
-    put_header(writer, &message.header, [questions, answers, authority, 0])?;
+    put_header(writer, &message.header, counts)?;
     writer.check(limit)?;
-    if let Some(question) = &message.question {
-        put_question(writer, question, limit)?;
-    }
+    put_only_question(writer, &message.question, limit)?;
     put_sets(writer, message.answers, limit)?;
-    put_sets(writer, message.authority, limit)
+    put_sets(writer, message.authority, limit)?;
+    Ok(())
 }
 
 /// The octets of a message, with the counts of its lists in the header; those in `header.counts` are not looked at.
@@ -194,10 +199,13 @@ pub fn write_parts<A: Allocator + Copy>(
     ensures counted { IfErr result (λ fault. fault ≡ Memory → CanBeCounted message.now) }
     ensures spelled { OnOk result (IsCounted message.now → HasShapes message.now → Spells octets.new.items message.now) }
 {
+    let Some(counts) = counts_of(message) else {
+        return Err(Fault::TooLarge);
+    };
     let mut room = mem::replace(octets, Vec::new(alloc));
     room.clear();
     let mut writer = Writer::new(alloc, room);
-    let done = put_parts(&mut writer, message, limit);
+    let done = put_parts(&mut writer, message, counts, limit);
     let Writer {
         octets: text,
         pointers: _,

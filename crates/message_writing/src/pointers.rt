@@ -1,6 +1,6 @@
 //! The names that begin in octets, and where each began first.
 
-ghost use Rattle.std.specs.Prelude.{◌≡◌, ◌<◌, None, OnOk, length};
+ghost use Rattle.std.specs.Prelude.{◌≡◌, ℕ, List, None, OnOk};
 ghost use Rattle.message_writing.specs.Writer.{pointer_among, pointer_known, IsPutIn};
 
 use arrayvec::ArrayVec;

@@ -1,12 +1,11 @@
 //! Questions and records, written one behind another: RFC 1035 4.1.2 and 4.1.3.
 
-ghost use Rattle.std.specs.Prelude.{◌≡◌, ◌≤◌, ◌<◌, ◌+◌, ◌++◌, List, length, take, drop, OnOk, None};
+ghost use Rattle.std.specs.Prelude.{◌≡◌, ◌≤◌, ◌<◌, ℕ, List, length, OnOk};
 ghost use Rattle.std.specs.Option.{IfSome};
 ghost use Rattle.std.specs.List.{AllByRecursion};
 ghost use Rattle.dns_name.specs.Labels.{labels_of, IsLaidOut};
-ghost use Rattle.message_reading.specs.Values.{Question, Record};
-ghost use Rattle.message_writing.specs.Writing.{octets16, with_length, each, as_is, data_text, question_text, head_text, record_text};
-ghost use Rattle.message_writing.specs.Borrowed.{record_of, records_in};
+ghost use Rattle.message_writing.specs.Writing.{each, question_text, head_text, record_text};
+ghost use Rattle.message_writing.specs.Borrowed.{record_of, records_in, questions_of};
 ghost use Rattle.message_writing.specs.Written.{IsQuestion, IsRecord};
 ghost use Rattle.message_writing.specs.Writer.{Writes, Puts, HoldsText, IsKnown};
 
@@ -28,7 +27,8 @@ pub(crate) fn put_question<'a, A: Allocator + Copy>(
     writer.put_name(question.name())?;
     writer.put_u16(question.kind())?;
     writer.put_u16(question.class())?;
-    writer.check(limit)
+    writer.check(limit)?;
+    Ok(())
 }
 
 /// Writes the questions, as far as the limit lets them.
@@ -46,8 +46,26 @@ pub(crate) fn put_questions<'a, A: Allocator + Copy>(
     Ok(())
 }
 
+/// Writes the question, if there is one, as far as the limit lets it.
+pub(crate) fn put_only_question<'a, A: Allocator + Copy>(
+    writer: &mut Writer<'a, A>,
+    question: &Option<QuestionRef<'a>>,
+    limit: usize,
+) -> Result<(), Fault>
+    requires { length writer.old.octets.items ≤ limit }
+    ensures { Puts limit result writer.old writer.new (each question_text (questions_of question.now)) (AllByRecursion IsQuestion (questions_of question.now)) }
+{
+    match question {
+        None => Ok(()),
+        Some(question) => {
+            put_question(writer, question, limit)?;
+            Ok(())
+        }
+    }
+}
+
 /// What the records of a set have in common.
-#[derive(Clone, Copy)]
+#[derive(Drop)]
 struct Head<'a> {
     /// The owner's labels, each behind its length, without the zero octet.
     owner: &'a [u8],
@@ -59,12 +77,12 @@ struct Head<'a> {
 /// Writes what stands before the data of a record and its length. This is the pointer to its owner, if any.
 fn put_head<'a, A: Allocator + Copy>(
     writer: &mut Writer<'a, A>,
-    head: Head<'a>,
+    head: &Head<'a>,
     known: Option<u16>,
 ) -> Result<(), AllocError>
-    requires laid { IsLaidOut head.owner.now }
-    requires known { IfSome known (λ pointer. IsKnown writer.old head.owner.now pointer) }
-    ensures { (rdata : List ℕ) → OnOk result (Writes writer.old writer.new (head_text (record_of (labels_of head.owner.now) head.kind head.class head.ttl rdata))) }
+    requires laid { IsLaidOut head.now.owner.now }
+    requires known { IfSome known (λ pointer. IsKnown writer.old head.now.owner.now pointer) }
+    ensures { (rdata : List ℕ) → OnOk result (Writes writer.old writer.new (head_text (record_of (labels_of head.now.owner.now) head.now.kind head.now.class head.now.ttl rdata))) }
 {
     writer.put_known(head.owner, known)?;
     writer.put_u16(head.kind)?;
@@ -76,19 +94,20 @@ fn put_head<'a, A: Allocator + Copy>(
 /// Writes a record with this data, as far as the limit lets it. This is the pointer to its owner, if any.
 fn put_row<'a, A: Allocator + Copy>(
     writer: &mut Writer<'a, A>,
-    head: Head<'a>,
+    head: &Head<'a>,
     known: Option<u16>,
     rdata: &'a [u8],
     limit: usize,
 ) -> Result<(), Fault>
-    requires laid { IsLaidOut head.owner.now }
-    requires known { IfSome known (λ pointer. IsKnown writer.old head.owner.now pointer) }
+    requires laid { IsLaidOut head.now.owner.now }
+    requires known { IfSome known (λ pointer. IsKnown writer.old head.now.owner.now pointer) }
     requires holds { HoldsText writer.old }
     requires limit { limit ≤ 65535 }
-    ensures { let record = record_of (labels_of head.owner.now) head.kind head.class head.ttl rdata.now in Puts limit result writer.old writer.new (record_text record) (IsRecord record) }
+    ensures { let entry = record_of (labels_of head.now.owner.now) head.now.kind head.now.class head.now.ttl rdata.now in Puts limit result writer.old writer.new (record_text entry) (IsRecord entry) }
 {
     put_head(writer, head, known)?;
-    put_with_length(writer, head.kind, rdata, limit)
+    put_with_length(writer, head.kind, rdata, limit)?;
+    Ok(())
 }
 
 /// Writes the records, as far as the limit lets them.
@@ -124,7 +143,8 @@ fn put_record<'a, A: Allocator + Copy>(
         class: entry.class,
         ttl: entry.ttl,
     };
-    put_row(writer, head, None, entry.rdata.octets(), limit)
+    put_row(writer, &head, None, entry.rdata.octets(), limit)?;
+    Ok(())
 }
 
 /// Writes the records of a set, as far as the limit lets them. Their owner is looked up until it has a pointer.
@@ -146,10 +166,8 @@ fn put_set<'a, A: Allocator + Copy>(
     };
     let mut known = None;
     for rdata in set.rows {
-        if known.is_none() {
-            known = writer.known(head.owner);
-        }
-        put_row(writer, head, known, rdata.octets(), limit)?;
+        known = writer.known(head.owner, known);
+        put_row(writer, &head, known, rdata.octets(), limit)?;
     }
     Ok(())
 }

@@ -96,12 +96,13 @@ impl<'a, A: Allocator + Copy> Writer<'a, A> {
         Ok(())
     }
 
-    /// The pointer to this name, where there is one.
-    pub fn known(&self, name: &[u8]) -> Option<u16>
+    /// The pointer to this name, where there is one. It is looked up unless it was found before.
+    pub fn known(&self, name: &[u8], before: Option<u16>) -> Option<u16>
+        requires { IfSome before (λ pointer. IsKnown self.now name.now pointer) }
         ensures { IfSome result (λ pointer. IsKnown self.now name.now pointer) }
     {
-        if name.is_empty() {
-            return None;
+        if before.is_some() || name.is_empty() {
+            return before;
         }
         self.pointers.find(name)
     }
@@ -113,9 +114,10 @@ impl<'a, A: Allocator + Copy> Writer<'a, A> {
         ensures { OnOk result (Writes self.old self.new (name_text (labels_of name.now))) }
     {
         match known {
-            Some(pointer) => self.put_u16(pointer),
-            None => self.put_name(name),
+            Some(pointer) => self.put_u16(pointer)?,
+            None => self.put_name(name)?,
         }
+        Ok(())
     }
 
     /// How many octets the limit leaves.

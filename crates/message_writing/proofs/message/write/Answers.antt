@@ -4,7 +4,7 @@ use Rattle.message_writing.proofs.RoundTripMessage.{spelled_whole}
 use Rattle.message_writing.proofs.message.write.Goals as goal
 
 pub returns-then-not-can_be_counted-clause-given : goal.returns-then-not-can_be_counted-clause-given
-returns-then-not-can_be_counted-clause-given g c = uncounted c.args.limit c.args.message.now c.can_be_counted.result c.requires.limit c.can_be_counted.ensures.1 c.if-not-can_be_counted.true
+returns-then-not-can_be_counted-clause-given g c = uncounted c.args.limit c.args.message.now c.requires.limit (λ counts. absurd (cc (c.can_be_counted.ensures.1 counts, c.if-not-can_be_counted.true)))
 
 pub returns-in_err-put_message-clause-given : goal.returns-in_err-put_message-clause-given
 returns-in_err-put_message-clause-given g c =

@@ -1,19 +1,14 @@
-use Rattle.std.proofs.Common.{arith}
 use Rattle.dns_name.specs.Labels.{labels_of}
 use Rattle.message_writing.specs.Writing.{Writing, name_text, as_is, octets16, octets32, ◌▹◌}
 use Rattle.message_writing.proofs.WriterLaws.{both}
-use Rattle.message_writing.proofs.WriterRecords.{writes_as, head_fields, record_is}
 use Rattle.message_writing.proofs.records.put_head.Goals as goal
 
 pub returns : goal.returns
-returns g c =
-    let name : Writing = name_text (labels_of c.octets.result.now) in
-    let kind : Writing = as_is (octets16 c.entry.inside.kind) in
-    let class : Writing = as_is (octets16 c.entry.inside.class) in
-    let ttl : Writing = as_is (octets32 c.entry.inside.ttl) in
-    let two = both c.args.writer.now c.put_name.new.self c.put_u16.new.self name kind c.in_ok-put_name.ensures c.in_ok-put_u16.ensures in
+returns g c = λ rdata.
+    let name : Writing = name_text (labels_of c.args.head.now.owner.now) in
+    let kind : Writing = as_is (octets16 c.args.head.now.kind) in
+    let class : Writing = as_is (octets16 c.args.head.now.class) in
+    let ttl : Writing = as_is (octets32 c.args.head.now.ttl) in
+    let two = both c.args.writer.now c.put_known.new.self c.put_u16.new.self name kind c.in_ok-put_known.ensures c.in_ok-put_u16.ensures in
     let three = both c.args.writer.now c.put_u16.new.self c.put_u16-2.new.self (name ▹ kind) class two c.in_ok-put_u16-2.ensures in
-    let four = both c.args.writer.now c.put_u16-2.new.self c.put_u32.new.self (name ▹ kind ▹ class) ttl three c.in_ok-put_u32.ensures in (
-      writes_as c.args.writer.now c.put_u32.new.self (name ▹ kind ▹ class ▹ ttl) _ (head_fields _ _ _ _ _ _ _ c.entry.view_is c.octets.ensures.labels) four,
-      record_is _ _ _ _ _ _ _ c.entry.view_is c.octets.ensures.labels c.octets.ensures.laid.name (omega arith) (omega arith) (omega arith),
-    )
+    both c.args.writer.now c.put_u16-2.new.self c.put_u32.new.self (name ▹ kind ▹ class) ttl three c.in_ok-put_u32.ensures

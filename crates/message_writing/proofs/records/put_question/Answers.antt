@@ -1,17 +1,22 @@
 use Rattle.std.proofs.Common.{arith}
+use Rattle.std.proofs.lemmas.Result.{err_from_is_err_and}
 use Rattle.dns_name.specs.Labels.{labels_of}
-use Rattle.message_writing.specs.Writing.{Writing, name_text, as_is, octets16, ◌▹◌}
-use Rattle.message_writing.proofs.WriterLaws.{both}
-use Rattle.message_writing.proofs.WriterRecords.{writes_as, question_fields, question_is}
+use Rattle.message_writing.specs.Writing.{question_text}
+use Rattle.message_writing.proofs.WriterRecords.{question_written, question_is, too_large}
 use Rattle.message_writing.proofs.records.put_question.Goals as goal
 
+pub returns-in_err-check : goal.returns-in_err-check
+returns-in_err-check g c =
+    let p = err_from_is_err_and c.from_residual-in_err-check.result c.from_residual-in_err-check.ensures.1 in
+    let step = question_written c.args.writer.now c.put_name.new.self c.put_u16.new.self c.put_u16-2.new.self c.args.question.now (labels_of c.name.result.now) c.kind.result c.class.result
+    c.name.ensures.labels c.kind.ensures c.class.ensures c.in_ok-put_name.ensures c.in_ok-put_u16.ensures c.in_ok-put_u16-2.ensures in
+    rw (p.1, p.2)
+    (too_large c.args.limit c.in_err-check.field-0.0 c.args.writer.now c.put_u16-2.new.self (question_text c.args.question.now) step c.in_err-check.ensures.0 c.in_err-check.ensures.1)
+
 pub returns : goal.returns
-returns g c =
-    let name : Writing = name_text (labels_of c.octets.result.now) in
-    let kind : Writing = as_is (octets16 c.question.inside.kind) in
-    let class : Writing = as_is (octets16 c.question.inside.class) in
-    let two = both c.args.writer.now c.put_name.new.self c.put_u16.new.self name kind c.in_ok-put_name.ensures c.in_ok-put_u16.ensures in
-    let three = both c.args.writer.now c.put_u16.new.self c.put_u16-2.new.self (name ▹ kind) class two c.in_ok-put_u16-2.ensures in (
-      writes_as c.args.writer.now c.put_u16-2.new.self (name ▹ kind ▹ class) _ (question_fields _ _ _ _ _ c.question.view_is c.octets.ensures.labels) three,
-      question_is _ _ _ _ _ c.question.view_is c.octets.ensures.labels c.octets.ensures.laid.name (omega arith) (omega arith),
-    )
+returns g c = (
+  question_written c.args.writer.now c.put_name.new.self c.put_u16.new.self c.put_u16-2.new.self c.args.question.now (labels_of c.name.result.now) c.kind.result c.class.result
+      c.name.ensures.labels c.kind.ensures c.class.ensures c.in_ok-put_name.ensures c.in_ok-put_u16.ensures c.in_ok-put_u16-2.ensures,
+  c.in_ok-check.ensures,
+  question_is c.args.question.now (labels_of c.name.result.now) c.kind.result c.class.result c.name.ensures.labels c.kind.ensures c.class.ensures c.name.ensures.laid.name (omega arith) (omega arith),
+)

@@ -2,7 +2,7 @@ use Rattle.std.proofs.Common.{ℕ, ◌+◌, ◌-◌, ◌/◌, ◌%◌, List, ◌
 use Rattle.std.proofs.lemmas.List.{drop_all, length-take}
 use Rattle.std.proofs.lemmas.Slice.{put_mid-paste}
 use Rattle.message_writing.specs.Writing.{octets16}
-use Rattle.message_writing.proofs.records.set_u16.Goals as goal
+use Rattle.message_writing.proofs.data.set_u16.Goals as goal
 
 pub returns : goal.returns
 returns c =
