@@ -34,13 +34,7 @@ fn walked<'h>(
     let view = MessageRef::view(reply)?;
     let message = view.read_whole(heap)?;
     let question = view.question(heap)?;
-    Ok(pieces(
-        heap,
-        &message,
-        &question,
-        RouteId { place: 0 },
-        &config,
-    )?)
+    Ok(pieces(heap, &message, &question, RouteId { place: 0 }, &config)?)
 }
 
 /// A question that wants recursion.
