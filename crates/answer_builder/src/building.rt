@@ -1,11 +1,14 @@
 //! The answer from a chain of pieces, and the answer to a question that failed.
 
-ghost use Rattle.std.specs.Prelude.{◌≡◌, ◌<◌, map, IfOk, OnOk};
+ghost use Rattle.std.specs.Prelude.{◌≡◌, ◌<◌, IfOk, OnOk};
 ghost use Rattle.std.specs.List.{AllByRecursion};
+ghost use Rattle.std.specs.Option.{option_copied, IfSome};
+ghost use Rattle.dns_message.specs.Borrowed.{records_in};
 ghost use Rattle.dns_message.specs.Writing.{written};
 ghost use Rattle.answer_builder.specs.Answers.{error_response, IsEarlier};
 ghost use Rattle.answer_builder.specs.Faults.{Gives};
-ghost use Rattle.answer_builder.specs.Transports.{answer_of};
+ghost use Rattle.answer_builder.specs.Building.{ending, lent};
+ghost use Rattle.answer_builder.specs.Transports.{answer_of, text_of};
 
 use crate::asked::{Asked, AskedRef, Transport};
 use crate::fault::Fault;
@@ -29,10 +32,17 @@ fn put_sets<A: Allocator + Copy>(
     last: Option<&Held<A>>,
     moment: u64,
     transport: Transport,
-) -> Result<(), Fault> {
+) -> Result<(), Fault>
+    requires opcode { asked.opcode < 16 }
+    requires earlier { IfSome (option_copied last) (IsEarlier moment) }
+    ensures { Gives (λ _. octets.new.items) result (text_of asked (ending (records_in sets.now) moment (option_copied last)) transport) }
+{
     let (soa, rcode) = match last {
         None => (None, 0),
-        Some(held) => (soa_of(&held.piece, ttl_of(held, moment)), rcode_of(&held.piece)),
+        Some(held) => (
+            soa_of(&held.piece, ttl_of(held, moment)),
+            rcode_of(&held.piece),
+        ),
     };
     let authority = match &soa {
         None => &[],
@@ -60,15 +70,31 @@ pub fn put_answer<A: Allocator + Copy>(
     transport: Transport,
 ) -> Result<(), Fault>
     requires opcode { asked.opcode < 16 }
-    requires earlier { AllByRecursion (IsEarlier moment) (map (λ h. h.now) chain.now) }
-    ensures { Gives (λ _. octets.new.items) result (answer_of asked (map (λ h. h.now) chain.now) moment transport) }
+    requires earlier { AllByRecursion (IsEarlier moment) (lent chain.now) }
+    ensures { Gives (λ _. octets.new.items) result (answer_of asked (lent chain.now) moment transport) }
 {
     if let [held] = chain {
         let set = set_of(&held.piece, ttl_of(held, moment));
-        return put_sets(alloc, octets, asked, slice::from_ref(&set), Some(held), moment, transport);
+        return put_sets(
+            alloc,
+            octets,
+            asked,
+            slice::from_ref(&set),
+            Some(held),
+            moment,
+            transport,
+        );
     }
     let sets = sets_of(alloc, chain, moment)?;
-    put_sets(alloc, octets, asked, &sets, chain.last().copied(), moment, transport)
+    put_sets(
+        alloc,
+        octets,
+        asked,
+        &sets,
+        chain.last().copied(),
+        moment,
+        transport,
+    )
 }
 
 /// The octets of the answer to a question whose opcode has 4 bits, from the pieces that answer it: aliases in order, then
@@ -92,10 +118,24 @@ pub fn build<A: Allocator + Copy>(
 {
     let mut octets = Vec::with_capacity(alloc, ROOM)?;
     if let [held] = chain {
-        put_answer(alloc, &mut octets, asked.borrowed(), &[held], moment, transport)?;
+        put_answer(
+            alloc,
+            &mut octets,
+            asked.borrowed(),
+            &[held],
+            moment,
+            transport,
+        )?;
     } else {
         let borrowed = borrowed(alloc, chain)?;
-        put_answer(alloc, &mut octets, asked.borrowed(), &borrowed, moment, transport)?;
+        put_answer(
+            alloc,
+            &mut octets,
+            asked.borrowed(),
+            &borrowed,
+            moment,
+            transport,
+        )?;
     }
     Ok(Octets::from_vec(octets))
 }
@@ -105,7 +145,7 @@ fn borrowed<A: Allocator + Copy>(
     alloc: A,
     chain: &[Held<A>],
 ) -> Result<Vec<&Held<A>, A>, AllocError>
-    ensures { IfOk result (λ refs. map (λ h. h.now) refs.items ≡ chain.now) }
+    ensures { IfOk result (λ refs. lent refs.items ≡ chain.now) }
 {
     let mut refs = Vec::with_capacity(alloc, chain.len())?;
     for held in chain {

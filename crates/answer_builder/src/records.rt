@@ -5,7 +5,7 @@ ghost use Rattle.std.specs.List.{flat_map, AllByRecursion};
 ghost use Rattle.dns_message.specs.Borrowed.{records_in};
 ghost use Rattle.record_cache.specs.Ageing.{seconds_left};
 ghost use Rattle.answer_builder.specs.Answers.{aged, answers_of, rcode_of, record_of, set_records, soa_records, IsEarlier};
-ghost use Rattle.answer_builder.specs.Building.{listed};
+ghost use Rattle.answer_builder.specs.Building.{lent, listed};
 
 use dns_message::{Rdata, Record, RowsRef};
 use record_cache::Held;
@@ -71,8 +71,8 @@ pub(crate) fn sets_of<'a, A: Allocator + Copy>(
     chain: &[&'a Held<A>],
     moment: u64,
 ) -> Result<Vec<RowsRef<'a, A>, A>, AllocError>
-    requires { AllByRecursion (IsEarlier moment) (map (λ h. h.now) chain.now) }
-    ensures { IfOk result (λ sets. records_in sets.items ≡ flat_map (answers_of moment) (map (λ h. h.now) chain.now)) }
+    requires { AllByRecursion (IsEarlier moment) (lent chain.now) }
+    ensures { IfOk result (λ sets. records_in sets.items ≡ flat_map (answers_of moment) (lent chain.now)) }
 {
     let mut sets = Vec::with_capacity(alloc, chain.len())?;
     for held in chain {

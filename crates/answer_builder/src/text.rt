@@ -1,10 +1,12 @@
 //! The octets of answers.
 
-ghost use Rattle.std.specs.Prelude.{◌≡◌, ◌≤◌, ◌<◌, ◌∷◌, [], if◌then◌else◌, Some, None, IfOk, OnOk};
+ghost use Rattle.std.specs.Prelude.{◌≡◌, ◌≤◌, ◌<◌, ◌∷◌, [], if◌then◌else◌, length, Some, None, IfOk, OnOk};
+ghost use Rattle.std.specs.Option.{IfSome};
+ghost use Rattle.dns_name.specs.Labels.{IsName};
 ghost use Rattle.dns_message.specs.Header.{FitsBits};
 ghost use Rattle.dns_message.specs.Writing.{written};
 ghost use Rattle.answer_builder.specs.Answers.{answer_header};
-ghost use Rattle.answer_builder.specs.Building.{cut, fitting, IsBare};
+ghost use Rattle.answer_builder.specs.Building.{cut_down, fitting};
 ghost use Rattle.answer_builder.specs.Faults.{Gives};
 ghost use Rattle.answer_builder.specs.Transports.{over_tcp, over_udp, sent_over};
 
@@ -19,10 +21,14 @@ const UDP_LIMIT: usize = 512;
 /// The most octets that TCP carries (RFC 1035 4.2.2).
 const TCP_LIMIT: usize = 65_535;
 
-/// The header of an answer. Its counts are those of what is written under it.
+/// The header of an answer. Its counts are those of what is written under it. `named` says again what holds of each name.
 pub(crate) fn header_of(asked: &AskedRef<'_>, rcode: u8) -> Header
-    ensures { result ≡ answer_header asked.now false rcode (0 ∷ 0 ∷ 0 ∷ 0 ∷ []) }
+    ensures header { result ≡ answer_header asked.now false rcode (0 ∷ 0 ∷ 0 ∷ 0 ∷ []) }
+    ensures named { IfSome asked.now.question (λ q. IsName q.name) }
 {
+    if let Some(question) = &asked.question {
+        let _name = question.name();
+    }
     Header {
         id: asked.id,
         qr: true,
@@ -62,7 +68,7 @@ pub(crate) fn put_bare<A: Allocator + Copy>(
     message: &MessageParts<'_, A>,
 ) -> Result<(), AllocError>
     requires bits { FitsBits message.now.header }
-    requires bare { IsBare message.now }
+    requires short { length (written message.now) ≤ 65535 }
     ensures { OnOk result (octets.new.items ≡ written message.now) }
 {
     if put_whole(alloc, octets, message, TCP_LIMIT)? {
@@ -78,8 +84,9 @@ fn put_udp<A: Allocator + Copy>(
     octets: &mut Vec<u8, A>,
     mut message: MessageParts<'_, A>,
 ) -> Result<(), AllocError>
-    requires { FitsBits message.header }
-    ensures { OnOk result (octets.new.items ≡ over_udp (written message) (written (cut message))) }
+    requires bits { FitsBits message.header }
+    requires short { length (written (cut_down message)) ≤ 65535 }
+    ensures { OnOk result (octets.new.items ≡ over_udp (written message) (written (cut_down message))) }
 {
     if put_whole(alloc, octets, &message, UDP_LIMIT)? {
         return Ok(());
@@ -113,8 +120,9 @@ pub(crate) fn put_text<A: Allocator + Copy>(
     message: MessageParts<'_, A>,
     transport: Transport,
 ) -> Result<(), Fault>
-    requires { FitsBits message.header }
-    ensures { Gives (λ _. octets.new.items) result (sent_over transport (written message) (written (cut message))) }
+    requires bits { FitsBits message.header }
+    requires short { length (written (cut_down message)) ≤ 65535 }
+    ensures { Gives (λ _. octets.new.items) result (sent_over transport (written message) (written (cut_down message))) }
 {
     match transport {
         Transport::Udp => Ok(put_udp(alloc, octets, message)?),
