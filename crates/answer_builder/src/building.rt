@@ -35,7 +35,7 @@ fn put_sets<A: Allocator + Copy>(
 ) -> Result<(), Fault>
     requires opcode { asked.opcode < 16 }
     requires earlier { IfSome (option_copied last) (IsEarlier moment) }
-    ensures { Gives (λ _. octets.new.items) result (text_of asked (ending (records_in sets.now) moment (option_copied last)) transport) }
+    ensures { Gives (λ _. octets.new.items) result (text_of asked.entry (ending (records_in sets.now) moment (option_copied last.entry)) transport) }
 {
     let (soa, rcode) = match last {
         None => (None, 0),
@@ -71,7 +71,7 @@ pub fn put_answer<A: Allocator + Copy>(
 ) -> Result<(), Fault>
     requires opcode { asked.opcode < 16 }
     requires earlier { AllByRecursion (IsEarlier moment) (lent chain.now) }
-    ensures { Gives (λ _. octets.new.items) result (answer_of asked (lent chain.now) moment transport) }
+    ensures { Gives (λ _. octets.new.items) result (answer_of asked.entry (lent chain.now) moment transport) }
 {
     if let [held] = chain {
         let set = set_of(&held.piece, ttl_of(held, moment));
@@ -164,7 +164,7 @@ pub fn put_failure<A: Allocator + Copy>(
 ) -> Result<(), AllocError>
     requires opcode { asked.opcode < 16 }
     requires rcode { rcode < 16 }
-    ensures { OnOk result (octets.new.items ≡ written (error_response asked rcode)) }
+    ensures { OnOk result (octets.new.items ≡ written (error_response asked.entry rcode)) }
 {
     let message = MessageParts {
         header: header_of(&asked, rcode),

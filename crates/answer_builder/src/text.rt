@@ -1,6 +1,6 @@
 //! The octets of answers.
 
-ghost use Rattle.std.specs.Prelude.{◌≡◌, ◌≤◌, ◌<◌, ◌∷◌, [], if◌then◌else◌, length, Some, None, IfOk, OnOk};
+ghost use Rattle.std.specs.Prelude.{◌≡◌, ◌≤◌, ◌<◌, ◌∷◌, [], false, if◌then◌else◌, length, Some, None, IfOk, OnOk};
 ghost use Rattle.std.specs.Option.{IfSome};
 ghost use Rattle.dns_name.specs.Labels.{IsName};
 ghost use Rattle.dns_message.specs.Header.{FitsBits};
@@ -86,7 +86,7 @@ fn put_udp<A: Allocator + Copy>(
 ) -> Result<(), AllocError>
     requires bits { FitsBits message.header }
     requires short { length (written (cut_down message)) ≤ 65535 }
-    ensures { OnOk result (octets.new.items ≡ over_udp (written message) (written (cut_down message))) }
+    ensures { OnOk result (octets.new.items ≡ over_udp (written message.entry) (written (cut_down message.entry))) }
 {
     if put_whole(alloc, octets, &message, UDP_LIMIT)? {
         return Ok(());
@@ -122,7 +122,7 @@ pub(crate) fn put_text<A: Allocator + Copy>(
 ) -> Result<(), Fault>
     requires bits { FitsBits message.header }
     requires short { length (written (cut_down message)) ≤ 65535 }
-    ensures { Gives (λ _. octets.new.items) result (sent_over transport (written message) (written (cut_down message))) }
+    ensures { Gives (λ _. octets.new.items) result (sent_over transport (written message.entry) (written (cut_down message.entry))) }
 {
     match transport {
         Transport::Udp => Ok(put_udp(alloc, octets, message)?),
