@@ -24,12 +24,12 @@ use std::slice;
 const ROOM: usize = 512;
 
 /// Writes the answer with these records, which ends with this piece.
-fn put_sets<A: Allocator + Copy>(
+fn put_sets<'a, A: Allocator + Copy>(
     alloc: A,
     octets: &mut Vec<u8, A>,
-    asked: AskedRef<'_>,
-    sets: &[RowsRef<'_, A>],
-    last: Option<&Held<A>>,
+    asked: AskedRef<'a>,
+    sets: &'a [RowsRef<'a, A>],
+    last: Option<&'a Held<A>>,
     moment: u64,
     transport: Transport,
 ) -> Result<(), Fault>

@@ -82,7 +82,7 @@ pub(crate) fn put_bare<A: Allocator + Copy>(
 fn put_udp<A: Allocator + Copy>(
     alloc: A,
     octets: &mut Vec<u8, A>,
-    mut message: MessageParts<'_, A>,
+    message: MessageParts<'_, A>,
 ) -> Result<(), AllocError>
     requires bits { FitsBits message.header }
     requires short { length (written (cut_down message)) ≤ 65535 }
@@ -91,10 +91,20 @@ fn put_udp<A: Allocator + Copy>(
     if put_whole(alloc, octets, &message, UDP_LIMIT)? {
         return Ok(());
     }
-    message.header.tc = true;
-    message.answers = &[];
-    message.authority = &[];
-    put_bare(alloc, octets, &message)
+    let MessageParts {
+        mut header,
+        question,
+        answers: _,
+        authority: _,
+    } = message;
+    header.tc = true;
+    let cut = MessageParts {
+        header,
+        question,
+        answers: &[],
+        authority: &[],
+    };
+    put_bare(alloc, octets, &cut)
 }
 
 /// Writes an answer for TCP: `TooLarge` past 65,535 octets.
