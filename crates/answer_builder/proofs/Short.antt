@@ -8,8 +8,7 @@ use Rattle.dns_name.specs.Labels.{size_of, IsName}
 use Rattle.dns_message.specs.Header.{Header}
 use Rattle.dns_message.specs.Values.{Question, Message}
 use Rattle.dns_message.specs.Writing.{Place, Writing, as_is, ◌▹◌, each, octets16, pointer_or, label_text, name_text, question_text, record_text, header_text, written, written_within, place_of}
-use Rattle.answer_builder.specs.Values.{Asked}
-use Rattle.answer_builder.specs.Answers.{questions_of, answer_message, bare}
+use Rattle.dns_message.specs.Borrowed.{questions_of}
 
 -- wherever it is written, it has at most so many octets
 abbrev Short : ℕ → Writing → Type 0
@@ -65,7 +64,7 @@ unfolding each
 one_short n w x short = short_both n 0 (w x) (each w []) short (none_short w)
 
 -- a header and some questions
-abbrev asking : Header → List Question → Message
+abbrev pub asking : Header → List Question → Message
 asking h qs = record { header = h; questions = qs; answers = []; authority = []; additional = [] }
 
 all_short : (h : Header) (qs : List Question) (n : ℕ) → Short n (each question_text qs) → length (written (asking h qs)) ≤ 12 + n
@@ -79,18 +78,9 @@ all_short h qs n short =
     omega (arith, four)
 
 -- one question at most
-asking_short : (h : Header) (q : Option Question) → IfSome q (λ x. IsName x.name) → length (written (asking h (questions_of q))) ≤ 65535
+pub asking_short : (h : Header) (q : Option Question) → IfSome q (λ x. IsName x.name) → length (written (asking h (questions_of q))) ≤ 65535
 asking_short h None named = let short = all_short h [] 0 (none_short question_text) in omega (arith, short)
 asking_short h (Some q) named =
     let short = all_short h (q ∷ []) (size_of q.name + 2 + 2 + 0) (one_short (size_of q.name + 2 + 2) question_text q (question_short q)) in
     let small = named.short in
     omega (arith, short, small)
-
--- so an answer without records is in no way too large
-pub bare_fits : (a : Asked) (cut : Bool) (rcode : ℕ) → IfSome a.question (λ x. IsName x.name)
-    → written_within 65535 (answer_message a cut (bare rcode)) ≡ Ok (written (answer_message a cut (bare rcode)))
-unfolding written_within
-bare_fits a cut rcode named =
-    let m : Message = answer_message a cut (bare rcode) in
-    let short : length (written m) ≤ 65535 = asking_short m.header a.question named in
-    cond-false (nat_lt 65535 (length (written m))) _ _ (le-ltb 65535 (length (written m)) short)

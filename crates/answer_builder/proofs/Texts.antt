@@ -1,20 +1,17 @@
 -- What is written within a limit, and what is sent of it.
 use Rattle.std.proofs.Common.{◌≡◌, ℕ, ◌<◌, ◌≤◌, List, [], ◌∷◌, length, Bool, true, false, cond, refl, sym, ap, ◌∙◌, ⊎_elim, arith, Some, None}
 use Rattle.std.specs.Prelude.{nat_lt, nat_le, Result, Ok, Err}
-use Rattle.std.specs.Option.{IfSome}
 use Rattle.std.proofs.lemmas.Bool.{cases_Bool, cond-true, cond-false, ltb-false, ltb-true, le-leb, leb-true}
-use Rattle.dns_name.specs.Labels.{IsName}
-use Rattle.dns_message.specs.Header.{Header}
 use Rattle.dns_message.specs.Fault.{Fault}
 use Rattle.dns_message.specs.Fault.TheVariants.{TooLarge}
-use Rattle.dns_message.specs.Values.{Question, Record, Message}
+use Rattle.dns_message.specs.Values.{Message}
 use Rattle.dns_message.specs.Writing.{written, written_within}
 use Rattle.answer_builder.specs.declared.fault.Fault.{Fault as AnswerFault}
 use Rattle.answer_builder.specs.declared.fault.Fault.TheVariants as answer
 use Rattle.answer_builder.specs.Values.{Asked, Sections}
-use Rattle.answer_builder.specs.Answers.{questions_of, answer_header, answer_message, bare}
-use Rattle.answer_builder.specs.Building.{draft, fitting}
-use Rattle.answer_builder.proofs.Short.{bare_fits}
+use Rattle.dns_message.specs.Borrowed.{questions_of}
+use Rattle.answer_builder.specs.Answers.{answer_header, answer_message}
+use Rattle.answer_builder.specs.Building.{fitting}
 
 -- ---- what fits
 
@@ -28,7 +25,7 @@ fits_not : (limit : ℕ) (text : List ℕ) → limit < length text → fitting l
 fits_not limit text h = cond-false (nat_le (length text) limit) _ _ (not_leb (length text) limit h)
 
 -- what was written within a limit fits
-written_fits : (limit : ℕ) (m : Message) (text : List ℕ) → written_within limit m ≡ Ok text → Some text ≡ fitting limit (written m)
+pub written_fits : (limit : ℕ) (m : Message) (text : List ℕ) → written_within limit m ≡ Ok text → Some text ≡ fitting limit (written m)
 unfolding written_within
 written_fits limit m text e = ⊎_elim
     (λ (t : nat_lt limit (length (written m)) ≡ true). let bad : Err TooLarge ≡ Ok text = sym (cond-true (nat_lt limit (length (written m))) _ _ t) ∙ e in absurd (cc))
@@ -39,7 +36,7 @@ written_fits limit m text e = ⊎_elim
     (cases_Bool (nat_lt limit (length (written m))))
 
 -- what was refused doesn't
-refused_fits_not : (limit : ℕ) (m : Message) (fault : Fault) → written_within limit m ≡ Err fault → None ≡ fitting limit (written m)
+pub refused_fits_not : (limit : ℕ) (m : Message) (fault : Fault) → written_within limit m ≡ Err fault → None ≡ fitting limit (written m)
 unfolding written_within
 refused_fits_not limit m fault e = ⊎_elim
     (λ (t : nat_lt limit (length (written m)) ≡ true). sym (fits_not limit (written m) (ltb-true limit (length (written m)) t)))
@@ -48,49 +45,13 @@ refused_fits_not limit m fault e = ⊎_elim
 
 -- ---- the text has the counts of the lists, whatever the header says
 
-draft_counts : (a : Asked) (cut : Bool) (s : Sections) → written (draft a cut s) ≡ written (answer_message a cut s)
+-- an answer as it was put together
+abbrev pub made : Asked → Bool → Sections → Message
+made a cut s = record { header = answer_header a cut s.rcode (0 ∷ 0 ∷ 0 ∷ 0 ∷ []); questions = questions_of a.question; answers = s.answers; authority = s.authority; additional = [] }
+
+pub made_counts : (a : Asked) (cut : Bool) (s : Sections) → written (made a cut s) ≡ written (answer_message a cut s)
 unfolding written
-draft_counts a cut s = refl
-
-draft_within : (limit : ℕ) (a : Asked) (cut : Bool) (s : Sections) → written_within limit (draft a cut s) ≡ written_within limit (answer_message a cut s)
-unfolding written_within
-draft_within limit a cut s = ap (λ (text : List ℕ). cond (nat_lt limit (length text)) (Err TooLarge) (Ok text)) (draft_counts a cut s)
-
--- a message with these parts, as it was put together
-abbrev made : Header → List Question → List Record → List Record → Message
-made h qs answers authority = record { header = h; questions = qs; answers = answers; authority = authority; additional = [] }
-
-abbrev zeros : List ℕ
-zeros = 0 ∷ 0 ∷ 0 ∷ 0 ∷ []
-
-made_within : (limit : ℕ) (a : Asked) (cut : Bool) (s : Sections) (h : Header) (qs : List Question) → h ≡ answer_header a cut s.rcode zeros → qs ≡ questions_of a.question
-    → written_within limit (made h qs s.answers s.authority) ≡ written_within limit (answer_message a cut s)
-made_within limit a cut s h qs header same = (λ i. written_within limit (made (header i) (same i) s.answers s.authority)) ∙ draft_within limit a cut s
-
-pub text_fits : (limit : ℕ) (a : Asked) (cut : Bool) (s : Sections) (h : Header) (qs : List Question) (text : List ℕ) → h ≡ answer_header a cut s.rcode zeros → qs ≡ questions_of a.question
-    → written_within limit (made h qs s.answers s.authority) ≡ Ok text → Some text ≡ fitting limit (written (answer_message a cut s))
-text_fits limit a cut s h qs text header same e = written_fits limit (answer_message a cut s) text (sym (made_within limit a cut s h qs header same) ∙ e)
-
-pub text_fits_not : (limit : ℕ) (a : Asked) (cut : Bool) (s : Sections) (h : Header) (qs : List Question) (fault : Fault) → h ≡ answer_header a cut s.rcode zeros → qs ≡ questions_of a.question
-    → written_within limit (made h qs s.answers s.authority) ≡ Err fault → None ≡ fitting limit (written (answer_message a cut s))
-text_fits_not limit a cut s h qs fault header same e = refused_fits_not limit (answer_message a cut s) fault (sym (made_within limit a cut s h qs header same) ∙ e)
-
--- ---- without records
-
-bare_within : (a : Asked) (cut : Bool) (rcode : ℕ) (h : Header) (qs : List Question) (answers authority : List Record) → IfSome a.question (λ x. IsName x.name) → h ≡ answer_header a cut rcode zeros → qs ≡ questions_of a.question
-    → answers ≡ [] → authority ≡ [] → written_within 65535 (made h qs answers authority) ≡ Ok (written (answer_message a cut (bare rcode)))
-bare_within a cut rcode h qs answers authority named header same none none_too =
-    (λ i. written_within 65535 (made h qs (none i) (none_too i))) ∙ made_within 65535 a cut (bare rcode) h qs header same ∙ bare_fits a cut rcode named
-
-pub bare_given : (a : Asked) (cut : Bool) (rcode : ℕ) (h : Header) (qs : List Question) (answers authority : List Record) (text : List ℕ) → IfSome a.question (λ x. IsName x.name) → h ≡ answer_header a cut rcode zeros → qs ≡ questions_of a.question
-    → answers ≡ [] → authority ≡ [] → written_within 65535 (made h qs answers authority) ≡ Ok text → text ≡ written (answer_message a cut (bare rcode))
-bare_given a cut rcode h qs answers authority text named header same none none_too e =
-    let is : Ok text ≡ Ok (written (answer_message a cut (bare rcode))) = sym e ∙ bare_within a cut rcode h qs answers authority named header same none none_too in cc
-
-pub bare_not_refused : (a : Asked) (cut : Bool) (rcode : ℕ) (h : Header) (qs : List Question) (answers authority : List Record) (fault : Fault) → IfSome a.question (λ x. IsName x.name) → h ≡ answer_header a cut rcode zeros → qs ≡ questions_of a.question
-    → answers ≡ [] → authority ≡ [] → written_within 65535 (made h qs answers authority) ≡ Err fault → ⊥
-bare_not_refused a cut rcode h qs answers authority fault named header same none none_too e =
-    let is : Err fault ≡ Ok (written (answer_message a cut (bare rcode))) = sym e ∙ bare_within a cut rcode h qs answers authority named header same none none_too in absurd (cc)
+made_counts a cut s = refl
 
 -- ---- what is sent
 
