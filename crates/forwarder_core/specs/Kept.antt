@@ -5,7 +5,9 @@ use Rattle.suffix_routes.specs.Values.{Config, IsConfig}
 use Rattle.outstanding.specs.Values.{Ask, Inquiries}
 use Rattle.step_rules.specs.State.{Waiting}
 use Rattle.step_rules.specs.Attempts.{peer_at}
-use Rattle.step_rules.specs.Progress.{AreTakenInTurn, IsTry}
+use Rattle.record_cache.specs.Values.{Cache}
+use Rattle.answer_builder.specs.Answers.{IsEarlier}
+use Rattle.step_rules.specs.Progress.{AreTakenInTurn, IsTry, IsCacheOf}
 use Rattle.step_soundness.specs.Explains.{IsBelow, ArePreferred}
 
 -- a listed ask went to the server at its place, as one of the tries that an inquiry has, over a path that was given
@@ -15,9 +17,11 @@ pub record IsKeptAsk (c : Config) (moment count : ℕ) (a : Ask) : Type 0 where
   pub tries : IsTry c a
   pub path : IsBelow count a.path
 
--- both lists are within their limits and in the order of time, no moment is past the effective one, and each preferred server is one of its group
-pub record IsKept (c : Config) (inquiries : Inquiries) (waiting : List Waiting) (preferred : List ℕ) (moment count : ℕ) : Type 0 where
+-- the cache has the configured capacity and what it holds is on its routes, both lists are within their limits and in the order of time, no moment is past the effective one, and each preferred server is one of its group
+pub record IsKept (c : Config) (cache : Cache) (inquiries : Inquiries) (waiting : List Waiting) (preferred : List ℕ) (moment count : ℕ) : Type 0 where
   pub config : IsConfig c
+  pub cache : IsCacheOf c cache
+  pub accepted : AllByRecursion (IsEarlier moment) cache.entries
   pub capacity : inquiries.capacity ≡ c.limits.inquiries
   pub asks : AllByRecursion (IsKeptAsk c moment count) inquiries.asks
   pub few : length waiting ≤ c.limits.questions

@@ -1,5 +1,2 @@
-pub mod Texts
-pub mod Spelling
-pub mod Sets
 pub mod Kept
 pub mod Next
