@@ -1,5 +1,9 @@
 //! What a step is about to do, with all the memory that it takes.
 
+ghost use Rattle.std.specs.Prelude.{◌≡◌, []};
+ghost use Rattle.step_values.specs.Values.{actions_of};
+ghost use Rattle.forwarder_core.specs.Next.{pieces_of};
+
 use outstanding::{Ask, Path};
 use plain_list::PlainList;
 use record_cache::Held;
@@ -41,11 +45,10 @@ pub(crate) struct Carried<A: Allocator = Global> {
     pub authority: PlainList<Piece<A>, A>,
 }
 
-impl<A: Allocator> Carried<A> {
+impl<A: Allocator + Copy> Carried<A> {
     /// Nothing; it takes no memory.
     pub fn nothing(alloc: A) -> Carried<A>
-    where
-        A: Copy,
+        ensures { pieces_of result ≡ [] }
     {
         Carried {
             held: Vec::new(alloc),
@@ -66,11 +69,12 @@ pub(crate) struct Next<A: Allocator = Global> {
 
 impl<A: Allocator + Copy> Next<A> {
     /// These actions and this change, with no look-up and no accepted reply.
-    pub fn without_cache(
-        alloc: A,
-        actions: PlainList<Action<A>, A>,
-        change: Change<A>,
-    ) -> Next<A> {
+    pub fn without_cache(alloc: A, actions: PlainList<Action<A>, A>, change: Change<A>) -> Next<A>
+        ensures actions { actions_of result.actions ≡ actions_of actions }
+        ensures used { result.used ≡ [] }
+        ensures change { result.change ≡ change }
+        ensures carried { pieces_of result.carried ≡ [] }
+    {
         Next {
             actions,
             used: Slots::none(alloc),

@@ -115,10 +115,7 @@ fn put_answers<'a, A: Allocator + Copy>(
 }
 
 /// Entries, borrowed.
-fn borrowed<A: Allocator + Copy>(
-    alloc: A,
-    held: &[Held<A>],
-) -> Result<Vec<&Held<A>, A>, AllocError>
+fn borrowed<A: Allocator + Copy>(alloc: A, held: &[Held<A>]) -> Result<Vec<&Held<A>, A>, AllocError>
     ensures { IfOk result (λ refs. lent refs.items ≡ held.now) }
 {
     let mut refs = Vec::with_capacity(alloc, held.len())?;

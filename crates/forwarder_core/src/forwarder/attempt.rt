@@ -34,11 +34,7 @@ impl<H: BuildHasher + Drop, A: Allocator + Copy> Forwarder<H, A> {
         ensures fits { IfOk result (λ next. CanChange self.now.config moment self.now.state next) }
     {
         let actions = failures(self.alloc, ask, &self.waiting, why)?;
-        Ok(Next::without_cache(
-            self.alloc,
-            actions,
-            Change::Close(path, None),
-        ))
+        Ok(Next::without_cache(self.alloc, actions, Change::Close(path, None)))
     }
 
     /// The ask on a path is closed, and the next one goes out.
@@ -58,11 +54,7 @@ impl<H: BuildHasher + Drop, A: Allocator + Copy> Forwarder<H, A> {
         actions.push(close(ask.path))?;
         let action = ask_action(self.alloc, &next)?;
         actions.push(action)?;
-        Ok(Next::without_cache(
-            self.alloc,
-            actions,
-            Change::AskAgain(path, next),
-        ))
+        Ok(Next::without_cache(self.alloc, actions, Change::AskAgain(path, next)))
     }
 
     /// The ask on a path is closed. Another server is asked over what was drawn; without a path those that wait fail.

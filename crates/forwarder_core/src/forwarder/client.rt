@@ -1,17 +1,16 @@
 //! What a client's message calls for.
 
-ghost use Rattle.std.specs.Prelude.{◌≡◌, ◌^◌, ℕ, ◌<◌, ◌≤◌, false, true, length, Bool, List, IfOk, IfSome, IsNone, Some, None};
+ghost use Rattle.std.specs.Prelude.{◌≡◌, ◌^◌, ℕ, ◌<◌, ◌≤◌, [], false, true, length, Bool, List, IfOk, Some, None};
 ghost use Rattle.std.specs.List.{AllByRecursion};
 ghost use Rattle.answer_builder.specs.Answers.{IsEarlier};
 ghost use Rattle.outstanding.specs.Lists.{of_question, AreListed};
-ghost use Rattle.trust_rank.specs.declared.slot.Slot.{Slot};
 ghost use Rattle.step_history.specs.Names.{route_of};
 ghost use Rattle.step_history.specs.History.{is_taken};
-ghost use Rattle.step_history.specs.Causes.{is_unserved};
-ghost use Rattle.step_look_ups.specs.Seen.{Seen, is_ended, seen_of};
+ghost use Rattle.step_look_ups.specs.Seen.{is_ended, seen_of};
 ghost use Rattle.step_rules.specs.Attempts.{first_ask};
-ghost use Rattle.step_rules.specs.LookingUp.{asked_look_up, look_up, missed_as_asked};
-ghost use Rattle.step_rules.specs.Steps.{using, idle_step, reply_step, taking_step};
+ghost use Rattle.step_rules.specs.LookingUp.{asked_look_up, look_up, missed, missed_as_asked};
+ghost use Rattle.step_history.specs.Replies.{asked_in};
+ghost use Rattle.step_rules.specs.Steps.{using, idle_step, reply_step, taking_step, gives_up, failed};
 ghost use Rattle.step_rules.specs.Row.{row_of_opening, row_of_new_inquiry, row_of_waiting, row_of_look_up, row_of_route, row_of_service, row_of_request};
 ghost use Rattle.step_values.specs.Values.{action_of};
 ghost use Rattle.trust_rank.specs.Walks.{most_aliases};
@@ -21,7 +20,7 @@ use crate::attempts::{Try, by_udp, new_ask};
 use crate::forwarder::Forwarder;
 use crate::next::{Carried, Change, Next};
 use crate::request::{is_not_served, only_question, taken_header};
-use dns_message::Question;
+use dns_message::{Header, Question};
 use outstanding::{Ask, draw};
 use plain_list::PlainList;
 use std::alloc::{AllocError, Allocator};
@@ -56,13 +55,8 @@ impl<H: BuildHasher + Drop, A: Allocator + Copy> Forwarder<H, A> {
     }
 
     /// The question fails at once.
-    fn refuse(
-        &self,
-        waiting: &Waiting<A>,
-        why: Why,
-        used: Slots<A>,
-    ) -> Result<Next<A>, AllocError>
-        ensures row { IfOk result (λ next. (n : ℕ) → (rooms : List Bool) → next_of n rooms self.now.state next ≡ reply_step n (Rattle.step_rules.specs.Steps.gives_up why waiting.now) (using used self.now.state)) }
+    fn refuse(&self, waiting: &Waiting<A>, why: Why, used: Slots<A>) -> Result<Next<A>, AllocError>
+        ensures row { IfOk result (λ next. (n : ℕ) → (rooms : List Bool) → next_of n rooms self.now.state next ≡ reply_step n (gives_up why waiting.now) (using used self.now.state)) }
         ensures fits { IfOk result (λ next. (n : ℕ) → CanChange self.now.config n self.now.state next) }
     {
         let action = failure(self.alloc, waiting, why)?;
@@ -199,7 +193,7 @@ impl<H: BuildHasher + Drop, A: Allocator + Copy> Forwarder<H, A> {
     ) -> Result<Next<A>, AllocError>
         requires ended { is_ended looked.now.met ≡ true }
         requires earlier { AllByRecursion (IsEarlier moment) looked.now.used }
-        requires found { looked.now ≡ seen_of (look_up self.now.config.routes moment self.now.state.cache.entries most_aliases Rattle.std.specs.Prelude.[] waiting.now.wanted) }
+        requires found { looked.now ≡ seen_of (look_up self.now.config.routes moment self.now.state.cache.entries most_aliases [] waiting.now.wanted) }
         ensures row { (words : List ℕ) → IfOk result (λ next. (rooms : List Bool) → next_of moment rooms self.now.state next ≡ row_of_look_up self.now.config moment words waiting.now self.now.state (asked_look_up self.now.config.routes moment self.now.state.cache.entries waiting.now.wanted)) }
         ensures fits { IfOk result (λ next. CanChange self.now.config moment self.now.state next) }
     {
@@ -219,8 +213,8 @@ impl<H: BuildHasher + Drop, A: Allocator + Copy> Forwarder<H, A> {
         requires later { self.now.state.moment ≤ moment }
         requires in_time { moment ≤ 2 ^ 62 }
         requires taken { waiting.taken ≡ moment }
-        requires routed { route_of self.now.config waiting.wanted.name ≡ None → used ≡ Rattle.std.specs.Prelude.[] }
-        ensures row { IfOk result (λ next. (rooms : List Bool) → next_of moment rooms self.now.state next ≡ row_of_look_up self.now.config moment words waiting self.now.state (missed_as_asked waiting.wanted (record { held = Rattle.std.specs.Prelude.[]; wanted = waiting.wanted; met = Rattle.step_rules.specs.LookingUp.missed; used = used }))) }
+        requires routed { route_of self.now.config waiting.wanted.name ≡ None → used ≡ [] }
+        ensures row { IfOk result (λ next. (rooms : List Bool) → next_of moment rooms self.now.state next ≡ row_of_look_up self.now.config moment words waiting self.now.state (missed_as_asked waiting.wanted (record { held = []; wanted = waiting.wanted; met = missed; used = used }))) }
         ensures fits { IfOk result (λ next. CanChange self.now.config moment self.now.state next) }
     {
         match self.config.route_of(&waiting.question.name) {
@@ -230,12 +224,7 @@ impl<H: BuildHasher + Drop, A: Allocator + Copy> Forwarder<H, A> {
     }
 
     /// A question that is served. No route is looked up where the cache has an answer: its entries are on their routes.
-    fn look(
-        &self,
-        moment: u64,
-        words: [u32; 8],
-        waiting: Waiting<A>,
-    ) -> Result<Next<A>, AllocError>
+    fn look(&self, moment: u64, words: [u32; 8], waiting: Waiting<A>) -> Result<Next<A>, AllocError>
         requires later { self.now.state.moment ≤ moment }
         requires in_time { moment ≤ 2 ^ 62 }
         requires taken { waiting.taken ≡ moment }
@@ -282,11 +271,11 @@ impl<H: BuildHasher + Drop, A: Allocator + Copy> Forwarder<H, A> {
     fn refuse_message(
         &self,
         client: Client,
-        header: &dns_message::Header,
+        header: &Header,
         why: Why,
     ) -> Result<Next<A>, AllocError>
         requires { header.now.opcode < 16 }
-        ensures row { IfOk result (λ next. (n : ℕ) → (rooms : List Bool) → next_of n rooms self.now.state next ≡ reply_step n (Rattle.step_rules.specs.Steps.failed client (Rattle.step_history.specs.Replies.asked_in header.now None) why) self.now.state) }
+        ensures row { IfOk result (λ next. (n : ℕ) → (rooms : List Bool) → next_of n rooms self.now.state next ≡ reply_step n (failed client (asked_in header.now None) why) self.now.state) }
         ensures fits { IfOk result (λ next. (n : ℕ) → CanChange self.now.config n self.now.state next) }
     {
         let action = refusal(self.alloc, client, header, why)?;

@@ -84,13 +84,7 @@ impl<H: BuildHasher + Drop, A: Allocator + Copy> Forwarder<H, A> {
         ensures row { IfOk result (λ next. (rooms : List Bool) → next_of moment rooms self.now.state next ≡ row_of_walk self.now.config moment words rooms ask.now self.now.state (walk_of self.now.config message.now ask.now.question ask.now.route)) }
         ensures fits { IfOk result (λ next. CanChange self.now.config moment self.now.state next) }
     {
-        let walk = pieces(
-            self.alloc,
-            message,
-            &ask.question,
-            ask.route,
-            &self.config,
-        )?;
+        let walk = pieces(self.alloc, message, &ask.question, ask.route, &self.config)?;
         if counts_as_lame(&walk.end) {
             return self.fail(moment, words, path, ask, Failure::Lame);
         }

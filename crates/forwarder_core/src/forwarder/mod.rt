@@ -205,7 +205,8 @@ impl<H: BuildHasher + Drop, A: Allocator + Copy> Forwarder<H, A> {
     }
 
     /// One step: what is to be done about the event, at this moment in milliseconds and with these random words. A
-    /// moment below an earlier one counts as that one. `Err` where memory ran out, and then nothing has changed.
+    /// moment below an earlier one counts as that one. `Err` where memory ran out, and then nothing has changed. A piece of
+    /// a reply that finds no memory in the cache refuses no step: `unkept` counts it.
     pub fn step(
         &mut self,
         now: u64,

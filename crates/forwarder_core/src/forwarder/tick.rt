@@ -46,11 +46,7 @@ impl<H: BuildHasher + Drop, A: Allocator + Copy> Forwarder<H, A> {
         let mut actions = closes(self.alloc, closed)?;
         let action = failure(self.alloc, oldest, Why::Deadline)?;
         actions.push(action)?;
-        Ok(Next::without_cache(
-            self.alloc,
-            actions,
-            Change::Expire(closed),
-        ))
+        Ok(Next::without_cache(self.alloc, actions, Change::Expire(closed)))
     }
 
     /// The oldest question comes first.
