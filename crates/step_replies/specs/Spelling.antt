@@ -1,9 +1,10 @@
 -- Texts of answers to questions that are spelled alike: they differ in identifier, opcode and RD alone (RFC 1035 4.1.1).
-use Rattle.std.specs.Prelude.{◌≡◌, ℕ, ◌+◌, ◌*◌, ◌==◌, ◌&&◌, Bool, true, false, if◌then◌else◌, List, [], ◌∷◌, ◌++◌, drop, option_map, Option, Some, None, Result, Ok, Err}
+use Rattle.std.specs.Prelude.{◌≡◌, ℕ, ◌+◌, ◌*◌, ◌==◌, ◌&&◌, Bool, List, [], ◌∷◌, ◌++◌, drop, option_map, Option, Some, None, Result, Ok, Err}
 use Rattle.std.specs.List.{AllByRecursion}
 use Rattle.dns_name.specs.Labels.{octets_of}
 use Rattle.plain_list.specs.Octets.{same_octets}
 use Rattle.dns_message.specs.Values.{Question}
+use Rattle.dns_message.specs.Writing.{bit, octets16}
 use Rattle.record_cache.specs.Values.{Held}
 use Rattle.answer_builder.specs.declared.asked.Transport.TheVariants.{Tcp}
 use Rattle.answer_builder.specs.declared.fault.Fault.{Fault}
@@ -33,7 +34,7 @@ sends_text x None = gives_up TooLarge x
 
 -- the identifier, and the octet with QR, opcode and RD
 abbrev pub front_of : Asked → List ℕ
-front_of a = (a.id / 256) ∷ (a.id % 256) ∷ (128 + 8 * a.opcode + (if a.rd then 1 else 0)) ∷ []
+front_of a = octets16 a.id ++ (128 + a.opcode * 8 + bit a.rd 1) ∷ []
 
 -- a text with that front in the place of its own
 abbrev pub with_front : Asked → List ℕ → List ℕ

@@ -66,9 +66,9 @@ fn a_run_over_a_list(rt: HostRuntime) -> Result<(), Fail> {
         assert!(rt; are_worked(&steps, 1), "after {count}");
         unkept = unkept.saturating_add(1);
     }
-    // The configuration takes 2 growths and a new forwarder one; a step takes one more for each of its two copies, and
-    // the first for the list.
-    assert_eq!(rt; refused, 2 + 1 + (10 + 3) + (23 + 2));
+    // The configuration takes 2 growths and a new forwarder 7, all but one for its cache; a step takes one more for each
+    // of its two copies, and the first for the list. With the last growth refused, the set is not kept.
+    assert_eq!(rt; (refused, unkept), (2 + 7 + (6 + 3) + (14 + 2), 1));
     Ok(())
 }
 
@@ -98,6 +98,6 @@ fn a_recorded_run(rt: HostRuntime) -> Result<(), Fail> {
         assert!(rt; are_worked(recorded.steps(), 0), "after {count}");
     }
     // Those of the step, and the copy of its event.
-    assert_eq!(rt; refused, 23 + 1);
+    assert_eq!(rt; (refused, unkept), (14 + 1, 1));
     Ok(())
 }
