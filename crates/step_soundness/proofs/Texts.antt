@@ -38,7 +38,7 @@ seconds_fit : (t : ℕ) (h : Held) → CanBeTold t h → seconds_left t h < 4294
 seconds_fit t h told =
     let short : h.piece.lifetime ≤ 604800 = told.formed.lifetime in
     let before : h.accepted ≤ t = told.earlier in
-    let most : seconds_left t h ≤ 604800 = ? in
+    let most : seconds_left t h ≤ 604800 = omega (arith, short, before) in
     omega (arith, most)
 
 -- ---- the records of an answer
