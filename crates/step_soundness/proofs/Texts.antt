@@ -23,15 +23,9 @@ use Rattle.step_values.specs.declared.event.Client.{Client}
 use Rattle.step_values.specs.declared.event.Client.TheVariants.{Udp, Tcp}
 use Rattle.step_history.specs.Replies.{sized_for, FitsTransport}
 use Rattle.step_history.specs.Sound.{SameSections}
-use Rattle.step_soundness.specs.Kept.{IsWritable, IsWritableBody, SpellsAnswer}
+use Rattle.step_soundness.specs.Kept.{IsWritable, IsWritableBody, CanBeTold, SpellsAnswer}
 use Rattle.step_soundness.proofs.AskText.{question_short}
 use Rattle.step_soundness.proofs.Fates.{All-append}
-
--- a held piece that can be told at the moment
-pub record CanBeTold (t : ℕ) (h : Held) : Type 0 where
-  pub formed : IsPiece h.piece
-  pub writable : IsWritable h.piece
-  pub earlier : h.accepted ≤ t
 
 -- what is left of a lifetime fits 32 bits
 seconds_fit : (t : ℕ) (h : Held) → CanBeTold t h → seconds_left t h < 4294967296

@@ -9,6 +9,7 @@ use Rattle.dns_message.specs.Messages.{Spells}
 use Rattle.dns_message.specs.Written.{IsRecord}
 use Rattle.suffix_routes.specs.Values.{Config}
 use Rattle.trust_rank.specs.Values.{Body, rows, no_data, denied, Piece}
+use Rattle.trust_rank.specs.Formed.{IsPiece}
 use Rattle.trust_rank.specs.Walks.{most_aliases}
 use Rattle.record_cache.specs.Values.{Held, Cache}
 use Rattle.record_cache.specs.Entries.{AreHeld}
@@ -44,6 +45,12 @@ pub record IsKept (c : Config) (carried : List Held) (moment : ℕ) (h : Held) :
   pub earlier : h.accepted ≤ moment
   pub not_replaced : NotReplaced h carried
   pub writable : IsWritable h.piece
+
+-- what an answer tells of an entry at the moment can be written
+pub record CanBeTold (t : ℕ) (h : Held) : Type 0 where
+  pub formed : IsPiece h.piece
+  pub writable : IsWritable h.piece
+  pub earlier : h.accepted ≤ t
 
 -- ---- answers
 
