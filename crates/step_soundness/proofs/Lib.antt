@@ -24,6 +24,7 @@ pub mod Nexts
 pub mod Clients
 pub mod Failures
 pub mod Times
+pub mod Accepting
 pub mod Deliveries
 pub mod Theorem
 pub mod Runs
