@@ -9,4 +9,4 @@ pub use message_reading::{
     Header, Message, MessageRef, Question, Rdata, Record, Records, Span, messages_are_spelled,
     names_are_written_out, spans_are_records, what_stands_is_read,
 };
-pub use message_writing::{what_is_written_is_spelled, write};
+pub use message_writing::{what_is_read_can_be_written, what_is_written_is_spelled, write};

@@ -2,6 +2,7 @@ pub mod WriterLaws
 pub mod WriterFields
 pub mod WriterRecords
 pub mod WriterMessages
+pub mod Reading
 pub mod RoundTrip
 pub mod RoundTripData
 pub mod RoundTripMessage

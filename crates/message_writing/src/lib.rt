@@ -8,5 +8,5 @@ mod message;
 mod records;
 mod writer;
 
-pub use laws::what_is_written_is_spelled;
+pub use laws::{what_is_read_can_be_written, what_is_written_is_spelled};
 pub use message::write;
