@@ -14,8 +14,10 @@ use Rattle.suffix_routes.proofs.CallerLemmas.{route_of_lowered}
 use Rattle.trust_rank.specs.declared.slot.Slot.{Slot}
 use Rattle.trust_rank.specs.Values.{Piece, End, found, ends_no_data, ends_denied, elsewhere, lame, Walk, Reply, reply_of}
 use Rattle.trust_rank.specs.Walks.{walk_of}
+use Rattle.trust_rank.specs.Writable.{IsWritable}
 use Rattle.trust_rank.specs.Laws.{IsCarriedFor, Lead, last_kind, IsServerSet}
 use Rattle.trust_rank.proofs.Leading.{servers_fit}
+use Rattle.trust_rank.proofs.Writing.{pieces_are_writable}
 use Rattle.record_cache.specs.Values.{Held}
 use Rattle.record_cache.specs.Laws.{Among}
 use Rattle.step_values.specs.declared.action.Why.TheVariants.{ChainLong}
@@ -31,9 +33,8 @@ use Rattle.step_rules.specs.State.{Waiting, State}
 use Rattle.step_rules.specs.Steps.{Fate, closing_step}
 use Rattle.step_rules.specs.LookingUp.{ends, Looked}
 use Rattle.step_rules.specs.Row.{held_at, last_of, before_last, ends_at, too_many, unless_many, looked_by, fate_of, row_of_end}
-use Rattle.step_soundness.specs.Kept.{IsWritable, CanBeTold}
+use Rattle.step_soundness.specs.Kept.{CanBeTold}
 use Rattle.step_soundness.specs.Explains.{Comes, look_from, Waits}
-use Rattle.step_soundness.proofs.Cited.{walk_is_writable}
 use Rattle.step_soundness.proofs.Fates.{All-append, All-weaker, Fated}
 use Rattle.step_soundness.proofs.Actions.{OwnsReply}
 use Rattle.step_soundness.proofs.Justifying.{GoesOn, follows_later, follows_append, follows_first, new_is_justified}
@@ -98,7 +99,7 @@ walk_offered c m q route message shapes question on fine =
     closes = walk_closes c m q route shapes on fine
 
     writable : AllByRecursion IsWritable (walk_of c m q route).pieces × AllByRecursion IsWritable (walk_of c m q route).authority
-    writable = walk_is_writable c m q route question message.answers message.authority
+    writable = pieces_are_writable c m q route question message.answers message.authority
 
     own : AllByRecursion IsWritable closes.aliases × AllByRecursion IsWritable (closes.last ∷ [])
     own = All-first IsWritable closes.aliases (closes.last ∷ []) (subst (AllByRecursion IsWritable) closes.whole writable.0)

@@ -6,6 +6,7 @@ use Rattle.std.proofs.lemmas.Bool.{cond_both, leb-true, leb-false, and_parts}
 use Rattle.dns_message.specs.Header.{header_in}
 use Rattle.dns_message.specs.Values.{Question, Message}
 use Rattle.dns_message.specs.Messages.{Spells}
+use Rattle.dns_message.proofs.CallerLemmas.{number_at_place_is_small}
 use Rattle.suffix_routes.specs.Values.{Config}
 use Rattle.record_cache.specs.Values.{Held}
 use Rattle.answer_builder.specs.declared.fault.Fault.{Fault}
@@ -29,7 +30,7 @@ use Rattle.step_rules.specs.LookingUp.{Met, ends, too_long, missed, Looked}
 use Rattle.step_rules.specs.Row.{waits_with, fate_missed, fate_at}
 use Rattle.step_soundness.specs.Kept.{CanBeTold, SpellsAnswer}
 use Rattle.step_soundness.specs.Explains.{Comes, look_from, Waits}
-use Rattle.step_soundness.proofs.AskText.{read_well, number_small}
+use Rattle.step_soundness.proofs.AskText.{read_well}
 use Rattle.step_soundness.proofs.Fates.{Fated, All-append}
 use Rattle.step_soundness.proofs.Actions.{OwnsReply}
 use Rattle.step_soundness.proofs.LookingUp.{IsRightEnd, EndsRight, IsSized}
@@ -65,7 +66,7 @@ pub repeated : (now : List Step) (client : Client) (a : Asked) (i : ℕ) (k : Co
 repeated now client a i k = record {
   question = ap (λ (x : Asked). x.question) k.asked_is;
   is_question = read_well k.request k.question k.octets k.reads;
-  id = subst (λ (x : Asked). x.id < 65536) (sym k.asked_is) (number_small k.request 0 k.octets (let long = long_enough now client a i k in omega (arith, long)));
+  id = subst (λ (x : Asked). x.id < 65536) (sym k.asked_is) (number_at_place_is_small k.request 0 k.octets (let long = long_enough now client a i k in omega (arith, long)));
   opcode = let zero : a.opcode ≡ 0 = ap (λ (x : Asked). x.opcode) k.asked_is ∙ k.opcode in omega (arith, zero);
 }
 

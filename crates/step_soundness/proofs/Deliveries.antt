@@ -10,7 +10,7 @@ use Rattle.dns_message.specs.Messages.{Spells, HasShapes, message_of}
 use Rattle.dns_message.specs.Writing.{written}
 use Rattle.dns_message.specs.Questions.{same_question}
 use Rattle.dns_message.specs.Header.{header_in}
-use Rattle.dns_message.proofs.CallerLemmas.{spelled_message_has_shapes}
+use Rattle.dns_message.proofs.CallerLemmas.{spelled_message_has_shapes, spelled_message_is_message}
 use Rattle.suffix_routes.specs.declared.peer.Peer.{Peer}
 use Rattle.suffix_routes.specs.Values.{Config, Route}
 use Rattle.outstanding.specs.declared.ask.Path.{Path}
@@ -43,7 +43,6 @@ use Rattle.step_soundness.proofs.Listed.{on_path-shown, ask_on-is, shown_from}
 use Rattle.step_soundness.proofs.Matching.{judged_parts, MatchFacts, match_facts}
 use Rattle.step_soundness.proofs.Attempts.{peer_within, preferred_put}
 use Rattle.step_soundness.proofs.Actions.{OwnsReply, Speaks, fated_speak}
-use Rattle.step_soundness.proofs.Cited.{read_message_is_message}
 use Rattle.step_soundness.proofs.Keeping.{IsOffered}
 use Rattle.step_soundness.proofs.Caching.{cached_offered}
 use Rattle.step_soundness.proofs.Accepting.{walk_offered, closed_at_end, fate_accepted}
@@ -235,7 +234,7 @@ module _ (c : Config) (past : List Step) (w : List (List ℕ)) (s : State) (x : 
       shapes = spelled_message_has_shapes octets m spelled
 
       offered : AllByRecursion (IsOffered c) (walk.pieces ++ walk.authority)
-      offered = walk_offered c m a.question a.route (read_message_is_message octets m are_octets spelled) shapes tried_a.question tried_a.on_route fine
+      offered = walk_offered c m a.question a.route (spelled_message_is_message octets m are_octets spelled) shapes tried_a.question tried_a.on_route fine
 
       fates : (y : Waiting) (i : ℕ) → Waits c past y i → Fated (OwnsReply c (told answers ∷ past)) (Waits c (told answers ∷ past)) (fate y) i
       fates y i was = cond_both (waits_for a.question y) (fate_of c n y (looked_by c n s.cache.entries walk y walk.end)) (waits y) (λ v. Fated (OwnsReply c (told answers ∷ past)) (Waits c (told answers ∷ past)) v i)

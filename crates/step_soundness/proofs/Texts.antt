@@ -13,6 +13,7 @@ use Rattle.dns_message.specs.Written.{IsQuestion, IsRecord, IsMessage}
 use Rattle.dns_message.proofs.CallerLemmas.{written_message_is_spelled, one_message_is_spelled}
 use Rattle.trust_rank.specs.Values.{Body, rows, no_data, denied, Piece}
 use Rattle.trust_rank.specs.Formed.{IsPiece, FitsKind, IsSoa}
+use Rattle.trust_rank.specs.Writable.{IsWritableBody, IsWritable}
 use Rattle.trust_rank.specs.Sets.{longest}
 use Rattle.record_cache.specs.Values.{Held}
 use Rattle.record_cache.specs.Ageing.{end_of, seconds_left}
@@ -23,7 +24,7 @@ use Rattle.step_values.specs.declared.event.Client.{Client}
 use Rattle.step_values.specs.declared.event.Client.TheVariants.{Udp, Tcp}
 use Rattle.step_history.specs.Replies.{sized_for, FitsTransport}
 use Rattle.step_history.specs.Sound.{SameSections}
-use Rattle.step_soundness.specs.Kept.{IsWritable, IsWritableBody, CanBeTold, SpellsAnswer}
+use Rattle.step_soundness.specs.Kept.{CanBeTold, SpellsAnswer}
 use Rattle.step_soundness.proofs.AskText.{question_short}
 use Rattle.step_soundness.proofs.Fates.{All-append}
 

@@ -25,10 +25,6 @@ use Rattle.step_soundness.proofs.Slots.{slot_carried_over}
 
 -- ---- the last piece, and the aliases before it
 
-pub whole_again : (p : Piece) (ps : List Piece) → before_last p ps ++ last_of p ps ∷ [] ≡ p ∷ ps
-whole_again p [] = refl
-whole_again p (q ∷ ps) = ap (λ xs. p ∷ xs) (whole_again q ps)
-
 pub last_is : (p : Piece) (ps aliases : List Piece) (last : Piece) → p ∷ ps ≡ aliases ++ last ∷ [] → (before_last p ps ≡ aliases) × (last_of p ps ≡ last)
 last_is p [] [] last e = (refl, cc)
 last_is p [] (x ∷ []) last e = absurd (cc)
