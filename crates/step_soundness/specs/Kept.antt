@@ -1,5 +1,5 @@
 -- How a history explains what is kept of replies, and what was answered from it.
-use Rattle.std.specs.Prelude.{◌≡◌, ℕ, ◌≤◌, false, List, [], ◌∷◌, ◌++◌, ◌⊎◌}
+use Rattle.std.specs.Prelude.{◌≡◌, ℕ, ◌≤◌, false, List, [], ◌∷◌, ◌++◌, Some, ◌⊎◌}
 use Rattle.std.specs.List.{AllByRecursion}
 use Rattle.dns_message.specs.Header.{Header}
 use Rattle.dns_message.specs.Values.{Question}
