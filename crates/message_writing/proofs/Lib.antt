@@ -4,6 +4,7 @@ pub mod WriterFields
 pub mod WriterRecords
 pub mod WriterSets
 pub mod WriterMessages
+pub mod Reading
 pub mod RoundTrip
 pub mod RoundTripData
 pub mod RoundTripMessage

@@ -11,5 +11,5 @@ mod records;
 mod writer;
 
 pub use borrowed::{MessageParts, RowsRef};
-pub use laws::what_is_written_is_spelled;
+pub use laws::{what_is_read_can_be_written, what_is_written_is_spelled};
 pub use message::{write, write_parts};

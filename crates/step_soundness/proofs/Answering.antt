@@ -1,11 +1,12 @@
 -- What a client gets is right for its question.
-use Rattle.std.proofs.Common.{◌≡◌, ◌⊎◌, ℕ, ◌<◌, ◌≤◌, List, [], ◌∷◌, ◌++◌, length, Bool, true, false, refl, sym, ap, ◌∙◌, subst, inl, inr, arith, Option, Some, None}
+use Rattle.std.proofs.Common.{◌≡◌, ◌⊎◌, ℕ, ◌<◌, ◌≤◌, List, [], ◌∷◌, ◌++◌, length, Bool, true, false, cond, refl, sym, ap, ◌∙◌, subst, inl, inr, arith, Option, Some, None}
 use Rattle.std.specs.Prelude.{nat_le, not, ◌&&◌, Result, Ok, Err}
 use Rattle.std.specs.List.{AllByRecursion}
 use Rattle.std.proofs.lemmas.Bool.{cond_both, leb-true, leb-false, and_parts}
 use Rattle.dns_message.specs.Header.{header_in}
 use Rattle.dns_message.specs.Values.{Question, Message}
 use Rattle.dns_message.specs.Messages.{Spells}
+use Rattle.dns_message.proofs.CallerLemmas.{number_at_place_is_small}
 use Rattle.suffix_routes.specs.Values.{Config}
 use Rattle.record_cache.specs.Values.{Held}
 use Rattle.answer_builder.specs.declared.fault.Fault.{Fault}
@@ -27,13 +28,13 @@ use Rattle.step_rules.specs.State.{Waiting}
 use Rattle.step_rules.specs.Steps.{gives_up, transport_of, sends, answered}
 use Rattle.step_rules.specs.LookingUp.{Met, ends, too_long, missed, Looked}
 use Rattle.step_rules.specs.Row.{waits_with, fate_missed, fate_at}
-use Rattle.step_soundness.specs.Kept.{SpellsAnswer}
+use Rattle.step_soundness.specs.Kept.{CanBeTold, SpellsAnswer}
 use Rattle.step_soundness.specs.Explains.{Comes, look_from, Waits}
-use Rattle.step_soundness.proofs.AskText.{read_well, number_small}
+use Rattle.step_soundness.proofs.AskText.{read_well}
 use Rattle.step_soundness.proofs.Fates.{Fated, All-append}
 use Rattle.step_soundness.proofs.Actions.{OwnsReply}
 use Rattle.step_soundness.proofs.LookingUp.{IsRightEnd, EndsRight, IsSized}
-use Rattle.step_soundness.proofs.Texts.{CanBeTold, CanBeRepeated, answer_spelled}
+use Rattle.step_soundness.proofs.Texts.{CanBeRepeated, answer_spelled}
 
 -- ---- a client's message
 
@@ -65,7 +66,7 @@ pub repeated : (now : List Step) (client : Client) (a : Asked) (i : ℕ) (k : Co
 repeated now client a i k = record {
   question = ap (λ (x : Asked). x.question) k.asked_is;
   is_question = read_well k.request k.question k.octets k.reads;
-  id = subst (λ (x : Asked). x.id < 65536) (sym k.asked_is) (number_small k.request 0 k.octets (let long = long_enough now client a i k in omega (arith, long)));
+  id = subst (λ (x : Asked). x.id < 65536) (sym k.asked_is) (number_at_place_is_small k.request 0 k.octets (let long = long_enough now client a i k in omega (arith, long)));
   opcode = let zero : a.opcode ≡ 0 = ap (λ (x : Asked). x.opcode) k.asked_is ∙ k.opcode in omega (arith, zero);
 }
 
@@ -142,6 +143,39 @@ answer_owned c n now x i k is aliases end chain told = by x.client refl
           }),
         )))
 
+-- what is told of a chain
+pub record IsTold (n : ℕ) (client : Client) (a : Asked) (aliases : List Held) (end : Held) (octets : List ℕ) : Type 0 where
+  pub text : octets ≡ sized_for client (answer_text a aliases end n) (cut_text a aliases end n)
+  pub spells : SpellsAnswer octets a (aliases ++ end ∷ []) n
+
+-- a successful reply tells its chain
+pub answered_told : (n : ℕ) (now : List Step) (x : Waiting) (i : ℕ) (k : Comes now x.client x.asked i) (aliases : List Held) (end : Held) → AllByRecursion (CanBeTold n) (aliases ++ end ∷ [])
+    → (client : Client) (octets : List ℕ) (why : Why) → answered n x aliases end ≡ send_reply client octets why → why ≡ Answered → IsTold n x.client x.asked aliases end octets
+answered_told n now x i k aliases end told client octets why is success = by x.client is
+  where
+    full : List ℕ
+    full = answer_text x.asked aliases end n
+
+    cut : List ℕ
+    cut = cut_text x.asked aliases end n
+
+    sent : (cl : Client) → sized_for cl full cut ≡ octets → FitsTransport cl (sized_for cl full cut) → IsTold n cl x.asked aliases end octets
+    sent cl same fits = record {
+      text = sym same;
+      spells = subst (λ (o : List ℕ). SpellsAnswer o x.asked (aliases ++ end ∷ []) n) same (answer_spelled x.asked k.question n (aliases ++ end ∷ []) (repeated now x.client x.asked i k) told cl fits);
+    }
+
+    of_reply : (text : List ℕ) (told_why : Why) → send_reply x.client text told_why ≡ send_reply client octets why → (text ≡ octets) × (told_why ≡ why)
+    of_reply text told_why e = (cc, cc)
+
+    by : (cl : Client) → sends x (answer_of x.asked (aliases ++ end ∷ []) n (transport_of cl)) ≡ send_reply client octets why → IsTold n cl x.asked aliases end octets
+    by (Udp peer) e = sent (Udp peer) (of_reply (over_udp full cut) Answered e).0 tt
+    by (Tcp conn) e = over (nat_le (length full) 65535) refl e
+      where
+        over : (b : Bool) → nat_le (length full) 65535 ≡ b → sends x (cond b (Ok full) (Err fault.TooLarge)) ≡ send_reply client octets why → IsTold n (Tcp conn) x.asked aliases end octets
+        over true fits e = sent (Tcp conn) (of_reply full Answered e).0 (leb-true (length full) 65535 fits)
+        over false large e = let bad : TooLarge ≡ Answered = (of_reply (failure_text x.asked TooLarge) TooLarge e).1 ∙ success in absurd (cc)
+
 -- a question is answered rightly after its look-up, or goes on waiting with aliases that it may hold
 pub fate_is_right : (c : Config) (n : ℕ) (now : List Step) (x : Waiting) (i : ℕ) (l : Looked) (m : Met) (k : Comes now x.client x.asked i) → n ≡ moment_at now → x.taken ≡ moment_at (k.asked ∷ k.before)
     → AllByRecursion (CanBeTold n) l.held → FollowsAliases (look_from c k.asked k.before now) k.question l.held l.wanted → EndsRight (look_from c k.asked k.before now) (CanBeTold n) l.wanted m → IsSized m (length l.held)
@@ -157,7 +191,7 @@ fate_is_right c n now x i l missed k is taken told follows right size at_once = 
     leads = record { few = size; follows = follows }
 
     by : (r : Option ℕ) → route_of c l.wanted.name ≡ r → Fated (OwnsReply c now) (Waits c now) (fate_missed x l r) i
-    by (Some route) on = record { comes = k; moment = taken; leads = leads }
+    by (Some route) on = record { comes = k; moment = taken; leads = leads; told = subst (λ (t : ℕ). AllByRecursion (CanBeTold t) l.held) is told }
     by None none = owns c now x.client x.asked i k NoRoute (failure_text x.asked NoRoute) (λ waiting. (failure_told now x.client x.asked i k NoRoute, record {
       opcode = k.opcode;
       question = k.question;

@@ -6,14 +6,11 @@ use Rattle.dns_name.specs.Labels.{IsName, size_of}
 use Rattle.dns_message.specs.Header.{Header}
 use Rattle.dns_message.specs.Fault.{Fault}
 use Rattle.dns_message.specs.Values.{Question, Message}
-use Rattle.dns_message.specs.Numbers.{number16}
 use Rattle.dns_message.specs.Header.{header_of, header_in}
-use Rattle.dns_message.specs.Records.{QuestionAt}
 use Rattle.dns_message.specs.Messages.{Spells, first_question}
 use Rattle.dns_message.specs.Writing.{Place, Writing, as_is, ◌▹◌, each, octets16, place_of, label_text, pointer_or, name_text, question_text, record_text, header_text, written}
 use Rattle.dns_message.specs.Written.{IsQuestion}
-use Rattle.dns_message.proofs.CallerLemmas.{standing_name_is_name as name_is}
-use Rattle.dns_message.proofs.CallerLemmas.{first_question_read_stands, standing_first_question_is_read}
+use Rattle.dns_message.proofs.CallerLemmas.{first_question_read_stands, standing_first_question_is_read, standing_question_is_question}
 use Rattle.dns_message.proofs.CallerLemmas.{written_message_is_spelled}
 use Rattle.plain_list.specs.Octets.{AreOctets}
 use Rattle.dns_message.specs.Questions.{question_read}
@@ -87,12 +84,6 @@ question_short m q questions answers authority additional name =
 
 -- ---- it reads back
 
-pub number_small : (octets : List ℕ) (o : ℕ) → AreOctets octets → o + 2 ≤ length octets → number16 octets o < 65536
-number_small octets o are there =
-    let high : slice_index octets o < 256 = are o 0 (omega (arith, there)) in
-    let low : slice_index octets (o + 1) < 256 = are (o + 1) 0 (omega (arith, there)) in
-    omega (arith, high, low)
-
 read_is : (octets : List ℕ) (q : Question) → Reads octets q → first_question octets ≡ Ok q
 read_is octets q reads = by (slice_index (header_in octets).counts 0 == 1) refl (first_question octets) refl
   where
@@ -109,13 +100,7 @@ read_is octets q reads = by (slice_index (header_in octets).counts 0 == 1) refl 
 pub read_well : (octets : List ℕ) (q : Question) → AreOctets octets → Reads octets q → IsQuestion q
 read_well octets q are reads =
     let first = first_question_read_stands octets q (read_is octets q reads) in
-    let at : QuestionAt octets 12 q first.e = first.at in
-    let there : at.after + 4 ≤ length octets = at.there in
-    record {
-      name = name_is octets 12 12 at.after q.name at.name at.fits;
-      kind = subst (λ (k : ℕ). k < 65536) (sym at.kind) (number_small octets at.after are (omega (arith, there)));
-      class = subst (λ (k : ℕ). k < 65536) (sym at.class) (number_small octets (at.after + 2) are (omega (arith, there)));
-    }
+    standing_question_is_question octets 12 q first.e are first.at
 
 -- the header where there is one
 pub header_there : (octets : List ℕ) (h : Header) → header_of octets ≡ Some h → (header_in octets ≡ h) × (12 ≤ length octets)

@@ -14,12 +14,12 @@ use Rattle.record_cache.specs.Entries.{AreHeld}
 use Rattle.step_values.specs.Values.{Step}
 use Rattle.step_history.specs.History.{is_restart, moment_at, Carries, NothingAccepted}
 use Rattle.step_history.specs.Carried.{then_carried, CarriedInEra}
-use Rattle.step_history.specs.Replies.{asked_in}
+use Rattle.step_history.specs.Replies.{asked_in, answer_text, cut_text, sized_for}
 use Rattle.step_history.specs.Sound.{FromCache, SameSections, SameAsEarlierFromCache}
 use Rattle.step_history.proofs.Moments.{moment_later}
 use Rattle.step_rules.specs.LookingUp.{Met, ends, Looked, promoted_all}
 use Rattle.step_rules.specs.Offering.{put_all, unkept_of}
-use Rattle.step_soundness.specs.Kept.{IsKept, SpellsAnswer, looked, IsStillFound, AreStillFound, IsCached}
+use Rattle.step_soundness.specs.Kept.{CanBeTold, IsKept, SpellsAnswer, looked, IsStillFound, AreStillFound, IsCached}
 use Rattle.step_soundness.proofs.Fates.{All-weaker}
 use Rattle.step_soundness.proofs.Justifying.{GoesOn}
 use Rattle.step_soundness.proofs.LookingUp.{AreAlike, look_ups_alike, same_look_ups, promotions_keep}
@@ -35,28 +35,35 @@ goes_on c s past os run (inr (inr more)) = (run, inr (more.1, more.3))
 
 -- ---- entries at a later moment
 
+pub told_later : (m n : ℕ) (h : Held) → m ≤ n → CanBeTold m h → CanBeTold n h
+told_later m n h le k = record { formed = k.formed; writable = k.writable; earlier = let was : h.accepted ≤ m = k.earlier in omega (arith, was, le) }
+
 kept_later : (c : Config) (os : List Held) (m n : ℕ) (es : List Held) → m ≤ n → AllByRecursion (IsKept c os m) es → AllByRecursion (IsKept c os n) es
 kept_later c os m n es le all = All-weaker (IsKept c os m) (IsKept c os n) (λ h k. record { on_route = k.on_route; earlier = (let was : h.accepted ≤ m = k.earlier in omega (arith, was, le)); not_replaced = k.not_replaced; writable = k.writable }) es all
 
 -- ---- what was answered from cache
 
 -- where look-ups are the same, it is still found
+pub found_moved : (c : Config) (t : ℕ) (es others : List Held) → ((q : Question) → looked c t es q ≡ looked c t others q) → (q : Question) (octets : List ℕ) → IsStillFound c t es q octets → IsStillFound c t others q octets
+found_moved c t es others same q octets f = record {
+  end = f.end;
+  ends_so = ap (λ (v : Looked). v.met) (sym (same q)) ∙ f.ends_so;
+  header = f.header;
+  client = f.client;
+  text = f.text ∙ (λ i. sized_for f.client (answer_text (asked_in f.header (Some q)) (same q i).held f.end t) (cut_text (asked_in f.header (Some q)) (same q i).held f.end t));
+  spells = subst (λ (v : Looked). SpellsAnswer octets (asked_in f.header (Some q)) (v.held ++ f.end ∷ []) t) (same q) f.spells;
+}
+
 still_same : (c : Config) (t : ℕ) (es others : List Held) → ((q : Question) → looked c t es q ≡ looked c t others q) → (past : List Step) → AreStillFound c t es past → AreStillFound c t others past
 still_same c t es others same [] h = tt
-still_same c t es others same (s ∷ past) h = λ run at quiet. let was = h run at quiet in ((λ q octets from. moved q octets (was.0 q octets from)), still_same c t es others same past was.1)
-  where
-    moved : (q : Question) (octets : List ℕ) → IsStillFound c t es q octets → IsStillFound c t others q octets
-    moved q octets f = record {
-      end = f.end;
-      ends_so = ap (λ (v : Looked). v.met) (sym (same q)) ∙ f.ends_so;
-      header = f.header;
-      client = f.client;
-      text = f.text ∙ (λ i. Rattle.step_history.specs.Replies.sized_for f.client (Rattle.step_history.specs.Replies.answer_text (asked_in f.header (Some q)) (same q i).held f.end t) (Rattle.step_history.specs.Replies.cut_text (asked_in f.header (Some q)) (same q i).held f.end t));
-      spells = subst (λ (v : Looked). SpellsAnswer octets (asked_in f.header (Some q)) (v.held ++ f.end ∷ []) t) (same q) f.spells;
-    }
+still_same c t es others same (s ∷ past) h = λ run at quiet. let was = h run at quiet in ((λ q octets from. found_moved c t es others same q octets (was.0 q octets from)), still_same c t es others same past was.1)
+
+-- promotions leave what is found
+pub promoted_same : (c : Config) (t : ℕ) (cache : Cache) (used : List Slot) → AreHeld cache → (q : Question) → looked c t cache.entries q ≡ looked c t (promoted_all used cache.entries) q
+promoted_same c t cache used held q = sym (same_look_ups c.routes t (promoted_all used cache.entries) cache.entries (promotions_keep c.routes t cache.capacity used cache.entries held).1 most_aliases [] q)
 
 -- at another moment there is nothing to find
-still_moved : (c : Config) (m n : ℕ) (es : List Held) (past : List Step) → m ≡ moment_at past → AreStillFound c m es past → AreStillFound c n es past
+pub still_moved : (c : Config) (m n : ℕ) (es : List Held) (past : List Step) → m ≡ moment_at past → AreStillFound c m es past → AreStillFound c n es past
 still_moved c m n es [] is h = tt
 still_moved c m n es (s ∷ past) is h = λ run at quiet. subst (λ (t : ℕ). AreStillFound c t es (s ∷ past)) (is ∙ at) h run at quiet
 
@@ -95,7 +102,7 @@ cached_promoted c past m cache used was = record {
   capacity = was.capacity;
   held = (promotions_keep c.routes m cache.capacity used cache.entries was.held).0;
   kept = promotions_leave (IsKept c was.carried m) used cache.entries was.kept;
-  found = still_same c m cache.entries (promoted_all used cache.entries) (λ q. sym (same_look_ups c.routes m (promoted_all used cache.entries) cache.entries (promotions_keep c.routes m cache.capacity used cache.entries was.held).1 most_aliases [] q)) past was.found;
+  found = still_same c m cache.entries (promoted_all used cache.entries) (promoted_same c m cache used was.held) past was.found;
 }
 
 -- what an offer keeps

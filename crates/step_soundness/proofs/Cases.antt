@@ -20,10 +20,10 @@ use Rattle.step_history.specs.Asked.{AreRightAsks}
 use Rattle.step_rules.specs.State.{Waiting, State}
 use Rattle.step_rules.specs.Steps.{Fate, gets, waits, reply_in, replies, still_waiting, closes, closing, without_ask, asks, asks_by, ask_list, tcp_count, start}
 use Rattle.step_rules.specs.Row.{is_due_at}
-use Rattle.step_soundness.specs.Kept.{IsCached}
+use Rattle.step_soundness.specs.Kept.{CanBeTold, IsCached}
 use Rattle.step_soundness.specs.Explains.{shown, Waits, Tried, IsBelow, ArePreferred, Explains}
 use Rattle.step_soundness.proofs.Justifying.{GoesOn, leads_later}
-use Rattle.step_soundness.proofs.Caching.{cached_on}
+use Rattle.step_soundness.proofs.Caching.{told_later, cached_on}
 use Rattle.step_soundness.proofs.Answering.{comes_later}
 use Rattle.step_soundness.proofs.Fates.{All-append, All-weaker, All-filter, Distinct, fates_in, numbers_in, owners_by, left_by, left_firsts, left_seconds, All-owners, Distinct-owners, left_each}
 use Rattle.step_history.proofs.Moments.{moment_later}
@@ -44,6 +44,7 @@ waits_later c s past x i on h = record {
   comes = comes_later s past x.client x.asked i on.0 h.comes;
   moment = h.moment;
   leads = leads_later c h.comes.asked s h.comes.before past on h.comes.question x.held x.wanted h.leads;
+  told = All-weaker (CanBeTold (moment_at past)) (CanBeTold (moment_at (s ∷ past))) (λ o t. told_later (moment_at past) (moment_at (s ∷ past)) o (moment_later s past on.0) t) x.held h.told;
 }
 
 pub each_later : (c : Config) (s : Step) (past : List Step) (zs : List (Waiting × ℕ)) → GoesOn c s past → AllByRecursion (λ z. Waits c past z.0 z.1) zs → AllByRecursion (λ z. Waits c (s ∷ past) z.0 z.1) zs

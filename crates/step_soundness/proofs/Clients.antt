@@ -17,7 +17,7 @@ use Rattle.outstanding.specs.Values.{Ask}
 use Rattle.step_values.specs.declared.event.Client.{Client}
 use Rattle.step_values.specs.declared.action.Why.{Why}
 use Rattle.step_values.specs.declared.action.Why.TheVariants.{Answered, BadFormat, BadOpcode, NotServed, NoRoute, QuestionsFull, InquiriesFull, NoPort}
-use Rattle.step_values.specs.Values.{from_client, Action, send_reply, Handed, Step}
+use Rattle.step_values.specs.Values.{from_client, Action, ask_udp, ask_tcp, close_udp, close_tcp, send_reply, Handed, Step}
 use Rattle.plain_list.specs.Octets.{AreOctets}
 use Rattle.step_history.specs.Names.{route_of}
 use Rattle.step_history.specs.History.{moment_at, listed, is_taken, Reads, NothingAccepted}
@@ -25,7 +25,8 @@ use Rattle.step_history.specs.Draws.{drawn}
 use Rattle.step_history.specs.Causes.{is_unserved}
 use Rattle.step_history.specs.Replies.{asked_in, failure_text}
 use Rattle.step_history.specs.Carried.{CarriedInEra}
-use Rattle.step_history.specs.Sound.{unanswered, RightReply, Replies, FromCache}
+use Rattle.step_history.specs.Answers.{Chain}
+use Rattle.step_history.specs.Sound.{unanswered, RightReply, Replies, FromCache, SameAsEarlierFromCache}
 use Rattle.step_rules.specs.State.{Waiting, State}
 use Rattle.step_rules.specs.Attempts.{peer_at, over_udp, preferred_on, first_ask, first_ask_on}
 use Rattle.step_rules.specs.Steps.{Done, reply_step, gives_up, answered, asks, ask_list, tcp_count}
@@ -34,13 +35,13 @@ use Rattle.step_rules.specs.Row.{is_due_at, taken_now, fate_missed, fate_at, row
 use Rattle.trust_rank.specs.Formed.{IsPiece}
 use Rattle.record_cache.specs.Values.{Held, Cache}
 use Rattle.record_cache.specs.Ageing.{end_of}
-use Rattle.step_soundness.specs.Kept.{IsKept, looked, IsStillFound, IsCached}
+use Rattle.step_soundness.specs.Kept.{CanBeTold, IsKept, looked, IsStillFound, IsCached}
 use Rattle.step_soundness.specs.Explains.{shown, Comes, look_from, Waits, IsBelow, Explains}
 use Rattle.step_soundness.proofs.Justifying.{kept_is_justified}
-use Rattle.step_soundness.proofs.LookingUp.{IsUsable}
-use Rattle.step_soundness.proofs.Texts.{CanBeTold}
-use Rattle.step_soundness.proofs.Caching.{cached_on, cached_promoted}
-use Rattle.step_soundness.proofs.Actions.{asks_answer_none}
+use Rattle.step_soundness.proofs.LookingUp.{IsUsable, IsRight, IsRightEnd, EndsRight, IsSized, look_up_right, look_up_sized}
+use Rattle.step_soundness.proofs.Caching.{found_moved, promoted_same, still_moved, agrees, cached_on, cached_promoted}
+use Rattle.step_soundness.proofs.Answering.{IsTold, answered_told, answer_owned}
+use Rattle.step_soundness.proofs.Actions.{OwnsReply, asks_answer_none}
 use Rattle.step_soundness.proofs.Fates.{All-append}
 use Rattle.step_soundness.proofs.AskText.{read_well}
 use Rattle.step_soundness.proofs.Asking.{still_earlier}
@@ -119,7 +120,7 @@ module _ (c : Config) (past : List Step) (w : List (List ℕ)) (s : State) (x : 
     }
 
     waits_now : (actions : List Action) → Waits c (step actions ∷ past) y (length past)
-    waits_now actions = record { comes = comes actions; moment = moment; leads = record { few = omega arith; follows = refl } }
+    waits_now actions = record { comes = comes actions; moment = moment; leads = record { few = omega arith; follows = refl }; told = tt }
 
     -- what a failure repeats
     told : (why : Why) → (z : Question) × Reads request z × (failure_text y.asked why ≡ failure_text (asked_in (header_in request) (Some z)) why)
@@ -260,11 +261,63 @@ module _ (c : Config) (past : List Step) (w : List (List ℕ)) (s : State) (x : 
         )
 
     -- a question that the cache answers
-    hit : (end : Held) → l.met ≡ ends end → P (reply_step n (answered n y l.held end) (record s { cache = used }))
-    hit end met = by (answered n y l.held end) refl
-      where
-        by : (a : Action) → answered n y l.held end ≡ a → P (reply_step n a (record s { cache = used }))
-        by a is = ?
+    module _ (end : Held) (met : l.met ≡ ends end) where
+      rightly : (actions : List Action) → IsRight (look_from c (step actions) past (step actions ∷ past)) n (CanBeTold n) s.cache.entries (usable actions) q l
+      rightly actions = look_up_right (look_from c (step actions) past (step actions ∷ past)) n (CanBeTold n) s.cache.entries (usable actions) q 8 [] q tt refl
+
+      right_end : (actions : List Action) → IsRightEnd (look_from c (step actions) past (step actions ∷ past)) (CanBeTold n) l.wanted end
+      right_end actions = subst (EndsRight (look_from c (step actions) past (step actions ∷ past)) (CanBeTold n) l.wanted) met (rightly actions).right_end
+
+      chain : (actions : List Action) → Chain (look_from c (step actions) past (step actions ∷ past)) q l.held end
+      chain actions = record {
+        last = l.wanted;
+        leads = record { few = subst (λ (m : Met). IsSized m (length l.held)) met (look_up_sized c.routes n s.cache.entries 8 [] q refl); follows = (rightly actions).follows };
+        justified = (right_end actions).1;
+        ends = (right_end actions).2;
+      }
+
+      can_be_told : (actions : List Action) → AllByRecursion (CanBeTold n) (l.held ++ end ∷ [])
+      can_be_told actions = All-append (CanBeTold n) l.held (end ∷ []) (rightly actions).told ((right_end actions).0, tt)
+
+      owned : (a : Action) → answered n y l.held end ≡ a → OwnsReply c (step (a ∷ []) ∷ past) (length past) a
+      owned a is = subst (OwnsReply c (step (a ∷ []) ∷ past) (length past)) is (answer_owned c n (step (a ∷ []) ∷ past) y (length past) (comes (a ∷ [])) moment l.held end (chain (a ∷ [])) (can_be_told (a ∷ [])))
+
+      -- it is found now
+      found_now : (cl : Client) (octets : List ℕ) (why : Why) → answered n y l.held end ≡ send_reply cl octets why → (z : Question) (text : List ℕ) → FromCache (step (send_reply cl octets why ∷ [])) z text → IsStillFound c n s.cache.entries z text
+      found_now cl octets why is z text (asks_z, inr never) = absurd never
+      found_now cl octets why is z text (asks_z, inl answer) =
+          let told_so : IsTold n client y.asked l.held end octets = answered_told n (step [] ∷ past) y (length past) (comes []) l.held end (can_be_told []) cl octets why is answer.0 in
+          let one : Some q ≡ Some z = sym reads ∙ asks_z in
+          let question_is : q ≡ z = cc in
+          subst (λ (v : Question). IsStillFound c n s.cache.entries v text) question_is (subst (IsStillFound c n s.cache.entries q) answer.1 (record {
+            end = end;
+            ends_so = met;
+            header = header_in request;
+            client = client;
+            text = told_so.text;
+            spells = told_so.spells;
+          }))
+
+      agreeing : (cl : Client) (octets : List ℕ) (why : Why) → answered n y l.held end ≡ send_reply cl octets why → (z : Question) (text : List ℕ) → FromCache (step (send_reply cl octets why ∷ [])) z text
+          → SameAsEarlierFromCache c n z text past
+      agreeing cl octets why is z text f = agrees c n s.cache.entries z text (found_now cl octets why is z text f) past (still_moved c s.moment n s.cache.entries past x.moment x.cache.found)
+
+      hit_by : (a : Action) → answered n y l.held end ≡ a → P (reply_step n a (record s { cache = used }))
+      hit_by (send_reply cl octets why) is = λ more_is. (
+        length past ∷ [],
+        at_once_explained c past w s x handed unkept more n cl octets why used (record s { cache = used; moment = n }) refl (refl, moment) takes (no_delivery (send_reply cl octets why ∷ []))
+            (owned (send_reply cl octets why) is (concat w))
+            (λ z text f. subst (λ (t : ℕ). SameAsEarlierFromCache c t z text past) moment (agreeing cl octets why is z text f))
+            (cached (send_reply cl octets why ∷ []) used used_is (λ z text f. found_moved c n s.cache.entries used.entries (promoted_same c n s.cache l.used x.cache.held) z text (found_now cl octets why is z text f)))
+            more_is,
+      )
+      hit_by (ask_udp port server octets) is = absurd (owned (ask_udp port server octets) is)
+      hit_by (ask_tcp conn server octets) is = absurd (owned (ask_tcp conn server octets) is)
+      hit_by (close_udp port) is = absurd (owned (close_udp port) is)
+      hit_by (close_tcp conn) is = absurd (owned (close_tcp conn) is)
+
+      hit : P (reply_step n (answered n y l.held end) (record s { cache = used }))
+      hit = hit_by (answered n y l.held end) refl
 
     looked_up : (route : ℕ) → route_of c q.name ≡ Some route → (m : Met) → l.met ≡ m → P (row_of_look_up c n words y s (if_ended q l m))
     looked_up route on (ends end) met = subst (λ (m : Met). P (row_of_fate c n words (record s { cache = used }) (fate_at c n y l m))) (sym met) (hit end met)

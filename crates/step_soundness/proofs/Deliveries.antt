@@ -1,16 +1,16 @@
 -- A delivery leaves explained what was explained.
 use Rattle.std.proofs.Common.{◌≡◌, ◌⊎◌, ℕ, ◌+◌, ◌^◌, ◌<◌, ◌≤◌, List, [], ◌∷◌, ◌++◌, length, Bool, true, false, refl, sym, ap, ◌∙◌, subst, inl, inr, ⊎_elim, arith, Option, Some, None}
-use Rattle.std.specs.Prelude.{option_map, map, ◌==◌, ◌&&◌, ◌||◌, min, max, nat_le, nat_lt, Result, Ok, Err}
+use Rattle.std.specs.Prelude.{slice_set, option_map, map, ◌==◌, ◌&&◌, ◌||◌, min, max, nat_le, nat_lt, Result, Ok, Err}
 use Rattle.std.specs.List.{concat, AllByRecursion}
 use Rattle.std.proofs.lemmas.Bool.{and_from, lt-ltb, ltb-true, leb-true, leb-false, le-leb, cond-true, cond-false, cond_both, eq-eqb, eqb-true, or_cases, false≢true}
 use Rattle.dns_message.specs.Header.{Header}
 use Rattle.dns_message.specs.Fault.{Fault}
 use Rattle.dns_message.specs.Values.{Question, Message}
-use Rattle.dns_message.specs.Messages.{message_of}
+use Rattle.dns_message.specs.Messages.{Spells, HasShapes, message_of}
 use Rattle.dns_message.specs.Writing.{written}
 use Rattle.dns_message.specs.Questions.{same_question}
 use Rattle.dns_message.specs.Header.{header_in}
-use Rattle.dns_message.proofs.CallerLemmas.{same_question_decides}
+use Rattle.dns_message.proofs.CallerLemmas.{spelled_message_has_shapes, spelled_message_is_message}
 use Rattle.suffix_routes.specs.declared.peer.Peer.{Peer}
 use Rattle.suffix_routes.specs.Values.{Config, Route}
 use Rattle.outstanding.specs.declared.ask.Path.{Path}
@@ -22,30 +22,34 @@ use Rattle.reply_match.specs.Questions.{asks_this}
 use Rattle.dns_message.specs.Questions.{one_question}
 use Rattle.reply_match.specs.Verdicts.{judge, judged_whole, matches}
 use Rattle.retry_failover.specs.declared.Failure.TheVariants as failure
-use Rattle.step_values.specs.declared.event.Client.{Client}
-use Rattle.step_values.specs.declared.event.Client.TheVariants.{Udp as FromUdp, Tcp as FromTcp}
-use Rattle.step_values.specs.declared.action.Why.TheVariants.{TooLarge}
 use Rattle.step_values.specs.Values.{delivery, Delivered, Action, Step}
 use Rattle.step_history.specs.Names.{route_of}
-use Rattle.trust_rank.specs.Values.{Piece}
+use Rattle.plain_list.specs.Octets.{AreOctets}
+use Rattle.record_cache.specs.Values.{Cache}
+use Rattle.trust_rank.specs.Values.{Piece, Walk}
 use Rattle.trust_rank.specs.Walks.{walk_of}
 use Rattle.step_history.specs.History.{moment_at, ShownAsk, listed, on_path, counts_as_lame, Matches, Accepts, Carries, NothingAccepted}
 use Rattle.step_rules.specs.State.{Waiting, State}
-use Rattle.step_rules.specs.Steps.{Done}
-use Rattle.step_rules.specs.Row.{timeout_of, row_of_acceptance, row_of_walk, row_of_message, row_of_verdict, row_of_delivery}
+use Rattle.step_rules.specs.Steps.{Done, Fate, waits, waits_for, preferring, closing_step, offering_step}
+use Rattle.step_rules.specs.Attempts.{servers_in}
+use Rattle.step_rules.specs.Offering.{put_all, unkept_of}
+use Rattle.step_rules.specs.Row.{looked_by, fate_of, fate_by, timeout_of, row_of_acceptance, row_of_walk, row_of_message, row_of_verdict, row_of_delivery}
 use Rattle.step_soundness.specs.Explains.{shown, Waits, Tried, ArePreferred, Explains}
-use Rattle.step_history.proofs.Since.{carried_since}
-use Rattle.step_soundness.proofs.Fates.{Fated}
+use Rattle.step_soundness.specs.Kept.{IsCached}
+use Rattle.step_soundness.proofs.Fates.{Fated, fated, fated_fates, fated_each}
 use Rattle.step_soundness.proofs.Names.{same_peer-is, route_of-alike}
 use Rattle.step_soundness.proofs.Messages.{spells_read, read_spells, read_header}
 use Rattle.step_soundness.proofs.Listed.{on_path-shown, ask_on-is, shown_from}
 use Rattle.step_soundness.proofs.Matching.{judged_parts, MatchFacts, match_facts}
 use Rattle.step_soundness.proofs.Attempts.{peer_within, preferred_put}
-use Rattle.step_soundness.proofs.Actions.{OwnsReply, Speaks}
+use Rattle.step_soundness.proofs.Actions.{OwnsReply, Speaks, fated_speak}
+use Rattle.step_soundness.proofs.Keeping.{IsOffered}
+use Rattle.step_soundness.proofs.Caching.{cached_offered}
+use Rattle.step_soundness.proofs.Accepting.{walk_offered, closed_at_end, fate_accepted}
 use Rattle.step_soundness.proofs.Cases.{waits_later}
 use Rattle.step_soundness.proofs.Failures as failures
 
-module _ (c : Config) (past : List Step) (w : List (List ℕ)) (s : State) (x : Explains c past w s) (now : ℕ) (words : List ℕ) (unkept : ℕ) (more : Bool) (path : Path) (from : Peer) (octets : List ℕ) (rooms : List Bool) where
+module _ (c : Config) (past : List Step) (w : List (List ℕ)) (s : State) (x : Explains c past w s) (now : ℕ) (words : List ℕ) (unkept : ℕ) (more : Bool) (path : Path) (from : Peer) (octets : List ℕ) (rooms : List Bool) (are_octets : AreOctets octets) where
   abbrev n : ℕ
   n = max (min now (2 ^ 62)) s.moment
 
@@ -168,9 +172,94 @@ module _ (c : Config) (past : List Step) (w : List (List ℕ)) (s : State) (x : 
     failed none f = failures.failure_row c past w s x now words unkept more (delivery path from octets) refl refl a on_own (quiet none) f
 
     -- an accepted reply: all that wait for it are answered, and its pieces are offered
-    accepted_row : (m : Message) → nat_lt n (timeout_of c a) ≡ true → judge a from octets ≡ Whole → message_of octets ≡ Ok m → counts_as_lame (walk_of c m a.question a.route).end ≡ false
-        → D (row_of_acceptance c n words rooms a (walk_of c m a.question a.route) s)
-    accepted_row m live whole read fine = ?
+    module _ (m : Message) (live : nat_lt n (timeout_of c a) ≡ true) (whole : judge a from octets ≡ Whole) (read : message_of octets ≡ Ok m) (fine : counts_as_lame (walk_of c m a.question a.route).end ≡ false) where
+      abbrev walk : Walk
+      walk = walk_of c m a.question a.route
+
+      abbrev fate : Waiting → Fate
+      fate = fate_by c n s.cache.entries a walk
+
+      abbrev answers : List Action
+      answers = failures.actions_by c past w s x now words unkept more (delivery path from octets) refl refl a on_own (map fate s.waiting) None
+
+      header_is : header_in octets ≡ m.header
+      header_is = read_header octets m read
+
+      spelled : Spells octets m
+      spelled = read_spells octets m read
+
+      parts : (matches a from octets ≡ true) × ((header_in octets).tc ≡ false) × ((((header_in octets).rcode == 0) || ((header_in octets).rcode == 3)) ≡ true)
+      parts = judged_parts from octets a whole
+
+      rcode : (m.header.rcode ≡ 0) ⊎ (m.header.rcode ≡ 3)
+      rcode = ⊎_elim
+          (λ (e : ((header_in octets).rcode == 0) ≡ true). inl (ap (λ (h : Header). h.rcode) (sym header_is) ∙ eqb-true (header_in octets).rcode 0 e))
+          (λ (e : ((header_in octets).rcode == 3) ≡ true). inr (ap (λ (h : Header). h.rcode) (sym header_is) ∙ eqb-true (header_in octets).rcode 3 e))
+          (or_cases ((header_in octets).rcode == 0) ((header_in octets).rcode == 3) parts.2)
+
+      facts : MatchFacts a from octets
+      facts = match_facts a from octets parts.0
+
+      shown_on : on_path a.path (listed past) ≡ Some (shown a)
+      shown_on = ap (on_path a.path) (sym x.asks) ∙ on_path-shown a.path s.asks ∙ ap (option_map shown) on_own
+
+      accepts : Accepts c (told answers) past (shown a) a.question a.route m
+      accepts = record {
+        octets = octets;
+        matches = record {
+          delivered = λ i. Some (record { path = sym path_is i; from = facts.server i; octets = octets });
+          is_listed = shown_on;
+          is_live = subst (λ (t : ℕ). t < timeout_of c a) (moment_now answers) (ltb-true n (timeout_of c a) live);
+          long_enough = facts.long_enough;
+          not_too_long = facts.not_too_long;
+          is_reply = facts.is_reply;
+          opcode = facts.opcode;
+          identifier = facts.identifier ∙ sym tried_a.identifier;
+          ask_reads = tried_a.reads;
+          question = facts.question;
+          reads = facts.reads;
+          same_question_as_ask = facts.same;
+        };
+        spells = spelled;
+        untruncated = ap (λ (h : Header). h.tc) (sym header_is) ∙ parts.1;
+        rcode = rcode;
+        route_is = tried_a.on_route;
+        not_lame = fine;
+      }
+
+      carries : Carries c (told answers) past (walk.pieces ++ walk.authority)
+      carries = record { ask = shown a; asked = a.question; route = a.route; message = m; accepts = accepts; are = refl }
+
+      shapes : HasShapes m
+      shapes = spelled_message_has_shapes octets m spelled
+
+      offered : AllByRecursion (IsOffered c) (walk.pieces ++ walk.authority)
+      offered = walk_offered c m a.question a.route (spelled_message_is_message octets m are_octets spelled) shapes tried_a.question tried_a.on_route fine
+
+      fates : (y : Waiting) (i : ℕ) → Waits c past y i → Fated (OwnsReply c (told answers ∷ past)) (Waits c (told answers ∷ past)) (fate y) i
+      fates y i was = cond_both (waits_for a.question y) (fate_of c n y (looked_by c n s.cache.entries walk y walk.end)) (waits y) (λ v. Fated (OwnsReply c (told answers ∷ past)) (Waits c (told answers ∷ past)) v i)
+          (λ t. fate_accepted c past (told answers) n x.cache.carried a m refl (moment_now answers) x.cache.carried_is tried_a.on_route shapes fine offered carries y i was t s.cache.entries)
+          (λ _. waits_later c (told answers) past y i (refl, inr (walk.pieces ++ walk.authority, carries)) was)
+
+      speak : AllByRecursion Speaks (map fate s.waiting)
+      speak = subst (AllByRecursion Speaks) (fated_fates fate x.numbers_of ∙ ap (map fate) x.waiting)
+          (fated_speak c (told answers ∷ past) (fated fate x.numbers_of) (fated_each (OwnsReply c (told answers ∷ past)) (Waits c (told answers ∷ past)) (Waits c past) fate x.numbers_of fates x.waits))
+
+      preferred : ArePreferred c.routes (slice_set s.preferred a.route a.server)
+      preferred = preferred_put c.routes s.preferred a.route a.server x.preferred (λ r there. subst (λ (o : Option Route). a.server < length (servers_in o)) there (peer_within c a.route a.server a.peer tried_a.server))
+
+      abbrev kept : Cache
+      kept = record { capacity = s.cache.capacity; entries = put_all s.cache.capacity n rooms (walk.pieces ++ walk.authority) s.cache.entries }
+
+      cached_now : IsCached c (told answers ∷ past) n kept
+      cached_now = cached_offered c past s.moment n s.cache (told answers) rooms (walk.pieces ++ walk.authority) x.cache x.moment refl (moment_now answers) carries offered
+
+      closed : D (offering_step n rooms (walk.pieces ++ walk.authority) (closing_step n a fate None (preferring a s)))
+      closed = failures.closed_row c past w s x now words unkept more (delivery path from octets) refl refl a on_own fate None (slice_set s.preferred a.route a.server) kept
+          (unkept_of s.cache.capacity n rooms (walk.pieces ++ walk.authority) s.cache.entries) speak fates tt tt tt tt tt preferred cached_now
+
+      accepted_row : D (row_of_acceptance c n words rooms a walk s)
+      accepted_row = subst (λ (d : Done). D (offering_step n rooms (walk.pieces ++ walk.authority) d)) (sym (closed_at_end c n words a walk fate (preferring a s) walk.end fine)) closed
 
     walk_row : (m : Message) → nat_lt n (timeout_of c a) ≡ true → judge a from octets ≡ Whole → message_of octets ≡ Ok m → D (row_of_walk c n words rooms a s (walk_of c m a.question a.route))
     walk_row m live whole read =

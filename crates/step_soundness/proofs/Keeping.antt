@@ -11,6 +11,7 @@ use Rattle.trust_rank.specs.declared.slot.Slot.{Slot}
 use Rattle.trust_rank.specs.Values.{Piece}
 use Rattle.trust_rank.specs.Replacing.{same_slot, is_name_error, shows_name, takes_place_of}
 use Rattle.trust_rank.specs.Formed.{IsPiece}
+use Rattle.trust_rank.specs.Writable.{IsWritable}
 use Rattle.record_cache.specs.Values.{Held}
 use Rattle.record_cache.specs.Ageing.{is_alive}
 use Rattle.record_cache.specs.Entries.{is_slot, of_slot, entry_of, has_slot, without, promoted, AreApart, AreHeld}
@@ -22,13 +23,13 @@ use Rattle.record_cache.proofs.Lists as lists
 use Rattle.record_cache.proofs.Keeping.{one_slot_is_the_same}
 use Rattle.negative_cache.specs.Entries.{denies}
 use Rattle.negative_cache.specs.Showing.{shown}
+use Rattle.negative_cache.proofs.Keeping.{shown_is_replaced}
 use Rattle.step_history.specs.Carried.{NotReplaced}
 use Rattle.step_rules.specs.LookingUp.{promoted_all}
 use Rattle.step_rules.specs.Offering.{shown_by, ended_so, put, count_of}
 use Rattle.step_rules.specs.Progress.{IsOnRoute}
 use Rattle.step_rules.specs.Row.{held_at}
-use Rattle.step_soundness.specs.Kept.{IsWritable, IsKept}
-use Rattle.step_soundness.proofs.Cited.{shown_is_replaced}
+use Rattle.step_soundness.specs.Kept.{IsKept}
 use Rattle.step_soundness.proofs.Fates.{All-append, All-filter, All-weaker}
 use Rattle.step_soundness.proofs.LookingUp.{all_among}
 

@@ -6,7 +6,6 @@ pub mod Messages
 pub mod Slots
 pub mod Justifying
 pub mod Walking
-pub mod Cited
 pub mod LookingUp
 pub mod Offers
 pub mod Keeping
@@ -24,6 +23,7 @@ pub mod Nexts
 pub mod Clients
 pub mod Failures
 pub mod Times
+pub mod Accepting
 pub mod Deliveries
 pub mod Theorem
 pub mod Runs

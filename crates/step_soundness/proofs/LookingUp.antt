@@ -24,12 +24,13 @@ use Rattle.negative_cache.specs.Values as found
 use Rattle.negative_cache.specs.Entries.{are_rows, tells_no_data, is_set, is_no_data, denies}
 use Rattle.negative_cache.specs.Finding.{found as found_in, is_of_type}
 use Rattle.negative_cache.specs.Laws.{Fits, IsTyped, IsDenial, IsLiving}
+use Rattle.negative_cache.proofs.Fitting.{found_fits}
+use Rattle.negative_cache.proofs.Keeping.{equal_questions_find_the_same, promotion_keeps_found}
 use Rattle.step_history.specs.Names.{route_of}
 use Rattle.step_history.specs.History.{Look}
 use Rattle.step_history.specs.Carried.{Justified}
 use Rattle.step_history.specs.Answers.{has_slot, asked_at, FollowsAliases, EndsChain}
 use Rattle.step_rules.specs.LookingUp.{Met, ends, too_long, missed, Looked, ended, missing, led, followed, one_too_many, through, look_up, promoted_all}
-use Rattle.step_soundness.proofs.Cited.{found_fits, promotion_keeps_found, equal_questions_find_the_same}
 use Rattle.step_soundness.proofs.Slots.{AreOne, are_one, same_slot_turned}
 use Rattle.step_soundness.proofs.Fates.{All-append}
 use Rattle.step_soundness.proofs.Justifying.{follows_append}

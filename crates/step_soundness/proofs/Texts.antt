@@ -13,6 +13,7 @@ use Rattle.dns_message.specs.Written.{IsQuestion, IsRecord, IsMessage}
 use Rattle.dns_message.proofs.CallerLemmas.{written_message_is_spelled, one_message_is_spelled}
 use Rattle.trust_rank.specs.Values.{Body, rows, no_data, denied, Piece}
 use Rattle.trust_rank.specs.Formed.{IsPiece, FitsKind, IsSoa}
+use Rattle.trust_rank.specs.Writable.{IsWritableBody, IsWritable}
 use Rattle.trust_rank.specs.Sets.{longest}
 use Rattle.record_cache.specs.Values.{Held}
 use Rattle.record_cache.specs.Ageing.{end_of, seconds_left}
@@ -23,22 +24,16 @@ use Rattle.step_values.specs.declared.event.Client.{Client}
 use Rattle.step_values.specs.declared.event.Client.TheVariants.{Udp, Tcp}
 use Rattle.step_history.specs.Replies.{sized_for, FitsTransport}
 use Rattle.step_history.specs.Sound.{SameSections}
-use Rattle.step_soundness.specs.Kept.{IsWritable, IsWritableBody, SpellsAnswer}
+use Rattle.step_soundness.specs.Kept.{CanBeTold, SpellsAnswer}
 use Rattle.step_soundness.proofs.AskText.{question_short}
 use Rattle.step_soundness.proofs.Fates.{All-append}
-
--- a held piece that can be told at the moment
-pub record CanBeTold (t : ℕ) (h : Held) : Type 0 where
-  pub formed : IsPiece h.piece
-  pub writable : IsWritable h.piece
-  pub earlier : h.accepted ≤ t
 
 -- what is left of a lifetime fits 32 bits
 seconds_fit : (t : ℕ) (h : Held) → CanBeTold t h → seconds_left t h < 4294967296
 seconds_fit t h told =
     let short : h.piece.lifetime ≤ 604800 = told.formed.lifetime in
     let before : h.accepted ≤ t = told.earlier in
-    let most : seconds_left t h ≤ 604800 = ? in
+    let most : seconds_left t h ≤ 604800 = omega (arith, short, before) in
     omega (arith, most)
 
 -- ---- the records of an answer
@@ -121,14 +116,14 @@ message_spelled : (a : Asked) (q : Question) (cut : Bool) (s : Sections) → Can
 message_spelled a q cut s asks can short = written_message_is_spelled (answer_message a cut s) (record {
   id = asks.id;
   bits = record { opcode = asks.opcode; z = omega arith; rcode = can.rcode };
-  questions = subst (λ (o : Option Question). AllByRecursion IsQuestion (Rattle.answer_builder.specs.Answers.questions_of o)) (sym asks.question) (asks.is_question, tt);
+  questions = subst (λ (o : Option Question). AllByRecursion IsQuestion (Rattle.dns_message.specs.Borrowed.questions_of o)) (sym asks.question) (asks.is_question, tt);
   answers = records_of s.answers can.answers;
   authority = records_of s.authority can.authority;
   additional = tt;
 }) refl (record { answers = shapes_of s.answers can.answers; authority = shapes_of s.authority can.authority; additional = tt }) short
 
 cut_short : (a : Asked) (q : Question) (s : Sections) → CanBeRepeated a q → length (written (cut_answer a s)) ≤ 65535
-cut_short a q s asks = question_short (cut_answer a s) q (ap Rattle.answer_builder.specs.Answers.questions_of asks.question) refl refl refl asks.is_question.name
+cut_short a q s asks = question_short (cut_answer a s) q (ap Rattle.dns_message.specs.Borrowed.questions_of asks.question) refl refl refl asks.is_question.name
 
 -- what a client gets is read as the answer, or as the answer cut to the question
 pub answer_spelled : (a : Asked) (q : Question) (t : ℕ) (chain : List Held) → CanBeRepeated a q → AllByRecursion (CanBeTold t) chain

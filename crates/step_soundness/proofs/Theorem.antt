@@ -22,7 +22,7 @@ module _ (c : Config) (past : List Step) (w : List (List ℕ)) (s : State) (x : 
 
   event_row : (e : Event) → HandsOctets e → (d : Done) → Happens c n words s e d → Explained e d
   event_row (from_client client request) are d h = subst (Explained (from_client client request)) (sym h) (client_explained c past w s x now words unkept more client request are)
-  event_row (delivery path from octets) are d h = subst (Explained (delivery path from octets)) (sym h.1) (delivery_explained c past w s x now words unkept more path from octets h.0)
+  event_row (delivery path from octets) are d h = subst (Explained (delivery path from octets)) (sym h.1) (delivery_explained c past w s x now words unkept more path from octets h.0 are)
   event_row (path_failed path) are d h = subst (Explained (path_failed path)) (sym h) (path_explained c past w s x now words unkept more path)
   event_row tick are d h = subst (Explained tick) (sym h) (tick_explained c past w s x now words unkept more)
   event_row restart are d h = subst (Explained restart) (sym h) (λ more_is. ([], restart_explained c past w s x (record { now = now; words = words; event = restart }) unkept more n (start c) refl refl more_is))

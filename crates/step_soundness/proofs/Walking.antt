@@ -25,11 +25,7 @@ use Rattle.step_soundness.proofs.Slots.{slot_carried_over}
 
 -- ---- the last piece, and the aliases before it
 
-pub whole_again : (p : Piece) (ps : List Piece) → before_last p ps ++ last_of p ps ∷ [] ≡ p ∷ ps
-whole_again p [] = refl
-whole_again p (q ∷ ps) = ap (λ xs. p ∷ xs) (whole_again q ps)
-
-last_is : (p : Piece) (ps aliases : List Piece) (last : Piece) → p ∷ ps ≡ aliases ++ last ∷ [] → (before_last p ps ≡ aliases) × (last_of p ps ≡ last)
+pub last_is : (p : Piece) (ps aliases : List Piece) (last : Piece) → p ∷ ps ≡ aliases ++ last ∷ [] → (before_last p ps ≡ aliases) × (last_of p ps ≡ last)
 last_is p [] [] last e = (refl, cc)
 last_is p [] (x ∷ []) last e = absurd (cc)
 last_is p [] (x ∷ y ∷ aliases) last e = absurd (cc)
@@ -63,7 +59,7 @@ walk_closes c m q route shapes on fine = by (walk_of c m q route) (walk_leads c 
 -- ---- they serve an equal question
 
 -- the question at a name with this type and class
-abbrev at_name : List (List ℕ) → ℕ → ℕ → Question
+abbrev pub at_name : List (List ℕ) → ℕ → ℕ → Question
 at_name name kind class = record { name = name; kind = kind; class = class }
 
 -- the pieces among some that were carried now serve each name on their route
@@ -71,7 +67,7 @@ abbrev Serve : Look → ℕ → List Held → Type 0
 Serve l t new = (o : Held) (name : List (List ℕ)) → Among o new → route_of l.config name ≡ Some o.piece.route → Justified l name o
 
 -- a name that is the same as one that a piece was carried for is on the piece's route
-on_its_route : (r : Reply) (name other : List (List ℕ)) (kind : Option ℕ) (p : Piece) → IsCarriedFor r name kind p → IsSame other name → route_of r.config other ≡ Some p.route
+pub on_its_route : (r : Reply) (name other : List (List ℕ)) (kind : Option ℕ) (p : Piece) → IsCarriedFor r name kind p → IsSame other name → route_of r.config other ≡ Some p.route
 on_its_route r name other kind p carried alike = route_of_respects_same r.config.routes other name alike ∙ carried.on_route ∙ ap Some (sym carried.route)
 
 -- aliases that lead on in the reply are followed, from each name that is the same as the first

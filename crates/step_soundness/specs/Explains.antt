@@ -25,7 +25,7 @@ use Rattle.outstanding.specs.declared.ask.Path.TheVariants.{Udp, Tcp}
 use Rattle.outstanding.specs.Values.{Ask}
 use Rattle.outstanding.specs.Lists.{AreListed}
 use Rattle.step_history.specs.Asked.{AsksWell}
-use Rattle.step_soundness.specs.Kept.{IsCached}
+use Rattle.step_soundness.specs.Kept.{CanBeTold, IsCached}
 
 -- an ask as its action showed it
 abbrev pub shown : Ask → ShownAsk
@@ -51,11 +51,13 @@ pub record Comes (now : List Step) (client : Client) (a : Asked) (i : ℕ) : Typ
 abbrev pub look_from : Config → Step → List Step → List Step → Look
 look_from c asked before now = record { config = c; asked = asked; before = before; now = now }
 
--- the step with this number asked the question that waits, and the aliases that it holds lead to what it wants to know
+-- the step with this number asked the question that waits; the aliases that it holds lead to what it wants to know, and
+-- can be told
 pub record Waits (c : Config) (now : List Step) (x : Waiting) (i : ℕ) : Type 0 where
   pub comes : Comes now x.client x.asked i
   pub moment : x.taken ≡ moment_at (comes.asked ∷ comes.before)
   pub leads : Leads (look_from c comes.asked comes.before now) comes.question x.held x.wanted
+  pub told : AllByRecursion (CanBeTold (moment_at now)) x.held
 
 -- the text of a listed ask reads as its question, on its route; it went to the server at its place in the group; the tries before it failed
 pub record Tried (c : Config) (now : List Step) (a : Ask) : Type 0 where

@@ -1,14 +1,12 @@
 -- How a history explains what is kept of replies, and what was answered from it.
-use Rattle.std.specs.Prelude.{◌≡◌, ℕ, ◌<◌, ◌≤◌, false, List, [], ◌∷◌, ◌++◌, Some, ◌⊎◌}
+use Rattle.std.specs.Prelude.{◌≡◌, ℕ, ◌≤◌, false, List, [], ◌∷◌, ◌++◌, Some, ◌⊎◌}
 use Rattle.std.specs.List.{AllByRecursion}
-use Rattle.std.specs.Option.{IfSome}
-use Rattle.dns_name.specs.Labels.{IsName}
 use Rattle.dns_message.specs.Header.{Header}
-use Rattle.dns_message.specs.Values.{Question, Record}
+use Rattle.dns_message.specs.Values.{Question}
 use Rattle.dns_message.specs.Messages.{Spells}
-use Rattle.dns_message.specs.Written.{IsRecord}
 use Rattle.suffix_routes.specs.Values.{Config}
-use Rattle.trust_rank.specs.Values.{Body, rows, no_data, denied, Piece}
+use Rattle.trust_rank.specs.Formed.{IsPiece}
+use Rattle.trust_rank.specs.Writable.{IsWritable}
 use Rattle.trust_rank.specs.Walks.{most_aliases}
 use Rattle.record_cache.specs.Values.{Held, Cache}
 use Rattle.record_cache.specs.Entries.{AreHeld}
@@ -25,25 +23,18 @@ use Rattle.step_rules.specs.Progress.{IsOnRoute}
 
 -- ---- entries
 
--- the SOA of a denial
-abbrev pub IsWritableBody : Body → Type 0
-IsWritableBody (rows each) = Unit {0}
-IsWritableBody (no_data soa) = IfSome soa IsRecord
-IsWritableBody (denied soa) = IfSome soa IsRecord
-
--- names are names and numbers fit their fields, so that what is written of it can be read
-pub record IsWritable (p : Piece) : Type 0 where
-  pub owner : IsName p.owner
-  pub class : p.slot.class < 65536
-  pub kind : IfSome p.slot.kind (λ kind. kind < 65536)
-  pub body : IsWritableBody p.body
-
 -- an entry: on its route, accepted not after the present moment, carried by a reply of the era and not replaced since
 pub record IsKept (c : Config) (carried : List Held) (moment : ℕ) (h : Held) : Type 0 where
   pub on_route : IsOnRoute c h
   pub earlier : h.accepted ≤ moment
   pub not_replaced : NotReplaced h carried
   pub writable : IsWritable h.piece
+
+-- what an answer tells of an entry at the moment can be written
+pub record CanBeTold (t : ℕ) (h : Held) : Type 0 where
+  pub formed : IsPiece h.piece
+  pub writable : IsWritable h.piece
+  pub earlier : h.accepted ≤ t
 
 -- ---- answers
 
