@@ -12,4 +12,7 @@ pub use message_reading::{
     Header, Message, MessageRef, Question, QuestionRef, Rdata, Record, Records, Span,
     messages_are_spelled, names_are_written_out, spans_are_records, what_stands_is_read,
 };
-pub use message_writing::{MessageParts, RowsRef, what_is_written_is_spelled, write, write_parts};
+pub use message_writing::{
+    DataRef, MessageParts, RowsRef, what_is_read_can_be_written, what_is_written_is_spelled, write,
+    write_parts,
+};

@@ -27,13 +27,16 @@ pub fn read_name<A: Allocator>(
     ensures exact { Gives (λ x. x) result (name_at bytes.now offset) }
     ensures known { AreShortcuts bytes.now ends.new }
 {
-    let mut name = Name::root(alloc);
+    let mut octets = [0u8; 255];
     let mut walk = Walk::new(bytes, Bound::whole(bytes), offset);
     loop {
         match next_run(bytes, ends, walk)? {
-            Run::End(end) => return Ok((name, end)),
-            Run::Labels(octets, after) => {
-                name.append_labels(octets)?;
+            Run::End(end) => {
+                let name = Name::from_octets(alloc, &octets[..walk.used])?;
+                return Ok((name, end));
+            }
+            Run::Labels(labels, after) => {
+                octets[walk.used..after.used].copy_from_slice(labels);
                 walk = after;
             }
         }

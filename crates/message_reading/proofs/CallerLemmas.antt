@@ -1,9 +1,11 @@
 -- What the proofs of crates above cite of messages that are read.
-use Rattle.std.proofs.Common.{◌≡◌, ℕ, ◌≤◌, List, Ok}
+use Rattle.std.proofs.Common.{◌≡◌, ℕ, ◌-◌, ◌≤◌, List, length, take, None, Ok, Some}
 use Rattle.std.specs.Bool.{Decides}
-use Rattle.dns_name.specs.Labels.{IsName, size_of}
-use Rattle.message_names.specs.Names.{NameAt}
+use Rattle.dns_name.specs.Labels.{labels_of, IsLaidOut, IsName, size_of}
+use Rattle.message_names.specs.Reading.{behind}
+use Rattle.message_names.specs.Names.{NameAt, name_at}
 use Rattle.message_reading.specs.Values.{Question, Message}
+use Rattle.message_reading.specs.Data.{name_octets, name_of_rdata}
 use Rattle.message_reading.specs.Questions.{same_question}
 use Rattle.message_reading.specs.Messages.{Spells, FirstQuestion, HasShapes, IsSameQuestion, first_question, message_of}
 use Rattle.message_reading.proofs.QuestionLaws as questions
@@ -53,3 +55,15 @@ standing_first_question_is_read = whole.first_complete
 -- what stands as a name, in at most 255 octets, is a name
 pub standing_name_is_name : (bytes : List ℕ) (o f e : ℕ) (labels : List (List ℕ)) → NameAt bytes o f labels e → size_of labels ≤ 255 → IsName labels
 standing_name_is_name = shapes.name_is
+
+-- data that is one name is that name, written out in full
+pub data_that_is_a_name : (octets : List ℕ) (labels : List (List ℕ)) → name_of_rdata octets ≡ Some labels → IsName labels × (octets ≡ name_octets labels)
+data_that_is_a_name = shapes.named_sound
+
+-- data to whose end a name goes is that name; data whose end no name reaches is none
+pub name_to_the_end : (octets : List ℕ) (end : ℕ) → behind (name_at octets 0) ≡ Ok end → end ≡ length octets
+    → (1 ≤ end) × IsLaidOut (take (end - 1) octets) × (name_of_rdata octets ≡ Some (labels_of (take (end - 1) octets)))
+name_to_the_end octets end ends all = let only = shapes.only_name octets end ends all in (only.some, only.laid, only.name)
+
+pub no_name_to_the_end : (octets : List ℕ) → (behind (name_at octets 0) ≡ Ok (length octets) → ⊥) → name_of_rdata octets ≡ None
+no_name_to_the_end = shapes.no_name

@@ -3,7 +3,8 @@
 ghost use Rattle.std.specs.Prelude.{◌≤◌};
 
 use dns_message::{
-    Fault, Message, MessageParts, MessageRef, QuestionRef, Rdata, Record, RowsRef, write_parts,
+    DataRef, Fault, Message, MessageParts, MessageRef, QuestionRef, Rdata, Record, RowsRef,
+    write_parts,
 };
 use refusing_allocator::Refusing;
 use std::alloc::{AllocError, Allocator};
@@ -31,23 +32,22 @@ fn put<A: Allocator + Copy>(
     write_parts(alloc, octets, message, limit)
 }
 
-/// The records' data, beside the record whose owner, type, class and TTL they share.
-fn set_of<'a, A: Allocator>(entry: &'a Record<A>, rows: &'a [Rdata<A>]) -> RowsRef<'a, A> {
+/// The data, beside the record whose owner, type, class and TTL its records share.
+fn set_of<'a, A: Allocator>(entry: &'a Record<A>, data: DataRef<'a, A>) -> RowsRef<'a, A> {
     RowsRef {
         owner: &entry.owner,
         kind: entry.kind,
         class: entry.class,
         ttl: entry.ttl,
-        rows,
+        data,
     }
 }
 
-/// The data of the three sets of an answer.
+/// The data of the two sets of an answer's first section.
 #[derive(Drop)]
 struct Rows<A: Allocator> {
     alias: Vec<Rdata<A>, A>,
     addresses: Vec<Rdata<A>, A>,
-    zone: Vec<Rdata<A>, A>,
 }
 
 /// The text of the message from borrowed parts: alias, addresses, the zone's record.
@@ -67,8 +67,11 @@ fn answer_into<A: Allocator + Copy>(
     ) else {
         return Err(Fault::NoQuestion);
     };
-    let answers = [set_of(alias, &rows.alias), set_of(first, &rows.addresses)];
-    let authority = [set_of(zone, &rows.zone)];
+    let answers = [
+        set_of(alias, DataRef::Rows(&rows.alias)),
+        set_of(first, DataRef::Rows(&rows.addresses)),
+    ];
+    let authority = [set_of(zone, DataRef::Row(&zone.rdata))];
     let parts = MessageParts {
         header: message.header,
         question: Some(QuestionRef::of(question)),
@@ -90,7 +93,7 @@ fn copied<A: Allocator + Copy>(
     Ok(rows)
 }
 
-/// The data of the answer: one alias, two addresses, the zone's.
+/// The data of the answer: one alias, two addresses.
 fn rows_of<A: Allocator + Copy>(alloc: A, message: &Message<A>) -> Result<Rows<A>, Fault> {
     let Some((alias, addresses)) = message.answers.as_slice().split_at_checked(1) else {
         return Err(Fault::NoQuestion);
@@ -98,7 +101,6 @@ fn rows_of<A: Allocator + Copy>(alloc: A, message: &Message<A>) -> Result<Rows<A
     Ok(Rows {
         alias: copied(alloc, alias)?,
         addresses: copied(alloc, addresses)?,
-        zone: copied(alloc, message.authority.as_slice())?,
     })
 }
 

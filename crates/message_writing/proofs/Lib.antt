@@ -4,6 +4,8 @@ pub mod WriterFields
 pub mod WriterRecords
 pub mod WriterSets
 pub mod WriterMessages
+pub mod Reading
+pub mod Short
 pub mod RoundTrip
 pub mod RoundTripData
 pub mod RoundTripMessage

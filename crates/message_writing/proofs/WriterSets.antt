@@ -1,5 +1,6 @@
 -- The records of sets, written one set behind another.
 use Rattle.std.proofs.Common.{◌≡◌, ℕ, ◌+◌, ◌<◌, ◌≤◌, List, [], ◌∷◌, ◌++◌, length, take, get_or, refl, sym, ap, subst, ◌∙◌, arith}
+use Rattle.std.specs.Prelude.{Result, Ok, Err}
 use Rattle.std.specs.List.{AllByRecursion}
 use Rattle.std.proofs.lemmas.List.{append-nil, length-append, length-map, take_more}
 use Rattle.std.proofs.lemmas.List.Folds.{length-flat_map-take}
@@ -10,9 +11,10 @@ use Rattle.message_reading.specs.Values.{Record}
 use Rattle.message_writing.specs.declared.writer.Writer.{Writer}
 use Rattle.message_writing.specs.Writing.{Text, Writing, as_is, after, ◌▹◌, each, record_text}
 use Rattle.message_writing.specs.Written.{IsRecord}
-use Rattle.message_writing.specs.Borrowed.{record_of, records_of, records_in}
-use Rattle.message_writing.specs.Writer.{Writes, Refused}
-use Rattle.message_writing.proofs.WriterLaws.{after_both, both, writes_nothing}
+use Rattle.message_writing.specs.Borrowed.{record_of, records_of, records_in, data_of}
+use Rattle.message_writing.specs.declared.borrowed.DataRef.{DataRef}
+use Rattle.message_writing.specs.Writer.{Writes, Puts, Refused}
+use Rattle.message_writing.proofs.WriterLaws.{after_both, writes_nothing}
 
 -- ---- two writings that give one text
 
@@ -71,15 +73,20 @@ all_rows owner kind class ttl [] all = tt
 all_rows owner kind class ttl (row ∷ rows) all = (all.0, all_rows owner kind class ttl rows all.1)
 
 -- the records of a set, from what its fields hold
-pub set_text : (records : List Record) (labels owner : List (List ℕ)) (kind class ttl : ℕ) (rows : List (List ℕ)) → labels ≡ owner → records_of owner kind class ttl rows ≡ records
-    → each (row_text labels kind class ttl) rows ≡ each record_text records
-set_text records labels owner kind class ttl rows named is =
-    rows_text labels kind class ttl rows ∙ ap (each record_text) (ap (λ (name : List (List ℕ)). records_of name kind class ttl rows) named ∙ is)
+pub set_of_data : {A : Type 0} (records : List Record) (labels owner : List (List ℕ)) (kind class ttl : ℕ) (from given : DataRef A) → labels ≡ owner → from ≡ given → records_of owner kind class ttl (data_of from) ≡ records
+    → records_of labels kind class ttl (data_of given) ≡ records
+set_of_data {A = A} records labels owner kind class ttl from given named same is =
+    ap (λ (name : List (List ℕ)). records_of name kind class ttl (data_of given)) named ∙ ap (λ (d : DataRef A). records_of owner kind class ttl (data_of d)) (sym same) ∙ is
 
-pub set_all : (records : List Record) (labels owner : List (List ℕ)) (kind class ttl : ℕ) (rows : List (List ℕ)) → labels ≡ owner → records_of owner kind class ttl rows ≡ records
-    → AllByRecursion (IsRow labels kind class ttl) rows → AllByRecursion IsRecord records
-set_all records labels owner kind class ttl rows named is all =
-    subst (AllByRecursion IsRecord) (ap (λ (name : List (List ℕ)). records_of name kind class ttl rows) named ∙ is) (all_rows labels kind class ttl rows all)
+pub puts_records : {A : Type 0} (limit : ℕ) (r : Result (Unit {0}) Fault) (old new : Writer A) (given records : List Record) → given ≡ records
+    → Puts limit r old new (each record_text given) (AllByRecursion IsRecord given) → Puts limit r old new (each record_text records) (AllByRecursion IsRecord records)
+puts_records limit r old new given records same puts = let P : List Record → Type 0 = λ rs. Puts limit r old new (each record_text rs) (AllByRecursion IsRecord rs) in subst P same puts
+
+-- a set of one record
+pub puts_one : {A : Type 0} (limit : ℕ) (r : Result (Unit {0}) Fault) (old new : Writer A) (entry : Record)
+    → Puts limit r old new (record_text entry) (IsRecord entry) → Puts limit r old new (each record_text (entry ∷ [])) (AllByRecursion IsRecord (entry ∷ []))
+puts_one limit (Ok x) old new entry puts = (one_written old new record_text entry puts.0, puts.1, (puts.2, tt))
+puts_one limit (Err fault) old new entry puts = one_refused limit fault old record_text entry puts
 
 -- ---- one set behind another
 

@@ -2,6 +2,13 @@
 use Rattle.std.specs.Prelude.{ℕ, List, [], ◌∷◌, map, flat_map, Option, Some, None}
 use Rattle.message_reading.specs.declared.header.Header.{Header}
 use Rattle.message_reading.specs.Values.{Question, Record, Message}
+use Rattle.message_writing.specs.declared.borrowed.DataRef.{DataRef}
+use Rattle.message_writing.specs.declared.borrowed.DataRef.TheVariants.{Rows, Row}
+
+-- the data of a set, a row each
+abbrev pub data_of : {A : Type 0} → DataRef A → List (List ℕ)
+data_of (Rows rows) = rows.now
+data_of (Row row) = row.now ∷ []
 
 -- a record of a set with this data
 abbrev pub record_of : List (List ℕ) → ℕ → ℕ → ℕ → List ℕ → Record

@@ -1,12 +1,35 @@
 //! Messages that are put together from borrowed things.
 
+ghost use Rattle.std.specs.Prelude.{◌≡◌, length};
+ghost use Rattle.message_writing.specs.Borrowed.{data_of};
+
 use dns_name::Name;
 use message_reading::{Header, QuestionRef, Rdata};
 use std::alloc::{Allocator, Global};
 use std::marker::Model;
 
-/// Records of one owner, type, class and TTL, whose data is borrowed row by row. Contracts see the list of these
-/// records.
+/// The data of the records of a set.
+#[derive(Drop)]
+pub enum DataRef<'a, A: Allocator = Global> {
+    /// Of each record, in order.
+    Rows(&'a [Rdata<A>]),
+    /// Of the only one.
+    Row(&'a Rdata<A>),
+}
+
+impl<'a, A: Allocator> DataRef<'a, A> {
+    /// How many records have it.
+    pub(crate) fn count(&self) -> usize
+        ensures { result ≡ length (data_of self.now) }
+    {
+        match self {
+            DataRef::Rows(rows) => rows.len(),
+            DataRef::Row(_) => 1,
+        }
+    }
+}
+
+/// Records of one owner, type, class and TTL, whose data is borrowed. Contracts see the list of these records.
 #[derive(Drop)]
 pub struct RowsRef<'a, A: Allocator = Global> {
     pub owner: &'a Name<A>,
@@ -14,17 +37,17 @@ pub struct RowsRef<'a, A: Allocator = Global> {
     pub class: u16,
     /// In seconds.
     pub ttl: u32,
-    pub rows: &'a [Rdata<A>],
+    pub data: DataRef<'a, A>,
 }
 
 impl<'a, A: Allocator> Model for RowsRef<'a, A> {
     ghost use Rattle.std.specs.Prelude.{List};
     ghost use Rattle.message_reading.specs.Values.{Record};
-    ghost use Rattle.message_writing.specs.Borrowed.{records_of};
+    ghost use Rattle.message_writing.specs.Borrowed.{data_of, records_of};
 
     ghost Value = { List Record };
 
-    ghost view = { λ r. records_of r.owner.now r.kind r.class r.ttl r.rows.now };
+    ghost view = { λ r. records_of r.owner.now r.kind r.class r.ttl (data_of r.data) };
 }
 
 /// A message that is put together from borrowed things, without an additional section. Contracts see the message.

@@ -1,5 +1,8 @@
-//! What is written is read back: a law about the definitions that the contracts cite.
+//! What is written is read back, and what is read can be written: laws about the definitions that the contracts cite.
 
+ghost use Rattle.std.specs.Prelude.{List, ℕ};
+ghost use Rattle.plain_list.specs.Octets.{AreOctets};
+ghost use Rattle.message_reading.specs.Messages.{Spells};
 ghost use Rattle.message_reading.specs.Values as values;
 ghost use Rattle.message_writing.specs.Written.{IsMessage, IsSpelledBack};
 
@@ -7,4 +10,9 @@ ghost use Rattle.message_writing.specs.Written.{IsMessage, IsSpelledBack};
 /// shapes, and the octets are no more than a message can have: a message that is read back is the one that was written.
 pub fn what_is_written_is_spelled()
     ensures { (message : values.Message) → IsMessage message → IsSpelledBack message }
+{}
+
+/// The names of a message that is read of octets are names, and its numbers fit their fields: so it can be written.
+pub fn what_is_read_can_be_written()
+    ensures { (bytes : List ℕ) (message : values.Message) → AreOctets bytes → Spells bytes message → IsMessage message }
 {}

@@ -10,6 +10,6 @@ mod pointers;
 mod records;
 mod writer;
 
-pub use borrowed::{MessageParts, RowsRef};
-pub use laws::what_is_written_is_spelled;
+pub use borrowed::{DataRef, MessageParts, RowsRef};
+pub use laws::{what_is_read_can_be_written, what_is_written_is_spelled};
 pub use message::{write, write_parts};

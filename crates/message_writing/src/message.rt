@@ -64,10 +64,11 @@ fn count_of<A: Allocator>(sets: &[RowsRef<A>]) -> Option<u16>
 {
     let mut count = 0;
     for set in sets {
-        if set.rows.len() > LAST_COUNT - count {
+        let more = set.data.count();
+        if more > LAST_COUNT - count {
             return None;
         }
-        count += set.rows.len();
+        count += more;
     }
     Some(count as u16)
 }

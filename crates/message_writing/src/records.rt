@@ -5,15 +5,15 @@ ghost use Rattle.std.specs.Option.{IfSome};
 ghost use Rattle.std.specs.List.{AllByRecursion};
 ghost use Rattle.dns_name.specs.Labels.{labels_of, IsLaidOut};
 ghost use Rattle.message_writing.specs.Writing.{each, question_text, head_text, record_text};
-ghost use Rattle.message_writing.specs.Borrowed.{record_of, records_in, questions_of};
+ghost use Rattle.message_writing.specs.Borrowed.{record_of, records_of, records_in, questions_of};
 ghost use Rattle.message_writing.specs.Written.{IsQuestion, IsRecord};
 ghost use Rattle.message_writing.specs.Writer.{Writes, Puts, HoldsText, IsKnown};
 
-use crate::borrowed::RowsRef;
+use crate::borrowed::{DataRef, RowsRef};
 use crate::data::put_with_length;
 use crate::writer::Writer;
 use message_names::Fault;
-use message_reading::{Question, QuestionRef, Record};
+use message_reading::{Question, QuestionRef, Rdata, Record};
 use std::alloc::{AllocError, Allocator};
 
 /// Writes a question, as far as the limit lets it.
@@ -147,7 +147,28 @@ fn put_record<'a, A: Allocator + Copy>(
     Ok(())
 }
 
-/// Writes the records of a set, as far as the limit lets them. Their owner is looked up until it has a pointer.
+/// Writes records with this data, as far as the limit lets them. Their owner is looked up until it has a pointer.
+fn put_rows<'a, A: Allocator + Copy>(
+    writer: &mut Writer<'a, A>,
+    head: &Head<'a>,
+    rows: &'a [Rdata<A>],
+    limit: usize,
+) -> Result<(), Fault>
+    requires laid { IsLaidOut head.now.owner.now }
+    requires holds { HoldsText writer.old }
+    requires limit { limit ≤ 65535 }
+    requires within { length writer.old.octets.items ≤ limit }
+    ensures { let records = records_of (labels_of head.now.owner.now) head.now.kind head.now.class head.now.ttl rows.now in Puts limit result writer.old writer.new (each record_text records) (AllByRecursion IsRecord records) }
+{
+    let mut known = None;
+    for rdata in rows {
+        known = writer.known(head.owner, known);
+        put_row(writer, head, known, rdata.octets(), limit)?;
+    }
+    Ok(())
+}
+
+/// Writes the records of a set, as far as the limit lets them.
 fn put_set<'a, A: Allocator + Copy>(
     writer: &mut Writer<'a, A>,
     set: &'a RowsRef<'a, A>,
@@ -164,12 +185,10 @@ fn put_set<'a, A: Allocator + Copy>(
         class: set.class,
         ttl: set.ttl,
     };
-    let mut known = None;
-    for rdata in set.rows {
-        known = writer.known(head.owner, known);
-        put_row(writer, &head, known, rdata.octets(), limit)?;
+    match &set.data {
+        DataRef::Rows(rows) => put_rows(writer, &head, rows, limit),
+        DataRef::Row(rdata) => put_row(writer, &head, None, rdata.octets(), limit),
     }
-    Ok(())
 }
 
 /// Writes the records of the sets, as far as the limit lets them.

@@ -1,32 +1,26 @@
-use Rattle.std.proofs.Common.{ap, arith, sym, ◌∙◌}
-use Rattle.dns_name.proofs.CallerLemmas.{size_with_labels}
-use Rattle.dns_name.specs.Labels.{labels_of}
-use Rattle.message_names.specs.Runs.{with_front}
-use Rattle.message_names.proofs.Loops.{front_run, front_none}
+use Rattle.std.proofs.Common.{◌≡◌, ℕ, ◌-◌, List, ◌++◌, length, take, ap, ◌∙◌, arith}
+use borrow.Rule.Slice.PartMut.{put_mid}
+use Rattle.std.proofs.lemmas.Slice.{take-put_mid}
+use Rattle.message_names.proofs.RunLaws.{filled_first, filled_more, room_behind}
 use Rattle.message_names.proofs.names.read_name.Goals as goal
 
-pub loop-name-init : goal.loop-name-init
-loop-name-init g c =
+pub loop-alloc-init : goal.loop-alloc-init
+loop-alloc-init g c =
     let start = rw c.whole.ensures at c.new-walk.ensures.start in
     let bound = rw c.whole.ensures at c.new-walk.ensures.bound in
-    rw c.root-name.ensures
-    (record { read = front_none _ ∙ start; used = omega arith; room = omega arith; stop = rw bound (omega arith); known = c.requires })
+    record { filled = filled_first c.args.bytes.now _ c.new-walk.result _ c.new-walk.ensures.used (rw bound (omega arith)) start; known = c.requires }
 
-pub append_labels-requires-clause-room : goal.append_labels-requires-clause-room
-append_labels-requires-clause-room g c =
+pub loop-alloc-preserved : goal.loop-alloc-preserved
+loop-alloc-preserved g c =
+    let now = c.loop-alloc.invariant.filled in
     let a = rw c.in-Labels.is at c.in_ok-end.ensures.takes in
-    let now = c.loop-name.invariant in
-    omega (arith, a.0.used, a.0.room, now.used)
-
-pub loop-name-preserved : goal.loop-name-preserved
-loop-name-preserved g c =
-    let a = rw c.in-Labels.is at c.in_ok-end.ensures.takes in
-    let now = c.loop-name.invariant in
-    rw c.in_ok-append_labels-in-Labels.ensures.ok
-    (record {
-      read = sym (front_run c.loop-name.name (labels_of c.in-Labels.octets.now) _) ∙ ap (with_front c.loop-name.name) (sym a.0.read) ∙ now.read;
-      used = omega (arith, size_with_labels c.loop-name.name c.in-Labels.octets.now a.0.laid, now.used, a.0.used);
-      room = a.0.room;
-      stop = a.0.stop;
+    let from : ℕ = c.loop-alloc.walk.used in
+    let count : ℕ = c.in-Labels.after.used - from in
+    let old : List ℕ = c.loop-alloc.octets in
+    let written : List ℕ = c.copy_from_slice.new.self in
+    let text : take c.in-Labels.after.used (put_mid from count old written) ≡ take from old ++ written =
+    take-put_mid from count old written c.in-Labels.after.used (omega (arith, a.0.used, ap length c.copy_from_slice.ensures.after)) (room_behind old from now.size) in
+    record {
+      filled = filled_more c.args.bytes.now old (put_mid from count old written) c.in-Labels.labels.now c.loop-alloc.walk c.in-Labels.after _ now a.0 (text ∙ ap (λ (ys : List ℕ). take from old ++ ys) c.copy_from_slice.ensures.after);
       known = c.in_ok-end.ensures.known;
-    })
+    }

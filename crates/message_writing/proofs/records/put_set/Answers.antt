@@ -1,52 +1,17 @@
-use Rattle.std.proofs.Common.{ℕ, List, ap, drop, subst}
-use Rattle.std.proofs.lemmas.Result.{err_from_is_err_and}
+use Rattle.std.proofs.Common.{ℕ, List, [], ◌∷◌, ap, ◌∙◌}
 use Rattle.dns_name.specs.Labels.{labels_of}
-use Rattle.message_writing.specs.Writing.{Writing, each, record_text}
-use Rattle.message_writing.proofs.WriterLaws.{stays_if_known}
-use Rattle.message_writing.proofs.WriterRecords.{all_so_far, all_of_them, holds_on, element_refused, element_written, list_written, refused_as, writes_as}
-use Rattle.message_writing.proofs.WriterSets.{row_text, IsRow, set_text, set_all}
+use Rattle.message_writing.specs.Borrowed.{record_of}
+use Rattle.message_writing.proofs.WriterSets.{set_of_data, puts_records, puts_one}
 use Rattle.message_writing.proofs.records.put_set.Goals as goal
 
-pub put_row-requires-clause-holds : goal.put_row-requires-clause-holds
-put_row-requires-clause-holds g c =
-    let text : List ℕ → Writing = row_text (labels_of c.octets.result.now) c.set.inside.kind c.set.inside.class c.set.inside.ttl in
-    holds_on c.args.writer.now c.loop-rdata.writer (each text (drop c.loop-rdata.rdata-index c.set.inside.rows.now)) (each text c.set.inside.rows.now) c.loop-rdata.invariant.left c.requires.holds
+pub returns-in-Rows : goal.returns-in-Rows
+returns-in-Rows g c =
+    let same = set_of_data c.args.set.now (labels_of c.octets.result.now) c.set.inside.owner.now c.set.inside.kind c.set.inside.class c.set.inside.ttl _ _ c.octets.ensures.labels c.in-Rows.is c.set.view_is in
+    puts_records c.args.limit c.put_rows.result c.args.writer.now c.put_rows.new.writer _ c.args.set.now same c.put_rows.ensures
 
-pub returns-in_err-put_row : goal.returns-in_err-put_row
-returns-in_err-put_row g c =
-    let p = err_from_is_err_and c.from_residual.result c.from_residual.ensures.1 in
-    let text : List ℕ → Writing = row_text (labels_of c.octets.result.now) c.set.inside.kind c.set.inside.class c.set.inside.ttl in
-    let rows : List (List ℕ) = c.set.inside.rows.now in
-    let whole = set_text c.args.set.now (labels_of c.octets.result.now) _ _ _ _ rows c.octets.ensures.labels c.set.view_is in
-    rw (p.1, p.2)
-    (refused_as c.args.limit c.in_err-put_row.field-0.0 c.args.writer.now (each text rows) (each record_text c.args.set.now) whole
-    (element_refused c.args.limit c.in_err-put_row.field-0.0 c.args.writer.now c.loop-rdata.writer text rows c.loop-rdata.rdata-index c.rdata-item.result c.loop-rdata-test.true c.rdata-item.is c.loop-rdata.invariant.left
-    (refused_as c.args.limit c.in_err-put_row.field-0.0 c.loop-rdata.writer (text c.octets-in-loop-rdata.result.now) (text c.rdata-item.result) (ap text c.octets-in-loop-rdata.ensures) c.in_err-put_row.ensures)))
-
-pub loop-rdata-preserved : goal.loop-rdata-preserved
-loop-rdata-preserved g c =
-    let text : List ℕ → Writing = row_text (labels_of c.octets.result.now) c.set.inside.kind c.set.inside.class c.set.inside.ttl in
-    let rows : List (List ℕ) = c.set.inside.rows.now in
-    let is_row : List ℕ → Type 0 = IsRow (labels_of c.octets.result.now) c.set.inside.kind c.set.inside.class c.set.inside.ttl in
-    let holds = holds_on c.args.writer.now c.loop-rdata.writer (each text (drop c.loop-rdata.rdata-index rows)) (each text rows) c.loop-rdata.invariant.left c.requires.holds in
-    let step = writes_as c.loop-rdata.writer c.put_row.new.writer (text c.octets-in-loop-rdata.result.now) (text c.rdata-item.result) (ap text c.octets-in-loop-rdata.ensures) c.in_ok-put_row.ensures.0 in
-    record {
-      known = stays_if_known c.loop-rdata.writer c.put_row.new.writer (text c.rdata-item.result) c.octets.result.now c.known-known.result c.octets.ensures.laid holds step c.known-known.ensures;
-      left = element_written c.args.writer.now c.loop-rdata.writer c.put_row.new.writer text rows c.loop-rdata.rdata-index c.rdata-item.result c.loop-rdata-test.true c.rdata-item.is c.loop-rdata.invariant.left step;
-      within = c.in_ok-put_row.ensures.1;
-      all =
-          all_so_far is_row rows c.loop-rdata.rdata-index c.rdata-item.result c.loop-rdata-test.true c.rdata-item.is c.loop-rdata.invariant.all
-          (subst is_row c.octets-in-loop-rdata.ensures c.in_ok-put_row.ensures.2);
-    }
-
-pub returns : goal.returns
-returns g c =
-    let text : List ℕ → Writing = row_text (labels_of c.octets.result.now) c.set.inside.kind c.set.inside.class c.set.inside.ttl in
-    let rows : List (List ℕ) = c.set.inside.rows.now in
-    let is_row : List ℕ → Type 0 = IsRow (labels_of c.octets.result.now) c.set.inside.kind c.set.inside.class c.set.inside.ttl in
-    let whole = set_text c.args.set.now (labels_of c.octets.result.now) _ _ _ _ rows c.octets.ensures.labels c.set.view_is in (
-      writes_as c.args.writer.now c.loop-rdata.writer (each text rows) (each record_text c.args.set.now) whole
-          (list_written c.args.writer.now c.loop-rdata.writer text rows c.loop-rdata.rdata-index c.loop-rdata-test.false c.loop-rdata.invariant.left),
-      c.loop-rdata.invariant.within,
-      set_all c.args.set.now (labels_of c.octets.result.now) _ _ _ _ rows c.octets.ensures.labels c.set.view_is (all_of_them is_row rows c.loop-rdata.rdata-index c.loop-rdata-test.false c.loop-rdata.invariant.all),
-    )
+pub returns-in-Row : goal.returns-in-Row
+returns-in-Row g c =
+    let same = set_of_data c.args.set.now (labels_of c.octets.result.now) c.set.inside.owner.now c.set.inside.kind c.set.inside.class c.set.inside.ttl _ _ c.octets.ensures.labels c.in-Row.is c.set.view_is in
+    let written = ap (λ (rdata : List ℕ). record_of (labels_of c.octets.result.now) c.set.inside.kind c.set.inside.class c.set.inside.ttl rdata ∷ []) c.octets-in-Row.ensures in
+    puts_records c.args.limit c.put_row.result c.args.writer.now c.put_row.new.writer _ c.args.set.now (written ∙ same)
+    (puts_one c.args.limit c.put_row.result c.args.writer.now c.put_row.new.writer _ c.put_row.ensures)

@@ -6,14 +6,14 @@ use Rattle.message_writing.specs.Writing.{each}
 use Rattle.message_writing.specs.Writer.{IsKnown}
 use Rattle.message_writing.proofs.WriterLaws.{GoesOn}
 use Rattle.message_writing.proofs.WriterSets.{row_text, IsRow}
-use Rattle.message_writing.proofs.records.put_set.Given as goal
+use Rattle.message_writing.proofs.records.put_rows.Given as goal
 
 abbrev pub invariant-loop-rdata : goal.invariant-loop-rdata
 invariant-loop-rdata g l = record {
   known : IfSome l.known (λ pointer. IsKnown l.writer l.head.owner.now pointer);
   left :
-      GoesOn l.initial.writer l.writer (each (row_text (labels_of l.head.owner.now) l.head.kind l.head.class l.head.ttl) (drop l.rdata-index l.rdata-items))
-      (each (row_text (labels_of l.head.owner.now) l.head.kind l.head.class l.head.ttl) l.rdata-items);
+      GoesOn l.initial.writer l.writer (each (row_text (labels_of l.head.owner.now) l.head.kind l.head.class l.head.ttl) (drop l.rdata-index l.rows))
+      (each (row_text (labels_of l.head.owner.now) l.head.kind l.head.class l.head.ttl) l.rows);
   within : length l.writer.octets.items ≤ l.limit;
-  all : AllByRecursion (IsRow (labels_of l.head.owner.now) l.head.kind l.head.class l.head.ttl) (take l.rdata-index l.rdata-items);
+  all : AllByRecursion (IsRow (labels_of l.head.owner.now) l.head.kind l.head.class l.head.ttl) (take l.rdata-index l.rows);
 }
