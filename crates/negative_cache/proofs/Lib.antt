@@ -7,3 +7,4 @@ pub mod Fitting
 pub mod Keeping
 pub mod Forgetting
 pub mod Worked
+pub mod CallerLemmas

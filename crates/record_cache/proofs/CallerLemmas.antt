@@ -1,12 +1,15 @@
 -- What the proofs of crates above cite of the cache.
-use Rattle.std.proofs.Common.{◌≡◌, ℕ, Bool, true, false, List, ◌∷◌, filter, None, Some}
+use Rattle.std.proofs.Common.{◌≡◌, ℕ, Bool, true, false, ◌&&◌, List, ◌∷◌, filter, None, Some, arith}
 use Rattle.std.specs.Bool.{Decides}
-use Rattle.std.specs.List.{AllByRecursion}
+use Rattle.std.specs.List.{list_any, AllByRecursion}
+use Rattle.std.specs.Option.{option_map_or}
 use Rattle.dns_name.specs.Labels.{lowered}
 use Rattle.trust_rank.specs.declared.slot.Slot.{Slot}
 use Rattle.trust_rank.specs.Replacing.{same_slot}
+use Rattle.trust_rank.specs.Formed.{IsPiece}
 use Rattle.record_cache.specs.Values.{Held}
 use Rattle.record_cache.specs.Entries.{is_slot, of_slot, entry_of, without, promoted, AreApart, AreHeld}
+use Rattle.record_cache.specs.Offers.{kept}
 use Rattle.record_cache.specs.Laws.{Among}
 use Rattle.record_cache.proofs.Slots as slots
 use Rattle.record_cache.proofs.Lists as lists
@@ -43,3 +46,25 @@ promotion_keeps_entry = keeping.promoted_are_found
 pub promoted_are_held : (capacity : ℕ) (slot : Slot) (entries : List Held) → AreHeld (record { capacity = capacity; entries = entries })
     → AreHeld (record { capacity = capacity; entries = promoted slot entries })
 promoted_are_held = lists.held_promoted
+
+-- the entry of a slot is what a test of the slot's entries is about
+pub any_is_entry : (slot : Slot) (test : Held → Bool) (entries : List Held) → AreApart entries → list_any (λ h. of_slot slot h && test h) entries ≡ option_map_or test (entry_of slot entries) false
+any_is_entry = lists.any_is_entry
+
+-- what is held without some entries, and with one that is kept
+pub without_are_held : (capacity : ℕ) (slot : Slot) (entries : List Held) → AreHeld (record { capacity = capacity; entries = entries })
+    → AreHeld (record { capacity = capacity; entries = without slot entries })
+without_are_held = lists.held_without
+
+pub fewer_are_held : (capacity : ℕ) (test : Held → Bool) (entries : List Held) → AreHeld (record { capacity = capacity; entries = entries })
+    → AreHeld (record { capacity = capacity; entries = filter test entries })
+fewer_are_held capacity test entries held = record {
+  some = held.some;
+  few = omega (arith, held.few, lists.length_filter test entries);
+  apart = lists.apart_filter test entries held.apart;
+  formed = lists.all_filter (λ h. IsPiece h.piece) test entries held.formed;
+}
+
+pub kept_are_held : (capacity : ℕ) (h : Held) (entries : List Held) → IsPiece h.piece → AreHeld (record { capacity = capacity; entries = entries })
+    → AreHeld (record { capacity = capacity; entries = kept capacity h entries })
+kept_are_held = lists.held_kept

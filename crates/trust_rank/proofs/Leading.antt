@@ -103,7 +103,7 @@ go_plain name rest (met_name_error p) h = refl
 go_plain name rest (met_alias p target) h = behind_plain p (rest target) (h target)
 go_plain name rest met_lame h = refl
 
-walk_plain : (r : Reply) (most : ℕ) (is_first : Bool) (name : List (List ℕ)) → (walk_from r most is_first name).authority ≡ []
+pub walk_plain : (r : Reply) (most : ℕ) (is_first : Bool) (name : List (List ℕ)) → (walk_from r most is_first name).authority ≡ []
 unfolding walk_from
 walk_plain r zero is_first name = refl
 walk_plain r (suc most) is_first name = go_plain name (λ target. walk_from r most false target) (met_at r is_first name) (λ target. walk_plain r most false target)

@@ -4,4 +4,6 @@ pub mod WalkLaws
 pub mod ServerLaws
 pub mod Carrying
 pub mod Leading
+pub mod Writing
 pub mod Worked
+pub mod CallerLemmas

@@ -4,11 +4,13 @@ use Rattle.std.specs.List.{AllByRecursion}
 use Rattle.dns_name.specs.Labels.{lowered, is_under}
 use Rattle.dns_message.specs.Values.{Question, Message}
 use Rattle.dns_message.specs.Messages.{HasShapes}
+use Rattle.dns_message.specs.Written.{IsQuestion, IsRecord}
 use Rattle.suffix_routes.specs.Values.{Config}
 use Rattle.suffix_routes.specs.Routes.{route_of}
 use Rattle.trust_rank.specs.Values.{Body, rows, no_data, denied, Piece, End, found, ends_no_data, ends_denied, elsewhere, lame, Reply, reply_of}
 use Rattle.trust_rank.specs.Walks.{target_of, most_aliases, walk_of}
 use Rattle.trust_rank.specs.Formed.{IsPiece}
+use Rattle.trust_rank.specs.Writable.{IsWritable}
 
 -- a piece of the asked class, of this name and type, formed, with the route that was asked, on which the name is
 pub record IsCarriedFor (r : Reply) (name : List (List ℕ)) (kind : Option ℕ) (p : Piece) : Type 0 where
@@ -79,3 +81,9 @@ abbrev pub ServersFit : Type 0
 ServersFit =
     (c : Config) (m : Message) (q : Question) (route : ℕ) → HasShapes m
     → AllByRecursion (IsServerSet (reply_of c m q route)) (walk_of c m q route).authority
+
+-- What a reply carries can be written, where the question and the records of its sections can.
+abbrev pub PiecesAreWritable : Type 0
+PiecesAreWritable =
+    (c : Config) (m : Message) (q : Question) (route : ℕ) → IsQuestion q → AllByRecursion IsRecord m.answers → AllByRecursion IsRecord m.authority
+    → AllByRecursion IsWritable (walk_of c m q route).pieces × AllByRecursion IsWritable (walk_of c m q route).authority

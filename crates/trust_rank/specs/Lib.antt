@@ -5,4 +5,5 @@ pub mod Denials
 pub mod Walks
 pub mod Replacing
 pub mod Formed
+pub mod Writable
 pub mod Laws

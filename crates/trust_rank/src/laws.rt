@@ -1,6 +1,6 @@
 //! What the walk of a reply is good for.
 
-ghost use Rattle.trust_rank.specs.Laws.{ServersFit, WalkLeads};
+ghost use Rattle.trust_rank.specs.Laws.{PiecesAreWritable, ServersFit, WalkLeads};
 
 /// Aliases lead from the asked name one to the next, all on the route that was asked, and a last piece closes at the last
 /// name; a question for CNAME follows none. Fewer than eight stand before a last piece, one to eight lead to a name that
@@ -13,4 +13,10 @@ pub fn walk_leads()
 /// the asked name.
 pub fn servers_fit()
     ensures { ServersFit }
+{}
+
+/// What a reply carries can be written, where the question and the records of its sections can: names are names, and
+/// numbers fit their fields.
+pub fn pieces_are_writable()
+    ensures { PiecesAreWritable }
 {}

@@ -11,7 +11,7 @@ mod slot;
 mod walk;
 mod walking;
 
-pub use laws::{servers_fit, walk_leads};
+pub use laws::{pieces_are_writable, servers_fit, walk_leads};
 pub use piece::{Body, Piece};
 pub use slot::Slot;
 pub use walk::{End, Walk};
