@@ -1,46 +1,56 @@
--- An answer that is put together a piece at a time is the answer from the chain.
-use Rattle.std.proofs.Common.{◌≡◌, ℕ, ◌+◌, ◌<◌, ◌≤◌, List, [], ◌∷◌, ◌++◌, length, drop, get_or, refl, sym, ap, ◌∙◌, subst, append_assoc}
-use Rattle.std.proofs.lemmas.List.{append-nil, drop_more, drop_all}
-use Rattle.std.specs.List.{flat_map, AllByRecursion}
+-- An answer that ends with the last piece of a chain.
+use Rattle.std.proofs.Common.{◌≡◌, ℕ, suc, ◌+◌, ◌-◌, ◌<◌, ◌≤◌, List, [], ◌∷◌, ◌++◌, length, take, get_or, refl, sym, ap, ◌∙◌, Option, Some, None, Bor, MatchOption, arith}
+use Rattle.std.proofs.lemmas.List.{append-nil, take_more, map-append}
+use Rattle.std.specs.Option.{option_copied, IfSome}
+use Rattle.std.specs.List.{flat_map, slice_get, AllByRecursion}
 use Rattle.record_cache.specs.Values.{Held}
-use Rattle.answer_builder.specs.Values.{Sections}
-use Rattle.answer_builder.specs.Answers.{answers_of, authority_of, rcode_of, last_of, sections_of, bare}
-use Rattle.answer_builder.specs.Building.{with_piece, with_pieces}
+use Rattle.answer_builder.specs.Answers.{answers_of, last_of, sections_of}
+use Rattle.dns_message.specs.Values.{Record}
+use Rattle.dns_message.specs.Borrowed.{records_in}
+use Rattle.answer_builder.specs.Building.{ending, lent, listed}
 
-answers_put : (moment : ℕ) (s : Sections) (chain : List Held) → (with_pieces moment s chain).answers ≡ s.answers ++ flat_map (answers_of moment) chain
-answers_put moment s [] = sym (append-nil s.answers)
-answers_put moment s (h ∷ chain) = answers_put moment (with_piece moment s h) chain ∙ append_assoc s.answers (answers_of moment h) (flat_map (answers_of moment) chain)
+-- the piece at the end of a chain
+abbrev pub end_of : List Held → Option Held
+end_of [] = None
+end_of (h ∷ chain) = Some (last_of h chain)
 
-authority_put : (moment : ℕ) (s : Sections) (h : Held) (chain : List Held) → (with_pieces moment s (h ∷ chain)).authority ≡ authority_of moment (last_of h chain)
-authority_put moment s h [] = refl
-authority_put moment s h (other ∷ chain) = authority_put moment (with_piece moment s h) other chain
+ending_is : (moment : ℕ) (chain : List Held) → ending (flat_map (answers_of moment) chain) moment (end_of chain) ≡ sections_of moment chain
+ending_is moment [] = refl
+ending_is moment (h ∷ chain) = refl
 
-rcode_put : (moment : ℕ) (s : Sections) (h : Held) (chain : List Held) → (with_pieces moment s (h ∷ chain)).rcode ≡ rcode_of (last_of h chain).piece.body
-rcode_put moment s h [] = refl
-rcode_put moment s h (other ∷ chain) = rcode_put moment (with_piece moment s h) other chain
+pub ends_chain : (moment : ℕ) (chain : List Held) (records : List Record) (last : Option Held) → records ≡ flat_map (answers_of moment) chain → last ≡ end_of chain → ending records moment last ≡ sections_of moment chain
+ends_chain moment chain records last all is = (λ i. ending (all i) moment (is i)) ∙ ending_is moment chain
 
-pub put_is : (moment : ℕ) (chain : List Held) → with_pieces moment (bare 0) chain ≡ sections_of moment chain
-put_is moment [] = refl
-put_is moment (h ∷ chain) = λ i. record {
-  answers = answers_put moment (bare 0) (h ∷ chain) i;
-  authority = authority_put moment (bare 0) h chain i;
-  rcode = rcode_put moment (bare 0) h chain i;
-}
+-- each was accepted by then, so the last was
+pub end_earlier : (P : Held → Type 0) (chain : List Held) → AllByRecursion P chain → IfSome (end_of chain) P
+end_earlier P [] all = tt
+end_earlier P (h ∷ []) all = all.0
+end_earlier P (h ∷ other ∷ chain) all = end_earlier P (other ∷ chain) all.1
 
--- ---- one piece after another
+-- ---- borrowed pieces
 
-opened : {X : Type 0} (xs : List X) (i : ℕ) (x : X) → i < length xs → x ≡ get_or xs i x → drop i xs ≡ x ∷ drop (i + 1) xs
-opened {X = X} xs i x lt is = drop_more xs i x lt ∙ ap (λ (y : X). y ∷ drop (i + 1) xs) (sym is)
+-- the last of them is the last piece
+pub last_lent : (refs : List (Bor Held)) → option_copied (slice_get refs (length refs - 1)) ≡ end_of (lent refs)
+last_lent [] = refl
+last_lent (r ∷ []) = refl
+last_lent (r ∷ s ∷ refs) =
+    let one : length (r ∷ s ∷ refs) - 1 ≡ suc (length refs) = omega arith in
+    let none : length refs ≡ length (s ∷ refs) - 1 = omega arith in
+    ap (λ (n : ℕ). option_copied (slice_get (r ∷ s ∷ refs) n)) one ∙ ap (λ (n : ℕ). option_copied (slice_get (s ∷ refs) n)) none ∙ last_lent (s ∷ refs)
 
-pub all_next : {X : Type 0} (P : X → Type 0) (xs : List X) (i : ℕ) (x : X) → i < length xs → x ≡ get_or xs i x → AllByRecursion P (drop i xs) → P x × AllByRecursion P (drop (i + 1) xs)
-all_next P xs i x lt is all = subst (AllByRecursion P) (opened xs i x lt is) all
+-- one more is borrowed
+pub lent_more : {X : Type 0} (refs more : List (Bor X)) (r : Bor X) (xs : List X) (i : ℕ) → i < length xs → r.now ≡ get_or xs i r.now → lent refs ≡ take i xs → more ≡ refs ++ r ∷ []
+    → lent more ≡ take (i + 1) xs
+lent_more {X = X} refs more r xs i lt is so_far pushed =
+    ap lent pushed ∙ map-append (λ (x : Bor X). x.now) refs (r ∷ []) ∙ (λ j. so_far j ++ is j ∷ []) ∙ sym (take_more xs i r.now lt)
 
-pub piece_next : (moment : ℕ) (s t whole : Sections) (chain : List Held) (i : ℕ) (h : Held) → i < length chain → h ≡ get_or chain i h → with_pieces moment s (drop i chain) ≡ whole → t ≡ with_piece moment s h
-    → with_pieces moment t (drop (i + 1) chain) ≡ whole
-piece_next moment s t whole chain i h lt is so_far put =
-    ap (λ (u : Sections). with_pieces moment u (drop (i + 1) chain)) put
-    ∙ sym (ap (with_pieces moment s) (opened chain i h lt is))
-    ∙ so_far
+-- a set that may be missing, as a slice
+pub listed_slice : (soa : Option (List Record)) (sets : List (List Record)) → MatchOption soa (sets ≡ []) (λ x. sets ≡ x ∷ []) → records_in sets ≡ listed soa
+listed_slice None sets is = ap records_in is
+listed_slice (Some records) sets is = ap records_in is ∙ append-nil records
 
-pub all_put : (moment : ℕ) (s whole : Sections) (chain : List Held) (i : ℕ) → length chain ≤ i → with_pieces moment s (drop i chain) ≡ whole → s ≡ whole
-all_put moment s whole chain i le so_far = sym (ap (with_pieces moment s) (drop_all i chain le)) ∙ so_far
+-- a list of one
+pub only_one : {X : Type 0} (xs : List X) (x : X) → 1 ≤ length xs → length xs < 2 → x ≡ get_or xs 0 x → x ∷ [] ≡ xs
+only_one [] x some few is = absurd (omega (arith, some))
+only_one (y ∷ []) x some few is = ap (λ z. z ∷ []) is
+only_one (y ∷ z ∷ xs) x some few is = absurd (omega (arith, few))

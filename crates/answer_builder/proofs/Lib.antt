@@ -1,4 +1,3 @@
-pub mod Short
 pub mod Texts
 pub mod Chains
 pub mod Worked

@@ -1,10 +1,7 @@
 -- What is written within a limit, and what is sent of it.
-use Rattle.std.proofs.Common.{◌≡◌, ℕ, ◌<◌, ◌≤◌, List, [], ◌∷◌, length, Bool, true, false, cond, refl, sym, ap, ◌∙◌, ⊎_elim, arith, Some, None}
+use Rattle.std.proofs.Common.{◌≡◌, ℕ, ◌<◌, ◌≤◌, List, [], ◌∷◌, length, Bool, true, false, cond, refl, sym, ap, subst, ◌∙◌, ⊎_elim, arith, Option, Some, None}
 use Rattle.std.specs.Prelude.{nat_lt, nat_le, Result, Ok, Err}
-use Rattle.std.specs.Option.{IfSome}
 use Rattle.std.proofs.lemmas.Bool.{cases_Bool, cond-true, cond-false, ltb-false, ltb-true, le-leb, leb-true}
-use Rattle.dns_name.specs.Labels.{IsName}
-use Rattle.dns_message.specs.Header.{Header}
 use Rattle.dns_message.specs.Fault.{Fault}
 use Rattle.dns_message.specs.Fault.TheVariants.{TooLarge}
 use Rattle.dns_message.specs.Values.{Question, Record, Message}
@@ -12,9 +9,13 @@ use Rattle.dns_message.specs.Writing.{written, written_within}
 use Rattle.answer_builder.specs.declared.fault.Fault.{Fault as AnswerFault}
 use Rattle.answer_builder.specs.declared.fault.Fault.TheVariants as answer
 use Rattle.answer_builder.specs.Values.{Asked, Sections}
-use Rattle.answer_builder.specs.Answers.{questions_of, answer_header, answer_message, bare}
-use Rattle.answer_builder.specs.Building.{draft, fitting}
-use Rattle.answer_builder.proofs.Short.{bare_fits}
+use Rattle.dns_message.specs.Header.{Header}
+use Rattle.dns_message.specs.Borrowed.{questions_of, records_in, message_of}
+use Rattle.answer_builder.specs.Answers.{answer_header, answer_message, bare, error_response}
+use Rattle.answer_builder.specs.Building.{cut_down, fitting}
+use Rattle.answer_builder.specs.Faults.{Gives}
+use Rattle.answer_builder.specs.Transports.{sent_over, text_of}
+use Rattle.answer_builder.specs.declared.asked.Transport.{Transport}
 
 -- ---- what fits
 
@@ -28,7 +29,7 @@ fits_not : (limit : ℕ) (text : List ℕ) → limit < length text → fitting l
 fits_not limit text h = cond-false (nat_le (length text) limit) _ _ (not_leb (length text) limit h)
 
 -- what was written within a limit fits
-written_fits : (limit : ℕ) (m : Message) (text : List ℕ) → written_within limit m ≡ Ok text → Some text ≡ fitting limit (written m)
+pub written_fits : (limit : ℕ) (m : Message) (text : List ℕ) → written_within limit m ≡ Ok text → Some text ≡ fitting limit (written m)
 unfolding written_within
 written_fits limit m text e = ⊎_elim
     (λ (t : nat_lt limit (length (written m)) ≡ true). let bad : Err TooLarge ≡ Ok text = sym (cond-true (nat_lt limit (length (written m))) _ _ t) ∙ e in absurd (cc))
@@ -39,7 +40,7 @@ written_fits limit m text e = ⊎_elim
     (cases_Bool (nat_lt limit (length (written m))))
 
 -- what was refused doesn't
-refused_fits_not : (limit : ℕ) (m : Message) (fault : Fault) → written_within limit m ≡ Err fault → None ≡ fitting limit (written m)
+pub refused_fits_not : (limit : ℕ) (m : Message) (fault : Fault) → written_within limit m ≡ Err fault → None ≡ fitting limit (written m)
 unfolding written_within
 refused_fits_not limit m fault e = ⊎_elim
     (λ (t : nat_lt limit (length (written m)) ≡ true). sym (fits_not limit (written m) (ltb-true limit (length (written m)) t)))
@@ -48,49 +49,28 @@ refused_fits_not limit m fault e = ⊎_elim
 
 -- ---- the text has the counts of the lists, whatever the header says
 
-draft_counts : (a : Asked) (cut : Bool) (s : Sections) → written (draft a cut s) ≡ written (answer_message a cut s)
+-- an answer as it was put together
+abbrev pub made : Asked → Bool → Sections → Message
+made a cut s = record { header = answer_header a cut s.rcode (0 ∷ 0 ∷ 0 ∷ 0 ∷ []); questions = questions_of a.question; answers = s.answers; authority = s.authority; additional = [] }
+
+made_counts : (a : Asked) (cut : Bool) (s : Sections) → written (made a cut s) ≡ written (answer_message a cut s)
 unfolding written
-draft_counts a cut s = refl
+made_counts a cut s = refl
 
-draft_within : (limit : ℕ) (a : Asked) (cut : Bool) (s : Sections) → written_within limit (draft a cut s) ≡ written_within limit (answer_message a cut s)
-unfolding written_within
-draft_within limit a cut s = ap (λ (text : List ℕ). cond (nat_lt limit (length text)) (Err TooLarge) (Ok text)) (draft_counts a cut s)
+-- a message with this header, and with the question alone
+pub bare_text : (a : Asked) (rcode : ℕ) (header : Header) (question : Option Question) → header ≡ answer_header a false rcode (0 ∷ 0 ∷ 0 ∷ 0 ∷ []) → question ≡ a.question
+    → written (message_of header question [] []) ≡ written (error_response a rcode)
+bare_text a rcode header question is same = (λ i. written (message_of (is i) (same i) [] [])) ∙ made_counts a false (bare rcode)
 
--- a message with these parts, as it was put together
-abbrev made : Header → List Question → List Record → List Record → Message
-made h qs answers authority = record { header = h; questions = qs; answers = answers; authority = authority; additional = [] }
-
-abbrev zeros : List ℕ
-zeros = 0 ∷ 0 ∷ 0 ∷ 0 ∷ []
-
-made_within : (limit : ℕ) (a : Asked) (cut : Bool) (s : Sections) (h : Header) (qs : List Question) → h ≡ answer_header a cut s.rcode zeros → qs ≡ questions_of a.question
-    → written_within limit (made h qs s.answers s.authority) ≡ written_within limit (answer_message a cut s)
-made_within limit a cut s h qs header same = (λ i. written_within limit (made (header i) (same i) s.answers s.authority)) ∙ draft_within limit a cut s
-
-pub text_fits : (limit : ℕ) (a : Asked) (cut : Bool) (s : Sections) (h : Header) (qs : List Question) (text : List ℕ) → h ≡ answer_header a cut s.rcode zeros → qs ≡ questions_of a.question
-    → written_within limit (made h qs s.answers s.authority) ≡ Ok text → Some text ≡ fitting limit (written (answer_message a cut s))
-text_fits limit a cut s h qs text header same e = written_fits limit (answer_message a cut s) text (sym (made_within limit a cut s h qs header same) ∙ e)
-
-pub text_fits_not : (limit : ℕ) (a : Asked) (cut : Bool) (s : Sections) (h : Header) (qs : List Question) (fault : Fault) → h ≡ answer_header a cut s.rcode zeros → qs ≡ questions_of a.question
-    → written_within limit (made h qs s.answers s.authority) ≡ Err fault → None ≡ fitting limit (written (answer_message a cut s))
-text_fits_not limit a cut s h qs fault header same e = refused_fits_not limit (answer_message a cut s) fault (sym (made_within limit a cut s h qs header same) ∙ e)
-
--- ---- without records
-
-bare_within : (a : Asked) (cut : Bool) (rcode : ℕ) (h : Header) (qs : List Question) (answers authority : List Record) → IfSome a.question (λ x. IsName x.name) → h ≡ answer_header a cut rcode zeros → qs ≡ questions_of a.question
-    → answers ≡ [] → authority ≡ [] → written_within 65535 (made h qs answers authority) ≡ Ok (written (answer_message a cut (bare rcode)))
-bare_within a cut rcode h qs answers authority named header same none none_too =
-    (λ i. written_within 65535 (made h qs (none i) (none_too i))) ∙ made_within 65535 a cut (bare rcode) h qs header same ∙ bare_fits a cut rcode named
-
-pub bare_given : (a : Asked) (cut : Bool) (rcode : ℕ) (h : Header) (qs : List Question) (answers authority : List Record) (text : List ℕ) → IfSome a.question (λ x. IsName x.name) → h ≡ answer_header a cut rcode zeros → qs ≡ questions_of a.question
-    → answers ≡ [] → authority ≡ [] → written_within 65535 (made h qs answers authority) ≡ Ok text → text ≡ written (answer_message a cut (bare rcode))
-bare_given a cut rcode h qs answers authority text named header same none none_too e =
-    let is : Ok text ≡ Ok (written (answer_message a cut (bare rcode))) = sym e ∙ bare_within a cut rcode h qs answers authority named header same none none_too in cc
-
-pub bare_not_refused : (a : Asked) (cut : Bool) (rcode : ℕ) (h : Header) (qs : List Question) (answers authority : List Record) (fault : Fault) → IfSome a.question (λ x. IsName x.name) → h ≡ answer_header a cut rcode zeros → qs ≡ questions_of a.question
-    → answers ≡ [] → authority ≡ [] → written_within 65535 (made h qs answers authority) ≡ Err fault → ⊥
-bare_not_refused a cut rcode h qs answers authority fault named header same none none_too e =
-    let is : Err fault ≡ Ok (written (answer_message a cut (bare rcode))) = sym e ∙ bare_within a cut rcode h qs answers authority named header same none none_too in absurd (cc)
+-- what is sent of a message with this header, the question, these records, and these in the authority section
+pub sent_text : (a : Asked) (s : Sections) (transport : Transport) (header : Header) (question : Option Question) (sets authority : List (List Record))
+    → header ≡ answer_header a false s.rcode (0 ∷ 0 ∷ 0 ∷ 0 ∷ []) → question ≡ a.question → records_in sets ≡ s.answers → records_in authority ≡ s.authority
+    → sent_over transport (written (message_of header question sets authority)) (written (cut_down (message_of header question sets authority))) ≡ text_of a s transport
+sent_text a s transport header question sets authority is same answers last =
+    (λ i. sent_over transport (written (made_of i)) (written (cut_down (made_of i)))) ∙ (λ i. sent_over transport (made_counts a false s i) (made_counts a true (bare s.rcode) i))
+  where
+    made_of : message_of header question sets authority ≡ made a false s
+    made_of = λ i. record { header = is i; questions = questions_of (same i); answers = answers i; authority = last i; additional = [] }
 
 -- ---- what is sent
 
@@ -120,3 +100,6 @@ whole_given limit full text e =
 
 pub too_large : (limit : ℕ) (full : List ℕ) → None ≡ fitting limit full → or_too_large limit full ≡ Err answer.TooLarge
 too_large limit full e = cond-false (nat_le (length full) limit) (Ok full) (Err answer.TooLarge) (left_out (nat_le (length full) limit) full e)
+
+pub gives_as : {X Y : Type 0} (view : X → Y) (given : Result X AnswerFault) (a b : Result Y AnswerFault) → a ≡ b → Gives view given a → Gives view given b
+gives_as view given a b same gives = subst (Gives view given) same gives

@@ -2,7 +2,8 @@
 use Rattle.std.specs.Prelude.{◌≤◌, ℕ, Bool, true, false, List, [], ◌∷◌, length, map, Option, Some, None}
 use Rattle.std.specs.List.{flat_map}
 use Rattle.dns_message.specs.Header.{Header}
-use Rattle.dns_message.specs.Values.{Question, Record, Message}
+use Rattle.dns_message.specs.Values.{Record, Message}
+use Rattle.dns_message.specs.Borrowed.{questions_of}
 use Rattle.trust_rank.specs.Values.{Body, rows, no_data, denied, Piece}
 use Rattle.record_cache.specs.Values.{Held}
 use Rattle.record_cache.specs.Ageing.{seconds_left}
@@ -67,10 +68,6 @@ abbrev pub IsEarlier : ℕ → Held → Type 0
 IsEarlier moment h = h.accepted ≤ moment
 
 -- ---- messages
-
-abbrev pub questions_of : Option Question → List Question
-questions_of None = []
-questions_of (Some q) = q ∷ []
 
 -- identifier, opcode and RD as they came; QR and RA set, AA and Z clear: RFC 1035 4.1.1
 abbrev pub answer_header : Asked → Bool → ℕ → List ℕ → Header

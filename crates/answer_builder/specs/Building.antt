@@ -1,28 +1,38 @@
--- How an answer is put together, a piece at a time.
-use Rattle.std.specs.Prelude.{ℕ, if◌then◌else◌, nat_le, Bool, List, [], ◌∷◌, ◌++◌, length, Option, Some, None}
-use Rattle.dns_message.specs.Values.{Message}
+-- How an answer is put together from borrowed things.
+use Rattle.std.specs.Prelude.{ℕ, if◌then◌else◌, map, nat_le, true, List, [], length, Option, Some, None}
+use denote.Ref.{Bor}
+use Rattle.dns_message.specs.Values.{Record, Message}
 use Rattle.record_cache.specs.Values.{Held}
-use Rattle.answer_builder.specs.Values.{Asked, Sections}
-use Rattle.answer_builder.specs.Answers.{answers_of, authority_of, rcode_of, questions_of, answer_header}
+use Rattle.answer_builder.specs.Values.{Sections}
+use Rattle.answer_builder.specs.Answers.{authority_of, rcode_of}
 
--- one more piece, which may be the last
-abbrev pub with_piece : ℕ → Sections → Held → Sections
-with_piece moment s h = record { answers = s.answers ++ answers_of moment h; authority = authority_of moment h; rcode = rcode_of h.piece.body }
+-- what is borrowed, as it is
+abbrev pub lent : {T : Type 0} → List (Bor T) → List T
+lent refs = map (λ x. x.now) refs
 
-abbrev pub with_pieces : ℕ → Sections → List Held → Sections
-with_pieces moment s [] = s
-with_pieces moment s (h ∷ chain) = with_pieces moment (with_piece moment s h) chain
+-- the records of a set that may be missing
+abbrev pub listed : Option (List Record) → List Record
+listed None = []
+listed (Some records) = records
 
--- a message whose counts are left to what is written of it
-abbrev pub draft : Asked → Bool → Sections → Message
-draft a cut s = record {
-  header = answer_header a cut s.rcode (0 ∷ 0 ∷ 0 ∷ 0 ∷ []);
-  questions = questions_of a.question;
-  answers = s.answers;
-  authority = s.authority;
-  additional = [];
-}
+-- the same with TC, and without records
+abbrev pub cut_down : Message → Message
+cut_down m = record { header = record m.header { tc = true }; questions = m.questions; answers = []; authority = []; additional = [] }
 
 -- a text of at most so many octets
 abbrev pub fitting : ℕ → List ℕ → Option (List ℕ)
 fitting limit text = if nat_le (length text) limit then Some text else None
+
+-- ---- an answer that ends with this piece, if any
+
+abbrev pub end_authority : ℕ → Option Held → List Record
+end_authority moment None = []
+end_authority moment (Some h) = authority_of moment h
+
+abbrev pub end_rcode : Option Held → ℕ
+end_rcode None = 0
+end_rcode (Some h) = rcode_of h.piece.body
+
+-- with these records
+abbrev pub ending : List Record → ℕ → Option Held → Sections
+ending records moment last = record { answers = records; authority = end_authority moment last; rcode = end_rcode last }

@@ -1,6 +1,8 @@
 //! What a client asked, and over what.
 
-use dns_message::Question;
+ghost use Rattle.std.specs.Prelude.{◌≡◌};
+
+use dns_message::{Question, QuestionRef};
 use std::alloc::{Allocator, Global};
 use std::marker::Model;
 
@@ -18,6 +20,45 @@ pub struct Asked<A: Allocator = Global> {
 }
 
 impl<A: Allocator> Model for Asked<A> {
+    ghost use Rattle.answer_builder.specs.Values.{Asked};
+
+    ghost Value = { Asked };
+
+    ghost view = { λ a. record { id = a.id; opcode = a.opcode; rd = a.rd; question = a.question } };
+}
+
+impl<A: Allocator> Asked<A> {
+    /// The same with the question borrowed. It takes no memory.
+    pub fn borrowed(&self) -> AskedRef<'_>
+        ensures { result ≡ self.now }
+    {
+        let question = match &self.question {
+            None => None,
+            Some(question) => Some(QuestionRef::of(question)),
+        };
+        AskedRef {
+            id: self.id,
+            opcode: self.opcode,
+            rd: self.rd,
+            question,
+        }
+    }
+}
+
+/// What a client asked, with the question where it lies. Contracts see it as they see an `Asked`.
+#[derive(Drop)]
+pub struct AskedRef<'a> {
+    /// The identifier.
+    pub id: u16,
+    /// 4 bits, as they came.
+    pub opcode: u8,
+    /// Recursion is desired.
+    pub rd: bool,
+    /// The question, spelled as it came; `None` where the answer has no question.
+    pub question: Option<QuestionRef<'a>>,
+}
+
+impl<'a> Model for AskedRef<'a> {
     ghost use Rattle.answer_builder.specs.Values.{Asked};
 
     ghost Value = { Asked };

@@ -1,19 +1,91 @@
 //! The answer from a chain of pieces, and the answer to a question that failed.
 
-ghost use Rattle.std.specs.Prelude.{◌≡◌, ◌<◌, IfOk};
+ghost use Rattle.std.specs.Prelude.{◌≡◌, ◌<◌, IfOk, OnOk};
 ghost use Rattle.std.specs.List.{AllByRecursion};
+ghost use Rattle.std.specs.Option.{option_copied, IfSome};
+ghost use Rattle.dns_message.specs.Borrowed.{records_in};
 ghost use Rattle.dns_message.specs.Writing.{written};
-ghost use Rattle.answer_builder.specs.Answers.{error_response, sections_of, IsEarlier};
+ghost use Rattle.answer_builder.specs.Answers.{error_response, IsEarlier};
 ghost use Rattle.answer_builder.specs.Faults.{Gives};
-ghost use Rattle.answer_builder.specs.Transports.{answer_of};
+ghost use Rattle.answer_builder.specs.Building.{ending, lent};
+ghost use Rattle.answer_builder.specs.Transports.{answer_of, text_of};
 
-use crate::answer::Answer;
-use crate::asked::{Asked, Transport};
+use crate::asked::{Asked, AskedRef, Transport};
 use crate::fault::Fault;
-use crate::text::bare_text;
+use crate::records::{end_of, set_of, sets_of, ttl_of};
+use crate::text::{header_of, put_bare, put_text};
+use dns_message::{MessageParts, RowsRef};
 use plain_list::Octets;
 use record_cache::Held;
 use std::alloc::{AllocError, Allocator};
+use std::slice;
+
+/// Room for what UDP carries (RFC 1035 4.2.1).
+const ROOM: usize = 512;
+
+/// Writes the answer with these records, which ends with this piece.
+fn put_sets<'a, A: Allocator + Copy>(
+    alloc: A,
+    octets: &mut Vec<u8, A>,
+    asked: AskedRef<'a>,
+    sets: &'a [RowsRef<'a, A>],
+    last: Option<&'a Held<A>>,
+    moment: u64,
+    transport: Transport,
+) -> Result<(), Fault>
+    requires opcode { asked.opcode < 16 }
+    requires earlier { IfSome (option_copied last) (IsEarlier moment) }
+    ensures { Gives (λ _. octets.new.items) result (text_of asked.entry (ending (records_in sets.now) moment (option_copied last.entry)) transport) }
+{
+    let (soa, rcode) = end_of(last, moment);
+    let message = MessageParts {
+        header: header_of(&asked, rcode),
+        question: asked.question,
+        answers: sets,
+        authority: soa.as_slice(),
+    };
+    put_text(alloc, octets, message, transport)
+}
+
+/// Writes the answer that `build` gives, from borrowed pieces, in the place of the octets.
+///
+/// A vector with room for it is not made larger. Memory is taken beside it only where there is more than one piece, or
+/// where more than a few names begin in the octets. Where it fails, nothing is said of the octets, which keep their room.
+pub fn put_answer<A: Allocator + Copy>(
+    alloc: A,
+    octets: &mut Vec<u8, A>,
+    asked: AskedRef<'_>,
+    chain: &[&Held<A>],
+    moment: u64,
+    transport: Transport,
+) -> Result<(), Fault>
+    requires opcode { asked.opcode < 16 }
+    requires earlier { AllByRecursion (IsEarlier moment) (lent chain.now) }
+    ensures { Gives (λ _. octets.new.items) result (answer_of asked.entry (lent chain.now) moment transport) }
+{
+    if let [held] = chain {
+        let set = set_of(&held.piece, ttl_of(held, moment));
+        return put_sets(
+            alloc,
+            octets,
+            asked,
+            slice::from_ref(&set),
+            Some(held),
+            moment,
+            transport,
+        );
+    }
+    let sets = sets_of(alloc, chain, moment)?;
+    put_sets(
+        alloc,
+        octets,
+        asked,
+        &sets,
+        chain.last().copied(),
+        moment,
+        transport,
+    )
+}
 
 /// The octets of the answer to a question whose opcode has 4 bits, from the pieces that answer it: aliases in order, then
 /// a set or a denial, none accepted after the moment, in milliseconds.
@@ -34,24 +106,72 @@ pub fn build<A: Allocator + Copy>(
     requires earlier { AllByRecursion (IsEarlier moment) chain.now }
     ensures { Gives (λ text. text) result (answer_of asked.now chain.now moment transport) }
 {
-    let answer = put_all(alloc, chain, moment)?;
-    answer.text(asked, transport)
+    let mut octets = Vec::with_capacity(alloc, ROOM)?;
+    put_owned(
+        alloc,
+        &mut octets,
+        asked.borrowed(),
+        chain,
+        moment,
+        transport,
+    )?;
+    Ok(Octets::from_vec(octets))
 }
 
-/// The answer with these pieces, one after another.
-fn put_all<A: Allocator + Copy>(
+/// Writes the answer from a chain of pieces in the place of the octets.
+fn put_owned<A: Allocator + Copy>(
     alloc: A,
+    octets: &mut Vec<u8, A>,
+    asked: AskedRef<'_>,
     chain: &[Held<A>],
     moment: u64,
-) -> Result<Answer<A>, AllocError>
-    requires { AllByRecursion (IsEarlier moment) chain.now }
-    ensures { IfOk result (λ answer. answer ≡ sections_of moment chain.now) }
+    transport: Transport,
+) -> Result<(), Fault>
+    requires opcode { asked.opcode < 16 }
+    requires earlier { AllByRecursion (IsEarlier moment) chain.now }
+    ensures { Gives (λ _. octets.new.items) result (answer_of asked.entry chain.now moment transport) }
 {
-    let mut answer = Answer::new(alloc);
-    for held in chain {
-        answer.put(held, moment)?;
+    if let [held] = chain {
+        return put_answer(alloc, octets, asked, &[held], moment, transport);
     }
-    Ok(answer)
+    let refs = borrowed(alloc, chain)?;
+    put_answer(alloc, octets, asked, &refs, moment, transport)
+}
+
+/// The pieces, borrowed.
+fn borrowed<A: Allocator + Copy>(
+    alloc: A,
+    chain: &[Held<A>],
+) -> Result<Vec<&Held<A>, A>, AllocError>
+    ensures { IfOk result (λ refs. lent refs.items ≡ chain.now) }
+{
+    let mut refs = Vec::with_capacity(alloc, chain.len())?;
+    for held in chain {
+        refs.push(held)?;
+    }
+    Ok(refs)
+}
+
+/// Writes the octets that `failure` gives in the place of the octets. A vector with room for 271 is not made larger. Where
+/// memory runs out, nothing is said of the octets, which keep their room.
+pub fn put_failure<A: Allocator + Copy>(
+    alloc: A,
+    octets: &mut Vec<u8, A>,
+    asked: AskedRef<'_>,
+    rcode: u8,
+) -> Result<(), AllocError>
+    requires opcode { asked.opcode < 16 }
+    requires rcode { rcode < 16 }
+    ensures { OnOk result (octets.new.items ≡ written (error_response asked.entry rcode)) }
+{
+    let header = header_of(&asked, rcode);
+    let message = MessageParts {
+        header,
+        question: asked.question,
+        answers: &[],
+        authority: &[],
+    };
+    put_bare(alloc, octets, &message)
 }
 
 /// The octets of the answer to a question that failed, with this response code; opcode and response code have 4 bits.
@@ -66,5 +186,7 @@ pub fn failure<A: Allocator + Copy>(
     requires rcode { rcode < 16 }
     ensures { IfOk result (λ text. text ≡ written (error_response asked.now rcode)) }
 {
-    bare_text(alloc, asked, false, rcode)
+    let mut octets = Vec::with_capacity(alloc, ROOM)?;
+    put_failure(alloc, &mut octets, asked.borrowed(), rcode)?;
+    Ok(Octets::from_vec(octets))
 }

@@ -1,11 +1,14 @@
-//! The records that an answer has of a piece.
+//! The records that an answer has of a piece, borrowed from it.
 
-ghost use Rattle.std.specs.Prelude.{◌≡◌, ◌≤◌, ◌<◌, ◌++◌, map, IfOk, OnOk};
+ghost use Rattle.std.specs.Prelude.{◌≡◌, ◌≤◌, ◌<◌, map, IfOk};
+ghost use Rattle.std.specs.List.{flat_map, AllByRecursion};
+ghost use Rattle.std.specs.Option.{option_copied, IfSome};
+ghost use Rattle.dns_message.specs.Borrowed.{records_in};
 ghost use Rattle.record_cache.specs.Ageing.{seconds_left};
-ghost use Rattle.answer_builder.specs.Answers.{aged, rcode_of, record_of, set_records, soa_records};
+ghost use Rattle.answer_builder.specs.Answers.{aged, answers_of, rcode_of, record_of, set_records, soa_records, IsEarlier};
+ghost use Rattle.answer_builder.specs.Building.{end_authority, end_rcode, lent, listed};
 
-use dns_message::{Rdata, Record};
-use plain_list::PlainList;
+use dns_message::{DataRef, Rdata, Record, RowsRef};
 use record_cache::Held;
 use std::alloc::{AllocError, Allocator};
 use trust_rank::{Body, Piece};
@@ -24,7 +27,7 @@ pub(crate) fn ttl_of<A: Allocator>(held: &Held<A>, moment: u64) -> u32
 }
 
 /// The response code of an answer that ends with this piece.
-pub(crate) fn rcode_of<A: Allocator>(piece: &Piece<A>) -> u8
+fn rcode_of<A: Allocator>(piece: &Piece<A>) -> u8
     ensures code { result ≡ rcode_of piece.now.body }
     ensures small { result < 16 }
 {
@@ -34,92 +37,92 @@ pub(crate) fn rcode_of<A: Allocator>(piece: &Piece<A>) -> u8
     }
 }
 
-/// A record of a set of this type.
-fn record_of<A: Allocator + Copy>(
-    alloc: A,
-    piece: &Piece<A>,
+/// The records of a piece of this type with this data.
+fn rows_of<'a, A: Allocator>(
+    piece: &'a Piece<A>,
     kind: u16,
-    row: &Rdata<A>,
+    rows: &'a [Rdata<A>],
     ttl: u32,
-) -> Result<Record<A>, AllocError>
-    ensures { IfOk result (λ copy. copy ≡ record_of ttl piece.now kind row.now) }
+) -> RowsRef<'a, A>
+    ensures { result ≡ map (record_of ttl piece.now kind) rows.now }
 {
-    Ok(Record {
-        owner: piece.owner.copy(alloc)?,
+    RowsRef {
+        owner: &piece.owner,
         kind,
         class: piece.slot.class,
         ttl,
-        rdata: row.copy(alloc)?,
-    })
-}
-
-/// Puts the records of a set of this type last.
-fn put_rows<A: Allocator + Copy>(
-    alloc: A,
-    records: &mut PlainList<Record<A>, A>,
-    piece: &Piece<A>,
-    kind: u16,
-    rows: &[Rdata<A>],
-    ttl: u32,
-) -> Result<(), AllocError>
-    ensures { OnOk result (records.new ≡ records.old ++ map (record_of ttl piece.now kind) rows.now) }
-{
-    for row in rows {
-        records.push(record_of(alloc, piece, kind, row, ttl)?)?;
-    }
-    Ok(())
-}
-
-/// Puts the records of a set last; a denial has none.
-pub(crate) fn put_set<A: Allocator + Copy>(
-    alloc: A,
-    records: &mut PlainList<Record<A>, A>,
-    piece: &Piece<A>,
-    ttl: u32,
-) -> Result<(), AllocError>
-    ensures { OnOk result (records.new ≡ records.old ++ set_records ttl piece.now) }
-{
-    let Some(kind) = piece.slot.kind else {
-        return Ok(());
-    };
-    match &piece.body {
-        Body::Rows(rows) => put_rows(alloc, records, piece, kind, rows.as_slice(), ttl),
-        _ => Ok(()),
+        data: DataRef::Rows(rows),
     }
 }
 
-/// The SOA, if there is one, in a list of its own.
-fn aged<A: Allocator + Copy>(
-    alloc: A,
-    soa: &Option<Record<A>>,
-    ttl: u32,
-) -> Result<PlainList<Record<A>, A>, AllocError>
-    ensures { IfOk result (λ records. records ≡ aged ttl soa.now) }
+/// The records of a set; a denial has none.
+pub(crate) fn set_of<'a, A: Allocator>(piece: &'a Piece<A>, ttl: u32) -> RowsRef<'a, A>
+    ensures { result ≡ set_records ttl piece.now }
 {
-    let mut records = PlainList::new(alloc);
-    if let Some(soa) = soa {
-        records.push(Record {
-            owner: soa.owner.copy(alloc)?,
+    match (piece.slot.kind, &piece.body) {
+        (Some(kind), Body::Rows(rows)) => rows_of(piece, kind, rows.as_slice(), ttl),
+        _ => rows_of(piece, 0, &[], ttl),
+    }
+}
+
+/// The records of a chain, set after set.
+pub(crate) fn sets_of<'a, A: Allocator + Copy>(
+    alloc: A,
+    chain: &[&'a Held<A>],
+    moment: u64,
+) -> Result<Vec<RowsRef<'a, A>, A>, AllocError>
+    requires { AllByRecursion (IsEarlier moment) (lent chain.now) }
+    ensures { IfOk result (λ sets. records_in sets.items ≡ flat_map (answers_of moment) (lent chain.now)) }
+{
+    let mut sets = Vec::with_capacity(alloc, chain.len())?;
+    for held in chain {
+        sets.push(set_of(&held.piece, ttl_of(held, moment)))?;
+    }
+    Ok(sets)
+}
+
+/// The SOA as a set of its own, if there is one.
+fn aged<A: Allocator>(soa: &Option<Record<A>>, ttl: u32) -> Option<RowsRef<'_, A>>
+    ensures { listed result ≡ aged ttl soa.now }
+{
+    match soa {
+        None => None,
+        Some(soa) => Some(RowsRef {
+            owner: &soa.owner,
             kind: soa.kind,
             class: soa.class,
             ttl,
-            rdata: soa.rdata.copy(alloc)?,
-        })?;
+            data: DataRef::Row(&soa.rdata),
+        }),
     }
-    Ok(records)
 }
 
 /// The SOA of a denial, if it has one; a set has none.
-pub(crate) fn soa_of<A: Allocator + Copy>(
-    alloc: A,
-    piece: &Piece<A>,
-    ttl: u32,
-) -> Result<PlainList<Record<A>, A>, AllocError>
-    ensures { IfOk result (λ records. records ≡ soa_records ttl piece.now.body) }
+fn soa_of<A: Allocator>(piece: &Piece<A>, ttl: u32) -> Option<RowsRef<'_, A>>
+    ensures { listed result ≡ soa_records ttl piece.now.body }
 {
     match &piece.body {
-        Body::Rows(_) => Ok(PlainList::new(alloc)),
-        Body::NoData(soa) => aged(alloc, soa, ttl),
-        Body::Denied(soa) => aged(alloc, soa, ttl),
+        Body::Rows(_) => None,
+        Body::NoData(soa) => aged(soa, ttl),
+        Body::Denied(soa) => aged(soa, ttl),
+    }
+}
+
+/// The SOA and the response code of an answer that ends with this piece, if any, at a moment in milliseconds.
+pub(crate) fn end_of<'a, A: Allocator>(
+    last: Option<&'a Held<A>>,
+    moment: u64,
+) -> (Option<RowsRef<'a, A>>, u8)
+    requires { IfSome (option_copied last) (IsEarlier moment) }
+    ensures soa { listed result.0 ≡ end_authority moment (option_copied last.entry) }
+    ensures code { result.1 ≡ end_rcode (option_copied last.entry) }
+    ensures small { result.1 < 16 }
+{
+    match last {
+        None => (None, 0),
+        Some(held) => (
+            soa_of(&held.piece, ttl_of(held, moment)),
+            rcode_of(&held.piece),
+        ),
     }
 }

@@ -1,31 +1,40 @@
 //! The octets of answers.
 
-ghost use Rattle.std.specs.Prelude.{◌≡◌, ◌≤◌, ◌<◌, ◌∷◌, [], IfOk, OnOk};
+ghost use Rattle.std.specs.Prelude.{◌≡◌, ◌≤◌, ◌<◌, ◌∷◌, [], false, if◌then◌else◌, length, Some, None, IfOk, OnOk};
 ghost use Rattle.std.specs.Option.{IfSome};
-ghost use Rattle.dns_message.specs.Reading.{Gives};
-ghost use Rattle.dns_message.specs.Writing.{written, written_within};
 ghost use Rattle.dns_name.specs.Labels.{IsName};
-ghost use Rattle.answer_builder.specs.Answers.{answer_header, answer_message, bare, questions_of};
-ghost use Rattle.answer_builder.specs.Building.{draft, fitting};
+ghost use Rattle.dns_message.specs.Header.{FitsBits};
+ghost use Rattle.dns_message.specs.Writing.{written};
+ghost use Rattle.answer_builder.specs.Answers.{answer_header};
+ghost use Rattle.answer_builder.specs.Building.{cut_down, fitting};
+ghost use Rattle.answer_builder.specs.Faults.{Gives};
+ghost use Rattle.answer_builder.specs.Transports.{over_tcp, over_udp, sent_over};
 
-use crate::asked::Asked;
-use dns_message::{Fault, Header, Message, Question, Record, write};
-use plain_list::{Octets, PlainList};
+use crate::asked::{AskedRef, Transport};
+use crate::fault::Fault;
+use dns_message::{Header, MessageParts, write_parts};
 use std::alloc::{AllocError, Allocator};
 
-/// The most octets of any message (RFC 1035 4.2.2).
-const LIMIT: usize = 65_535;
+/// The most octets that UDP carries (RFC 1035 4.2.1).
+const UDP_LIMIT: usize = 512;
 
-/// The header of an answer. Its counts are those of what is written under it.
-fn header_of<A: Allocator>(asked: &Asked<A>, cut: bool, rcode: u8) -> Header
-    ensures { result ≡ answer_header asked.now cut rcode (0 ∷ 0 ∷ 0 ∷ 0 ∷ []) }
+/// The most octets that TCP carries (RFC 1035 4.2.2).
+const TCP_LIMIT: usize = 65_535;
+
+/// The header of an answer. Its counts are those of what is written under it. `named` says again what holds of each name.
+pub(crate) fn header_of(asked: &AskedRef<'_>, rcode: u8) -> Header
+    ensures header { result ≡ answer_header asked.now false rcode (0 ∷ 0 ∷ 0 ∷ 0 ∷ []) }
+    ensures named { IfSome asked.now.question (λ q. IsName q.name) }
 {
+    if let Some(question) = &asked.question {
+        let _name = question.name();
+    }
     Header {
         id: asked.id,
         qr: true,
         opcode: asked.opcode,
         aa: false,
-        tc: cut,
+        tc: false,
         rd: asked.rd,
         ra: true,
         z: 0,
@@ -34,100 +43,99 @@ fn header_of<A: Allocator>(asked: &Asked<A>, cut: bool, rcode: u8) -> Header
     }
 }
 
-/// The question in a list of its own. `named` says again what holds of each name.
-fn one_question<A: Allocator + Copy>(
+/// Writes the message, where it has at most `limit` octets, and tells whether it has.
+fn put_whole<A: Allocator + Copy>(
     alloc: A,
-    question: &Question<A>,
-) -> Result<PlainList<Question<A>, A>, AllocError>
-    ensures copied { IfOk result (λ questions. questions ≡ question.now ∷ []) }
-    ensures named { IsName question.now.name }
+    octets: &mut Vec<u8, A>,
+    message: &MessageParts<'_, A>,
+    limit: usize,
+) -> Result<bool, AllocError>
+    requires limit { limit ≤ 65535 }
+    requires bits { FitsBits message.now.header }
+    ensures { IfOk result (λ whole. (if whole then Some octets.new.items else None) ≡ fitting limit (written message.now)) }
 {
-    let _labels = question.name.labels();
-    let mut questions = PlainList::new(alloc);
-    questions.push(question.copy(alloc)?)?;
-    Ok(questions)
-}
-
-/// The question, if there is one, in a list of its own.
-fn questions_of<A: Allocator + Copy>(
-    alloc: A,
-    asked: &Asked<A>,
-) -> Result<PlainList<Question<A>, A>, AllocError>
-    ensures copied { IfOk result (λ questions. questions ≡ questions_of asked.now.question) }
-    ensures named { IfSome asked.now.question (λ q. IsName q.name) }
-{
-    match &asked.question {
-        None => Ok(PlainList::new(alloc)),
-        Some(question) => one_question(alloc, question),
+    match write_parts(alloc, octets, message, limit) {
+        Ok(()) => Ok(true),
+        Err(dns_message::Fault::TooLarge) => Ok(false),
+        Err(_) => Err(AllocError),
     }
 }
 
-/// The octets of a message with these sections, where they are at most `limit`.
-fn write_within<A: Allocator + Copy>(
+/// Writes a message without records: a header and a question have 271 octets at most.
+pub(crate) fn put_bare<A: Allocator + Copy>(
     alloc: A,
-    header: Header,
-    questions: PlainList<Question<A>, A>,
-    answers: PlainList<Record<A>, A>,
-    authority: PlainList<Record<A>, A>,
-    limit: usize,
-) -> Result<Octets<A>, Fault>
-    requires limit { limit ≤ 65535 }
-    requires opcode { header.opcode < 16 }
-    requires z { header.z < 8 }
-    requires rcode { header.rcode < 16 }
-    ensures { Gives (λ text. text) result (written_within limit (record { header = header; questions = questions; answers = answers; authority = authority; additional = [] })) }
+    octets: &mut Vec<u8, A>,
+    message: &MessageParts<'_, A>,
+) -> Result<(), AllocError>
+    requires bits { FitsBits message.now.header }
+    requires short { length (written message.now) ≤ 65535 }
+    ensures { OnOk result (octets.new.items ≡ written message.now) }
 {
-    let message = Message {
+    if put_whole(alloc, octets, message, TCP_LIMIT)? {
+        Ok(())
+    } else {
+        unreachable!()
+    }
+}
+
+/// Writes an answer for UDP: past 512 octets the header with TC and the question alone.
+fn put_udp<A: Allocator + Copy>(
+    alloc: A,
+    octets: &mut Vec<u8, A>,
+    message: MessageParts<'_, A>,
+) -> Result<(), AllocError>
+    requires bits { FitsBits message.header }
+    requires short { length (written (cut_down message)) ≤ 65535 }
+    ensures { OnOk result (octets.new.items ≡ over_udp (written message.entry) (written (cut_down message.entry))) }
+{
+    if put_whole(alloc, octets, &message, UDP_LIMIT)? {
+        return Ok(());
+    }
+    let MessageParts {
+        mut header,
+        question,
+        answers: _,
+        authority: _,
+    } = message;
+    header.tc = true;
+    let cut = MessageParts {
         header,
-        questions,
-        answers,
-        authority,
-        additional: PlainList::new(alloc),
+        question,
+        answers: &[],
+        authority: &[],
     };
-    write(alloc, &message, limit)
+    put_bare(alloc, octets, &cut)
 }
 
-/// The octets of an answer with these sections, where they are at most `limit`.
-pub(crate) fn text_within<A: Allocator + Copy>(
+/// Writes an answer for TCP: `TooLarge` past 65,535 octets.
+fn put_tcp<A: Allocator + Copy>(
     alloc: A,
-    asked: &Asked<A>,
-    cut: bool,
-    rcode: u8,
-    answers: PlainList<Record<A>, A>,
-    authority: PlainList<Record<A>, A>,
-    limit: usize,
-) -> Result<Option<Octets<A>>, AllocError>
-    requires limit { limit ≤ 65535 }
-    requires opcode { asked.now.opcode < 16 }
-    requires rcode { rcode < 16 }
-    ensures { IfOk result (λ text. text ≡ fitting limit (written (answer_message asked.now cut (record { answers = answers; authority = authority; rcode = rcode })))) }
+    octets: &mut Vec<u8, A>,
+    message: &MessageParts<'_, A>,
+) -> Result<(), Fault>
+    requires { FitsBits message.now.header }
+    ensures { Gives (λ _. octets.new.items) result (over_tcp (written message.now)) }
 {
-    let header = header_of(asked, cut, rcode);
-    let questions = questions_of(alloc, asked)?;
-    match write_within(alloc, header, questions, answers, authority, limit) {
-        Ok(text) => Ok(Some(text)),
-        Err(Fault::TooLarge) => Ok(None),
-        Err(_) => Err(AllocError),
+    if put_whole(alloc, octets, message, TCP_LIMIT)? {
+        Ok(())
+    } else {
+        Err(Fault::TooLarge)
     }
 }
 
-/// The octets of an answer without sections: a header and a question have 271 octets at most.
-pub(crate) fn bare_text<A: Allocator + Copy>(
+/// Writes what is sent of an answer.
+pub(crate) fn put_text<A: Allocator + Copy>(
     alloc: A,
-    asked: &Asked<A>,
-    cut: bool,
-    rcode: u8,
-) -> Result<Octets<A>, AllocError>
-    requires opcode { asked.now.opcode < 16 }
-    requires rcode { rcode < 16 }
-    ensures { IfOk result (λ text. text ≡ written (answer_message asked.now cut (bare rcode))) }
+    octets: &mut Vec<u8, A>,
+    message: MessageParts<'_, A>,
+    transport: Transport,
+) -> Result<(), Fault>
+    requires bits { FitsBits message.header }
+    requires short { length (written (cut_down message)) ≤ 65535 }
+    ensures { Gives (λ _. octets.new.items) result (sent_over transport (written message.entry) (written (cut_down message.entry))) }
 {
-    let header = header_of(asked, cut, rcode);
-    let questions = questions_of(alloc, asked)?;
-    let (answers, authority) = (PlainList::new(alloc), PlainList::new(alloc));
-    match write_within(alloc, header, questions, answers, authority, LIMIT) {
-        Ok(text) => Ok(text),
-        Err(Fault::TooLarge) => unreachable!(),
-        Err(_) => Err(AllocError),
+    match transport {
+        Transport::Udp => Ok(put_udp(alloc, octets, message)?),
+        Transport::Tcp => put_tcp(alloc, octets, &message),
     }
 }

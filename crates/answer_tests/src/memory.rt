@@ -1,15 +1,11 @@
 //! Refused growths.
 
-use crate::samples::{Case, answer, asked};
-use answer_builder::{Fault, Transport, failure};
+use crate::samples::{ADDRESS, ALIAS, Case, NAME_ERROR, answer, asked, growths_beside_room};
+use answer_builder::{Fault, Transport, failure, put_failure};
 use dns_message::MessageRef;
 use refusing_allocator::Refusing;
 use std::alloc::Global;
 use std::test::Fail;
-
-/// b.example is an alias of a.example, which has an address.
-const ALIAS: &str =
-    "0018850000010002000000000162076578616d706c650000010001c00c000500010000003c00040161c00ec02700010001000002580004c6336409";
 
 /// How many growths of an answer over this transport are refused one after another, until it is there.
 fn refusals(table_heap: Global, transport: Transport) -> Result<u64, Fail> {
@@ -36,7 +32,7 @@ fn refusals(table_heap: Global, transport: Transport) -> Result<u64, Fail> {
 fn each_growth_of_an_answer_is_refused(rt: HostRuntime) -> Result<(), Fail> {
     let udp = refusals(rt.alloc(), Transport::Udp)?;
     let tcp = refusals(rt.alloc(), Transport::Tcp)?;
-    assert_eq!(rt; (udp, tcp), (11, 11));
+    assert_eq!(rt; (udp, tcp), (3, 3));
     Ok(())
 }
 
@@ -53,6 +49,30 @@ fn each_growth_of_a_failure_is_refused(rt: HostRuntime) -> Result<(), Fail> {
         }
         refused = refused.saturating_add(1);
     }
-    assert_eq!(rt; refused, 5);
+    assert_eq!(rt; refused, 1);
+    Ok(())
+}
+
+#[test]
+fn a_vector_with_room_is_not_made_larger(rt: HostRuntime) -> Result<(), Fail> {
+    for (reply, growths) in [(ADDRESS, 0u64), (NAME_ERROR, 0), (ALIAS, 1)] {
+        let octets = hex::decode(rt.alloc(), reply)?;
+        assert_eq!(rt;
+            growths_beside_room(rt.alloc(), &octets)?,
+            growths,
+            "of {reply}"
+        );
+    }
+    Ok(())
+}
+
+#[test]
+fn a_failure_takes_no_memory_beside_its_room(rt: HostRuntime) -> Result<(), Fail> {
+    let heap = Refusing::new(rt.alloc());
+    let octets = hex::decode(rt.alloc(), ALIAS)?;
+    let asked = asked(0x1234, MessageRef::view(&octets)?.question(&heap)?);
+    let mut room = Vec::with_capacity(&heap, 271)?;
+    heap.allow(0);
+    assert!(rt; put_failure(&heap, &mut room, asked.borrowed(), 2).is_ok());
     Ok(())
 }

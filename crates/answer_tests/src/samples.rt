@@ -4,7 +4,7 @@ ghost use Rattle.std.specs.Prelude.{◌≤◌, ◌<◌, IfOk};
 ghost use Rattle.std.specs.List.{AllByRecursion};
 ghost use Rattle.answer_builder.specs.Answers.{IsEarlier};
 
-use answer_builder::{Asked, Fault, Transport, build};
+use answer_builder::{Asked, Fault, Transport, build, put_answer};
 use dns_message::{MessageRef, Question};
 use plain_list::{Octets, PlainList};
 use record_cache::Held;
@@ -16,6 +16,18 @@ use trust_rank::{Piece, Walk, pieces};
 
 /// The moment at which all replies came, in milliseconds.
 pub(crate) const ACCEPTED: u64 = 1020;
+
+/// a.example has an address for five minutes.
+pub(crate) const ADDRESS: &str =
+    "0008850000010001000000000161076578616d706c650000010001c00c000100010000012c0004c6336405";
+
+/// b.example is an alias of a.example, which has an address for ten minutes.
+pub(crate) const ALIAS: &str =
+    "0018850000010002000000000162076578616d706c650000010001c00c000500010000003c00040161c00ec02700010001000002580004c6336409";
+
+/// x.example is not there; its SOA says ten minutes.
+pub(crate) const NAME_ERROR: &str =
+    "0008850300010000000100000178076578616d706c650000010001c00e0006000100000e10001d026e73c00e0168c00e0000000100000002000000030000000400000258";
 
 /// One route for all names.
 const CONFIG: &str = r#"version = 1
@@ -98,4 +110,47 @@ pub(crate) fn answer<'h>(
     let built = build(heap, &asked, chain.as_slice(), case.moment, case.transport);
     heap.allow(u64::MAX);
     Ok(built)
+}
+
+/// Writes the answer over UDP from one piece, or from an alias and a piece, into a vector.
+fn put<A: Allocator + Copy>(
+    alloc: A,
+    octets: &mut Vec<u8, A>,
+    asked: &Asked<A>,
+    chain: &[Held<A>],
+    moment: u64,
+) -> Result<(), Fault>
+    requires { asked.now.opcode < 16 }
+{
+    let asked = asked.borrowed();
+    match chain {
+        [only] if only.accepted <= moment => {
+            put_answer(alloc, octets, asked, &[only], moment, Transport::Udp)
+        }
+        [alias, last] if alias.accepted <= moment && last.accepted <= moment => {
+            put_answer(alloc, octets, asked, &[alias, last], moment, Transport::Udp)
+        }
+        _ => Err(Fault::TooLarge),
+    }
+}
+
+/// How many growths are refused one after another, until the answer from a reply to its own question is there, written over
+/// UDP into a vector with room.
+pub(crate) fn growths_beside_room(table_heap: Global, reply: &[u8]) -> Result<u64, Fail> {
+    let heap = Refusing::new(table_heap);
+    let walk = walked(table_heap, &heap, reply)?;
+    let chain = chain_of(&heap, walk.pieces.as_slice(), ACCEPTED)?;
+    let asked = asked(0x1234, MessageRef::view(reply)?.question(&heap)?);
+    let mut octets = Vec::with_capacity(&heap, 512)?;
+    for growths in 0..100u64 {
+        heap.allow(growths);
+        let done = put(&heap, &mut octets, &asked, chain.as_slice(), ACCEPTED);
+        heap.allow(u64::MAX);
+        match done {
+            Ok(()) => return Ok(growths),
+            Err(Fault::Memory) => (),
+            Err(Fault::TooLarge) => return Err(Fail::from("another chain")),
+        }
+    }
+    Err(Fail::from("never there"))
 }

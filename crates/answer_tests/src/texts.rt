@@ -1,27 +1,15 @@
 //! Answers and failures, octet by octet.
 
-use crate::samples::{Case, answer, asked};
+use crate::samples::{ADDRESS, ALIAS, Case, NAME_ERROR, answer, asked};
 use answer_builder::{Asked, Fault, Transport, failure};
 use dns_message::MessageRef;
 use refusing_allocator::Refusing;
 use std::alloc::Global;
 use std::test::Fail;
 
-/// a.example has an address for five minutes.
-const ADDRESS: &str =
-    "0008850000010001000000000161076578616d706c650000010001c00c000100010000012c0004c6336405";
-
 /// Three addresses of a.example, the third with a TTL of 0.
 const THREE: &str = "000885000001000300000000\
 0161076578616d706c650000010001c00c000100010000003c0004c6336405c00c000100010000012c0004c6336406c00c00010001800000000004c6336407";
-
-/// b.example is an alias of a.example, which has an address for ten minutes.
-const ALIAS: &str =
-    "0018850000010002000000000162076578616d706c650000010001c00c000500010000003c00040161c00ec02700010001000002580004c6336409";
-
-/// x.example is not there; its SOA says ten minutes.
-const NAME_ERROR: &str =
-    "0008850300010000000100000178076578616d706c650000010001c00e0006000100000e10001d026e73c00e0168c00e0000000100000002000000030000000400000258";
 
 /// x.example has no address.
 const NO_DATA: &str =
