@@ -14,6 +14,8 @@ use Rattle.outstanding.specs.Lists.{on_path as ask_on, of_question, same_path, w
 use Rattle.outstanding.specs.Values.{Ask, Inquiries}
 use Rattle.outstanding.proofs.CallerLemmas.{next_may_begin as next_begins}
 use Rattle.step_history.specs.Draws.{drawn_by_tcp}
+use Rattle.step_history.specs.Names.{route_of}
+use Rattle.record_cache.specs.Values.{Cache}
 use Rattle.step_rules.specs.State.{State, Waiting}
 use Rattle.step_rules.specs.Attempts.{peer_at, over_udp, over_tcp, ask_by, freed_by, plan_of, first_ask, preferred_on}
 use Rattle.step_soundness.specs.Explains.{IsBelow}
@@ -34,9 +36,9 @@ below c m k asks all = All-weaker (IsKeptAsk c m k) (λ a. IsBelow k a.path) (λ
 
 -- ---- the first ask
 
-pub first_follows : (c : Config) (n : ℕ) (words : List ℕ) (q : Question) (route : ℕ) (s : State) (i : Inquiries) (preferred : List ℕ) (a : Ask) → IsKept c i s.waiting preferred s.moment s.tcp_asks → i.asks ≡ s.asks
-    → AreListed (record { capacity = c.limits.inquiries; asks = s.asks }) → s.moment ≤ n → n ≤ 2 ^ 62 → of_question q s.asks ≡ None → length s.asks < c.limits.inquiries → Some a ≡ first_ask c n words q route s → CanFollow c n s s.asks a
-first_follows c n words q route s i preferred a kept asks_are are later small new room is = record {
+pub first_follows : (c : Config) (n : ℕ) (words : List ℕ) (q : Question) (route : ℕ) (s : State) (i : Inquiries) (preferred : List ℕ) (a : Ask) → IsKept c s.cache i s.waiting preferred s.moment s.tcp_asks → i.asks ≡ s.asks
+    → route_of c q.name ≡ Some route → AreListed (record { capacity = c.limits.inquiries; asks = s.asks }) → s.moment ≤ n → n ≤ 2 ^ 62 → of_question q s.asks ≡ None → length s.asks < c.limits.inquiries → Some a ≡ first_ask c n words q route s → CanFollow c n s s.asks a
+first_follows c n words q route s i preferred a kept asks_are on are later small new room is = record {
   begins = record {
     path = ap (λ (p : Path). ask_on p s.asks) draw.1 ∙ free_now draw.0 s.asks fresh.free;
     question = ap (λ (z : Question). of_question z s.asks) facts.question ∙ new;
@@ -46,6 +48,7 @@ first_follows c n words q route s i preferred a kept asks_are are later small ne
   room = room;
   kept = record {
     earlier = let at : a.asked ≡ n = facts.asked in omega (arith, at);
+    on_route = ap (λ (z : Question). route_of c z.name) facts.question ∙ on ∙ sym (ap (λ (r : ℕ). Some r) facts.route_is);
     server = (λ j. peer_at c (facts.route_is j) (facts.server_is j)) ∙ facts.peer_is;
     tries = let used : a.used ≡ 1 = facts.used_is in let least = kept.config.limits.tries.0 in (omega (arith, used), omega (arith, used, least));
     path = subst (IsBelow (s.tcp_asks + tcp_count_of a.path)) (sym draw.1) tt;
@@ -69,6 +72,9 @@ first_follows c n words q route s i preferred a kept asks_are are later small ne
 
 module _ (c : Config) (n : ℕ) (words : List ℕ) (path : Path) (a : Ask) (s : State) (kept : AllByRecursion (IsKeptAsk c s.moment s.tcp_asks) s.asks) (are : AreListed (record { capacity = c.limits.inquiries; asks = s.asks })) (later : s.moment ≤ n) (small : n ≤ 2 ^ 62)
     (on : ask_on path s.asks ≡ Some a) (path_is : a.path ≡ path) (more : a.used + 1 ≤ c.limits.tries) where
+  own : IsKeptAsk c s.moment s.tcp_asks a
+  own = (ask_on-is (IsKeptAsk c s.moment s.tcp_asks) path s.asks a on kept).1
+
   same : (next : Ask) → next.question ≡ a.question → same_question a.question next.question ≡ true
   same next e = subst (λ (q : Question). same_question a.question q ≡ true) (sym e) ((same_question_decides a.question a.question).1 (record { name = refl; kind = refl; class = refl }))
 
@@ -81,6 +87,7 @@ module _ (c : Config) (n : ℕ) (words : List ℕ) (path : Path) (a : Ask) (s : 
     room = let fewer = without_shorter path s.asks a on in let few = are.few in omega (arith, fewer, few);
     kept = record {
       earlier = let at : next.asked ≡ n = facts.asked in omega (arith, at);
+      on_route = ap (λ (z : Question). route_of c z.name) facts.question ∙ own.on_route ∙ sym (ap (λ (r : ℕ). Some r) facts.route_is);
       server = (λ j. peer_at c (facts.route_is j) (facts.server_is j)) ∙ facts.peer_is;
       tries = let used : next.used ≡ a.used + 1 = facts.used_is in (omega (arith, used), omega (arith, used, more));
       path = new_below;
@@ -130,8 +137,8 @@ pub server_within : (c : Config) (m k : ℕ) (path : Path) (asks : List Ask) (a 
 server_within c m k path asks a on all = Rattle.step_soundness.proofs.CallerLemmas.peer_within c a.route a.server a.peer (kept_of c m k path asks a on all).server
 
 -- the listed asks, with the room of the configuration
-pub listed_within : (c : Config) (i : Inquiries) (ws : List Waiting) (ps : List ℕ) (m k : ℕ) → IsKept c i ws ps m k → AreListed i → AreListed (record { capacity = c.limits.inquiries; asks = i.asks })
-listed_within c i ws ps m k kept are = subst (λ (n : ℕ). AreListed (record { capacity = n; asks = i.asks })) kept.capacity are
+pub listed_within : (c : Config) (e : Cache) (i : Inquiries) (ws : List Waiting) (ps : List ℕ) (m k : ℕ) → IsKept c e i ws ps m k → AreListed i → AreListed (record { capacity = c.limits.inquiries; asks = i.asks })
+listed_within c e i ws ps m k kept are = subst (λ (n : ℕ). AreListed (record { capacity = n; asks = i.asks })) kept.capacity are
 
 -- where another ask comes next, a try is left for it
 pub left_for : (plan : Plan) (f : Failure) → (after_failure plan f ≡ GiveUp → ⊥) → plan.used ≤ plan.tries → plan.used + 1 ≤ plan.tries
@@ -149,18 +156,18 @@ tcp_goes_on r server e gives = let bad : GiveUp ≡ AskTcp server = sym gives �
 
 -- ---- the same, of what is kept
 
-pub more_left : (c : Config) (i : Inquiries) (ws : List Waiting) (ps : List ℕ) (m k : ℕ) (path : Path) (a : Ask) (f : Failure) → IsKept c i ws ps m k → ask_on path i.asks ≡ Some a → (after_failure (plan_of c a) f ≡ GiveUp → ⊥) → a.used + 1 ≤ c.limits.tries
-more_left c i ws ps m k path a f kept on goes_on = left_for (plan_of c a) f goes_on (kept_of c m k path i.asks a on kept.asks).tries.1
+pub more_left : (c : Config) (e : Cache) (i : Inquiries) (ws : List Waiting) (ps : List ℕ) (m k : ℕ) (path : Path) (a : Ask) (f : Failure) → IsKept c e i ws ps m k → ask_on path i.asks ≡ Some a → (after_failure (plan_of c a) f ≡ GiveUp → ⊥) → a.used + 1 ≤ c.limits.tries
+more_left c e i ws ps m k path a f kept on goes_on = left_for (plan_of c a) f goes_on (kept_of c m k path i.asks a on kept.asks).tries.1
 
-module _ (c : Config) (i : Inquiries) (ws : List Waiting) (ps : List ℕ) (m k n : ℕ) (words : List ℕ) (path : Path) (a : Ask) (f : Failure) (kept : IsKept c i ws ps m k) (are : AreListed i) (later : m ≤ n) (small : n ≤ 2 ^ 62) (on : ask_on path i.asks ≡ Some a) where
+module _ (c : Config) (e : Cache) (i : Inquiries) (ws : List Waiting) (ps : List ℕ) (m k n : ℕ) (words : List ℕ) (path : Path) (a : Ask) (f : Failure) (kept : IsKept c e i ws ps m k) (are : AreListed i) (later : m ≤ n) (small : n ≤ 2 ^ 62) (on : ask_on path i.asks ≡ Some a) where
   abbrev here : State
-  here = record { asks = i.asks; waiting = ws; preferred = ps; moment = m; tcp_asks = k }
+  here = record { cache = e; asks = i.asks; waiting = ws; preferred = ps; moment = m; tcp_asks = k }
 
   path_is : a.path ≡ path
   path_is = (ask_on-is (IsKeptAsk c m k) path i.asks a on kept.asks).0
 
   pub next_by_udp : (server : ℕ) → after_failure (plan_of c a) f ≡ AskUdp server → (next : Ask) → ask_by n a.question a.route server (a.used + 1) (peer_at c a.route server) (over_udp (udp_draw words i.asks (freed_by a.path))) ≡ Some next → CanFollow c n here (without_path path i.asks) next
-  next_by_udp server goes next is = udp_follows c n words path a here kept.asks (listed_within c i ws ps m k kept are) later small on path_is (more_left c i ws ps m k path a f kept on (udp_goes_on (after_failure (plan_of c a) f) server goes)) kept.counted next server is
+  next_by_udp server goes next is = udp_follows c n words path a here kept.asks (listed_within c e i ws ps m k kept are) later small on path_is (more_left c e i ws ps m k path a f kept on (udp_goes_on (after_failure (plan_of c a) f) server goes)) kept.counted next server is
 
   pub next_by_tcp : (server : ℕ) → after_failure (plan_of c a) f ≡ AskTcp server → (next : Ask) → ask_by n a.question a.route server (a.used + 1) (peer_at c a.route server) (over_tcp (drawn_by_tcp words k)) ≡ Some next → CanFollow c n here (without_path path i.asks) next
-  next_by_tcp server goes next is = tcp_follows c n words path a here kept.asks (listed_within c i ws ps m k kept are) later small on path_is (more_left c i ws ps m k path a f kept on (tcp_goes_on (after_failure (plan_of c a) f) server goes)) kept.counted next server is
+  next_by_tcp server goes next is = tcp_follows c n words path a here kept.asks (listed_within c e i ws ps m k kept are) later small on path_is (more_left c e i ws ps m k path a f kept on (tcp_goes_on (after_failure (plan_of c a) f) server goes)) kept.counted next server is

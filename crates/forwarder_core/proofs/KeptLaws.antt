@@ -13,8 +13,11 @@ use Rattle.outstanding.specs.Due as due
 use Rattle.outstanding.specs.Values.{Ask, Inquiries}
 use Rattle.step_rules.specs.State.{Waiting}
 use Rattle.step_rules.specs.Attempts.{servers_in}
-use Rattle.step_rules.specs.Row.{waits_for, deadline_of, timeout_of}
-use Rattle.step_rules.specs.Progress.{AreTakenInTurn, IsTry, lesser, least, IsInOrder}
+use Rattle.step_rules.specs.Steps.{waits_for}
+use Rattle.step_rules.specs.Row.{deadline_of, timeout_of}
+use Rattle.record_cache.specs.Values.{Held, Cache}
+use Rattle.answer_builder.specs.Answers.{IsEarlier}
+use Rattle.step_rules.specs.Progress.{AreTakenInTurn, IsTry, IsOnRoute, lesser, least, IsInOrder}
 use Rattle.step_rules.proofs.CallerLemmas.{first_due, first_late, first_deadline}
 use Rattle.step_soundness.specs.Explains.{IsBelow, ArePreferred}
 use Rattle.step_soundness.proofs.CallerLemmas.{All-append, All-filter, All-weaker, preferred_first, preferred_put}
@@ -29,10 +32,15 @@ below_more k j (Udp port) h = tt
 below_more k j (Tcp conn) h = let lt : conn < k = h in omega (arith, lt)
 
 later_asks : (c : Config) (m n k j : ℕ) (asks : List Ask) → m ≤ n → AllByRecursion (IsKeptAsk c m k) asks → AllByRecursion (IsKeptAsk c n (k + j)) asks
-later_asks c m n k j asks le all = All-weaker (IsKeptAsk c m k) (IsKeptAsk c n (k + j)) (λ a h. record { earlier = let e = h.earlier in omega (arith, e, le); server = h.server; tries = h.tries; path = below_more k j a.path h.path }) asks all
+later_asks c m n k j asks le all = All-weaker (IsKeptAsk c m k) (IsKeptAsk c n (k + j)) (λ a h. record { earlier = let e = h.earlier in omega (arith, e, le); on_route = h.on_route; server = h.server; tries = h.tries; path = below_more k j a.path h.path }) asks all
 
 later_same : (c : Config) (m n k : ℕ) (asks : List Ask) → m ≤ n → AllByRecursion (IsKeptAsk c m k) asks → AllByRecursion (IsKeptAsk c n k) asks
-later_same c m n k asks le all = All-weaker (IsKeptAsk c m k) (IsKeptAsk c n k) (λ a h. record { earlier = let e = h.earlier in omega (arith, e, le); server = h.server; tries = h.tries; path = h.path }) asks all
+later_same c m n k asks le all = All-weaker (IsKeptAsk c m k) (IsKeptAsk c n k) (λ a h. record { earlier = let e = h.earlier in omega (arith, e, le); on_route = h.on_route; server = h.server; tries = h.tries; path = h.path }) asks all
+
+-- ---- entries, later
+
+later_entries : (m n : ℕ) (es : List Held) → m ≤ n → AllByRecursion (IsEarlier m) es → AllByRecursion (IsEarlier n) es
+later_entries m n es le all = All-weaker (IsEarlier m) (IsEarlier n) (λ h was. let at : h.accepted ≤ m = was in omega (arith, at, le)) es all
 
 -- ---- questions, later
 
@@ -57,43 +65,52 @@ fewer test (x ∷ xs) = cond_both (test x) (x ∷ filter test xs) (filter test x
 
 -- ---- changes
 
-pub kept_later : (c : Config) (i : Inquiries) (ws : List Waiting) (ps : List ℕ) (m n k : ℕ) → IsKept c i ws ps m k → m ≤ n → n ≤ 2 ^ 62 → IsKept c i ws ps n k
-kept_later c i ws ps m n k kept le small = record {
+pub kept_later : (c : Config) (e : Cache) (i : Inquiries) (ws : List Waiting) (ps : List ℕ) (m n k : ℕ) → IsKept c e i ws ps m k → m ≤ n → n ≤ 2 ^ 62 → IsKept c e i ws ps n k
+kept_later c e i ws ps m n k kept le small = record {
   config = kept.config;
+  cache = kept.cache;
+  accepted = later_entries m n e.entries le kept.accepted;
   capacity = kept.capacity;
   asks = later_same c m n k i.asks le kept.asks;
   few = kept.few;
   in_turn = kept.in_turn;
   taken = later_taken m n ws le kept.taken;
+  plain = kept.plain;
   places = kept.places;
   in_time = small;
   counted = kept.counted;
 }
 
 -- one question more
-pub kept_joined : (c : Config) (i : Inquiries) (ws ws' : List Waiting) (ps : List ℕ) (m n k : ℕ) (x : Waiting) → IsKept c i ws ps m k → m ≤ n → n ≤ 2 ^ 62 → length ws < c.limits.questions → x.taken ≡ n → ws' ≡ ws ++ x ∷ [] → IsKept c i ws' ps n k
-kept_joined c i ws ws' ps m n k x kept le small room at is = subst (λ (xs : List Waiting). IsKept c i xs ps n k) (sym is) (record {
+pub kept_joined : (c : Config) (e : Cache) (i : Inquiries) (ws ws' : List Waiting) (ps : List ℕ) (m n k : ℕ) (x : Waiting) → IsKept c e i ws ps m k → m ≤ n → n ≤ 2 ^ 62 → length ws < c.limits.questions → x.taken ≡ n → x.held ≡ [] → ws' ≡ ws ++ x ∷ [] → IsKept c e i ws' ps n k
+kept_joined c e i ws ws' ps m n k x kept le small room at plain is = subst (λ (xs : List Waiting). IsKept c e i xs ps n k) (sym is) (record {
   config = kept.config;
+  cache = kept.cache;
+  accepted = later_entries m n e.entries le kept.accepted;
   capacity = kept.capacity;
   asks = later_same c m n k i.asks le kept.asks;
   few = let longer = length-append ws (x ∷ []) in omega (arith, longer, room);
   in_turn = in_turn_put m ws x kept.in_turn kept.taken (omega (arith, at, le));
   taken = All-append (λ (y : Waiting). y.taken ≤ n) ws (x ∷ []) (later_taken m n ws le kept.taken) (omega (arith, at), tt);
+  plain = All-append (λ (y : Waiting). y.held ≡ []) ws (x ∷ []) kept.plain (plain, tt);
   places = kept.places;
   in_time = small;
   counted = kept.counted;
 })
 
 -- one ask more
-pub kept_asked : (c : Config) (i i' : Inquiries) (ws : List Waiting) (ps : List ℕ) (m n k j : ℕ) (listed : List Ask) (a : Ask) → IsKept c i ws ps m k → m ≤ n → n ≤ 2 ^ 62 → AllByRecursion (IsKeptAsk c m k) listed → IsKeptAsk c n (k + j) a → k + j < 2 ^ 64
-    → i' ≡ record i { asks = listed ++ a ∷ [] } → IsKept c i' ws ps n (k + j)
-kept_asked c i i' ws ps m n k j listed a kept le small all one fits is = subst (λ (q : Inquiries). IsKept c q ws ps n (k + j)) (sym is) (record {
+pub kept_asked : (c : Config) (e : Cache) (i i' : Inquiries) (ws : List Waiting) (ps : List ℕ) (m n k j : ℕ) (listed : List Ask) (a : Ask) → IsKept c e i ws ps m k → m ≤ n → n ≤ 2 ^ 62 → AllByRecursion (IsKeptAsk c m k) listed → IsKeptAsk c n (k + j) a → k + j < 2 ^ 64
+    → i' ≡ record i { asks = listed ++ a ∷ [] } → IsKept c e i' ws ps n (k + j)
+kept_asked c e i i' ws ps m n k j listed a kept le small all one fits is = subst (λ (q : Inquiries). IsKept c e q ws ps n (k + j)) (sym is) (record {
   config = kept.config;
+  cache = kept.cache;
+  accepted = later_entries m n e.entries le kept.accepted;
   capacity = kept.capacity;
   asks = All-append (IsKeptAsk c n (k + j)) listed (a ∷ []) (later_asks c m n k j listed le all) (one, tt);
   few = kept.few;
   in_turn = kept.in_turn;
   taken = later_taken m n ws le kept.taken;
+  plain = kept.plain;
   places = kept.places;
   in_time = small;
   counted = fits;
@@ -103,14 +120,17 @@ pub kept_rest : (c : Config) (m k : ℕ) (path : Path) (asks : List Ask) → All
 kept_rest c m k path asks all = All-filter (IsKeptAsk c m k) (λ b. not (same_path b.path path)) asks all
 
 -- an ask fewer
-pub kept_without : (c : Config) (i i' : Inquiries) (ws : List Waiting) (ps : List ℕ) (m k : ℕ) (closed : Option Path) → IsKept c i ws ps m k → i' ≡ record i { asks = without_closed closed i.asks } → IsKept c i' ws ps m k
-kept_without c i i' ws ps m k closed kept is = subst (λ (q : Inquiries). IsKept c q ws ps m k) (sym is) (record {
+pub kept_without : (c : Config) (e : Cache) (i i' : Inquiries) (ws : List Waiting) (ps : List ℕ) (m k : ℕ) (closed : Option Path) → IsKept c e i ws ps m k → i' ≡ record i { asks = without_closed closed i.asks } → IsKept c e i' ws ps m k
+kept_without c e i i' ws ps m k closed kept is = subst (λ (q : Inquiries). IsKept c e q ws ps m k) (sym is) (record {
   config = kept.config;
+  cache = kept.cache;
+  accepted = kept.accepted;
   capacity = kept.capacity;
   asks = by closed;
   few = kept.few;
   in_turn = kept.in_turn;
   taken = kept.taken;
+  plain = kept.plain;
   places = kept.places;
   in_time = kept.in_time;
   counted = kept.counted;
@@ -121,69 +141,101 @@ kept_without c i i' ws ps m k closed kept is = subst (λ (q : Inquiries). IsKept
     by (Some path) = kept_rest c m k path i.asks kept.asks
 
 -- questions fewer
-pub kept_left : (c : Config) (i : Inquiries) (ws ws' : List Waiting) (ps : List ℕ) (m k : ℕ) (r : Option Ask) → IsKept c i ws ps m k → ws' ≡ left_waiting r ws → IsKept c i ws' ps m k
-kept_left c i ws ws' ps m k r kept is = subst (λ (xs : List Waiting). IsKept c i xs ps m k) (sym is) (by r)
+pub kept_left : (c : Config) (e : Cache) (i : Inquiries) (ws ws' : List Waiting) (ps : List ℕ) (m k : ℕ) (r : Option Ask) → IsKept c e i ws ps m k → ws' ≡ left_waiting r ws → IsKept c e i ws' ps m k
+kept_left c e i ws ws' ps m k r kept is = subst (λ (xs : List Waiting). IsKept c e i xs ps m k) (sym is) (by r)
   where
-    by : (o : Option Ask) → IsKept c i (left_waiting o ws) ps m k
+    by : (o : Option Ask) → IsKept c e i (left_waiting o ws) ps m k
     by None = kept
     by (Some a) = record {
       config = kept.config;
+      cache = kept.cache;
+      accepted = kept.accepted;
       capacity = kept.capacity;
       asks = kept.asks;
       few = let less = fewer (λ (x : Waiting). not (waits_for a.question x)) ws in let few = kept.few in omega (arith, less, few);
       in_turn = in_turn_left (λ x. not (waits_for a.question x)) ws kept.in_turn;
       taken = All-filter (λ (x : Waiting). x.taken ≤ m) (λ x. not (waits_for a.question x)) ws kept.taken;
+      plain = All-filter (λ (x : Waiting). x.held ≡ []) (λ x. not (waits_for a.question x)) ws kept.plain;
       places = kept.places;
       in_time = kept.in_time;
       counted = kept.counted;
     }
 
-pub kept_dropped : (c : Config) (i : Inquiries) (ws ws' : List Waiting) (ps : List ℕ) (m k : ℕ) → IsKept c i ws ps m k → ws' ≡ drop 1 ws → IsKept c i ws' ps m k
-kept_dropped c i [] ws' ps m k kept is = subst (λ (xs : List Waiting). IsKept c i xs ps m k) (sym is) kept
-kept_dropped c i (x ∷ ws) ws' ps m k kept is = subst (λ (xs : List Waiting). IsKept c i xs ps m k) (sym is) (record {
+pub kept_dropped : (c : Config) (e : Cache) (i : Inquiries) (ws ws' : List Waiting) (ps : List ℕ) (m k : ℕ) → IsKept c e i ws ps m k → ws' ≡ drop 1 ws → IsKept c e i ws' ps m k
+kept_dropped c e i [] ws' ps m k kept is = subst (λ (xs : List Waiting). IsKept c e i xs ps m k) (sym is) kept
+kept_dropped c e i (x ∷ ws) ws' ps m k kept is = subst (λ (xs : List Waiting). IsKept c e i xs ps m k) (sym is) (record {
   config = kept.config;
+  cache = kept.cache;
+  accepted = kept.accepted;
   capacity = kept.capacity;
   asks = kept.asks;
   few = let few = kept.few in omega (arith, few);
   in_turn = kept.in_turn.1;
   taken = kept.taken.1;
+  plain = kept.plain.1;
   places = kept.places;
   in_time = kept.in_time;
   counted = kept.counted;
 })
 
 -- another server is preferred
-pub kept_preferred : (c : Config) (i : Inquiries) (ws : List Waiting) (ps ps' : List ℕ) (m k : ℕ) (preferred : Option Preferred) → IsKept c i ws ps m k → IsServed c preferred → ps' ≡ with_preferred preferred ps → IsKept c i ws ps' m k
-kept_preferred c i ws ps ps' m k preferred kept served is = subst (λ (qs : List ℕ). IsKept c i ws qs m k) (sym is) (by preferred served)
+pub kept_preferred : (c : Config) (e : Cache) (i : Inquiries) (ws : List Waiting) (ps ps' : List ℕ) (m k : ℕ) (preferred : Option Preferred) → IsKept c e i ws ps m k → IsServed c preferred → ps' ≡ with_preferred preferred ps → IsKept c e i ws ps' m k
+kept_preferred c e i ws ps ps' m k preferred kept served is = subst (λ (qs : List ℕ). IsKept c e i ws qs m k) (sym is) (by preferred served)
   where
-    by : (o : Option Preferred) → IsServed c o → IsKept c i ws (with_preferred o ps) m k
+    by : (o : Option Preferred) → IsServed c o → IsKept c e i ws (with_preferred o ps) m k
     by None h = kept
     by (Some p) h = record {
       config = kept.config;
+      cache = kept.cache;
+      accepted = kept.accepted;
       capacity = kept.capacity;
       asks = kept.asks;
       few = kept.few;
       in_turn = kept.in_turn;
       taken = kept.taken;
+      plain = kept.plain;
       places = preferred_put c.routes ps p.route p.server kept.places (λ r there. subst (λ (o : Option Route). p.server < length (servers_in o)) there h);
       in_time = kept.in_time;
       counted = kept.counted;
     }
 
+-- other entries are kept
+pub kept_entries : (c : Config) (e e' : Cache) (entries : List Held) (i : Inquiries) (ws : List Waiting) (ps : List ℕ) (m k : ℕ) → IsKept c e i ws ps m k → AllByRecursion (IsOnRoute c) entries → AllByRecursion (IsEarlier m) entries
+    → e' ≡ record e { entries = entries } → IsKept c e' i ws ps m k
+kept_entries c e e' entries i ws ps m k kept on earlier is = subst (λ (q : Cache). IsKept c q i ws ps m k) (sym is) (record {
+  config = kept.config;
+  cache = record { capacity = kept.cache.capacity; on_routes = on };
+  accepted = earlier;
+  capacity = kept.capacity;
+  asks = kept.asks;
+  few = kept.few;
+  in_turn = kept.in_turn;
+  taken = kept.taken;
+  plain = kept.plain;
+  places = kept.places;
+  in_time = kept.in_time;
+  counted = kept.counted;
+})
+
 -- a new forwarder
-pub kept_first : (c : Config) (i : Inquiries) (ws : List Waiting) (ps : List ℕ) → IsConfig c → i ≡ record { capacity = c.limits.inquiries; asks = [] } → ws ≡ [] → ps ≡ map (λ r. 0) c.routes → IsKept c i ws ps 0 0
-kept_first c i ws ps config is none places =
-    subst (λ (q : Inquiries). IsKept c q ws ps 0 0) (sym is) (subst (λ (xs : List Waiting). IsKept c (record { capacity = c.limits.inquiries; asks = [] }) xs ps 0 0) (sym none) (record {
+pub kept_first : (c : Config) (e : Cache) (i : Inquiries) (ws : List Waiting) (ps : List ℕ) → IsConfig c → e ≡ record { capacity = c.limits.cache; entries = [] } → i ≡ record { capacity = c.limits.inquiries; asks = [] } → ws ≡ [] → ps ≡ map (λ r. 0) c.routes → IsKept c e i ws ps 0 0
+kept_first c e i ws ps config empty is none places =
+    subst (λ (q : Cache). IsKept c q i ws ps 0 0) (sym empty)
+    (subst (λ (q : Inquiries). IsKept c (record { capacity = c.limits.cache; entries = [] }) q ws ps 0 0) (sym is)
+    (subst (λ (xs : List Waiting). IsKept c (record { capacity = c.limits.cache; entries = [] }) (record { capacity = c.limits.inquiries; asks = [] }) xs ps 0 0) (sym none) (record {
       config = config;
+      cache = record { capacity = refl; on_routes = tt };
+      accepted = tt;
       capacity = refl;
       asks = tt;
       few = omega arith;
       in_turn = tt;
       taken = tt;
+      plain = tt;
       places = subst (ArePreferred c.routes) (sym places) (preferred_first c.routes config.each);
       in_time = omega arith;
       counted = omega arith;
-    }))
+    })))
 
 -- ---- what is due: the first of each list tells
 
@@ -212,8 +264,9 @@ timeouts_least c [] = refl
 timeouts_least c (a ∷ asks) = sooner_one (due.due_of c.limits.ask_ms a) (due.next_due c.limits.ask_ms asks) ∙ ap (λ (o : Option ℕ). Some (lesser (timeout_of c a) o)) (timeouts_least c asks)
 
 -- both lists are in order
-pub kept_in_order : (c : Config) (i : Inquiries) (ws : List Waiting) (ps : List ℕ) (m k : ℕ) → IsKept c i ws ps m k → AreListed i → IsInOrder c (record { asks = i.asks; waiting = ws; preferred = ps; moment = m; tcp_asks = k })
-kept_in_order c i ws ps m k kept are = record {
+pub kept_in_order : (c : Config) (e : Cache) (i : Inquiries) (ws : List Waiting) (ps : List ℕ) (m k : ℕ) → IsKept c e i ws ps m k → AreListed i → IsInOrder c (record { cache = e; asks = i.asks; waiting = ws; preferred = ps; moment = m; tcp_asks = k })
+kept_in_order c e i ws ps m k kept are = record {
+  cache = kept.cache;
   asks = are.in_turn;
   tries = All-weaker (IsKeptAsk c m k) (IsTry c) (λ a h. h.tries) i.asks kept.asks;
   few_asks = let few = are.few in let room = kept.capacity in omega (arith, few, room);
@@ -228,11 +281,6 @@ zeros_as [] [] are = refl
 zeros_as [] (p ∷ places) are = absurd are
 zeros_as (r ∷ routes) [] are = absurd are
 zeros_as (r ∷ routes) (p ∷ places) are = ap (λ xs. 0 ∷ xs) (zeros_as routes places are.1)
-
-pub set_past : (xs : List ℕ) (i v : ℕ) → length xs ≤ i → slice_set xs i v ≡ xs
-set_past [] i v le = refl
-set_past (x ∷ xs) zero v le = absurd (omega (arith, le))
-set_past (x ∷ xs) (suc i) v le = ap (λ ys. x ∷ ys) (set_past xs i v (omega (arith, le)))
 
 zeros_more : (xs : List ℕ) (i : ℕ) → i < length xs → slice_set (map {B = ℕ} (λ (p : ℕ). 0) (take i xs) ++ drop i xs) i 0 ≡ map {B = ℕ} (λ (p : ℕ). 0) (take (suc i) xs) ++ drop (suc i) xs
 zeros_more [] i lt = absurd (omega (arith, lt))
@@ -258,6 +306,10 @@ put_back v ws ws' is same = with_items_is v ws (ap (λ (xs : List ℕ). length x
 -- no asks, with this much room
 pub room_is : (i : Inquiries) (m n : ℕ) → i ≡ record { capacity = m; asks = [] } → m ≡ n → i ≡ record { capacity = n; asks = [] }
 room_is i m n is same = subst (λ (k : ℕ). i ≡ record { capacity = k; asks = [] }) same is
+
+-- no entries, with this much room
+pub cache_is : (e : Cache) (m n : ℕ) → e ≡ record { capacity = m; entries = [] } → m ≡ n → e ≡ record { capacity = n; entries = [] }
+cache_is e m n is same = subst (λ (k : ℕ). e ≡ record { capacity = k; entries = [] }) same is
 
 pub none_of : (xs : List Waiting) → length xs ≡ 0 → xs ≡ []
 none_of [] e = refl

@@ -1,8 +1,9 @@
-pub mod Short
-pub mod TextLaws
-pub mod SpellingLaws
-pub mod SetLaws
+pub mod Offering
+pub mod Entries
 pub mod Deciding
 pub mod Following
 pub mod KeptLaws
+pub mod Clients
+pub mod Hits
 pub mod Ticks
+pub mod Accepting

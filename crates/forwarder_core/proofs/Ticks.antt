@@ -1,14 +1,17 @@
 -- Which item a tick serves first.
-use Rattle.std.proofs.Common.{◌≡◌, ℕ, List, [], ◌∷◌, Bool, true, false, refl, sym, ap, ◌∙◌, Some}
+use Rattle.std.proofs.Common.{◌≡◌, ℕ, List, [], ◌∷◌, Bool, true, false, refl, sym, ap, ◌∙◌, Option, Some, None}
 use Rattle.std.specs.Prelude.{nat_le, slice_get, ◌||◌}
 use Rattle.std.specs.List.{list_any}
 use Rattle.std.proofs.lemmas.Bool.{cond-true, cond-false, false≢true}
 use Rattle.suffix_routes.specs.Values.{Config}
 use Rattle.outstanding.specs.Values.{Ask}
-use Rattle.outstanding.specs.Lists.{on_path as ask_on, same_path}
+use Rattle.dns_message.specs.Values.{Question}
+use Rattle.outstanding.specs.Lists.{on_path as ask_on, of_question, same_path}
 use Rattle.outstanding.proofs.CallerLemmas.{same_path_reflexive}
 use Rattle.step_rules.specs.State.{Waiting, State}
-use Rattle.step_rules.specs.Row.{idle_step, deadline_of, timeout_of, question, attempt, first_item, row_of_item, row_of_tick, is_due_at}
+use Rattle.step_rules.specs.Steps.{idle_step, waits_for}
+use Rattle.forwarder_core.specs.Next.{closed_path}
+use Rattle.step_rules.specs.Row.{left_alone, deadline_of, timeout_of, question, attempt, first_item, row_of_item, row_of_tick, is_due_at}
 
 pub tick_idle : (c : Config) (n : ℕ) (words : List ℕ) (s : State) → s.waiting ≡ [] → s.asks ≡ [] → idle_step n s ≡ row_of_tick c n words s
 tick_idle c n words s none no_ask = λ i. row_of_item c n words s (first_item c (sym none i) (sym no_ask i))
@@ -49,14 +52,13 @@ or_left : (a b : Bool) → (a || b) ≡ false → a ≡ false
 or_left true b e = absurd (false≢true (sym e))
 or_left false b e = refl
 
--- where nothing is due, the first of each list isn't
+-- where nothing is due, the oldest ask isn't
 pub no_ask_due : (c : Config) (n : ℕ) (s : State) (a : Ask) → slice_get s.asks 0 ≡ Some a → is_due_at c n s ≡ false → nat_le (timeout_of c a) n ≡ false
 no_ask_due c n s a there none =
     let head = head_is s.asks a there in
     or_left (nat_le (timeout_of c a) n) (list_any (λ (b : Ask). nat_le (timeout_of c b) n) head.0)
     (sym (ap (list_any (λ (b : Ask). nat_le (timeout_of c b) n)) head.1) ∙ or_right (list_any (λ (x : Waiting). nat_le (deadline_of c x) n) s.waiting) (list_any (λ (b : Ask). nat_le (timeout_of c b) n) s.asks) none)
 
-pub no_question_due : (c : Config) (n : ℕ) (s : State) (x : Waiting) (xs : List Waiting) → s.waiting ≡ x ∷ xs → is_due_at c n s ≡ false → nat_le (deadline_of c x) n ≡ false
-no_question_due c n s x xs first none =
-    or_left (nat_le (deadline_of c x) n) (list_any (λ (y : Waiting). nat_le (deadline_of c y) n) xs)
-    (sym (ap (list_any (λ (y : Waiting). nat_le (deadline_of c y) n)) first) ∙ or_left (list_any (λ (y : Waiting). nat_le (deadline_of c y) n) s.waiting) (list_any (λ (b : Ask). nat_le (timeout_of c b) n) s.asks) none)
+-- the ask of a question for which no other waits
+pub alone_is : (q : Question) (others : List Waiting) (listed : List Ask) (o : Option Ask) → list_any (waits_for q) others ≡ false → of_question q listed ≡ o → closed_path o ≡ closed_path (left_alone q others listed)
+alone_is q others listed o none is = sym (ap closed_path (cond-false (list_any (waits_for q) others) None (of_question q listed) none ∙ is))

@@ -1,5 +1,3 @@
-pub mod Texts
-pub mod Spelling
-pub mod Sets
 pub mod Kept
 pub mod Next
+pub mod Walked

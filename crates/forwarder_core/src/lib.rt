@@ -2,16 +2,13 @@
 //! what is to be done; it reads no clock, opens no socket and draws nothing at random.
 #![tactic(auto)]
 
-mod answers;
 mod attempts;
 mod forwarder;
 mod lists;
 mod next;
+mod offers;
 mod replies;
 mod request;
-mod sets;
-mod spelled;
-mod state;
 
 pub use forwarder::Forwarder;
 pub use step_values::{Action, Client, Event, Handed, Outcome, Path, Step, Why};

@@ -3,14 +3,15 @@
 ghost use Rattle.std.specs.Prelude.{◌≡◌, ◌<◌, ◌+◌, ◌∷◌, ◌++◌, [], length, nat_lt, nat_le, not, drop, filter, OnOk, OnErr};
 ghost use Rattle.std.specs.List.{list_any};
 ghost use Rattle.outstanding.specs.Lists.{MayBegin, on_path as ask_on, without_path};
-ghost use Rattle.step_rules.specs.Row.{waits_for, timeout_of, deadline_of};
+ghost use Rattle.step_rules.specs.Steps.{waits_for};
+ghost use Rattle.step_rules.specs.Row.{timeout_of, deadline_of};
 ghost use Rattle.forwarder_core.specs.Next.{left_waiting, without_closed};
 
 use crate::replies::is_waiting_for;
-use crate::state::Waiting;
 use dns_message::Question;
 use outstanding::{Ask, Inquiries, Path, Refusal};
 use std::alloc::{AllocError, Allocator};
+use step_replies::Waiting;
 use suffix_routes::Config;
 
 /// Lists an ask for which there is room. `Err` where memory ran out, and then nothing has changed.

@@ -1,11 +1,18 @@
 //! What a step is about to do, with all the memory that it takes.
 
-use crate::state::Waiting;
+ghost use Rattle.std.specs.Prelude.{◌≡◌, []};
+ghost use Rattle.step_values.specs.Values.{actions_of};
+ghost use Rattle.forwarder_core.specs.Next.{pieces_of};
+
 use outstanding::{Ask, Path};
 use plain_list::PlainList;
+use record_cache::Held;
 use std::alloc::{Allocator, Global};
+use step_look_ups::Slots;
+use step_replies::Waiting;
 use step_values::Action;
 use suffix_routes::RouteId;
+use trust_rank::Piece;
 
 /// A server that is asked first from now on: its route, and its place in the route's group.
 #[derive(Clone, Copy)]
@@ -14,7 +21,7 @@ pub(crate) struct Preferred {
     pub server: usize,
 }
 
-/// What changes beside the moment.
+/// What changes beside the moment and the cache.
 #[derive(Drop)]
 pub(crate) enum Change<A: Allocator = Global> {
     Nothing,
@@ -30,9 +37,49 @@ pub(crate) enum Change<A: Allocator = Global> {
     Expire(Option<Path>),
 }
 
-/// The actions of a step, and what it changes.
+/// What an accepted reply carries: the pieces of its walk, as they are held from now on, and the name servers of its
+/// authority section.
+#[derive(Drop)]
+pub(crate) struct Carried<A: Allocator = Global> {
+    pub held: Vec<Held<A>, A>,
+    pub authority: PlainList<Piece<A>, A>,
+}
+
+impl<A: Allocator + Copy> Carried<A> {
+    /// Nothing; it takes no memory.
+    pub fn nothing(alloc: A) -> Carried<A>
+        ensures { pieces_of result ≡ [] }
+    {
+        Carried {
+            held: Vec::new(alloc),
+            authority: PlainList::new(alloc),
+        }
+    }
+}
+
+/// The actions of a step, and what it changes: the entries of the slots that a look-up used are promoted, and the pieces
+/// that an accepted reply carries are offered to the cache, last.
 #[derive(Drop)]
 pub(crate) struct Next<A: Allocator = Global> {
     pub actions: PlainList<Action<A>, A>,
+    pub used: Slots<A>,
     pub change: Change<A>,
+    pub carried: Carried<A>,
+}
+
+impl<A: Allocator + Copy> Next<A> {
+    /// These actions and this change, with no look-up and no accepted reply.
+    pub fn without_cache(alloc: A, actions: PlainList<Action<A>, A>, change: Change<A>) -> Next<A>
+        ensures actions { actions_of result.actions ≡ actions_of actions }
+        ensures used { result.used ≡ [] }
+        ensures change { result.change ≡ change }
+        ensures carried { pieces_of result.carried ≡ [] }
+    {
+        Next {
+            actions,
+            used: Slots::none(alloc),
+            change,
+            carried: Carried::nothing(alloc),
+        }
+    }
 }

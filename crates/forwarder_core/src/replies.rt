@@ -1,19 +1,20 @@
 //! The actions that end a query: its path is closed, and those that wait for it get their replies.
 
 ghost use Rattle.std.specs.Prelude.{◌≡◌, ◌∷◌, [], IfOk};
+ghost use Rattle.std.specs.List.{AllByRecursion};
+ghost use Rattle.answer_builder.specs.Answers.{IsEarlier};
+ghost use Rattle.answer_builder.specs.Building.{lent};
+ghost use Rattle.step_replies.specs.Spelling.{Source};
 ghost use Rattle.step_values.specs.Values.{action_of, actions_of};
-ghost use Rattle.step_rules.specs.Row.{closes, answered, fails, is_given, reply_in, waits_for};
-ghost use Rattle.forwarder_core.specs.Texts.{fresh_records};
-ghost use Rattle.forwarder_core.specs.Next.{closing_path, with_reply, with_replies};
+ghost use Rattle.step_rules.specs.Steps.{closes, fails, reply_in, waits_for};
+ghost use Rattle.forwarder_core.specs.Next.{closing_path, gives_from, with_reply, with_replies};
 
-use crate::answers::failure;
-use crate::sets::RecordSet;
-use crate::spelled::Answers;
-use crate::state::Waiting;
 use dns_message::Question;
 use outstanding::{Ask, Path};
 use plain_list::PlainList;
+use record_cache::Held;
 use std::alloc::{AllocError, Allocator};
+use step_replies::{Answers, Waiting, failure};
 use step_values::{Action, Why};
 
 /// The question waits for this one.
@@ -81,80 +82,60 @@ pub(crate) fn failures<A: Allocator + Copy>(
     Ok(actions)
 }
 
-/// The reply with a set that came at this moment, all of its lifetime left.
-fn answer_now<A: Allocator + Copy>(
-    answers: &mut Answers<A>,
-    set: &RecordSet<A>,
-    now: u64,
-    waiting: &Waiting<A>,
-) -> Result<Action<A>, AllocError>
-    requires { answers.old ≡ fresh_records set.now }
-    ensures same { answers.new ≡ answers.old }
-    ensures reply { IfOk result (λ action. action_of action ≡ answered now (record { piece = set.now; accepted = now }) waiting.now) }
-{
-    let _now = now;
-    let _rdata = &set.rdata;
-    answers.reply(waiting)
-}
-
 /// Puts the answer of a question last, where it waits for this one.
-fn put_answer<A: Allocator + Copy>(
+fn put_answer<'a, A: Allocator + Copy>(
     actions: &mut PlainList<Action<A>, A>,
     question: &Question<A>,
-    answers: &mut Answers<A>,
-    set: &RecordSet<A>,
-    now: u64,
-    waiting: &Waiting<A>,
+    answers: &mut Answers<'a, A>,
+    waiting: &'a Waiting<A>,
 ) -> Result<(), AllocError>
-    requires { answers.old ≡ fresh_records set.now }
     ensures same { answers.new ≡ answers.old }
-    ensures put { IfOk result (λ _. actions_of actions.new ≡ with_reply (actions_of actions.old) (reply_in (is_given now (record { piece = set.now; accepted = now }) question.now waiting.now))) }
+    ensures put { IfOk result (λ _. actions_of actions.new ≡ with_reply (actions_of actions.old) (reply_in (gives_from answers.old question.now waiting.now))) }
 {
     if !is_waiting_for(question, waiting) {
         return Ok(());
     }
-    let action = answer_now(answers, set, now, waiting)?;
+    let action = answers.reply(waiting)?;
     actions.push(action)
 }
 
 /// Puts the answers of those questions last that wait for this one, in their order.
-fn put_answers<A: Allocator + Copy>(
+fn put_answers<'a, A: Allocator + Copy>(
     actions: &mut PlainList<Action<A>, A>,
     question: &Question<A>,
-    answers: &mut Answers<A>,
-    set: &RecordSet<A>,
-    now: u64,
-    waiting: &[Waiting<A>],
+    answers: &mut Answers<'a, A>,
+    waiting: &'a [Waiting<A>],
 ) -> Result<(), AllocError>
-    requires { answers.old ≡ fresh_records set.now }
-    ensures { IfOk result (λ _. actions_of actions.new ≡ with_replies (is_given now (record { piece = set.now; accepted = now }) question.now) (actions_of actions.old) waiting.now) }
+    ensures { IfOk result (λ _. actions_of actions.new ≡ with_replies (gives_from answers.old question.now) (actions_of actions.old) waiting.now) }
 {
     for x in waiting {
-        put_answer(actions, question, answers, set, now, x)?;
+        put_answer(actions, question, answers, x)?;
     }
     Ok(())
 }
 
-/// The query is closed, and each question that waits for it is answered with the set that came at this moment.
+/// Entries, borrowed.
+fn borrowed<A: Allocator + Copy>(alloc: A, held: &[Held<A>]) -> Result<Vec<&Held<A>, A>, AllocError>
+    ensures { IfOk result (λ refs. lent refs.items ≡ held.now) }
+{
+    held.iter().collect(alloc)
+}
+
+/// The query is closed, and each question that waits for it is answered from these pieces, none accepted after the moment.
 pub(crate) fn answers_to<A: Allocator + Copy>(
     alloc: A,
     query: &Ask<A>,
-    set: &RecordSet<A>,
-    now: u64,
+    held: &[Held<A>],
+    moment: u64,
     waiting: &[Waiting<A>],
 ) -> Result<PlainList<Action<A>, A>, AllocError>
-    ensures { IfOk result (λ actions. actions_of actions ≡ with_replies (is_given now (record { piece = set.now; accepted = now }) query.now.question) (closes query.now.path ∷ []) waiting.now) }
+    requires { AllByRecursion (IsEarlier moment) held.now }
+    ensures { IfOk result (λ actions. actions_of actions ≡ with_replies (gives_from (record { chain = held.now; moment = moment }) query.now.question) (closes query.now.path ∷ []) waiting.now) }
 {
-    let mut answers = Answers::new(alloc, set)?;
+    let chain = borrowed(alloc, held)?;
+    let mut answers = Answers::new(alloc, &chain, moment);
     let mut actions = PlainList::new(alloc);
     actions.push(close(query.path))?;
-    put_answers(
-        &mut actions,
-        &query.question,
-        &mut answers,
-        set,
-        now,
-        waiting,
-    )?;
+    put_answers(&mut actions, &query.question, &mut answers, waiting)?;
     Ok(actions)
 }

@@ -9,14 +9,15 @@ use Rattle.outstanding.specs.Values.{Ask}
 use Rattle.outstanding.specs.Lists.{on_path as ask_on}
 use Rattle.step_values.specs.Values.{path_failed, tick, Outcome}
 use Rattle.step_rules.specs.State.{Waiting, State}
-use Rattle.step_rules.specs.Row.{Done, Row, idle_step, at_moment, deadline_of, timeout_of, question, attempt, first_item, row_of_item, row_of_failed_path, is_due_at, effective}
+use Rattle.step_rules.specs.Steps.{Done, idle_step, at_moment}
+use Rattle.step_rules.specs.Row.{Row, deadline_of, timeout_of, question, attempt, first_item, row_of_item, row_of_failed_path, is_due_at, effective}
 
 -- nothing is done, and nothing but the moment is new
 pub record IsIdle (n : ℕ) (s : State) (o : Outcome) (s' : State) : Type 0 where
   pub actions : o.actions ≡ []
   pub state : s' ≡ at_moment n s
 
-is_idle : (n : ℕ) (s : State) (o : Outcome) (s' : State) → record { actions = o.actions; state = s' } ≡ idle_step n s → IsIdle n s o s'
+is_idle : (n : ℕ) (s : State) (o : Outcome) (s' : State) → record { actions = o.actions; unkept = o.unkept; state = s' } ≡ idle_step n s → IsIdle n s o s'
 is_idle n s o s' done = record { actions = ap (λ (d : Done). d.actions) done; state = ap (λ (d : Done). d.state) done }
 
 neither : (a b : Bool) → (a || b) ≡ false → (a ≡ false) × (b ≡ false)

@@ -9,6 +9,7 @@ use crate::counts::Served;
 use crate::wire::Wire;
 use forwarder_core::Forwarder;
 use std::alloc::Allocator;
+use std::hash::BuildHasher;
 use step_values::{Action, Event, Path};
 
 /// What came of one event.
@@ -68,7 +69,7 @@ fn put_all<A: Allocator, W: Wire<A>>(
 }
 
 /// Hands one event to the forwarder, and puts what comes of it. An event that finds no memory is lost.
-fn hand<H: Drop, A: Allocator + Copy, W: Wire<A>>(
+fn hand<H: BuildHasher + Drop, A: Allocator + Copy, W: Wire<A>>(
     wire: &mut W,
     forwarder: &mut Forwarder<H, A>,
     counts: &mut Served,
@@ -95,7 +96,7 @@ fn hand<H: Drop, A: Allocator + Copy, W: Wire<A>>(
 
 /// Hands an event to the forwarder, and behind each ask that the wire refuses the failure of its path. The answer is
 /// whether more was due after the event.
-pub(crate) fn hand_on<H: Drop, A: Allocator + Copy, W: Wire<A>>(
+pub(crate) fn hand_on<H: BuildHasher + Drop, A: Allocator + Copy, W: Wire<A>>(
     wire: &mut W,
     forwarder: &mut Forwarder<H, A>,
     counts: &mut Served,
@@ -112,7 +113,7 @@ pub(crate) fn hand_on<H: Drop, A: Allocator + Copy, W: Wire<A>>(
 }
 
 /// Hands ticks to the forwarder until one tells that nothing more is due, or finds no memory.
-pub(crate) fn tick_on<H: Drop, A: Allocator + Copy, W: Wire<A>>(
+pub(crate) fn tick_on<H: BuildHasher + Drop, A: Allocator + Copy, W: Wire<A>>(
     wire: &mut W,
     forwarder: &mut Forwarder<H, A>,
     counts: &mut Served,

@@ -3,24 +3,26 @@
 ghost use Rattle.std.specs.Prelude.{◌≡◌, ◌∷◌, ◌++◌, [], IfOk, OnOk, OnErr, reverse};
 ghost use Rattle.step_values.specs.Values.{Outcome};
 ghost use Rattle.step_history.specs.Asked.{AsksWell};
-ghost use Rattle.step_rules.specs.Row.{Row, start};
+ghost use Rattle.step_rules.specs.Row.{Row};
+ghost use Rattle.step_rules.specs.Steps.{start};
 ghost use Rattle.step_soundness.specs.Runs.{IsSound};
 
 use forwarder_core::Forwarder;
 use std::alloc::{AllocError, Allocator, Global};
+use std::hash::BuildHasher;
 use std::marker::Model;
 use step_values::{Handed, Step};
 use suffix_routes::Config;
 
 /// A forwarder and the steps that it has made since it was new. They are sound whenever they are seen.
 #[derive(Drop)]
-pub struct Recorded<H, A: Allocator = Global> {
+pub struct Recorded<H: BuildHasher, A: Allocator = Global> {
     alloc: A,
     forwarder: Forwarder<H, A>,
     steps: Vec<Step<A>, A>,
 }
 
-impl<H, A: Allocator> Model for Recorded<H, A> {
+impl<H: BuildHasher, A: Allocator> Model for Recorded<H, A> {
     ghost use Rattle.step_soundness.specs.Runs.{IsExplained};
     ghost use Rattle.network_model.specs.Recordings.{Recording};
 
@@ -31,7 +33,7 @@ impl<H, A: Allocator> Model for Recorded<H, A> {
     ghost invariant = { λ r. IsExplained r.forwarder.config r.steps.items r.forwarder.state };
 }
 
-impl<H: Drop, A: Allocator + Copy> Recorded<H, A> {
+impl<H: BuildHasher + Drop, A: Allocator + Copy> Recorded<H, A> {
     /// A new forwarder, without steps. `Err` where memory ran out.
     pub fn new(alloc: A, config: Config<A>, hasher: H) -> Result<Recorded<H, A>, AllocError>
         ensures { IfOk result (λ recorded. recorded ≡ record { running = record { config = config; state = start config }; steps = [] }) }

@@ -3,7 +3,7 @@
 ghost use Rattle.std.specs.Prelude.{◌≡◌, map, reverse, IfOk};
 ghost use Rattle.step_history.specs.Asked.{AsksWell};
 ghost use Rattle.step_rules.specs.State.{State};
-ghost use Rattle.step_rules.specs.Row.{start};
+ghost use Rattle.step_rules.specs.Steps.{start};
 ghost use Rattle.step_soundness.specs.Runs.{Run, IsSound};
 
 use forwarder_core::Forwarder;

@@ -12,6 +12,7 @@ use crate::wire::{Arrival, Wire};
 use forwarder_core::Forwarder;
 use std::alloc::{AllocError, Allocator};
 use std::collections::BTreeMap;
+use std::hash::BuildHasher;
 use step_values::{Client, Event, Path};
 use tcp_frames::pieces_continue;
 
@@ -28,7 +29,7 @@ fn forget_path<A: Allocator + Copy>(alloc: A, streams: &mut Streams<A>, path: Pa
 }
 
 /// Serves the events of one arrival. `Err` where a frame reader could not be made, grow or give a frame.
-fn serve_arrival<H: Drop, A: Allocator + Copy, W: Wire<A>>(
+fn serve_arrival<H: BuildHasher + Drop, A: Allocator + Copy, W: Wire<A>>(
     alloc: A,
     wire: &mut W,
     forwarder: &mut Forwarder<H, A>,
@@ -92,7 +93,7 @@ fn serve_arrival<H: Drop, A: Allocator + Copy, W: Wire<A>>(
 }
 
 /// Takes one arrival and serves its events; one that the wire refuses is counted.
-fn take_arrival<H: Drop, A: Allocator + Copy, W: Wire<A>>(
+fn take_arrival<H: BuildHasher + Drop, A: Allocator + Copy, W: Wire<A>>(
     alloc: A,
     wire: &mut W,
     forwarder: &mut Forwarder<H, A>,
@@ -111,7 +112,7 @@ fn take_arrival<H: Drop, A: Allocator + Copy, W: Wire<A>>(
 }
 
 /// One turn: an arrival with its events, then ticks.
-fn take_turn<H: Drop, A: Allocator + Copy, W: Wire<A>>(
+fn take_turn<H: BuildHasher + Drop, A: Allocator + Copy, W: Wire<A>>(
     alloc: A,
     wire: &mut W,
     forwarder: &mut Forwarder<H, A>,
@@ -133,7 +134,7 @@ fn take_turn<H: Drop, A: Allocator + Copy, W: Wire<A>>(
 ///
 /// It returns wherever the calls of its wire do. `Err` only where a frame reader could not be made, grow or give a
 /// frame; the forwarder is then as after the last event. An event that finds no memory is lost and counted.
-pub fn serve<H: Drop, A: Allocator + Copy, W: Wire<A>>(
+pub fn serve<H: BuildHasher + Drop, A: Allocator + Copy, W: Wire<A>>(
     alloc: A,
     wire: &mut W,
     forwarder: &mut Forwarder<H, A>,

@@ -13,6 +13,7 @@ use forwarder_core::Forwarder;
 use plain_list::Octets;
 use std::alloc::{AllocError, Allocator};
 use std::collections::BTreeMap;
+use std::hash::BuildHasher;
 use step_values::{Client, Event, Path};
 use suffix_routes::Peer;
 use tcp_frames::{FrameReader, all_frames_are_taken, cut_does_not_matter};
@@ -80,7 +81,7 @@ pub(crate) fn put_in<A: Allocator + Copy>(
 }
 
 /// Serves each whole frame that the reader has. `Err` where memory for a message ran out.
-fn serve_frames<H: Drop, A: Allocator + Copy, W: Wire<A>>(
+fn serve_frames<H: BuildHasher + Drop, A: Allocator + Copy, W: Wire<A>>(
     wire: &mut W,
     forwarder: &mut Forwarder<H, A>,
     counts: &mut Served,
@@ -99,7 +100,7 @@ fn serve_frames<H: Drop, A: Allocator + Copy, W: Wire<A>>(
 
 /// A piece of a stream: serves each frame that it completes. `Err` where a reader could not be made, grow or give a
 /// frame.
-pub(crate) fn serve_piece<H: Drop, A: Allocator + Copy, W: Wire<A>>(
+pub(crate) fn serve_piece<H: BuildHasher + Drop, A: Allocator + Copy, W: Wire<A>>(
     wire: &mut W,
     forwarder: &mut Forwarder<H, A>,
     counts: &mut Served,

@@ -3,7 +3,8 @@ use Rattle.std.proofs.Common.{◌≡◌, ℕ, List, [], ◌∷◌, ◌++◌, ref
 use Rattle.std.proofs.lemmas.Bool.{true≢false}
 use Rattle.suffix_routes.specs.Values.{Config}
 use Rattle.step_values.specs.Values.{Step}
-use Rattle.step_history.specs.Pieces.{Piece, Held}
+use Rattle.trust_rank.specs.Values.{Piece}
+use Rattle.record_cache.specs.Values.{Held}
 use Rattle.step_history.specs.History.{moment_at, InEra}
 use Rattle.step_history.specs.Carried.{then_carried, CarriedInEra}
 

@@ -1,5 +1,5 @@
 -- Worked histories, computed: which questions are served, which moments count, until when an ask is open, when more is due, whose server an ask goes to, and when all tries have failed.
-use Rattle.std.proofs.Common.{◌≡◌, ℕ, ◌<◌, List, [], ◌∷◌, zero, suc, Some, true, false, refl, sym, ap, subst, arith}
+use Rattle.std.proofs.Common.{◌≡◌, ℕ, ◌<◌, List, [], ◌∷◌, zero, suc, Some, true, false, refl, sym, ap, ◌∙◌, subst, arith}
 use Rattle.std.specs.Prelude.{slice_get}
 use Rattle.std.proofs.lemmas.Bool.{true≢false}
 use Rattle.suffix_routes.specs.declared.peer.Peer.{Peer}
@@ -14,7 +14,9 @@ use Rattle.outstanding.specs.declared.ask.Path.TheVariants.{Udp}
 use Rattle.step_values.specs.declared.event.Client.{Client}
 use Rattle.step_values.specs.declared.event.Client.TheVariants.{Udp as FromUdp}
 use Rattle.step_values.specs.Values.{from_client, delivery, tick, restart, ask_udp, close_udp, Step}
-use Rattle.step_history.specs.History.{moment_at, ShownAsk, listed, Matches}
+use Rattle.record_cache.specs.Values.{Held}
+use Rattle.step_history.specs.History.{moment_at, Look, ShownAsk, listed, Matches}
+use Rattle.step_history.specs.Answers.{FollowsAliases}
 use Rattle.step_history.specs.Accounting.{is_due}
 use Rattle.step_history.specs.Asked.{IsRightAsk, IsServerFor}
 use Rattle.step_history.specs.Causes.{is_unserved, AllTriesFailed}
@@ -142,11 +144,16 @@ given_up_at_once h = true≢false h.1
 abbrev one_try : Config
 one_try = record config { limits = record default_limits { tries = 1 } }
 
--- a question that is still asked has not failed
-still_asked : AllTriesFailed (record { config = one_try; asked = asked; before = []; now = asked_again ∷ asked ∷ [] }) (with_identifier 7) → ⊥
+-- seen from where the ask is sent once more
+abbrev still : Look
+still = record { config = one_try; asked = asked; before = []; now = asked_again ∷ asked ∷ [] }
+
+-- what a question holds no alias for, and is still asked, has not failed
+still_asked : (h : AllTriesFailed still (with_identifier 7)) → h.aliases ≡ [] → ⊥
 unfolding first_question question_at octets_end name_within walk_in name_step
-still_asked h =
+still_asked h none =
     let reads : Some address ≡ Some h.question = h.reads in
     let same : address ≡ h.question = cc in
-    let other : same_question address h.question ≡ false = h.none_left.0 address refl in
-    true≢false (subst (λ (q : Question). same_question address q ≡ false) (sym same) other)
+    let last : h.last ≡ h.question = subst (λ (os : List Held). FollowsAliases still h.question os h.last) none h.leads.follows in
+    let other : same_question address h.last ≡ false = h.none_left.0 address refl in
+    true≢false (subst (λ (q : Question). same_question address q ≡ false) (last ∙ sym same) other)

@@ -2,7 +2,6 @@
 use Rattle.std.specs.Prelude.{◌≡◌, ◌≢◌, ℕ, zero, suc, ◌+◌, ◌-◌, ◌^◌, ◌<◌, ◌≤◌, Bool, true, false, ◌==◌, ◌&&◌, ◌||◌, nat_le, List, [], ◌∷◌, length, Some, None, ◌⊎◌}
 use Rattle.std.specs.List.{AllByRecursion}
 use Rattle.dns_message.specs.Values.{Question}
-use Rattle.dns_message.specs.Writing.{written}
 use Rattle.suffix_routes.specs.Values.{Config}
 use Rattle.step_values.specs.declared.event.Client.{Client}
 use Rattle.step_values.specs.declared.event.Client.TheVariants.{Udp, Tcp}
@@ -12,10 +11,10 @@ use Rattle.step_values.specs.Values.{tick, Action, Step}
 use Rattle.step_history.specs.Names.{route_of}
 use Rattle.dns_message.specs.Questions.{same_question}
 use Rattle.dns_message.specs.Header.{header_in}
-use Rattle.step_history.specs.Pieces.{Held}
+use Rattle.record_cache.specs.Values.{Held}
 use Rattle.step_history.specs.History.{is_restart, Look, ShownAsk, listed, on_path, closes_path, tcp_asks, moment_at, NothingAccepted, Reads}
-use Rattle.step_history.specs.Answers.{Chain}
-use Rattle.step_history.specs.Replies.{full_answer}
+use Rattle.step_history.specs.Answers.{FollowsAliases, Leads, Chain}
+use Rattle.step_history.specs.Replies.{asked_in, answer_text}
 use Rattle.step_history.specs.Draws.{drawn}
 
 -- questions for what is no data, or for more than one type or class (RFC 1035 3.2.3 and 3.2.5, RFC 6895 3.1)
@@ -68,14 +67,17 @@ NoneAsks q asks = AllByRecursion (λ a. (own : Question) → Reads a.octets own 
 
 -- ---- what the history shows for each way of failing
 
--- the question has no route
+-- the question has no route, which is told at once, or aliases lead from it to a name that has none
 pub record HasNoRoute (l : Look) (octets : List ℕ) : Type 0 where
-  pub at_once : l.now ≡ l.asked ∷ l.before
   pub opcode : (header_in octets).opcode ≡ 0
   pub question : Question
   pub reads : Reads octets question
   pub served : is_unserved question ≡ false
-  pub none : route_of l.config question.name ≡ None
+  pub aliases : List Held
+  pub last : Question
+  pub leads : Leads l question aliases last
+  pub none : route_of l.config last.name ≡ None
+  pub at_once : aliases ≡ [] → l.now ≡ l.asked ∷ l.before
 
 -- the type or class is not served
 pub record AsksUnserved (l : Look) (octets : List ℕ) : Type 0 where
@@ -85,13 +87,26 @@ pub record AsksUnserved (l : Look) (octets : List ℕ) : Type 0 where
   pub reads : Reads octets question
   pub unserved : is_unserved question ≡ true
 
--- all tries failed, the last one in the newest step, and none is under way
+-- all tries failed for what the client asked or for what aliases lead to, the last one in the newest step, and none is
+-- under way
 pub record AllTriesFailed (l : Look) (octets : List ℕ) : Type 0 where
   pub question : Question
   pub reads : Reads octets question
-  pub failed : LastFailed l.config question l.now l.config.limits.tries
-  pub closed : ClosesNow question l.now
-  pub none_left : NoneAsks question (listed l.now)
+  pub aliases : List Held
+  pub last : Question
+  pub leads : Leads l question aliases last
+  pub failed : LastFailed l.config last l.now l.config.limits.tries
+  pub closed : ClosesNow last l.now
+  pub none_left : NoneAsks last (listed l.now)
+
+-- nine justified aliases, one more than may be followed, lead on from the question
+pub record FollowsTooMany (l : Look) (octets : List ℕ) : Type 0 where
+  pub question : Question
+  pub reads : Reads octets question
+  pub aliases : List Held
+  pub last : Question
+  pub many : length aliases ≡ 9
+  pub follows : FollowsAliases l question aliases last
 
 -- no port is free, or as many asks went by TCP as may
 abbrev pub NoPathIsFree : Look → Type 0
@@ -109,7 +124,7 @@ pub record AnswerIsTooLarge (l : Look) (octets : List ℕ) : Type 0 where
   pub end : Held
   pub reads : Reads octets question
   pub chain : Chain l question aliases end
-  pub large : 65535 < length (written (full_answer (header_in octets) question aliases end (moment_at l.now)))
+  pub large : 65535 < length (answer_text (asked_in (header_in octets) (Some question)) aliases end (moment_at l.now))
 
 -- waiting is the number of questions without a reply before the step asked
 abbrev pub Cause : Look → Client → List ℕ → ℕ → Why → Type 0
@@ -124,6 +139,6 @@ Cause l client octets waiting Exhausted = AllTriesFailed l octets
 Cause l client octets waiting Deadline = IsOverdue l
 Cause l (Udp peer) octets waiting TooLarge = ⊥
 Cause l (Tcp conn) octets waiting TooLarge = AnswerIsTooLarge l octets
--- no question is told this yet, and success has no cause
+Cause l client octets waiting ChainLong = FollowsTooMany l octets
+-- success is no failure
 Cause l client octets waiting Answered = ⊥
-Cause l client octets waiting ChainLong = ⊥

@@ -14,7 +14,8 @@ use Rattle.step_history.specs.Names.{route_of}
 use Rattle.dns_message.specs.Questions.{same_question}
 use Rattle.dns_message.specs.Header.{header_in}
 use Rattle.dns_message.specs.Questions.{one_question}
-use Rattle.step_history.specs.Pieces.{Piece, is_lame, walk}
+use Rattle.trust_rank.specs.Values.{Piece, End, found, ends_no_data, ends_denied, elsewhere, lame}
+use Rattle.trust_rank.specs.Walks.{walk_of}
 
 abbrev pub is_restart_event : Event → Bool
 is_restart_event restart = true
@@ -129,6 +130,14 @@ pub record Matches (c : Config) (s : Step) (past : List Step) (ask : ShownAsk) (
   pub reads : Reads octets question
   pub same_question_as_ask : same_question question asked ≡ true
 
+-- a reply that ends so counts as lame: one that is lame, or one whose aliases lead to a name that has to be asked for
+abbrev pub counts_as_lame : End → Bool
+counts_as_lame lame = true
+counts_as_lame (elsewhere name) = true
+counts_as_lame found = false
+counts_as_lame ends_no_data = false
+counts_as_lame ends_denied = false
+
 -- the newest step is accepted: whole, neither truncated nor a failure, and not lame
 pub record Accepts (c : Config) (s : Step) (past : List Step) (ask : ShownAsk) (asked : Question) (route : ℕ) (m : Message) : Type 0 where
   pub octets : List ℕ
@@ -137,7 +146,7 @@ pub record Accepts (c : Config) (s : Step) (past : List Step) (ask : ShownAsk) (
   pub untruncated : m.header.tc ≡ false
   pub rcode : (m.header.rcode ≡ 0) ⊎ (m.header.rcode ≡ 3)
   pub route_is : route_of c asked.name ≡ Some route
-  pub not_lame : is_lame (walk c m asked route).end ≡ false
+  pub not_lame : counts_as_lame (walk_of c m asked route).end ≡ false
 
 -- the newest step is accepted and carried these pieces: those of the walk, then the name servers of the authority section
 pub record Carries (c : Config) (s : Step) (past : List Step) (ps : List Piece) : Type 0 where
@@ -146,7 +155,7 @@ pub record Carries (c : Config) (s : Step) (past : List Step) (ps : List Piece) 
   pub route : ℕ
   pub message : Message
   pub accepts : Accepts c s past ask asked route message
-  pub are : ps ≡ (walk c message asked route).pieces ++ (walk c message asked route).authority
+  pub are : ps ≡ (walk_of c message asked route).pieces ++ (walk_of c message asked route).authority
 
 abbrev pub NothingAccepted : Config → Step → List Step → Type 0
 NothingAccepted c s past = (ps : List Piece) → Carries c s past ps → ⊥

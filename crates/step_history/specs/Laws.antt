@@ -2,7 +2,7 @@
 use Rattle.std.specs.Prelude.{◌≡◌, ◌^◌, ◌≤◌, false, List, ◌∷◌, ◌++◌}
 use Rattle.suffix_routes.specs.Values.{Config}
 use Rattle.step_values.specs.Values.{Step}
-use Rattle.step_history.specs.Pieces.{Held}
+use Rattle.record_cache.specs.Values.{Held}
 use Rattle.step_history.specs.History.{is_restart, InEra, moment_at}
 use Rattle.step_history.specs.Carried.{CarriedInEra}
 

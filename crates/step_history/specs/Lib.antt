@@ -1,5 +1,4 @@
 pub mod Names
-pub mod Pieces
 pub mod History
 pub mod Carried
 pub mod Replies

@@ -1,69 +1,40 @@
 -- The messages that clients get.
-use Rattle.std.specs.Prelude.{ℕ, Bool, true, false, if◌then◌else◌, nat_le, List, [], ◌∷◌, ◌++◌, length, map, Option, Some, None}
-use Rattle.std.specs.List.{flat_map}
+use Rattle.std.specs.Prelude.{ℕ, ◌≤◌, List, [], ◌∷◌, ◌++◌, length, Option}
 use Rattle.dns_message.specs.Header.{Header}
-use Rattle.dns_message.specs.Values.{Question, Record, Message}
+use Rattle.dns_message.specs.Values.{Question}
+use Rattle.dns_message.specs.Writing.{written}
+use Rattle.record_cache.specs.Values.{Held}
+use Rattle.answer_builder.specs.Values.{Asked}
+use Rattle.answer_builder.specs.Answers.{sections_of, full_answer, cut_answer, error_response}
+use Rattle.answer_builder.specs.Transports.{over_udp}
 use Rattle.step_values.specs.declared.event.Client.{Client}
 use Rattle.step_values.specs.declared.event.Client.TheVariants.{Udp, Tcp}
 use Rattle.step_values.specs.declared.action.Why.{Why}
 use Rattle.step_values.specs.declared.action.Why.TheVariants.{Answered, BadFormat, BadOpcode, NotServed, NoRoute, QuestionsFull, InquiriesFull, NoPort, Exhausted, Deadline, ChainLong, TooLarge}
-use Rattle.step_history.specs.Pieces.{Body, rows, no_data, denied, Held}
-use Rattle.step_history.specs.Carried.{ttl_at}
 
-abbrev pub kind_of : Option ℕ → ℕ
-kind_of None = 0
-kind_of (Some kind) = kind
+-- what the answer to a request with this header repeats of it, and of its question where there is one
+abbrev pub asked_in : Header → Option Question → Asked
+asked_in h q = record { id = h.id; opcode = h.opcode; rd = h.rd; question = q }
 
-abbrev pub record_with : Held → ℕ → List ℕ → Record
-record_with o n octets = record { owner = o.piece.owner; kind = kind_of o.piece.slot.kind; class = o.piece.slot.class; ttl = ttl_at o n; rdata = octets }
+-- the answer from a chain of aliases and what ends it, with the seconds that are left at the moment t
+abbrev pub answer_text : Asked → List Held → Held → ℕ → List ℕ
+answer_text a aliases end t = written (full_answer a (sections_of t (aliases ++ end ∷ [])))
 
-abbrev pub records_in : Held → ℕ → Body → List Record
-records_in o n (rows sets) = map (record_with o n) sets
-records_in o n (no_data soa) = []
-records_in o n (denied soa) = []
-
--- the records of a set, each with the seconds that are left at the moment n
-abbrev pub records_of : Held → ℕ → List Record
-records_of o n = records_in o n o.piece.body
-
-abbrev pub aged : Option Record → ℕ → List Record
-aged None ttl = []
-aged (Some r) ttl = record { owner = r.owner; kind = r.kind; class = r.class; ttl = ttl; rdata = r.rdata } ∷ []
-
--- the SOA of a denial (RFC 2308 3)
-abbrev pub soa_of : Body → ℕ → List Record
-soa_of (rows sets) ttl = []
-soa_of (no_data soa) ttl = aged soa ttl
-soa_of (denied soa) ttl = aged soa ttl
-
-abbrev pub rcode_of : Body → ℕ
-rcode_of (rows sets) = 0
-rcode_of (no_data soa) = 0
-rcode_of (denied soa) = 3
-
--- a reply to a request with this header; the counts are those of its lists
-abbrev pub reply_header : Header → Bool → ℕ → ℕ → ℕ → ℕ → Header
-reply_header h cut rcode questions answers authority =
-    record { id = h.id; qr = true; opcode = h.opcode; aa = false; tc = cut; rd = h.rd; ra = true; z = 0; rcode = rcode; counts = questions ∷ answers ∷ authority ∷ 0 ∷ [] }
-
-abbrev pub reply_message : Header → Bool → ℕ → List Question → List Record → List Record → Message
-reply_message h cut rcode questions answers authority =
-    record { header = reply_header h cut rcode (length questions) (length answers) (length authority); questions = questions; answers = answers; authority = authority; additional = [] }
-
--- the full answer at the moment n: the aliases, then the set or the SOA of the denial
-abbrev pub full_answer : Header → Question → List Held → Held → ℕ → Message
-full_answer h q aliases o n = reply_message h false (rcode_of o.piece.body) (q ∷ []) (flat_map (λ a. records_of a n) aliases ++ records_of o n) (soa_of o.piece.body (ttl_at o n))
-
--- the question alone, with TC
-abbrev pub truncated : Header → Question → Held → Message
-truncated h q o = reply_message h true (rcode_of o.piece.body) (q ∷ []) [] []
+-- the same, cut to the question
+abbrev pub cut_text : Asked → List Held → Held → ℕ → List ℕ
+cut_text a aliases end t = written (cut_answer a (sections_of t (aliases ++ end ∷ [])))
 
 -- over UDP what passes 512 octets is cut (RFC 1035 4.2.1)
 abbrev pub sized_for : Client → List ℕ → List ℕ → List ℕ
-sized_for (Udp peer) full cut = if nat_le (length full) 512 then full else cut
+sized_for (Udp peer) full cut = over_udp full cut
 sized_for (Tcp conn) full cut = full
 
--- the result code of each reply (RFC 1035 4.1.1)
+-- over TCP a message has at most 65,535 octets (RFC 1035 4.2.2)
+abbrev pub FitsTransport : Client → List ℕ → Type 0
+FitsTransport (Udp peer) octets = Unit {0}
+FitsTransport (Tcp conn) octets = length octets ≤ 65535
+
+-- the response code of each reply (RFC 1035 4.1.1)
 abbrev pub rcode_of_why : Why → ℕ
 rcode_of_why Answered = 0
 rcode_of_why BadFormat = 1
@@ -78,5 +49,6 @@ rcode_of_why Deadline = 2
 rcode_of_why ChainLong = 2
 rcode_of_why TooLarge = 2
 
-abbrev pub error_response : Header → Why → List Question → Message
-error_response h why qs = reply_message h false (rcode_of_why why) qs [] []
+-- the failure that tells this reason
+abbrev pub failure_text : Asked → Why → List ℕ
+failure_text a why = written (error_response a (rcode_of_why why))

@@ -3,7 +3,6 @@ use Rattle.std.specs.Prelude.{◌≡◌, ℕ, Bool, true, false, if◌then◌els
 use Rattle.std.specs.List.{list_any, concat}
 use Rattle.dns_message.specs.Values.{Question, Message}
 use Rattle.dns_message.specs.Messages.{Spells}
-use Rattle.dns_message.specs.Writing.{written}
 use Rattle.suffix_routes.specs.Values.{Config}
 use Rattle.step_values.specs.declared.event.Client.{Client}
 use Rattle.step_values.specs.declared.action.Why.{Why}
@@ -13,7 +12,7 @@ use Rattle.dns_message.specs.Questions.{same_question}
 use Rattle.dns_message.specs.Header.{header_in}
 use Rattle.step_history.specs.History.{is_restart, InEra, moment_at, Look, NothingAccepted, Reads, Sends, takes_question}
 use Rattle.step_history.specs.Answers.{Answers}
-use Rattle.step_history.specs.Replies.{error_response}
+use Rattle.step_history.specs.Replies.{asked_in, failure_text}
 use Rattle.step_history.specs.Causes.{Cause, is_unserved}
 
 -- a number is among these
@@ -30,9 +29,9 @@ unanswered (s ∷ past) owners =
 
 -- the text of a failure: without the question where it was not looked at or can't be read, else with the client's question as it came
 abbrev pub IsErrorResponse : List ℕ → Why → List ℕ → Type 0
-IsErrorResponse request BadFormat octets = octets ≡ written (error_response (header_in request) BadFormat [])
-IsErrorResponse request BadOpcode octets = octets ≡ written (error_response (header_in request) BadOpcode [])
-IsErrorResponse request why octets = (q : Question) × Reads request q × (octets ≡ written (error_response (header_in request) why (q ∷ [])))
+IsErrorResponse request BadFormat octets = octets ≡ failure_text (asked_in (header_in request) None) BadFormat
+IsErrorResponse request BadOpcode octets = octets ≡ failure_text (asked_in (header_in request) None) BadOpcode
+IsErrorResponse request why octets = (q : Question) × Reads request q × (octets ≡ failure_text (asked_in (header_in request) (Some q)) why)
 
 -- the client asked what is served, and the octets answer it
 pub record RightAnswer (l : Look) (client : Client) (request octets : List ℕ) : Type 0 where

@@ -22,7 +22,8 @@ use Rattle.step_values.specs.Values.{Event, from_client, delivery, path_failed, 
 use Rattle.step_history.specs.History.{is_tcp}
 use Rattle.step_rules.specs.State.{Waiting, State}
 use Rattle.step_rules.specs.Attempts.{ask_by, plan_of, next_ask}
-use Rattle.step_rules.specs.Row.{Done, Fate, waits, waiting_in, still_waiting, ask_list, without_ask, closing_step, expiry_step, row_of_attempt, row_of_next, row_of_failure, row_of_failed_path, deadline_of, timeout_of, Item, question, attempt, first_item, left_alone, row_of_item, row_of_tick, is_due_at, Happens, effective}
+use Rattle.step_rules.specs.Steps.{Done, Fate, waits, waiting_in, still_waiting, ask_list, without_ask, closing_step}
+use Rattle.step_rules.specs.Row.{expiry_step, row_of_attempt, row_of_next, row_of_failure, row_of_failed_path, deadline_of, timeout_of, Item, question, attempt, first_item, left_alone, row_of_item, row_of_tick, is_due_at, Happens, effective}
 use Rattle.step_rules.specs.Progress.{tries_left, all_tries_left, left_to_do, ServesSomething, due_moments, lesser, least, next_due, AreTakenInTurn, IsTry, IsInOrder}
 use Rattle.step_rules.specs.Laws.{LessIsLeft, LeftIsBounded, MoreIsServed, has_come, NextDueTells}
 
@@ -154,7 +155,7 @@ module _ (c : Config) (n : ℕ) (words : List ℕ) (s : State) (order : IsInOrde
   Serves item = left_to_do c (row_of_item c n words s item).state < left_to_do c s
 
   question_less : (x : Waiting) (xs : List Waiting) → s.waiting ≡ x ∷ xs → nat_le (deadline_of c x) n ≡ true → Serves (question x xs)
-  question_less x xs first t = subst (λ (d : Done). left_to_do c d.state < left_to_do c s) (sym (cond-true (nat_le (deadline_of c x) n) _ _ t)) (expiry_less c n x xs (left_alone x.question xs s.asks) s first)
+  question_less x xs first t = subst (λ (d : Done). left_to_do c d.state < left_to_do c s) (sym (cond-true (nat_le (deadline_of c x) n) _ _ t)) (expiry_less c n x xs (left_alone x.wanted xs s.asks) s first)
 
   attempt_serves : (a : Ask) (others : List Ask) → s.asks ≡ a ∷ others → nat_le (timeout_of c a) n ≡ true → Serves (attempt a)
   attempt_serves a others first t =
@@ -213,7 +214,7 @@ event_less c n words s order tick d serves is = subst (λ (k : Done). left_to_do
 event_less c n words s order restart d serves is = absurd serves
 
 pub less_is_left : LessIsLeft
-less_is_left c s h o s' order was serves = event_less c (effective h.now s) h.words s order h.event (record { actions = o.actions; state = s' }) serves was.happens
+less_is_left c s h o s' order was serves = event_less c (effective h.now s) h.words s order h.event (record { actions = o.actions; unkept = o.unkept; state = s' }) serves was.happens
 
 tries_bounded : (c : Config) (asks : List Ask) → AllByRecursion (IsTry c) asks → all_tries_left c asks ≤ length asks * c.limits.tries
 tries_bounded c [] all = omega arith

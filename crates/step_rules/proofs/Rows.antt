@@ -1,8 +1,11 @@
 -- Worked steps, computed: one question and its reply, forged and late replies, letter case, a restart, what clients may send, and several questions.
-use Rattle.std.proofs.Common.{◌≡◌, ℕ, List, [], ◌∷◌, length, false, true, refl}
+use Rattle.std.proofs.Common.{◌≡◌, ℕ, List, [], ◌∷◌, length, Some, false, true, refl}
 use Rattle.suffix_routes.specs.declared.peer.Peer.{Peer}
 use Rattle.suffix_routes.specs.Values.{Config, default_limits}
 use Rattle.suffix_routes.specs.Routes.{route_of}
+use Rattle.dns_message.specs.Values.{Question}
+use Rattle.trust_rank.specs.Values.{rows}
+use Rattle.trust_rank.specs.Walks.{walk_from, servers_from}
 use Rattle.dns_message.specs.Names.{step as name_step, walk_in, name_within}
 use Rattle.dns_message.specs.Data.{octets_within, parts_at, data_at}
 use Rattle.dns_message.specs.Shapes.{shape_of}
@@ -18,7 +21,8 @@ use Rattle.step_values.specs.Values.{from_client, delivery, restart, ask_udp, cl
 use Rattle.step_history.specs.History.{moment_at, listed}
 use Rattle.step_history.specs.Sound.{unanswered}
 use Rattle.step_rules.specs.State.{State}
-use Rattle.step_rules.specs.Row.{start, idle_step, reply_step, row_of_request, row_of_delivery}
+use Rattle.step_rules.specs.Steps.{start, idle_step, reply_step}
+use Rattle.step_rules.specs.Row.{row_of_request, row_of_delivery}
 use Rattle.outstanding.specs.Lists.{on_path as ask_on}
 
 abbrev server : Peer
@@ -102,58 +106,82 @@ opt_query = 0 ∷ 56 ∷ 1 ∷ 0 ∷ 0 ∷ 1 ∷ 0 ∷ 0 ∷ 0 ∷ 0 ∷ 0 ∷ 0
 abbrev words : List ℕ
 words = 524296 ∷ 589833 ∷ 655370 ∷ 720907 ∷ 786444 ∷ 851981 ∷ 917518 ∷ 983055 ∷ []
 
+abbrev address : Question
+address = record { name = (97 ∷ []) ∷ (101 ∷ 120 ∷ 97 ∷ 109 ∷ 112 ∷ 108 ∷ 101 ∷ []) ∷ []; kind = 1; class = 1 }
+
 abbrev after_question : State
 after_question = record {
-  asks = record { question = record { name = (97 ∷ []) ∷ (101 ∷ 120 ∷ 97 ∷ 109 ∷ 112 ∷ 108 ∷ 101 ∷ []) ∷ []; kind = 1; class = 1 }; route = 0; server = 0; peer = server; used = 1; path = Udp 1032; id = 8; asked = 1000 } ∷ [];
-  waiting = record { client = client; header = record { id = 4660; qr = false; opcode = 0; aa = false; tc = false; rd = true; ra = false; z = 0; rcode = 0; counts = 1 ∷ 0 ∷ 0 ∷ 0 ∷ [] }; question = record { name = (97 ∷ []) ∷ (101 ∷ 120 ∷ 97 ∷ 109 ∷ 112 ∷ 108 ∷ 101 ∷ []) ∷ []; kind = 1; class = 1 }; taken = 1000 } ∷ [];
+  cache = record { capacity = 4096; entries = [] };
+  asks = record { question = address; route = 0; server = 0; peer = server; used = 1; path = Udp 1032; id = 8; asked = 1000 } ∷ [];
+  waiting = record { client = client; asked = record { id = 4660; opcode = 0; rd = true; question = Some address }; taken = 1000; held = []; wanted = address } ∷ [];
   preferred = 0 ∷ [];
   moment = 1000;
   tcp_asks = 0;
 }
 
+abbrev example : List ℕ
+example = 101 ∷ 120 ∷ 97 ∷ 109 ∷ 112 ∷ 108 ∷ 101 ∷ []
+
+-- the set that the reply carried is kept, with its owner as the server spelled it
+abbrev after_reply : List ℕ → List ℕ → State
+after_reply first second = record {
+  cache = record {
+    capacity = 4096;
+    entries = record {
+      piece = record { owner = first ∷ second ∷ []; slot = record { key = (97 ∷ []) ∷ example ∷ []; class = 1; kind = Some 1 }; body = rows ((198 ∷ 51 ∷ 100 ∷ 5 ∷ []) ∷ []); lifetime = 300; rank = 3; route = 0 };
+      accepted = 1020;
+    } ∷ [];
+  };
+  asks = [];
+  waiting = [];
+  preferred = 0 ∷ [];
+  moment = 1020;
+  tcp_asks = 0;
+}
+
 -- a question, and its ask
-asks : row_of_request config 1000 words client question (start config) ≡ record { actions = ask_udp 1032 server query ∷ []; state = after_question }
+asks : row_of_request config 1000 words client question (start config) ≡ record { actions = ask_udp 1032 server query ∷ []; unkept = 0; state = after_question }
 unfolding written ◌▹◌ each name_text first_question question_at octets_end name_within walk_in name_step route_of
 asks = refl
 
 -- its reply, and the answer
-answers : row_of_delivery config 1020 words server reply_text after_question (ask_on (Udp 1032) after_question.asks)
-    ≡ record { actions = close_udp 1032 ∷ send_reply client answer Answered ∷ []; state = record { asks = []; waiting = []; preferred = 0 ∷ []; moment = 1020; tcp_asks = 0 } }
-unfolding written ◌▹◌ each name_text data_text with_length first_question question_at octets_end name_within walk_in name_step message_at header_of counted record_at data_at octets_within parts_at shape_of
+answers : row_of_delivery config 1020 words [] server reply_text after_question (ask_on (Udp 1032) after_question.asks)
+    ≡ record { actions = close_udp 1032 ∷ send_reply client answer Answered ∷ []; unkept = 0; state = after_reply (97 ∷ []) example }
+unfolding written ◌▹◌ each name_text data_text with_length first_question question_at octets_end name_within walk_in name_step message_at header_of counted record_at data_at octets_within parts_at shape_of walk_from servers_from route_of
 answers = refl
 
 -- forged replies: another identifier, path, server, port or question
-forged_identifier : row_of_delivery config 1001 words server other_identifier after_question (ask_on (Udp 1032) after_question.asks) ≡ idle_step 1001 after_question
-unfolding written ◌▹◌ each name_text data_text with_length first_question question_at octets_end name_within walk_in name_step message_at header_of counted record_at data_at octets_within parts_at shape_of
+forged_identifier : row_of_delivery config 1001 words [] server other_identifier after_question (ask_on (Udp 1032) after_question.asks) ≡ idle_step 1001 after_question
+unfolding written ◌▹◌ each name_text data_text with_length first_question question_at octets_end name_within walk_in name_step message_at header_of counted record_at data_at octets_within parts_at shape_of walk_from servers_from route_of
 forged_identifier = refl
 
-forged_path : row_of_delivery config 1002 words server reply_text after_question (ask_on (Udp 1033) after_question.asks) ≡ idle_step 1002 after_question
+forged_path : row_of_delivery config 1002 words [] server reply_text after_question (ask_on (Udp 1033) after_question.asks) ≡ idle_step 1002 after_question
 forged_path = refl
 
-forged_server : row_of_delivery config 1003 words other_server reply_text after_question (ask_on (Udp 1032) after_question.asks) ≡ idle_step 1003 after_question
-unfolding written ◌▹◌ each name_text data_text with_length first_question question_at octets_end name_within walk_in name_step message_at header_of counted record_at data_at octets_within parts_at shape_of
+forged_server : row_of_delivery config 1003 words [] other_server reply_text after_question (ask_on (Udp 1032) after_question.asks) ≡ idle_step 1003 after_question
+unfolding written ◌▹◌ each name_text data_text with_length first_question question_at octets_end name_within walk_in name_step message_at header_of counted record_at data_at octets_within parts_at shape_of walk_from servers_from route_of
 forged_server = refl
 
-forged_port : row_of_delivery config 1004 words other_port reply_text after_question (ask_on (Udp 1032) after_question.asks) ≡ idle_step 1004 after_question
-unfolding written ◌▹◌ each name_text data_text with_length first_question question_at octets_end name_within walk_in name_step message_at header_of counted record_at data_at octets_within parts_at shape_of
+forged_port : row_of_delivery config 1004 words [] other_port reply_text after_question (ask_on (Udp 1032) after_question.asks) ≡ idle_step 1004 after_question
+unfolding written ◌▹◌ each name_text data_text with_length first_question question_at octets_end name_within walk_in name_step message_at header_of counted record_at data_at octets_within parts_at shape_of walk_from servers_from route_of
 forged_port = refl
 
-forged_question : row_of_delivery config 1005 words server other_type after_question (ask_on (Udp 1032) after_question.asks) ≡ idle_step 1005 after_question
-unfolding written ◌▹◌ each name_text data_text with_length first_question question_at octets_end name_within walk_in name_step message_at header_of counted record_at data_at octets_within parts_at shape_of
+forged_question : row_of_delivery config 1005 words [] server other_type after_question (ask_on (Udp 1032) after_question.asks) ≡ idle_step 1005 after_question
+unfolding written ◌▹◌ each name_text data_text with_length first_question question_at octets_end name_within walk_in name_step message_at header_of counted record_at data_at octets_within parts_at shape_of walk_from servers_from route_of
 forged_question = refl
 
 -- the reply spells the name in its own way: the question comes back as the client spelled it, the set as the server did
-letter_case : row_of_delivery config 1020 words server upper_reply after_question (ask_on (Udp 1032) after_question.asks)
-    ≡ record { actions = close_udp 1032 ∷ send_reply client upper_answer Answered ∷ []; state = record { asks = []; waiting = []; preferred = 0 ∷ []; moment = 1020; tcp_asks = 0 } }
-unfolding written ◌▹◌ each name_text data_text with_length first_question question_at octets_end name_within walk_in name_step message_at header_of counted record_at data_at octets_within parts_at shape_of
+letter_case : row_of_delivery config 1020 words [] server upper_reply after_question (ask_on (Udp 1032) after_question.asks)
+    ≡ record { actions = close_udp 1032 ∷ send_reply client upper_answer Answered ∷ []; unkept = 0; state = after_reply (65 ∷ []) (69 ∷ 88 ∷ 65 ∷ 77 ∷ 80 ∷ 76 ∷ 69 ∷ []) }
+unfolding written ◌▹◌ each name_text data_text with_length first_question question_at octets_end name_within walk_in name_step message_at header_of counted record_at data_at octets_within parts_at shape_of walk_from servers_from route_of
 letter_case = refl
 
 -- the ask was live until 2499
-late : row_of_delivery config 2500 words server reply_text after_question (ask_on (Udp 1032) after_question.asks) ≡ idle_step 2500 after_question
+late : row_of_delivery config 2500 words [] server reply_text after_question (ask_on (Udp 1032) after_question.asks) ≡ idle_step 2500 after_question
 late = refl
 
 -- after a restart the reply matches nothing, and the same question is asked anew
-restarted : row_of_delivery config 1020 words server reply_text (start config) (ask_on (Udp 1032) (start config).asks) ≡ idle_step 1020 (start config)
+restarted : row_of_delivery config 1020 words [] server reply_text (start config) (ask_on (Udp 1032) (start config).asks) ≡ idle_step 1020 (start config)
 restarted = refl
 
 asks_anew : (row_of_request config 1030 (2097184 ∷ []) client question_again (start config)).actions ≡ ask_udp 1056 server query_again ∷ []

@@ -7,13 +7,16 @@ use Rattle.dns_message.specs.Writing.{◌▹◌, each, name_text, written}
 use Rattle.outstanding.specs.declared.ask.Path.TheVariants.{Udp, Tcp}
 use Rattle.outstanding.specs.Values.{Ask}
 use Rattle.retry_failover.specs.declared.Failure.TheVariants.{Truncated}
+use Rattle.trust_rank.specs.Values.{rows}
+use Rattle.record_cache.specs.Values.{Held}
 use Rattle.step_values.specs.declared.event.Client.{Client}
 use Rattle.step_values.specs.declared.event.Client.TheVariants.{Udp as FromUdp}
 use Rattle.step_values.specs.declared.action.Why.TheVariants.{Exhausted, Deadline}
 use Rattle.step_values.specs.Values.{restart, ask_udp, ask_tcp, close_udp, send_reply}
 use Rattle.step_rules.specs.State.{Waiting, State}
 use Rattle.step_rules.specs.Attempts.{first_ask}
-use Rattle.step_rules.specs.Row.{Done, Happens, is_due_at, idle_step, preferring, row_of_failure, row_of_tick, start}
+use Rattle.step_rules.specs.Steps.{Done, idle_step, preferring, start, with_entries}
+use Rattle.step_rules.specs.Row.{Happens, is_due_at, row_of_failure, row_of_tick}
 
 abbrev first : Peer
 first = record { ip = 192 ∷ 0 ∷ 2 ∷ 1 ∷ []; port = 53 }
@@ -47,7 +50,7 @@ words = 524296 ∷ 1048592 ∷ []
 
 -- taken at this moment
 abbrev question : ℕ → Waiting
-question taken = record { client = client; header = record { id = 4660; qr = false; opcode = 0; aa = false; tc = false; rd = true; ra = false; z = 0; rcode = 0; counts = 1 ∷ 0 ∷ 0 ∷ 0 ∷ [] }; question = address; taken = taken }
+question taken = record { client = client; asked = record { id = 4660; opcode = 0; rd = true; question = Some address }; taken = taken; held = []; wanted = address }
 
 -- the first of its tries
 abbrev ask : Ask
@@ -58,7 +61,7 @@ last_ask = record ask { used = 4 }
 
 -- these wait for the ask; two asks went by TCP before
 abbrev state : Ask → List Waiting → State
-state a waiting = record { asks = a ∷ []; waiting = waiting; preferred = 0 ∷ 0 ∷ []; moment = 1000; tcp_asks = 2 }
+state a waiting = record { cache = record { capacity = 9; entries = [] }; asks = a ∷ []; waiting = waiting; preferred = 0 ∷ 0 ∷ []; moment = 1000; tcp_asks = 2 }
 
 -- ---- the ask at its time
 
@@ -68,19 +71,19 @@ not_yet = refl
 
 -- then it is closed, and the next server is asked; the port that is given up counts as free
 next_try : row_of_tick config 2500 words (state ask (question 1000 ∷ []))
-    ≡ record { actions = close_udp 1032 ∷ ask_udp 1032 second (query 8) ∷ []; state = record (state ask (question 1000 ∷ [])) { asks = record ask { server = 1; peer = second; used = 2; asked = 2500 } ∷ []; moment = 2500 } }
+    ≡ record { actions = close_udp 1032 ∷ ask_udp 1032 second (query 8) ∷ []; unkept = 0; state = record (state ask (question 1000 ∷ [])) { asks = record ask { server = 1; peer = second; used = 2; asked = 2500 } ∷ []; moment = 2500 } }
 unfolding written ◌▹◌ each name_text
 next_try = refl
 
 -- the last try leaves nothing to ask
 last_try : row_of_tick config 2500 words (state last_ask (question 1000 ∷ []))
-    ≡ record { actions = close_udp 1032 ∷ send_reply client failure Exhausted ∷ []; state = record (state ask []) { asks = []; moment = 2500 } }
+    ≡ record { actions = close_udp 1032 ∷ send_reply client failure Exhausted ∷ []; unkept = 0; state = record (state ask []) { asks = []; moment = 2500 } }
 unfolding written ◌▹◌ each name_text
 last_try = refl
 
 -- a truncated reply: the same server over TCP, on the next connection
 cut : row_of_failure config 1020 words ask Truncated (state ask (question 1000 ∷ []))
-    ≡ record { actions = close_udp 1032 ∷ ask_tcp 2 first (query 8) ∷ []; state = record (state ask (question 1000 ∷ [])) { asks = record ask { used = 2; path = Tcp 2; asked = 1020 } ∷ []; moment = 1020; tcp_asks = 3 } }
+    ≡ record { actions = close_udp 1032 ∷ ask_tcp 2 first (query 8) ∷ []; unkept = 0; state = record (state ask (question 1000 ∷ [])) { asks = record ask { used = 2; path = Tcp 2; asked = 1020 } ∷ []; moment = 1020; tcp_asks = 3 } }
 unfolding written ◌▹◌ each name_text
 cut = refl
 
@@ -88,13 +91,13 @@ cut = refl
 
 -- at one moment the question comes first, and with the last one that waits its ask ends
 deadline : row_of_tick impatient 2500 words (state ask (question 1000 ∷ []))
-    ≡ record { actions = close_udp 1032 ∷ send_reply client failure Deadline ∷ []; state = record (state ask []) { asks = []; moment = 2500 } }
+    ≡ record { actions = close_udp 1032 ∷ send_reply client failure Deadline ∷ []; unkept = 0; state = record (state ask []) { asks = []; moment = 2500 } }
 unfolding written ◌▹◌ each name_text
 deadline = refl
 
 -- the oldest has its reply, and the ask goes on for the other one
 one_of_two : row_of_tick impatient 2500 words (state ask (question 1000 ∷ question 1001 ∷ []))
-    ≡ record { actions = send_reply client failure Deadline ∷ []; state = record (state ask (question 1001 ∷ [])) { moment = 2500 } }
+    ≡ record { actions = send_reply client failure Deadline ∷ []; unkept = 0; state = record (state ask (question 1001 ∷ [])) { moment = 2500 } }
 unfolding written ◌▹◌ each name_text
 one_of_two = refl
 
@@ -111,6 +114,13 @@ kept : let after = preferring (record ask { server = 1 }) (start config) in
     (first_ask config 3000 words address 1 after ≡ Some (record ask { server = 1; peer = second; asked = 3000 })) × (first_ask config 3000 words address 0 after ≡ Some (record ask { route = 0; peer = second; asked = 3000 }))
 kept = (refl, refl)
 
--- a restart forgets it
-forgotten : (d : Done) → Happens config 9000 words (preferring (record ask { server = 1 }) (start config)) restart d → d ≡ record { actions = []; state = start config }
+-- a set that is kept
+abbrev kept_set : Held
+kept_set = record {
+  piece = record { owner = address.name; slot = record { key = address.name; class = 1; kind = Some 1 }; body = rows ((198 ∷ 51 ∷ 100 ∷ 5 ∷ []) ∷ []); lifetime = 300; rank = 3; route = 1 };
+  accepted = 1020;
+}
+
+-- a restart forgets it, and what was kept
+forgotten : (d : Done) → Happens config 9000 words (with_entries (kept_set ∷ []) (preferring (record ask { server = 1 }) (start config))) restart d → d ≡ record { actions = []; unkept = 0; state = start config }
 forgotten d h = h

@@ -10,6 +10,7 @@ use Rattle.outstanding.specs.Draws.{udp_draw}
 use Rattle.retry_failover.specs.declared.Plan.{Plan}
 use Rattle.retry_failover.specs.declared.Next.{Next}
 use Rattle.retry_failover.specs.declared.Next.TheVariants.{AskUdp, AskTcp, GiveUp}
+use Rattle.step_history.specs.Names.{route_of}
 use Rattle.step_history.specs.History.{is_tcp}
 use Rattle.step_history.specs.Draws.{drawn_by_tcp}
 use Rattle.step_rules.specs.State.{State}
@@ -46,6 +47,14 @@ preferred_on s route = get_or s.preferred route 0
 -- the first ask for a question goes by UDP to the server that its route prefers
 abbrev pub first_ask : Config → ℕ → List ℕ → Question → ℕ → State → Option Ask
 first_ask c n words q route s = ask_by n q route (preferred_on s route) 1 (peer_at c route (preferred_on s route)) (over_udp (udp_draw words s.asks None))
+
+-- and to none where the name has no route
+abbrev pub first_ask_on : Config → ℕ → List ℕ → Question → State → Option ℕ → Option Ask
+first_ask_on c n words q s None = None
+first_ask_on c n words q s (Some route) = first_ask c n words q route s
+
+abbrev pub first_ask_for : Config → ℕ → List ℕ → Question → State → Option Ask
+first_ask_for c n words q s = first_ask_on c n words q s (route_of c q.name)
 
 -- the port that is given up with a path
 abbrev pub freed_by : Path → Option ℕ

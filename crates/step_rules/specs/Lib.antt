@@ -1,5 +1,8 @@
 pub mod State
 pub mod Attempts
+pub mod LookingUp
+pub mod Offering
+pub mod Steps
 pub mod Row
 pub mod Progress
 pub mod Laws

@@ -4,6 +4,8 @@ use Rattle.std.specs.List.{AllByRecursion}
 use Rattle.suffix_routes.specs.Values.{Config}
 use Rattle.outstanding.specs.Lists.{on_path as ask_on, AreInTurn}
 use Rattle.outstanding.specs.Values.{Ask}
+use Rattle.record_cache.specs.Values.{Held, Cache}
+use Rattle.step_history.specs.Names.{route_of}
 use Rattle.step_values.specs.Values.{Event, from_client, delivery, path_failed, tick, restart}
 use Rattle.step_rules.specs.State.{Waiting, State}
 use Rattle.step_rules.specs.Row.{is_due_at, deadline_of, timeout_of}
@@ -59,8 +61,18 @@ AreTakenInTurn (x ∷ xs) = AllByRecursion (λ y. x.taken ≤ y.taken) xs × Are
 abbrev pub IsTry : Config → Ask → Type 0
 IsTry c a = (1 ≤ a.used) × (a.used ≤ c.limits.tries)
 
--- both lists are in the order of time and within their limits
+-- the name that an entry tells of is on the route of the ask that brought it
+abbrev pub IsOnRoute : Config → Held → Type 0
+IsOnRoute c h = route_of c h.piece.slot.key ≡ Some h.piece.route
+
+-- the cache has the configured capacity, and its entries are on their routes
+pub record IsCacheOf (c : Config) (cache : Cache) : Type 0 where
+  pub capacity : cache.capacity ≡ c.limits.cache
+  pub on_routes : AllByRecursion (IsOnRoute c) cache.entries
+
+-- both lists are in the order of time and within their limits, and so is the cache
 pub record IsInOrder (c : Config) (s : State) : Type 0 where
+  pub cache : IsCacheOf c s.cache
   pub asks : AreInTurn s.asks
   pub tries : AllByRecursion (IsTry c) s.asks
   pub few_asks : length s.asks ≤ c.limits.inquiries

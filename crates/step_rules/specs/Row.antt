@@ -1,158 +1,59 @@
 -- One step of the forwarder, over plain values.
-use Rattle.std.specs.Prelude.{◌≡◌, ℕ, ◌+◌, ◌^◌, Bool, false, if◌then◌else◌, ◌==◌, ◌||◌, nat_lt, nat_le, min, max, List, [], ◌∷◌, ◌++◌, length, map, Option, Some, None, Result, Ok, Err}
-use Rattle.std.specs.List.{filter_map, list_any}
-use Rattle.std.specs.Prelude.{slice_set}
-use Rattle.dns_message.specs.Header.{Header}
+use Rattle.std.specs.Prelude.{◌≡◌, ℕ, suc, ◌+◌, ◌-◌, ◌^◌, Bool, false, if◌then◌else◌, ◌==◌, ◌||◌, nat_lt, nat_le, min, max, List, [], ◌∷◌, ◌++◌, length, map, filter, take, Option, Some, None, Result, Ok, Err}
+use Rattle.std.specs.List.{flat_map, list_any}
+use Rattle.dns_message.specs.Header.{Header, header_in}
 use Rattle.dns_message.specs.Fault.{Fault}
 use Rattle.dns_message.specs.Values.{Question, Message}
 use Rattle.dns_message.specs.Messages.{message_of}
-use Rattle.dns_message.specs.Writing.{written}
+use Rattle.dns_message.specs.Questions.{one_question}
 use Rattle.suffix_routes.specs.declared.peer.Peer.{Peer}
 use Rattle.suffix_routes.specs.Values.{Config}
-use Rattle.step_values.specs.declared.event.Client.{Client}
-use Rattle.step_values.specs.declared.event.Client.TheVariants.{Udp as FromUdp, Tcp as FromTcp}
-use Rattle.outstanding.specs.declared.ask.Path.{Path}
-use Rattle.outstanding.specs.declared.ask.Path.TheVariants.{Udp, Tcp}
-use Rattle.step_values.specs.declared.action.Why.{Why}
-use Rattle.step_values.specs.declared.action.Why.TheVariants.{Answered, BadFormat, BadOpcode, NotServed, NoRoute, QuestionsFull, InquiriesFull, NoPort, Exhausted, Deadline, TooLarge}
+use Rattle.outstanding.specs.Lists.{on_path as ask_on, of_question, without_path}
+use Rattle.outstanding.specs.Values.{Ask}
 use Rattle.reply_match.specs.declared.verdict.Verdict.{Verdict}
 use Rattle.reply_match.specs.declared.verdict.Verdict.TheVariants.{Stranger, Truncated, Failed, Malformed, Whole}
+use Rattle.reply_match.specs.Verdicts.{judge}
 use Rattle.retry_failover.specs.declared.Failure.{Failure}
 use Rattle.retry_failover.specs.declared.Failure.TheVariants as failure
 use Rattle.retry_failover.specs.declared.Next.{Next}
 use Rattle.retry_failover.specs.declared.Next.TheVariants.{AskUdp, AskTcp, GiveUp}
 use Rattle.retry_failover.specs.Table.{after_failure}
-use Rattle.step_values.specs.Values.{Event, from_client, delivery, path_failed, tick, restart, Action, ask_udp, ask_tcp, close_udp, close_tcp, send_reply, Handed, Outcome}
-use Rattle.step_history.specs.Names.{route_of}
-use Rattle.dns_message.specs.Questions.{one_question}
-use Rattle.reply_match.specs.Verdicts.{judge}
-use Rattle.dns_message.specs.Questions.{same_question}
-use Rattle.outstanding.specs.Lists.{on_path as ask_on, of_question, without_path}
-use Rattle.outstanding.specs.Values.{Ask}
-use Rattle.dns_message.specs.Header.{header_in}
 use Rattle.plain_list.specs.Octets.{AreOctets}
-use Rattle.step_history.specs.Pieces.{Piece, Held, Walk, is_lame, rank_of, records_for, set_of, walk_at_set, walk}
-use Rattle.step_history.specs.History.{is_taken, is_tcp}
-use Rattle.step_history.specs.Replies.{full_answer, truncated, error_response}
-use Rattle.step_history.specs.Draws.{ask_message}
+use Rattle.trust_rank.specs.declared.slot.Slot.{Slot}
+use Rattle.trust_rank.specs.Values.{Piece, End, found, ends_no_data, ends_denied, elsewhere, lame, Walk}
+use Rattle.trust_rank.specs.Walks.{most_aliases, walk_of}
+use Rattle.record_cache.specs.Values.{Held}
+use Rattle.step_values.specs.declared.event.Client.{Client}
+use Rattle.step_values.specs.declared.action.Why.TheVariants.{BadFormat, BadOpcode, NotServed, NoRoute, QuestionsFull, InquiriesFull, NoPort, Exhausted, Deadline, ChainLong}
+use Rattle.step_values.specs.Values.{Event, from_client, delivery, path_failed, tick, restart, Handed, Outcome}
+use Rattle.step_history.specs.Names.{route_of}
+use Rattle.step_history.specs.History.{is_taken, counts_as_lame}
+use Rattle.step_history.specs.Answers.{asked_at}
+use Rattle.step_history.specs.Replies.{asked_in}
 use Rattle.step_history.specs.Causes.{is_unserved}
 use Rattle.step_rules.specs.State.{Waiting, State}
-use Rattle.step_rules.specs.Attempts.{first_ask, plan_of, next_ask}
+use Rattle.step_rules.specs.Attempts.{first_ask_for, plan_of, next_ask}
+use Rattle.step_rules.specs.LookingUp.{Met, ends, too_long, missed, Looked, look_up, asked_look_up}
+use Rattle.step_rules.specs.Steps.{Done, Fate, gets, waits, start, preferring, using, idle_step, reply_step, taking_step, still_waiting, settling_step, closing_step, offering_step, failed, gives_up, answered, waits_for, fails}
 
--- what a step does, and what it leaves
-pub record Done : Type 0 where
-  pub actions : List Action
-  pub state : State
+-- ---- a question after its look-up
 
--- what becomes of a question: it gets its reply, or waits on
-pub data Fate : Type 0 where
-  gets : Action → Fate
-  waits : Waiting → Fate
+-- it wants to know now what its look-up missed
+abbrev pub waits_with : Waiting → Looked → Waiting
+waits_with x l = record x { held = l.held; wanted = l.wanted }
 
--- ---- what a step may do and leave
+-- what was missed is asked for where its name has a route
+abbrev pub fate_missed : Waiting → Looked → Option ℕ → Fate
+fate_missed x l None = gets (gives_up NoRoute x)
+fate_missed x l (Some route) = waits (waits_with x l)
 
-abbrev pub start : Config → State
-start c = record { asks = []; waiting = []; preferred = map (λ r. 0) c.routes; moment = 0; tcp_asks = 0 }
+abbrev pub fate_at : Config → ℕ → Waiting → Looked → Met → Fate
+fate_at c n x l (ends e) = gets (answered n x l.held e)
+fate_at c n x l too_long = gets (gives_up ChainLong x)
+fate_at c n x l missed = fate_missed x l (route_of c l.wanted.name)
 
-abbrev pub at_moment : ℕ → State → State
-at_moment n s = record s { moment = n }
-
--- the server that answered is asked first from now on
-abbrev pub preferring : Ask → State → State
-preferring a s = record s { preferred = slice_set s.preferred a.route a.server }
-
-abbrev pub idle_step : ℕ → State → Done
-idle_step n s = record { actions = []; state = at_moment n s }
-
--- one reply, and nothing else
-abbrev pub reply_step : ℕ → Action → State → Done
-reply_step n action s = record { actions = action ∷ []; state = at_moment n s }
-
-abbrev pub asks_by : Path → Ask → Action
-asks_by (Udp port) a = ask_udp port a.peer (written (ask_message a.id a.question))
-asks_by (Tcp conn) a = ask_tcp conn a.peer (written (ask_message a.id a.question))
-
-abbrev pub asks : Ask → Action
-asks a = asks_by a.path a
-
-abbrev pub ask_list : Option Ask → List Ask
-ask_list None = []
-ask_list (Some a) = a ∷ []
-
-abbrev pub tcp_count : Option Ask → ℕ
-tcp_count None = 0
-tcp_count (Some a) = if is_tcp a.path then 1 else 0
-
--- a question waits, with the first ask of its inquiry where none is listed
-abbrev pub taking_step : ℕ → Waiting → Option Ask → State → Done
-taking_step n x next s = record {
-  actions = map asks (ask_list next);
-  state = record s { asks = s.asks ++ ask_list next; waiting = s.waiting ++ x ∷ []; moment = n; tcp_asks = s.tcp_asks + tcp_count next };
-}
-
-abbrev pub reply_in : Fate → Option Action
-reply_in (gets a) = Some a
-reply_in (waits y) = None
-
-abbrev pub waiting_in : Fate → Option Waiting
-waiting_in (gets a) = None
-waiting_in (waits y) = Some y
-
-abbrev pub replies : List Fate → List Action
-replies fates = filter_map reply_in fates
-
-abbrev pub still_waiting : List Fate → List Waiting
-still_waiting fates = filter_map waiting_in fates
-
-abbrev pub closes : Path → Action
-closes (Udp port) = close_udp port
-closes (Tcp conn) = close_tcp conn
-
-abbrev pub closing : Option Ask → List Action
-closing None = []
-closing (Some a) = closes a.path ∷ []
-
-abbrev pub without_ask : Option Ask → List Ask → List Ask
-without_ask None listed = listed
-without_ask (Some a) listed = without_path a.path listed
-
--- at most one ask is closed, each waiting question has its fate, and at most one ask comes next
-abbrev pub settling_step : ℕ → Option Ask → List Fate → Option Ask → State → Done
-settling_step n close fates next s = record {
-  actions = closing close ++ (replies fates ++ map asks (ask_list next));
-  state = record s { asks = without_ask close s.asks ++ ask_list next; waiting = still_waiting fates; moment = n; tcp_asks = s.tcp_asks + tcp_count next };
-}
-
--- an ask is closed, with a fate by the question
-abbrev pub closing_step : ℕ → Ask → (Waiting → Fate) → Option Ask → State → Done
-closing_step n a fate next s = settling_step n (Some a) (map fate s.waiting) next s
-
--- ---- replies
-
-abbrev pub failed : Client → Header → Why → List Question → Action
-failed client h why qs = send_reply client (written (error_response h why qs)) why
-
-abbrev pub gives_up : Why → Waiting → Action
-gives_up why x = failed x.client x.header why (x.question ∷ [])
-
--- an answer that fits: over UDP it is cut past 512 octets (RFC 1035 4.2.1), over TCP a failure past 65,535 (RFC 1035 4.2.2)
-abbrev pub answered_over : Client → Waiting → List ℕ → List ℕ → Action
-answered_over (FromUdp peer) x full cut = send_reply (FromUdp peer) (if nat_le (length full) 512 then full else cut) Answered
-answered_over (FromTcp conn) x full cut = if nat_le (length full) 65535 then send_reply (FromTcp conn) full Answered else failed (FromTcp conn) x.header TooLarge (x.question ∷ [])
-
-abbrev pub answered : ℕ → Held → Waiting → Action
-answered n o x = answered_over x.client x (written (full_answer x.header x.question [] o n)) (written (truncated x.header x.question o))
-
-abbrev pub waits_for : Question → Waiting → Bool
-waits_for q x = same_question x.question q
-
--- those that wait for this question get a failure, all others wait on
-abbrev pub fails : Why → Question → Waiting → Fate
-fails why q x = if waits_for q x then gets (gives_up why x) else waits x
-
--- those that wait for this question get the piece, all others wait on
-abbrev pub is_given : ℕ → Held → Question → Waiting → Fate
-is_given n o q x = if waits_for q x then gets (answered n o x) else waits x
+abbrev pub fate_of : Config → ℕ → Waiting → Looked → Fate
+fate_of c n x l = fate_at c n x l l.met
 
 -- ---- a client's question
 
@@ -160,45 +61,56 @@ abbrev pub row_of_opening : ℕ → Waiting → State → Option Ask → Done
 row_of_opening n x s None = reply_step n (gives_up NoPort x) s
 row_of_opening n x s (Some a) = taking_step n x (Some a) s
 
--- no ask of the question is listed
-abbrev pub row_of_new_inquiry : Config → ℕ → List ℕ → Waiting → ℕ → State → Done
-row_of_new_inquiry c n words x route s =
+-- no ask of what is wanted is listed
+abbrev pub row_of_new_inquiry : Config → ℕ → List ℕ → Waiting → State → Done
+row_of_new_inquiry c n words x s =
     if nat_le c.limits.inquiries (length s.asks)
     then reply_step n (gives_up InquiriesFull x) s
-    else row_of_opening n x s (first_ask c n words x.question route s)
+    else row_of_opening n x s (first_ask_for c n words x.wanted s)
 
-abbrev pub row_of_inquiry : Config → ℕ → List ℕ → Waiting → ℕ → State → Option Ask → Done
-row_of_inquiry c n words x route s None = row_of_new_inquiry c n words x route s
-row_of_inquiry c n words x route s (Some a) = taking_step n x None s
+abbrev pub row_of_inquiry : Config → ℕ → List ℕ → Waiting → State → Option Ask → Done
+row_of_inquiry c n words x s None = row_of_new_inquiry c n words x s
+row_of_inquiry c n words x s (Some a) = taking_step n x None s
 
--- a question for which there is room
-abbrev pub row_of_admission : Config → ℕ → List ℕ → Waiting → ℕ → State → Done
-row_of_admission c n words x route s = row_of_inquiry c n words x route s (of_question x.question s.asks)
-
-abbrev pub row_of_waiting : Config → ℕ → List ℕ → Waiting → ℕ → State → Done
-row_of_waiting c n words x route s =
+-- the cache has no answer
+abbrev pub row_of_waiting : Config → ℕ → List ℕ → Waiting → State → Done
+row_of_waiting c n words x s =
     if nat_le c.limits.questions (length s.waiting)
     then reply_step n (gives_up QuestionsFull x) s
-    else row_of_admission c n words x route s
+    else row_of_inquiry c n words x s (of_question x.wanted s.asks)
+
+abbrev pub row_of_fate : Config → ℕ → List ℕ → State → Fate → Done
+row_of_fate c n words s (gets reply) = reply_step n reply s
+row_of_fate c n words s (waits x) = row_of_waiting c n words x s
+
+-- what the look-up used is promoted, whatever becomes of the question
+abbrev pub row_of_look_up : Config → ℕ → List ℕ → Waiting → State → Looked → Done
+row_of_look_up c n words x s l = row_of_fate c n words (using l.used s) (fate_of c n x l)
 
 abbrev pub row_of_route : Config → ℕ → List ℕ → Waiting → State → Option ℕ → Done
 row_of_route c n words x s None = reply_step n (gives_up NoRoute x) s
-row_of_route c n words x s (Some route) = row_of_waiting c n words x route s
+row_of_route c n words x s (Some route) = row_of_look_up c n words x s (asked_look_up c.routes n s.cache.entries x.wanted)
 
 abbrev pub row_of_service : Config → ℕ → List ℕ → Waiting → State → Done
 row_of_service c n words x s =
-    if is_unserved x.question
+    if is_unserved x.wanted
     then reply_step n (gives_up NotServed x) s
-    else row_of_route c n words x s (route_of c x.question.name)
+    else row_of_route c n words x s (route_of c x.wanted.name)
+
+-- a question as it comes
+abbrev pub taken_now : ℕ → Client → Header → Question → Waiting
+taken_now n client h q = record { client = client; asked = asked_in h (Some q); taken = n; held = []; wanted = q }
 
 abbrev pub row_of_question : Config → ℕ → List ℕ → Client → Header → State → Option Question → Done
-row_of_question c n words client h s None = reply_step n (failed client h BadFormat []) s
-row_of_question c n words client h s (Some q) = row_of_service c n words (record { client = client; header = h; question = q; taken = n }) s
+row_of_question c n words client h s None = reply_step n (failed client (asked_in h None) BadFormat) s
+row_of_question c n words client h s (Some q) = row_of_service c n words (taken_now n client h q) s
 
 abbrev pub row_of_request : Config → ℕ → List ℕ → Client → List ℕ → State → Done
 row_of_request c n words client octets s =
     if is_taken octets
-    then if (header_in octets).opcode == 0 then row_of_question c n words client (header_in octets) s (one_question octets) else reply_step n (failed client (header_in octets) BadOpcode []) s
+    then (if (header_in octets).opcode == 0
+    then row_of_question c n words client (header_in octets) s (one_question octets)
+    else reply_step n (failed client (asked_in (header_in octets) None) BadOpcode) s)
     else idle_step n s
 
 -- ---- a failed attempt
@@ -216,42 +128,121 @@ row_of_next c n words a s GiveUp = closing_step n a (fails Exhausted a.question)
 abbrev pub row_of_failure : Config → ℕ → List ℕ → Ask → Failure → State → Done
 row_of_failure c n words a f s = row_of_next c n words a s (after_failure (plan_of c a) f)
 
+-- ---- an accepted reply
+
+abbrev pub held_at : ℕ → Piece → Held
+held_at n p = record { piece = p; accepted = n }
+
+-- the last piece of a walk, and the aliases before it
+abbrev pub last_of : Piece → List Piece → Piece
+last_of p [] = p
+last_of p (q ∷ ps) = last_of q ps
+
+abbrev pub before_last : Piece → List Piece → List Piece
+before_last p [] = []
+before_last p (q ∷ ps) = p ∷ before_last q ps
+
+-- it ends at the last piece, with the aliases before it held
+abbrev pub ends_at : ℕ → List Held → Question → List Piece → Looked
+ends_at n held q [] = record { held = held; wanted = q; met = missed; used = [] }
+ends_at n held q (p ∷ ps) = record { held = held ++ map (held_at n) (before_last p ps); wanted = q; met = ends (held_at n (last_of p ps)); used = [] }
+
+-- more aliases than a question may hold: the first that is too many ends it
+abbrev pub too_many : List Held → Question → Looked
+too_many held q = record { held = take (suc most_aliases) held; wanted = q; met = too_long; used = [] }
+
+abbrev pub unless_many : Looked → Looked
+unless_many l = if nat_le (length l.held) most_aliases then l else too_many l.held l.wanted
+
+-- with the aliases of the walk held, the look-up goes on at the name that they lead to, in the cache as it was
+abbrev pub goes_on : Config → ℕ → List Held → List Held → Question → Looked
+goes_on c n entries held q =
+    if nat_le (length held) most_aliases
+    then look_up c.routes n entries (most_aliases - length held) held q
+    else too_many held q
+
+-- what the reply makes of a question that waits for it
+abbrev pub looked_by : Config → ℕ → List Held → Walk → Waiting → End → Looked
+looked_by c n entries w x (elsewhere name) = goes_on c n entries (x.held ++ map (held_at n) w.pieces) (asked_at x.wanted name)
+looked_by c n entries w x found = unless_many (ends_at n x.held x.wanted w.pieces)
+looked_by c n entries w x ends_no_data = unless_many (ends_at n x.held x.wanted w.pieces)
+looked_by c n entries w x ends_denied = unless_many (ends_at n x.held x.wanted w.pieces)
+looked_by c n entries w x lame = unless_many (ends_at n x.held x.wanted w.pieces)
+
+-- all others wait on
+abbrev pub fate_by : Config → ℕ → List Held → Ask → Walk → Waiting → Fate
+fate_by c n entries a w x = if waits_for a.question x then fate_of c n x (looked_by c n entries w x w.end) else waits x
+
+-- the slots that the look-ups used, question by question
+abbrev pub used_by : Config → ℕ → List Held → Ask → Walk → List Waiting → List Slot
+used_by c n entries a w xs = flat_map (λ x. (looked_by c n entries w x w.end).used) (filter (waits_for a.question) xs)
+
+-- of those that wait on, which all want one question now, what is to be asked; nothing where its inquiry is open
+abbrev pub unless_open : Question → Option Ask → Option Question
+unless_open q None = Some q
+unless_open q (Some a) = None
+
+abbrev pub to_be_asked : List Ask → List Waiting → Option Question
+to_be_asked listed [] = None
+to_be_asked listed (y ∷ ys) = unless_open y.wanted (of_question y.wanted listed)
+
+-- without a port, those that would wait on for it fail
+abbrev pub without_port : Fate → Fate
+without_port (gets reply) = gets reply
+without_port (waits y) = gets (gives_up NoPort y)
+
+abbrev pub unless_no_port : (Waiting → Fate) → Question → Waiting → Fate
+unless_no_port fate q x = if waits_for q x then without_port (fate x) else waits x
+
+abbrev pub row_of_next_name : ℕ → Ask → (Waiting → Fate) → State → Option Ask → Done
+row_of_next_name n a fate s None = closing_step n a (unless_no_port fate a.question) None s
+row_of_next_name n a fate s (Some next) = closing_step n a fate (Some next) s
+
+abbrev pub row_of_sent_on : Config → ℕ → List ℕ → Ask → (Waiting → Fate) → State → Option Question → Done
+row_of_sent_on c n words a fate s None = closing_step n a fate None s
+row_of_sent_on c n words a fate s (Some q) = row_of_next_name n a fate s (first_ask_for c n words q (record s { asks = without_path a.path s.asks }))
+
+-- all that wait for it are answered, or are sent on to the name that the aliases lead to
+abbrev pub row_of_end : Config → ℕ → List ℕ → Ask → Walk → (Waiting → Fate) → State → End → Done
+row_of_end c n words a w fate s (elsewhere name) =
+    row_of_sent_on c n words a fate (using (used_by c n s.cache.entries a w s.waiting) s)
+    (to_be_asked (without_path a.path s.asks) (still_waiting (map fate (filter (waits_for a.question) s.waiting))))
+row_of_end c n words a w fate s found = closing_step n a fate None s
+row_of_end c n words a w fate s ends_no_data = closing_step n a fate None s
+row_of_end c n words a w fate s ends_denied = closing_step n a fate None s
+row_of_end c n words a w fate s lame = closing_step n a fate None s
+
+abbrev pub row_of_acceptance : Config → ℕ → List ℕ → List Bool → Ask → Walk → State → Done
+row_of_acceptance c n words rooms a w s =
+    offering_step n rooms (w.pieces ++ w.authority)
+    (row_of_end c n words a w (fate_by c n s.cache.entries a w) (preferring a s) w.end)
+
 -- ---- a delivery
 
-abbrev pub last_piece : Option Piece → List Piece → Option Piece
-last_piece last [] = last
-last_piece last (p ∷ ps) = last_piece (Some p) ps
+abbrev pub row_of_walk : Config → ℕ → List ℕ → List Bool → Ask → State → Walk → Done
+row_of_walk c n words rooms a s w =
+    if counts_as_lame w.end
+    then row_of_failure c n words a failure.Lame s
+    else row_of_acceptance c n words rooms a w s
 
--- the piece that ends the walk, unless it is lame
-abbrev pub end_piece : Walk → Option Piece
-end_piece w = if is_lame w.end then None else last_piece None w.pieces
+abbrev pub row_of_message : Config → ℕ → List ℕ → List Bool → Ask → State → Result Message Fault → Done
+row_of_message c n words rooms a s (Ok m) = row_of_walk c n words rooms a s (walk_of c m a.question a.route)
+row_of_message c n words rooms a s (Err fault) = row_of_failure c n words a failure.Malformed s
 
--- the piece that ends the walk of a reply with these answers
-abbrev pub set_ending : Message → Question → ℕ → Option Piece
-set_ending m q route = end_piece (walk_at_set q.kind (set_of (rank_of m.header.aa) route (records_for q.name q.kind q.class m.answers)))
-
-abbrev pub row_of_end : Config → ℕ → List ℕ → Ask → State → Option Piece → Done
-row_of_end c n words a s None = row_of_failure c n words a failure.Lame s
-row_of_end c n words a s (Some p) = closing_step n a (is_given n (record { piece = p; accepted = n }) a.question) None (preferring a s)
-
-abbrev pub row_of_message : Config → ℕ → List ℕ → Ask → State → Result Message Fault → Done
-row_of_message c n words a s (Ok m) = row_of_end c n words a s (end_piece (walk c m a.question a.route))
-row_of_message c n words a s (Err fault) = row_of_failure c n words a failure.Malformed s
-
-abbrev pub row_of_verdict : Config → ℕ → List ℕ → Ask → List ℕ → State → Verdict → Done
-row_of_verdict c n words a octets s Stranger = idle_step n s
-row_of_verdict c n words a octets s Truncated = row_of_failure c n words a failure.Truncated s
-row_of_verdict c n words a octets s (Failed rcode) = row_of_failure c n words a failure.Rcode s
-row_of_verdict c n words a octets s Malformed = row_of_failure c n words a failure.Malformed s
-row_of_verdict c n words a octets s Whole = row_of_message c n words a s (message_of octets)
+abbrev pub row_of_verdict : Config → ℕ → List ℕ → List Bool → Ask → List ℕ → State → Verdict → Done
+row_of_verdict c n words rooms a octets s Stranger = idle_step n s
+row_of_verdict c n words rooms a octets s Truncated = row_of_failure c n words a failure.Truncated s
+row_of_verdict c n words rooms a octets s (Failed rcode) = row_of_failure c n words a failure.Rcode s
+row_of_verdict c n words rooms a octets s Malformed = row_of_failure c n words a failure.Malformed s
+row_of_verdict c n words rooms a octets s Whole = row_of_message c n words rooms a s (message_of octets)
 
 abbrev pub timeout_of : Config → Ask → ℕ
 timeout_of c a = a.asked + c.limits.ask_ms
 
 -- an ask that is past its time is no longer answered
-abbrev pub row_of_delivery : Config → ℕ → List ℕ → Peer → List ℕ → State → Option Ask → Done
-row_of_delivery c n words from octets s None = idle_step n s
-row_of_delivery c n words from octets s (Some a) = if nat_lt n (timeout_of c a) then row_of_verdict c n words a octets s (judge a from octets) else idle_step n s
+abbrev pub row_of_delivery : Config → ℕ → List ℕ → List Bool → Peer → List ℕ → State → Option Ask → Done
+row_of_delivery c n words rooms from octets s None = idle_step n s
+row_of_delivery c n words rooms from octets s (Some a) = if nat_lt n (timeout_of c a) then row_of_verdict c n words rooms a octets s (judge a from octets) else idle_step n s
 
 -- what a delivery is to the ask on its path
 abbrev pub verdict_on : Config → ℕ → Peer → List ℕ → Option Ask → Verdict
@@ -292,7 +283,8 @@ expiry_step n x others alone s = settling_step n alone (gets (gives_up Deadline 
 
 abbrev pub row_of_item : Config → ℕ → List ℕ → State → Item → Done
 row_of_item c n words s nothing = idle_step n s
-row_of_item c n words s (question x others) = if nat_le (deadline_of c x) n then expiry_step n x others (left_alone x.question others s.asks) s else idle_step n s
+row_of_item c n words s (question x others) =
+    if nat_le (deadline_of c x) n then expiry_step n x others (left_alone x.wanted others s.asks) s else idle_step n s
 row_of_item c n words s (attempt a) = if nat_le (timeout_of c a) n then row_of_failure c n words a failure.TimedOut s else idle_step n s
 
 abbrev pub row_of_tick : Config → ℕ → List ℕ → State → Done
@@ -306,10 +298,11 @@ is_due_at c n s = list_any (λ x. nat_le (deadline_of c x) n) s.waiting || list_
 
 abbrev pub Happens : Config → ℕ → List ℕ → State → Event → Done → Type 0
 Happens c n words s (from_client client octets) d = d ≡ row_of_request c n words client octets s
-Happens c n words s (delivery path from octets) d = d ≡ row_of_delivery c n words from octets s (ask_on path s.asks)
+-- rooms tells which of the new slots found memory
+Happens c n words s (delivery path from octets) d = (rooms : List Bool) × (d ≡ row_of_delivery c n words rooms from octets s (ask_on path s.asks))
 Happens c n words s (path_failed path) d = d ≡ row_of_failed_path c n words s (ask_on path s.asks)
 Happens c n words s tick d = d ≡ row_of_tick c n words s
-Happens c n words s restart d = d ≡ record { actions = []; state = start c }
+Happens c n words s restart d = d ≡ record { actions = []; unkept = 0; state = start c }
 
 -- what is handed in are octets
 abbrev pub HandsOctets : Event → Type 0
@@ -334,6 +327,5 @@ TakesNoMemory c n s restart = Unit {0}
 -- from s, this step may have this outcome and leave s'
 pub record Row (c : Config) (s : State) (h : Handed) (o : Outcome) (s' : State) : Type 0 where
   pub octets : HandsOctets h.event
-  pub happens : Happens c (effective h.now s) h.words s h.event (record { actions = o.actions; state = s' })
-  pub unkept : o.unkept ≡ 0
+  pub happens : Happens c (effective h.now s) h.words s h.event (record { actions = o.actions; unkept = o.unkept; state = s' })
   pub more : o.more ≡ is_due_at c s'.moment s'

@@ -1,5 +1,5 @@
 -- What the actions of a step tell the history: owners of replies, listed asks, asks by TCP, closed paths, right asks.
-use Rattle.std.proofs.Common.{◌≡◌, ℕ, List, [], ◌∷◌, ◌++◌, Bool, true, false, cond, refl, sym, ap, ◌∙◌, arith, Option, Some, None}
+use Rattle.std.proofs.Common.{◌≡◌, ℕ, List, [], ◌∷◌, ◌++◌, Bool, true, false, cond, refl, sym, ap, ◌∙◌, inl, inr, arith, Option, Some, None}
 use Rattle.std.specs.Prelude.{map, not, ◌==◌, ◌||◌}
 use Rattle.std.specs.List.{cons_option, AllByRecursion}
 use Rattle.std.proofs.lemmas.List.{map-append}
@@ -15,9 +15,9 @@ use Rattle.step_values.specs.declared.action.Why.{Why}
 use Rattle.step_values.specs.Values.{Action, ask_udp, ask_tcp, close_udp, close_tcp, send_reply, Step}
 use Rattle.step_history.specs.History.{ShownAsk, asks_after, unlisted, listed, is_tcp, tcp_asks_in, closes_path}
 use Rattle.step_history.specs.Draws.{ask_message}
-use Rattle.step_history.specs.Sound.{among, Owns, EachOwned}
+use Rattle.step_history.specs.Sound.{among, Owns, EachOwned, Replies}
 use Rattle.step_history.specs.Asked.{AsksRight, AreRightAsks}
-use Rattle.step_rules.specs.Row.{Fate, gets, waits, reply_in, replies, closes, closing, without_ask, asks, asks_by, ask_list, tcp_count}
+use Rattle.step_rules.specs.Steps.{Fate, gets, waits, reply_in, replies, closes, closing, without_ask, asks, asks_by, ask_list, tcp_count}
 use Rattle.step_soundness.specs.Explains.{shown, Waits}
 use Rattle.step_soundness.proofs.Fates.{Distinct, fates_in, owner_in, owners_by, Fated}
 
@@ -182,6 +182,17 @@ asks_close_none p (Some a) = by a.path
     by : (q : Path) → closes_path p (asks_by q a ∷ []) ≡ false
     by (Udp port) = refl
     by (Tcp conn) = refl
+
+-- asks answer nothing
+pub asks_answer_none : (next : Option Ask) (octets : List ℕ) → Replies (map asks (ask_list next)) octets → ⊥
+asks_answer_none None octets f = f
+asks_answer_none (Some a) octets f = by a.path f
+  where
+    by : (p : Path) → Replies (asks_by p a ∷ []) octets → ⊥
+    by (Udp port) (inl k) = k
+    by (Udp port) (inr k) = k
+    by (Tcp conn) (inl k) = k
+    by (Tcp conn) (inr k) = k
 
 -- the path that is given up
 abbrev pub is_given_up : Path → Option Ask → Bool

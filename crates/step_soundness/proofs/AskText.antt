@@ -1,90 +1,21 @@
 -- The text of an ask reads as its identifier and question.
-use Rattle.std.proofs.Common.{◌≡◌, ℕ, ◌+◌, ◌^◌, ◌<◌, ◌≤◌, List, [], ◌∷◌, ◌++◌, length, Option, Some, None, Bool, true, false, refl, sym, ap, ◌∙◌, subst, ⊎_elim, arith, length-append}
+use Rattle.std.proofs.Common.{◌≡◌, ℕ, ◌^◌, ◌<◌, ◌≤◌, List, length, Some, None, Bool, true, false, refl, sym, ap, ◌∙◌, ⊎_elim, arith}
 use Rattle.std.specs.Prelude.{◌==◌, nat_lt, Result, Ok, Err, slice_index}
 use Rattle.std.proofs.lemmas.Bool.{cases_Bool, cond-true, cond-false, ltb-false, eq-eqb}
-use Rattle.dns_name.specs.Labels.{IsName, size_of}
 use Rattle.dns_message.specs.Header.{Header}
 use Rattle.dns_message.specs.Fault.{Fault}
 use Rattle.dns_message.specs.Values.{Question, Message}
-use Rattle.dns_message.specs.Numbers.{number16}
 use Rattle.dns_message.specs.Header.{header_of, header_in}
-use Rattle.dns_message.specs.Records.{QuestionAt}
 use Rattle.dns_message.specs.Messages.{Spells, first_question}
-use Rattle.dns_message.specs.Writing.{Place, Writing, as_is, ◌▹◌, each, octets16, place_of, label_text, pointer_or, name_text, question_text, record_text, header_text, written}
+use Rattle.dns_message.specs.Writing.{written}
 use Rattle.dns_message.specs.Written.{IsQuestion}
-use Rattle.dns_message.proofs.CallerLemmas.{standing_name_is_name as name_is}
-use Rattle.dns_message.proofs.CallerLemmas.{first_question_read_stands, standing_first_question_is_read}
+use Rattle.dns_message.proofs.CallerLemmas.{first_question_read_stands, standing_first_question_is_read, standing_question_is_question}
 use Rattle.dns_message.proofs.CallerLemmas.{written_message_is_spelled}
 use Rattle.plain_list.specs.Octets.{AreOctets}
 use Rattle.dns_message.specs.Questions.{question_read}
 use Rattle.step_history.specs.History.{Reads}
 use Rattle.step_history.specs.Draws.{ask_message}
-
--- ---- it is short
-
-abbrev AtMost : Writing → ℕ → Type 0
-AtMost w k = (places : List Place) (o : ℕ) → length (w places o).octets ≤ k
-
-then_short : (a b : Writing) (i j : ℕ) → AtMost a i → AtMost b j → AtMost (a ▹ b) (i + j)
-unfolding ◌▹◌
-then_short a b i j ha hb places o =
-    let first = ha places o in
-    let next = hb (places ++ (a places o).places) (o + length (a places o).octets) in
-    let both = length-append (a places o).octets (b (places ++ (a places o).places) (o + length (a places o).octets)).octets in
-    omega (arith, first, next, both)
-
-either_short : (found : Option ℕ) (w : Writing) (k : ℕ) → 2 ≤ k → AtMost w k → AtMost (pointer_or found w) k
-either_short (Some offset) w k le h places o = le
-either_short None w k le h places o = h places o
-
-size_some : (n : List (List ℕ)) → 1 ≤ size_of n
-size_some [] = omega arith
-size_some (l ∷ ls) = omega (arith, size_some ls)
-
-name_short : (n : List (List ℕ)) → AtMost (name_text n) (size_of n)
-unfolding name_text
-name_short [] places o = omega arith
-name_short (l ∷ ls) places o =
-    either_short (place_of places (l ∷ ls)) (label_text l ls ▹ name_text ls) (length l + 1 + size_of ls) (omega (arith, size_some ls))
-    (then_short (label_text l ls) (name_text ls) (length l + 1) (size_of ls) (λ ps p. omega arith) (name_short ls)) places o
-
-one_short : (q : Question) → AtMost (each question_text (q ∷ [])) (size_of q.name + 2 + 2 + 0)
-unfolding each
-one_short q = then_short (question_text q) (as_is []) (size_of q.name + 2 + 2) 0
-    (then_short (name_text q.name ▹ as_is (octets16 q.kind)) (as_is (octets16 q.class)) (size_of q.name + 2) 2
-    (then_short (name_text q.name) (as_is (octets16 q.kind)) (size_of q.name) 2 (name_short q.name) (λ ps p. omega arith)) (λ ps p. omega arith))
-    (λ ps p. omega arith)
-
-none_short : AtMost (each record_text []) 0
-unfolding each
-none_short places o = omega arith
-
-header_short : (m : Message) → AtMost (header_text m) 12
-header_short m = then_short _ (as_is (octets16 (length m.additional))) 10 2
-    (then_short _ (as_is (octets16 (length m.authority))) 8 2
-    (then_short _ (as_is (octets16 (length m.answers))) 6 2
-    (then_short _ (as_is (octets16 (length m.questions))) 4 2
-    (then_short (as_is (octets16 m.header.id)) (as_is (octets16 _)) 2 2 (λ ps p. omega arith) (λ ps p. omega arith))
-    (λ ps p. omega arith)) (λ ps p. omega arith)) (λ ps p. omega arith)) (λ ps p. omega arith)
-
-ask_short : (id : ℕ) (q : Question) → IsName q.name → length (written (ask_message id q)) ≤ 65535
-unfolding written
-ask_short id q name =
-    let m : Message = ask_message id q in
-    let short : size_of q.name ≤ 255 = name.short in
-    let all = then_short (header_text m ▹ each question_text (q ∷ []) ▹ each record_text [] ▹ each record_text []) (each record_text []) (12 + (size_of q.name + 2 + 2 + 0) + 0 + 0) 0
-    (then_short (header_text m ▹ each question_text (q ∷ []) ▹ each record_text []) (each record_text []) (12 + (size_of q.name + 2 + 2 + 0) + 0) 0
-    (then_short (header_text m ▹ each question_text (q ∷ [])) (each record_text []) (12 + (size_of q.name + 2 + 2 + 0)) 0
-    (then_short (header_text m) (each question_text (q ∷ [])) 12 (size_of q.name + 2 + 2 + 0) (header_short m) (one_short q)) none_short) none_short) none_short [] 0 in
-    omega (arith, all, short)
-
--- ---- it reads back
-
-number_small : (octets : List ℕ) (o : ℕ) → AreOctets octets → o + 2 ≤ length octets → number16 octets o < 65536
-number_small octets o are there =
-    let high : slice_index octets o < 256 = are o 0 (omega (arith, there)) in
-    let low : slice_index octets (o + 1) < 256 = are (o + 1) 0 (omega (arith, there)) in
-    omega (arith, high, low)
+use Rattle.step_keeping.proofs.CallerLemmas.{alone_short}
 
 read_is : (octets : List ℕ) (q : Question) → Reads octets q → first_question octets ≡ Ok q
 read_is octets q reads = by (slice_index (header_in octets).counts 0 == 1) refl (first_question octets) refl
@@ -102,13 +33,7 @@ read_is octets q reads = by (slice_index (header_in octets).counts 0 == 1) refl 
 pub read_well : (octets : List ℕ) (q : Question) → AreOctets octets → Reads octets q → IsQuestion q
 read_well octets q are reads =
     let first = first_question_read_stands octets q (read_is octets q reads) in
-    let at : QuestionAt octets 12 q first.e = first.at in
-    let there : at.after + 4 ≤ length octets = at.there in
-    record {
-      name = name_is octets 12 12 at.after q.name at.name at.fits;
-      kind = subst (λ (k : ℕ). k < 65536) (sym at.kind) (number_small octets at.after are (omega (arith, there)));
-      class = subst (λ (k : ℕ). k < 65536) (sym at.class) (number_small octets (at.after + 2) are (omega (arith, there)));
-    }
+    standing_question_is_question octets 12 q first.e are first.at
 
 -- the header where there is one
 pub header_there : (octets : List ℕ) (h : Header) → header_of octets ≡ Some h → (header_in octets ≡ h) × (12 ≤ length octets)
@@ -133,7 +58,7 @@ ask_reads id q question small = (reads_back, ap (λ (h : Header). h.id) there.0)
       answers = tt;
       authority = tt;
       additional = tt;
-    }) refl (record { answers = tt; authority = tt; additional = tt }) (ask_short id q question.name)
+    }) refl (record { answers = tt; authority = tt; additional = tt }) (alone_short (ask_message id q).header q question.name)
 
     there : (header_in (written (ask_message id q)) ≡ (ask_message id q).header) × (12 ≤ length (written (ask_message id q)))
     there = header_there (written (ask_message id q)) (ask_message id q).header spelled.header

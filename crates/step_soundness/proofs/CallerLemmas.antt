@@ -4,6 +4,6 @@ pub use Rattle.step_soundness.proofs.Runs.{row_stays, IsExplained-start, explain
 pub use Rattle.step_soundness.proofs.Listed.{ask_on-is, of_question-is, own_on, IsFresh, drawn_fresh, free_now, free_then, none_above, IsNumbered, drawn_numbered, without_shorter}
 pub use Rattle.step_soundness.proofs.Asking.{still_earlier}
 pub use Rattle.step_soundness.proofs.Attempts.{IsAskBy, ask_by-some, udp-some, tcp-some, peer_within, peer_there, preferred_first, preferred_put}
-pub use Rattle.step_soundness.proofs.Fates.{All-append, All-filter, All-weaker}
+pub use Rattle.step_keeping.proofs.CallerLemmas.{All-append, All-filter, All-weaker}
 pub use Rattle.step_soundness.proofs.Names.{told_same_name}
 pub use Rattle.step_soundness.proofs.Nexts.{append_nil, gave_up, asked_next, asked_again}

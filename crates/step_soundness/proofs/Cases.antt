@@ -3,7 +3,7 @@ use Rattle.std.proofs.Common.{◌≡◌, ℕ, suc, ◌+◌, ◌<◌, ◌≤◌, 
 use Rattle.std.specs.Prelude.{filter, map, not, ◌||◌}
 use Rattle.std.specs.List.{concat, cons_option, AllByRecursion}
 use Rattle.std.proofs.lemmas.List.{map-append, length-append}
-use Rattle.std.proofs.lemmas.Bool.{cond-true, cond-false, ne_eqb}
+use Rattle.std.proofs.lemmas.Bool.{cond-true, cond-false, ne_eqb, true≢false}
 use Rattle.dns_message.specs.Values.{Question}
 use Rattle.suffix_routes.specs.Values.{Config}
 use Rattle.step_values.specs.declared.event.Client.{Client}
@@ -13,16 +13,22 @@ use Rattle.outstanding.specs.Lists.{same_path, AreListed}
 use Rattle.outstanding.specs.Values.{Ask}
 use Rattle.step_values.specs.declared.action.Why.{Why}
 use Rattle.step_values.specs.Values.{Action, send_reply, Handed, Step}
-use Rattle.step_history.specs.Pieces.{Held}
-use Rattle.step_history.specs.History.{is_restart, moment_at, asks_after, listed, tcp_asks_in, tcp_asks, closes_path, takes_question, NothingAccepted, Sends}
-use Rattle.step_history.specs.Carried.{CarriedInEra}
-use Rattle.step_history.specs.Sound.{among, unanswered, RightReply, EachOwned, Replies, FromCache, SameAsEarlierFromCache}
+use Rattle.record_cache.specs.Values.{Cache}
+use Rattle.step_history.specs.History.{is_restart, moment_at, asks_after, listed, tcp_asks_in, tcp_asks, closes_path, takes_question, NothingAccepted}
+use Rattle.step_history.specs.Sound.{among, unanswered, Owns, EachOwned, Replies, FromCache, SameAsEarlierFromCache}
 use Rattle.step_history.specs.Asked.{AreRightAsks}
 use Rattle.step_rules.specs.State.{Waiting, State}
-use Rattle.step_rules.specs.Row.{Fate, gets, waits, reply_in, replies, still_waiting, closes, closing, without_ask, asks, asks_by, ask_list, tcp_count, start, is_due_at}
+use Rattle.step_rules.specs.Steps.{Fate, gets, waits, reply_in, replies, still_waiting, closes, closing, without_ask, asks, asks_by, ask_list, tcp_count, start}
+use Rattle.step_rules.specs.Row.{is_due_at}
+use Rattle.step_keeping.specs.Kept.{CanBeTold, IsCached}
 use Rattle.step_soundness.specs.Explains.{shown, Waits, Tried, IsBelow, ArePreferred, Explains}
-use Rattle.step_soundness.proofs.Fates.{All-append, All-weaker, All-filter, Distinct, fates_in, numbers_in, owners_by, left_by, left_firsts, left_seconds, All-owners, Distinct-owners, left_each}
-use Rattle.step_history.proofs.Moments.{moment_later}
+use Rattle.step_keeping.specs.Chains.{GoesOn}
+use Rattle.step_keeping.proofs.CallerLemmas.{leads_stay_leads}
+use Rattle.step_keeping.proofs.CallerLemmas.{told_later, quiet_steps_keep}
+use Rattle.step_soundness.proofs.Answering.{comes_later}
+use Rattle.step_keeping.proofs.CallerLemmas.{All-append, All-weaker, All-filter}
+use Rattle.step_soundness.proofs.Fates.{Distinct, fates_in, numbers_in, owners_by, left_by, left_firsts, left_seconds, All-owners, Distinct-owners, left_each}
+use Rattle.step_history.proofs.CallerLemmas.{moment_later}
 use Rattle.step_soundness.proofs.Asking.{asked_more, still_earlier, closes_none, all_tried_on}
 use Rattle.step_soundness.proofs.Attempts.{preferred_first}
 use Rattle.step_soundness.proofs.Due.{due_is}
@@ -35,26 +41,18 @@ up : (n : ℕ) (is : List ℕ) → AllByRecursion (λ i. i < n) is → AllByRecu
 up n is h = All-weaker (λ i. i < n) (λ i. i < suc n) (λ i l. omega (arith, l)) is h
 
 -- those that wait still wait, a step later
-pub waits_later : (c : Config) (s : Step) (past : List Step) (x : Waiting) (i : ℕ) → is_restart s ≡ false → Waits c past x i → Waits c (s ∷ past) x i
-waits_later c s past x i run h = record {
-  asked = h.asked;
-  before = h.before;
-  in_era = inr (run, h.in_era);
-  number = h.number;
-  request = h.request;
-  sent = h.sent;
-  taken = h.taken;
-  reads = h.reads;
-  header_is = h.header_is;
-  opcode = h.opcode;
-  served = h.served;
+pub waits_later : (c : Config) (s : Step) (past : List Step) (x : Waiting) (i : ℕ) → GoesOn c s past → Waits c past x i → Waits c (s ∷ past) x i
+waits_later c s past x i on h = record {
+  comes = comes_later s past x.client x.asked i on.0 h.comes;
   moment = h.moment;
+  leads = leads_stay_leads c h.comes.asked s h.comes.before past h.comes.question x.held x.wanted on h.leads;
+  told = All-weaker (CanBeTold (moment_at past)) (CanBeTold (moment_at (s ∷ past))) (λ o t. told_later (moment_at past) (moment_at (s ∷ past)) o (moment_later s past on.0) t) x.held h.told;
 }
 
-pub each_later : (c : Config) (s : Step) (past : List Step) (zs : List (Waiting × ℕ)) → is_restart s ≡ false → AllByRecursion (λ z. Waits c past z.0 z.1) zs → AllByRecursion (λ z. Waits c (s ∷ past) z.0 z.1) zs
-each_later c s past zs run h = All-weaker (λ z. Waits c past z.0 z.1) (λ z. Waits c (s ∷ past) z.0 z.1) (λ z k. waits_later c s past z.0 z.1 run k) zs h
+pub each_later : (c : Config) (s : Step) (past : List Step) (zs : List (Waiting × ℕ)) → GoesOn c s past → AllByRecursion (λ z. Waits c past z.0 z.1) zs → AllByRecursion (λ z. Waits c (s ∷ past) z.0 z.1) zs
+each_later c s past zs on h = All-weaker (λ z. Waits c past z.0 z.1) (λ z. Waits c (s ∷ past) z.0 z.1) (λ z k. waits_later c s past z.0 z.1 on k) zs h
 
-few_one : (v : Fate) (xs : List Waiting) (n : ℕ) → length xs ≤ n → length (cons_option (Rattle.step_rules.specs.Row.waiting_in v) xs) ≤ suc n
+few_one : (v : Fate) (xs : List Waiting) (n : ℕ) → length xs ≤ n → length (cons_option (Rattle.step_rules.specs.Steps.waiting_in v) xs) ≤ suc n
 few_one (gets a) xs n h = omega (arith, h)
 few_one (waits y) xs n h = omega (arith, h)
 
@@ -81,8 +79,7 @@ pub record Parts (c : Config) (past : List Step) (w : List (List ℕ)) (s : Step
   pub connections : AllByRecursion (λ a. IsBelow after.tcp_asks a.path) after.asks
   pub right : AreRightAsks c s past s.outcome.actions
   pub preferred : ArePreferred c.routes after.preferred
-  pub carried : List Held
-  pub carried_is : CarriedInEra c (s ∷ past) carried
+  pub cache : IsCached c (s ∷ past) after.moment after.cache
   pub numbers_of : List (Waiting × ℕ)
   pub waiting : map (λ z. z.0) numbers_of ≡ after.waiting
   pub numbers : map (λ z. z.1) numbers_of ≡ unanswered (s ∷ past) (is ++ concat w)
@@ -105,8 +102,7 @@ explained c past w before after s is x p = record {
   tried = p.tried;
   connections = p.connections;
   preferred = p.preferred;
-  carried = p.carried;
-  carried_is = p.carried_is;
+  cache = p.cache;
   numbers_of = p.numbers_of;
   waiting = p.waiting;
   numbers = p.numbers;
@@ -140,9 +136,9 @@ module _ (c : Config) (past : List Step) (w : List (List ℕ)) (s : State) (x : 
   plus_none k = omega arith
 
   -- at most one ask is closed, each waiting question has its fate, and at most one ask comes next
-  pub settled_explained : (close : Option Ask) (gs : List (Fate × ℕ)) (next : Option Ask) (preferred : List ℕ) (carried : List Held) (actions : List Action) (after : State)
+  pub settled_explained : (close : Option Ask) (gs : List (Fate × ℕ)) (next : Option Ask) (preferred : List ℕ) (cache : Cache) (actions : List Action) (after : State)
       → actions ≡ closing close ++ (replies (fates_in gs) ++ map asks (ask_list next))
-      → after ≡ record { asks = without_ask close s.asks ++ ask_list next; waiting = still_waiting (fates_in gs); preferred = preferred; moment = n; tcp_asks = s.tcp_asks + tcp_count next }
+      → after ≡ record { cache = cache; asks = without_ask close s.asks ++ ask_list next; waiting = still_waiting (fates_in gs); preferred = preferred; moment = n; tcp_asks = s.tcp_asks + tcp_count next }
       → IsNow actions → takes_question h.event ≡ false → ((q : Question) (octets : List ℕ) → FromCache (step_of h actions unkept more) q octets → ⊥)
       → map (λ (g : Fate × ℕ). g.1) gs ≡ map (λ (z : Waiting × ℕ). z.1) x.numbers_of → length (fates_in gs) ≤ c.limits.questions
       → AreFated c (step_of h actions unkept more ∷ past) gs
@@ -150,10 +146,10 @@ module _ (c : Config) (past : List Step) (w : List (List ℕ)) (s : State) (x : 
       → AllByRecursion (Tried c (step_of h actions unkept more ∷ past)) (without_ask close s.asks ++ ask_list next)
       → AllByRecursion (λ a. IsBelow (s.tcp_asks + tcp_count next) a.path) (without_ask close s.asks ++ ask_list next)
       → IsRightNext c (step_of h actions unkept more) past next → ArePreferred c.routes preferred
-      → CarriedInEra c (step_of h actions unkept more ∷ past) carried
+      → IsCached c (step_of h actions unkept more ∷ past) n cache
       → more ≡ is_due_at c n after
       → (owners : List ℕ) × Explains c (step_of h actions unkept more ∷ past) (owners ∷ w) after
-  settled_explained close gs next preferred carried actions after actions_are after_is now takes no_question numbers few fates asked_at asks_are tried below right are_preferred carried_is more_is = (
+  settled_explained close gs next preferred cache actions after actions_are after_is now takes no_question numbers few fates asked_at asks_are tried below right are_preferred cached more_is = (
     owners_by gs,
     explained c past w s after step (owners_by gs) x (record {
       runs = now.0;
@@ -168,8 +164,7 @@ module _ (c : Config) (past : List Step) (w : List (List ℕ)) (s : State) (x : 
       connections = subst (λ (st : State). AllByRecursion (λ a. IsBelow st.tcp_asks a.path) st.asks) (sym after_is) below;
       right = subst (λ (as' : List Action). AreRightAsks c step past as') (sym actions_are) (right_closing c step past close (replies (fates_in gs) ++ map asks (ask_list next)) (right_replies c step past (step ∷ past) (map asks (ask_list next)) (right_next c step past next right) gs fates));
       preferred = subst (λ (st : State). ArePreferred c.routes st.preferred) (sym after_is) are_preferred;
-      carried = carried;
-      carried_is = carried_is;
+      cache = subst (λ (st : State). IsCached c (step ∷ past) st.moment st.cache) (sym after_is) cached;
       numbers_of = left_by gs;
       waiting = left_firsts gs ∙ sym (ap (λ (st : State). st.waiting) after_is);
       numbers = sym (numbers_left step past (owners_by gs ++ concat w) now.0 takes ∙ unanswered-more past (owners_by gs) (concat w) ∙ ap (filter (λ i. not (among i (owners_by gs)))) (sym (numbers ∙ x.numbers)) ∙ left_seconds gs distinct_now);
@@ -238,12 +233,11 @@ module _ (c : Config) (past : List Step) (w : List (List ℕ)) (s : State) (x : 
     connections = subst (λ (st : State). AllByRecursion (λ a. IsBelow st.tcp_asks a.path) st.asks) (sym after_is) x.connections;
     right = tt;
     preferred = subst (λ (st : State). ArePreferred c.routes st.preferred) (sym after_is) x.preferred;
-    carried = x.carried;
-    carried_is = inr (inl (now.0, nothing, x.carried_is));
+    cache = subst (λ (st : State). IsCached c (step ∷ past) st.moment st.cache) (sym after_is) (quiet_steps_keep c past s.moment n s.cache step x.cache x.moment (now.0, nothing) now.1 (λ q octets f. absurd f.1));
     numbers_of = x.numbers_of;
     waiting = x.waiting ∙ sym (ap (λ (st : State). st.waiting) after_is);
     numbers = x.numbers ∙ sym (numbers_left step past (concat w) now.0 takes);
-    waits = each_later c step past x.numbers_of now.0 x.waits;
+    waits = each_later c step past x.numbers_of (now.0, inl nothing) x.waits;
     few = subst (λ (st : State). length st.waiting ≤ c.limits.questions) (sym after_is) x.few;
     owners = tt;
     more = more_is ∙ ap (λ (m : ℕ). is_due_at c m after) (sym (ap (λ (st : State). st.moment) after_is));
@@ -257,15 +251,16 @@ module _ (c : Config) (past : List Step) (w : List (List ℕ)) (s : State) (x : 
   not_yet (i ∷ is) b = ap (λ v. v || among (length past) is) (ne_eqb i (length past) (λ e. let lt : i < length past = b.0 in omega (arith, lt, e))) ∙ not_yet is b.1
 
   -- a question that gets its reply at once
-  pub at_once_explained : (client : Client) (octets request : List ℕ) (why : Why) (after : State) → after ≡ record s { moment = n } → IsNow (send_reply client octets why ∷ []) → takes_question h.event ≡ true
-      → NothingAccepted c (step_of h (send_reply client octets why ∷ []) unkept more) past → Sends h.event client request
-      → RightReply (record { config = c; asked = step_of h (send_reply client octets why ∷ []) unkept more; before = past; now = step_of h (send_reply client octets why ∷ []) unkept more ∷ past }) client request (length (unanswered past (concat w))) why octets
+  pub at_once_explained : (client : Client) (octets : List ℕ) (why : Why) (cache : Cache) (after : State) → after ≡ record s { cache = cache; moment = n } → IsNow (send_reply client octets why ∷ []) → takes_question h.event ≡ true
+      → NothingAccepted c (step_of h (send_reply client octets why ∷ []) unkept more) past
+      → Owns c (step_of h (send_reply client octets why ∷ []) unkept more ∷ past) (concat w) (length past) (record { client = client; octets = octets; why = why })
       → ((q : Question) (text : List ℕ) → FromCache (step_of h (send_reply client octets why ∷ []) unkept more) q text → SameAsEarlierFromCache c (moment_at (step_of h (send_reply client octets why ∷ []) unkept more ∷ past)) q text past)
+      → IsCached c (step_of h (send_reply client octets why ∷ []) unkept more ∷ past) n cache
       → more ≡ is_due_at c n after
       → Explains c (step_of h (send_reply client octets why ∷ []) unkept more ∷ past) ((length past ∷ []) ∷ w) after
-  at_once_explained client octets request why after after_is now takes nothing sent right same more_is = explained c past w s after step (length past ∷ []) x (record {
+  at_once_explained client octets why cache after after_is now takes nothing mine same cached more_is = explained c past w s after step (length past ∷ []) x (record {
     runs = now.0;
-    owned = (record { asked = step; before = past; in_era = inl refl; number = refl; request = request; sent = sent; taken = takes; right = right }, not_yet (concat w) x.owners, refl);
+    owned = (mine, not_yet (concat w) x.owners, refl);
     same = same;
     moment = ap (λ (st : State). st.moment) after_is ∙ now.1;
     tcp = ap (λ (st : State). st.tcp_asks) after_is ∙ x.tcp ∙ plus_none (tcp_asks past);
@@ -276,12 +271,11 @@ module _ (c : Config) (past : List Step) (w : List (List ℕ)) (s : State) (x : 
     connections = subst (λ (st : State). AllByRecursion (λ a. IsBelow st.tcp_asks a.path) st.asks) (sym after_is) x.connections;
     right = (tt, tt);
     preferred = subst (λ (st : State). ArePreferred c.routes st.preferred) (sym after_is) x.preferred;
-    carried = x.carried;
-    carried_is = inr (inl (now.0, nothing, x.carried_is));
+    cache = subst (λ (st : State). IsCached c (step ∷ past) st.moment st.cache) (sym after_is) cached;
     numbers_of = x.numbers_of;
     waiting = x.waiting ∙ sym (ap (λ (st : State). st.waiting) after_is);
     numbers = x.numbers ∙ sym (numbers_at_once step past (concat w) now.0 takes);
-    waits = each_later c step past x.numbers_of now.0 x.waits;
+    waits = each_later c step past x.numbers_of (now.0, inl nothing) x.waits;
     few = subst (λ (st : State). length st.waiting ≤ c.limits.questions) (sym after_is) x.few;
     owners = (omega arith, tt);
     more = more_is ∙ ap (λ (m : ℕ). is_due_at c m after) (sym (ap (λ (st : State). st.moment) after_is));
@@ -291,17 +285,18 @@ module _ (c : Config) (past : List Step) (w : List (List ℕ)) (s : State) (x : 
       step = step_of h (send_reply client octets why ∷ []) unkept more
 
   -- a question that waits, with the first ask of its inquiry or for one that is listed
-  pub taken_explained : (y : Waiting) (next : Option Ask) (after : State)
-      → after ≡ record s { asks = s.asks ++ ask_list next; waiting = s.waiting ++ y ∷ []; moment = n; tcp_asks = s.tcp_asks + tcp_count next }
+  pub taken_explained : (y : Waiting) (next : Option Ask) (cache : Cache) (after : State)
+      → after ≡ record s { cache = cache; asks = s.asks ++ ask_list next; waiting = s.waiting ++ y ∷ []; moment = n; tcp_asks = s.tcp_asks + tcp_count next }
       → IsNow (map asks (ask_list next)) → takes_question h.event ≡ true → NothingAccepted c (step_of h (map asks (ask_list next)) unkept more) past
       → Waits c (step_of h (map asks (ask_list next)) unkept more ∷ past) y (length past) → length s.waiting + 1 ≤ c.limits.questions
       → AskedAt n next → AreListed (record { capacity = c.limits.inquiries; asks = s.asks ++ ask_list next })
       → AllByRecursion (Tried c (step_of h (map asks (ask_list next)) unkept more ∷ past)) (ask_list next)
       → AllByRecursion (λ a. IsBelow (s.tcp_asks + tcp_count next) a.path) (s.asks ++ ask_list next)
       → IsRightNext c (step_of h (map asks (ask_list next)) unkept more) past next
+      → IsCached c (step_of h (map asks (ask_list next)) unkept more ∷ past) n cache
       → more ≡ is_due_at c n after
       → Explains c (step_of h (map asks (ask_list next)) unkept more ∷ past) ([] ∷ w) after
-  taken_explained y next after after_is now takes nothing waiting_is room asked_at asks_are tried below right more_is = explained c past w s after step [] x (record {
+  taken_explained y next cache after after_is now takes nothing waiting_is room asked_at asks_are tried below right cached more_is = explained c past w s after step [] x (record {
     runs = now.0;
     owned = owned_asks c (step ∷ past) next (concat w);
     same = λ q octets f. absurd (silent next octets f.1);
@@ -315,12 +310,11 @@ module _ (c : Config) (past : List Step) (w : List (List ℕ)) (s : State) (x : 
     connections = subst (λ (st : State). AllByRecursion (λ a. IsBelow st.tcp_asks a.path) st.asks) (sym after_is) below;
     right = right_next c step past next right;
     preferred = subst (λ (st : State). ArePreferred c.routes st.preferred) (sym after_is) x.preferred;
-    carried = x.carried;
-    carried_is = inr (inl (now.0, nothing, x.carried_is));
+    cache = subst (λ (st : State). IsCached c (step ∷ past) st.moment st.cache) (sym after_is) cached;
     numbers_of = x.numbers_of ++ (y, length past) ∷ [];
     waiting = map-append (λ z. z.0) x.numbers_of _ ∙ ap (λ ws. ws ++ y ∷ []) x.waiting ∙ sym (ap (λ (st : State). st.waiting) after_is);
     numbers = map-append (λ z. z.1) x.numbers_of _ ∙ ap (λ is. is ++ length past ∷ []) x.numbers ∙ sym (numbers_waiting step past (concat w) now.0 takes x.owners);
-    waits = All-append (λ z. Waits c (step ∷ past) z.0 z.1) x.numbers_of _ (each_later c step past x.numbers_of now.0 x.waits) (waiting_is, tt);
+    waits = All-append (λ z. Waits c (step ∷ past) z.0 z.1) x.numbers_of _ (each_later c step past x.numbers_of (now.0, inl nothing) x.waits) (waiting_is, tt);
     few = subst (λ (st : State). length st.waiting ≤ c.limits.questions) (sym after_is) (let longer = length-append s.waiting (y ∷ []) in omega (arith, longer, room));
     owners = tt;
     more = more_is ∙ ap (λ (m : ℕ). is_due_at c m after) (sym (ap (λ (st : State). st.moment) after_is));
@@ -359,8 +353,14 @@ module _ (c : Config) (past : List Step) (w : List (List ℕ)) (s : State) (x : 
     tried = tt;
     connections = tt;
     preferred = preferred_first c.routes x.config.each;
-    carried = [];
-    carried_is = inl (restarts, refl);
+    cache = record {
+      carried = [];
+      carried_is = inl (restarts, refl);
+      capacity = refl;
+      held = record { some = x.config.limits.cache.0; few = omega arith; apart = tt; formed = tt };
+      kept = tt;
+      found = λ run at quiet. absurd (true≢false (sym restarts ∙ run));
+    };
     numbers_of = [];
     waiting = refl;
     numbers = sym (cond-true (is_restart step) _ _ restarts);

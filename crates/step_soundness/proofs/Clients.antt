@@ -17,18 +17,28 @@ use Rattle.outstanding.specs.Values.{Ask}
 use Rattle.step_values.specs.declared.event.Client.{Client}
 use Rattle.step_values.specs.declared.action.Why.{Why}
 use Rattle.step_values.specs.declared.action.Why.TheVariants.{Answered, BadFormat, BadOpcode, NotServed, NoRoute, QuestionsFull, InquiriesFull, NoPort}
-use Rattle.step_values.specs.Values.{from_client, Action, send_reply, Handed, Step}
+use Rattle.step_values.specs.Values.{from_client, Action, ask_udp, ask_tcp, close_udp, close_tcp, send_reply, Handed, Step}
 use Rattle.plain_list.specs.Octets.{AreOctets}
 use Rattle.step_history.specs.Names.{route_of}
-use Rattle.step_history.specs.History.{moment_at, listed, is_taken, Look, Carries, NothingAccepted}
+use Rattle.step_history.specs.History.{moment_at, listed, is_taken, Reads, NothingAccepted}
 use Rattle.step_history.specs.Draws.{drawn}
 use Rattle.step_history.specs.Causes.{is_unserved}
-use Rattle.step_history.specs.Sound.{unanswered, RightReply, Replies}
+use Rattle.step_history.specs.Replies.{asked_in, failure_text}
+use Rattle.step_history.specs.Answers.{Chain}
+use Rattle.step_history.specs.Sound.{unanswered, RightReply, Replies, FromCache, SameAsEarlierFromCache}
 use Rattle.step_rules.specs.State.{Waiting, State}
-use Rattle.step_rules.specs.Attempts.{peer_at, over_udp, preferred_on, first_ask}
-use Rattle.step_rules.specs.Row.{Done, reply_step, gives_up, asks, ask_list, tcp_count, is_due_at, row_of_opening, row_of_new_inquiry, row_of_inquiry, row_of_route, row_of_question, row_of_request}
-use Rattle.step_soundness.specs.Explains.{shown, Waits, IsBelow, Explains}
-use Rattle.step_soundness.proofs.Fates.{All-append}
+use Rattle.step_rules.specs.Attempts.{peer_at, over_udp, preferred_on, first_ask, first_ask_on}
+use Rattle.step_rules.specs.Steps.{Done, reply_step, gives_up, answered, asks, ask_list, tcp_count}
+use Rattle.step_rules.specs.LookingUp.{Met, ends, too_long, missed, Looked, missed_as_asked, if_ended, promoted_all}
+use Rattle.step_rules.specs.Row.{is_due_at, taken_now, fate_missed, fate_at, row_of_opening, row_of_inquiry, row_of_waiting, row_of_fate, row_of_look_up, row_of_route, row_of_question, row_of_request}
+use Rattle.record_cache.specs.Values.{Held, Cache}
+use Rattle.step_keeping.specs.Kept.{CanBeTold, looked, IsStillFound, IsCached}
+use Rattle.step_keeping.specs.Chains.{look_from, IsRightEnd, EndsRight, IsSized, IsRight}
+use Rattle.step_soundness.specs.Explains.{shown, Comes, Waits, IsBelow, Explains}
+use Rattle.step_keeping.proofs.CallerLemmas.{quiet_steps_keep, promotions_keep_cached, look_ups_are_right, answers_from_cache_agree, promotions_find_the_same}
+use Rattle.step_soundness.proofs.Answering.{IsTold, answered_told, answer_owned}
+use Rattle.step_soundness.proofs.Actions.{OwnsReply, asks_answer_none}
+use Rattle.step_keeping.proofs.CallerLemmas.{All-append}
 use Rattle.step_soundness.proofs.AskText.{read_well}
 use Rattle.step_soundness.proofs.Asking.{still_earlier}
 use Rattle.step_soundness.proofs.Attempts.{IsAskBy, ask_by-some, ask_by-none, udp-some, udp-none, preferred_peer}
@@ -36,7 +46,7 @@ use Rattle.step_soundness.proofs.Listed.{drawn-shown, IsFresh, drawn_fresh, free
 use Rattle.step_soundness.proofs.Matching.{is_full, has_room}
 use Rattle.step_soundness.proofs.Nexts.{IsNext, next_tried, next_right, listed_next, all_below, append_nil}
 use Rattle.step_soundness.proofs.Cases.{step_of, idle_explained, at_once_explained, taken_explained}
-use Rattle.step_history.proofs.Moments.{moment_small}
+use Rattle.step_history.proofs.CallerLemmas.{moment_small}
 
 module _ (c : Config) (past : List Step) (w : List (List ℕ)) (s : State) (x : Explains c past w s) (now : ℕ) (words : List ℕ) (unkept : ℕ) (more : Bool) (client : Client) (request : List ℕ) (are_octets : AreOctets request) where
   abbrev n : ℕ
@@ -58,13 +68,19 @@ module _ (c : Config) (past : List Step) (w : List (List ℕ)) (s : State) (x : 
   no_delivery : (actions : List Action) → NothingAccepted c (step actions) past
   no_delivery actions ps k = absurd (let never = k.accepts.matches.delivered in cc)
 
-  refused : (text : List ℕ) (why : Why) → is_taken request ≡ true → (why ≡ Answered → ⊥)
-      → RightReply (record { config = c; asked = step (send_reply client text why ∷ []); before = past; now = step (send_reply client text why ∷ []) ∷ past }) client request (length (unanswered past (concat w))) why text
-      → P (reply_step n (send_reply client text why) s)
-  refused text why takes failure right more_is = (
+  -- what is kept stays so, where nothing is answered from it
+  cached : (actions : List Action) (cache : Cache) → IsCached c past s.moment cache → ((q : Question) (octets : List ℕ) → FromCache (step actions) q octets → IsStillFound c n cache.entries q octets) → IsCached c (step actions ∷ past) n cache
+  cached actions cache was from = quiet_steps_keep c past s.moment n cache (step actions) was x.moment (refl, no_delivery actions) moment from
+
+  -- a failure, with the cache as it is or as a look-up left it
+  refused : (cache : Cache) → IsCached c past s.moment cache → (text : List ℕ) (why : Why) → is_taken request ≡ true → (why ≡ Answered → ⊥)
+      → RightReply (look_from c (step (send_reply client text why ∷ [])) past (step (send_reply client text why ∷ []) ∷ past)) client request (length (unanswered past (concat w))) why text
+      → P (reply_step n (send_reply client text why) (record s { cache = cache }))
+  refused cache was text why takes failure right more_is = (
     length past ∷ [],
-    at_once_explained c past w s x handed unkept more n client text request why (record s { moment = n }) refl (refl, moment) takes (no_delivery (send_reply client text why ∷ [])) refl right
-        (λ q octets f. absurd (never octets f.1)) more_is,
+    at_once_explained c past w s x handed unkept more n client text why cache (record s { cache = cache; moment = n }) refl (refl, moment) takes (no_delivery (send_reply client text why ∷ []))
+        (record { asked = step (send_reply client text why ∷ []); before = past; in_era = inl refl; number = refl; request = request; sent = refl; taken = takes; right = right })
+        (λ q octets f. absurd (never octets f.1)) (cached (send_reply client text why ∷ []) cache was (λ q octets f. absurd (never octets f.1))) more_is,
   )
     where
       never : (octets : List ℕ) → Replies (send_reply client text why ∷ []) octets → ⊥
@@ -79,30 +95,39 @@ module _ (c : Config) (past : List Step) (w : List (List ℕ)) (s : State) (x : 
 
   module _ (takes : is_taken request ≡ true) (opcode : (header_in request).opcode ≡ 0) (q : Question) (reads : one_question request ≡ Some q) (served : is_unserved q ≡ false) where
     abbrev y : Waiting
-    y = record { client = client; header = header_in request; question = q; taken = n }
+    y = taken_now n client (header_in request) q
 
-    waits_now : (actions : List Action) → Waits c (step actions ∷ past) y (length past)
-    waits_now actions = record {
+    -- the message, as it comes
+    abbrev comes : (actions : List Action) → Comes (step actions ∷ past) client y.asked (length past)
+    comes actions = record {
       asked = step actions;
       before = past;
       in_era = inl refl;
       number = refl;
       request = request;
+      octets = are_octets;
       sent = refl;
       taken = takes;
+      question = q;
       reads = reads;
-      header_is = refl;
+      asked_is = refl;
       opcode = opcode;
       served = served;
-      moment = moment;
     }
+
+    waits_now : (actions : List Action) → Waits c (step actions ∷ past) y (length past)
+    waits_now actions = record { comes = comes actions; moment = moment; leads = record { few = omega arith; follows = refl }; told = tt }
+
+    -- what a failure repeats
+    told : (why : Why) → (z : Question) × Reads request z × (failure_text y.asked why ≡ failure_text (asked_in (header_in request) (Some z)) why)
+    told why = (q, reads, refl)
 
     all_below_one : AllByRecursion (λ a. IsBelow (s.tcp_asks + 0) a.path) s.asks
     all_below_one = all_below s.tcp_asks 0 s.asks x.connections
 
-    opened : (route : ℕ) → route_of c q.name ≡ Some route → length s.waiting + 1 ≤ c.limits.questions → length s.asks + 1 ≤ c.limits.inquiries → of_question q s.asks ≡ None
-        → (r : Option Ask) → first_ask c n words q route s ≡ r → P (row_of_opening n y s r)
-    opened route on room room_asked new None none = refused _ NoPort takes (λ e. cc) ((q, reads, refl), inl no_draw)
+    opened : (cache : Cache) → IsCached c past s.moment cache → (route : ℕ) → route_of c q.name ≡ Some route → length s.waiting + 1 ≤ c.limits.questions → length s.asks + 1 ≤ c.limits.inquiries → of_question q s.asks ≡ None
+        → (r : Option Ask) → first_ask c n words q route s ≡ r → P (row_of_opening n y (record s { cache = cache }) r)
+    opened cache was route on room room_asked new None none = refused cache was _ NoPort takes (λ e. cc) (told NoPort, inl no_draw)
       where
         peer : (p : Peer) × (peer_at c route (preferred_on s route) ≡ Some p)
         peer = preferred_peer c q route s.preferred on x.preferred
@@ -112,13 +137,14 @@ module _ (c : Config) (past : List Step) (w : List (List ℕ)) (s : State) (x : 
             ap (λ ls. drawn words ls (gives_up NoPort y ∷ [])) (sym x.asks)
             ∙ drawn-shown words s.asks (gives_up NoPort y ∷ []) None (λ p. refl)
             ∙ udp-none (udp_draw words s.asks None) (ask_by-none n q route (preferred_on s route) 1 (peer_at c route (preferred_on s route)) peer.0 (over_udp (udp_draw words s.asks None)) peer.1 none)
-    opened route on room room_asked new (Some a) is = λ more_is. (
+    opened cache was route on room room_asked new (Some a) is = λ more_is. (
       [],
-      taken_explained c past w s x handed unkept more n y (Some a) after refl (refl, moment) takes (no_delivery (asks a ∷ [])) (waits_now (asks a ∷ [])) room facts.asked
+      taken_explained c past w s x handed unkept more n y (Some a) cache after refl (refl, moment) takes (no_delivery (asks a ∷ [])) (waits_now (asks a ∷ [])) room facts.asked
           (listed_next c s.asks (Some a) x.asks_are (record { path = free; question = ap (λ (z : Question). of_question z s.asks) facts.question ∙ new; later = later; in_time = in_time }, omega (arith, room_asked)))
           (next_tried c (step (asks a ∷ []) ∷ past) q a next, tt)
           below
           (next_right c (step (asks a ∷ [])) past (step (asks a ∷ []) ∷ past) q a next drawn_so)
+          (cached (asks a ∷ []) cache was (λ z octets f. absurd (asks_answer_none (Some a) octets f.1)))
           more_is,
     )
       where
@@ -132,7 +158,7 @@ module _ (c : Config) (past : List Step) (w : List (List ℕ)) (s : State) (x : 
         fresh = drawn_fresh words s.asks None a.id draw.0 draw.2
 
         after : State
-        after = record s { asks = s.asks ++ a ∷ []; waiting = s.waiting ++ y ∷ []; moment = n; tcp_asks = s.tcp_asks + tcp_count (Some a) }
+        after = record s { cache = cache; asks = s.asks ++ a ∷ []; waiting = s.waiting ++ y ∷ []; moment = n; tcp_asks = s.tcp_asks + tcp_count (Some a) }
 
         next : IsNext c (step (asks a ∷ []) ∷ past) q a
         next = record {
@@ -161,7 +187,7 @@ module _ (c : Config) (past : List Step) (w : List (List ℕ)) (s : State) (x : 
         closes_nothing : (port : ℕ) → Rattle.step_history.specs.History.closes_path (Udp port) (asks a ∷ []) ≡ is_freed port None
         closes_nothing port = by a.path
           where
-            by : (p : Path) → Rattle.step_history.specs.History.closes_path (Udp port) (Rattle.step_rules.specs.Row.asks_by p a ∷ []) ≡ false
+            by : (p : Path) → Rattle.step_history.specs.History.closes_path (Udp port) (Rattle.step_rules.specs.Steps.asks_by p a ∷ []) ≡ false
             by (Udp k) = refl
             by (Tcp k) = refl
 
@@ -175,29 +201,112 @@ module _ (c : Config) (past : List Step) (w : List (List ℕ)) (s : State) (x : 
         below : AllByRecursion (λ b. IsBelow (s.tcp_asks + tcp_count (Some a)) b.path) (s.asks ++ a ∷ [])
         below = All-append (λ b. IsBelow (s.tcp_asks + tcp_count (Some a)) b.path) s.asks (a ∷ []) (all_below s.tcp_asks (tcp_count (Some a)) s.asks x.connections) (new_below a.path refl draw.1, tt)
 
-    inquired : (route : ℕ) → route_of c q.name ≡ Some route → length s.waiting + 1 ≤ c.limits.questions → (r : Option Ask) → of_question q s.asks ≡ r → P (row_of_inquiry c n words y route s r)
-    inquired route on room (Some a) there = λ more_is. (
+    inquired : (cache : Cache) → IsCached c past s.moment cache → (route : ℕ) → route_of c q.name ≡ Some route → length s.waiting + 1 ≤ c.limits.questions → (r : Option Ask) → of_question q s.asks ≡ r
+        → P (row_of_inquiry c n words y (record s { cache = cache }) r)
+    inquired cache was route on room (Some a) there = λ more_is. (
       [],
-      taken_explained c past w s x handed unkept more n y None (record s { asks = s.asks ++ []; waiting = s.waiting ++ y ∷ []; moment = n; tcp_asks = s.tcp_asks + 0 }) refl (refl, moment) takes (no_delivery []) (waits_now []) room tt
-          (listed_next c s.asks None x.asks_are tt) tt (subst (λ (as' : List Ask). AllByRecursion (λ b. IsBelow (s.tcp_asks + 0) b.path) as') (sym (append_nil s.asks)) all_below_one) tt more_is,
+      taken_explained c past w s x handed unkept more n y None cache (record s { cache = cache; asks = s.asks ++ []; waiting = s.waiting ++ y ∷ []; moment = n; tcp_asks = s.tcp_asks + 0 }) refl (refl, moment) takes (no_delivery []) (waits_now []) room tt
+          (listed_next c s.asks None x.asks_are tt) tt (subst (λ (as' : List Ask). AllByRecursion (λ b. IsBelow (s.tcp_asks + 0) b.path) as') (sym (append_nil s.asks)) all_below_one) tt
+          (cached [] cache was (λ z octets f. absurd f.1)) more_is,
     )
-    inquired route on room None new =
+    inquired cache was route on room None new =
         cond_both (nat_le c.limits.inquiries (length s.asks)) _ _ P
-        (λ t. refused _ InquiriesFull takes (λ e. cc) ((q, reads, refl), (refl, asks_number ∙ is_full c.limits.inquiries (length s.asks) t x.asks_are.few)))
-        (λ f. opened route on room (has_room c.limits.inquiries (length s.asks) f) new (first_ask c n words q route s) refl)
+        (λ t. refused cache was _ InquiriesFull takes (λ e. cc) (told InquiriesFull, (refl, asks_number ∙ is_full c.limits.inquiries (length s.asks) t x.asks_are.few)))
+        (λ f. subst (λ (r : Option Ask). P (row_of_opening n y (record s { cache = cache }) r)) (sym (ap (first_ask_on c n words q s) on))
+        (opened cache was route on room (has_room c.limits.inquiries (length s.asks) f) new (first_ask c n words q route s) refl))
+
+    -- the cache has no answer
+    waited : (cache : Cache) → IsCached c past s.moment cache → (route : ℕ) → route_of c q.name ≡ Some route → P (row_of_waiting c n words y (record s { cache = cache }))
+    waited cache was route on =
+        cond_both (nat_le c.limits.questions (length s.waiting)) _ _ P
+        (λ t. refused cache was _ QuestionsFull takes (λ e. cc) (told QuestionsFull, (refl, sym waiting_number ∙ is_full c.limits.questions (length s.waiting) t x.few)))
+        (λ f. inquired cache was route on (has_room c.limits.questions (length s.waiting) f) (of_question q s.asks) refl)
+
+    -- ---- its look-up
+
+    abbrev l : Looked
+    l = looked c n s.cache.entries q
+
+    -- the cache with what the look-up used promoted
+    abbrev used : Cache
+    used = record { capacity = s.cache.capacity; entries = promoted_all l.used s.cache.entries }
+
+    used_is : IsCached c past s.moment used
+    used_is = promotions_keep_cached c past s.moment s.cache l.used x.cache
+
+    -- a question that the cache answers
+    module _ (end : Held) (met : l.met ≡ ends end) where
+      right : (actions : List Action) → IsRight (look_from c (step actions) past (step actions ∷ past)) n q l
+      right actions = look_ups_are_right c past s.moment n s.cache (step actions) q x.cache x.moment (refl, no_delivery actions) moment
+
+      right_end : (actions : List Action) → IsRightEnd (look_from c (step actions) past (step actions ∷ past)) n l.wanted end
+      right_end actions = subst (EndsRight (look_from c (step actions) past (step actions ∷ past)) n l.wanted) met (right actions).right_end
+
+      chain : (actions : List Action) → Chain (look_from c (step actions) past (step actions ∷ past)) q l.held end
+      chain actions = record {
+        last = l.wanted;
+        leads = record { few = subst (λ (m : Met). IsSized m (length l.held)) met (right actions).sized; follows = (right actions).follows };
+        justified = (right_end actions).1;
+        ends = (right_end actions).2;
+      }
+
+      can_be_told : (actions : List Action) → AllByRecursion (CanBeTold n) (l.held ++ end ∷ [])
+      can_be_told actions = All-append (CanBeTold n) l.held (end ∷ []) (right actions).told ((right_end actions).0, tt)
+
+      owned : (a : Action) → answered n y l.held end ≡ a → OwnsReply c (step (a ∷ []) ∷ past) (length past) a
+      owned a is = subst (OwnsReply c (step (a ∷ []) ∷ past) (length past)) is (answer_owned c n (step (a ∷ []) ∷ past) y (length past) (comes (a ∷ [])) moment l.held end (chain (a ∷ [])) (can_be_told (a ∷ [])))
+
+      -- it is found now
+      found_now : (cl : Client) (octets : List ℕ) (why : Why) → answered n y l.held end ≡ send_reply cl octets why → (z : Question) (text : List ℕ) → FromCache (step (send_reply cl octets why ∷ [])) z text → IsStillFound c n s.cache.entries z text
+      found_now cl octets why is z text (asks_z, inr never) = absurd never
+      found_now cl octets why is z text (asks_z, inl answer) =
+          let told_so : IsTold n client y.asked l.held end octets = answered_told n (step [] ∷ past) y (length past) (comes []) l.held end (can_be_told []) cl octets why is answer.0 in
+          let one : Some q ≡ Some z = sym reads ∙ asks_z in
+          let question_is : q ≡ z = cc in
+          subst (λ (v : Question). IsStillFound c n s.cache.entries v text) question_is (subst (IsStillFound c n s.cache.entries q) answer.1 (record {
+            end = end;
+            ends_so = met;
+            header = header_in request;
+            client = client;
+            text = told_so.text;
+            spells = told_so.spells;
+          }))
+
+      agreeing : (cl : Client) (octets : List ℕ) (why : Why) → answered n y l.held end ≡ send_reply cl octets why → (z : Question) (text : List ℕ) → FromCache (step (send_reply cl octets why ∷ [])) z text
+          → SameAsEarlierFromCache c n z text past
+      agreeing cl octets why is z text f = answers_from_cache_agree c past s.moment n s.cache z text x.cache x.moment (found_now cl octets why is z text f)
+
+      hit_by : (a : Action) → answered n y l.held end ≡ a → P (reply_step n a (record s { cache = used }))
+      hit_by (send_reply cl octets why) is = λ more_is. (
+        length past ∷ [],
+        at_once_explained c past w s x handed unkept more n cl octets why used (record s { cache = used; moment = n }) refl (refl, moment) takes (no_delivery (send_reply cl octets why ∷ []))
+            (owned (send_reply cl octets why) is (concat w))
+            (λ z text f. subst (λ (t : ℕ). SameAsEarlierFromCache c t z text past) moment (agreeing cl octets why is z text f))
+            (cached (send_reply cl octets why ∷ []) used used_is (λ z text f. promotions_find_the_same c past s.moment n s.cache l.used z text x.cache (found_now cl octets why is z text f)))
+            more_is,
+      )
+      hit_by (ask_udp port server octets) is = absurd (owned (ask_udp port server octets) is)
+      hit_by (ask_tcp conn server octets) is = absurd (owned (ask_tcp conn server octets) is)
+      hit_by (close_udp port) is = absurd (owned (close_udp port) is)
+      hit_by (close_tcp conn) is = absurd (owned (close_tcp conn) is)
+
+      hit : P (reply_step n (answered n y l.held end) (record s { cache = used }))
+      hit = hit_by (answered n y l.held end) refl
+
+    looked_up : (route : ℕ) → route_of c q.name ≡ Some route → (m : Met) → l.met ≡ m → P (row_of_look_up c n words y s (if_ended q l m))
+    looked_up route on (ends end) met = subst (λ (m : Met). P (row_of_fate c n words (record s { cache = used }) (fate_at c n y l m))) (sym met) (hit end met)
+    looked_up route on too_long met = subst (λ (r : Option ℕ). P (row_of_fate c n words (record s { cache = used }) (fate_missed y (missed_as_asked q l) r))) (sym on) (waited used used_is route on)
+    looked_up route on missed met = subst (λ (r : Option ℕ). P (row_of_fate c n words (record s { cache = used }) (fate_missed y (missed_as_asked q l) r))) (sym on) (waited used used_is route on)
 
     routed : (r : Option ℕ) → route_of c q.name ≡ r → P (row_of_route c n words y s r)
-    routed None none = refused _ NoRoute takes (λ e. cc) ((q, reads, refl), record { at_once = refl; opcode = opcode; question = q; reads = reads; served = served; none = none })
-    routed (Some route) on =
-        cond_both (nat_le c.limits.questions (length s.waiting)) _ _ P
-        (λ t. refused _ QuestionsFull takes (λ e. cc) ((q, reads, refl), (refl, sym waiting_number ∙ is_full c.limits.questions (length s.waiting) t x.few)))
-        (λ f. inquired route on (has_room c.limits.questions (length s.waiting) f) (of_question q s.asks) refl)
+    routed None none = refused s.cache x.cache _ NoRoute takes (λ e. cc) (told NoRoute, record { opcode = opcode; question = q; reads = reads; served = served; aliases = []; last = q; leads = record { few = omega arith; follows = refl }; none = none; at_once = λ e. refl })
+    routed (Some route) on = looked_up route on l.met refl
 
   asked : is_taken request ≡ true → (header_in request).opcode ≡ 0 → (r : Option Question) → one_question request ≡ r → P (row_of_question c n words client (header_in request) s r)
-  asked takes opcode None none = refused _ BadFormat takes (λ e. cc) (refl, (refl, opcode, λ q reads. let e : None ≡ Some q = sym none ∙ reads in absurd (cc)))
+  asked takes opcode None none = refused s.cache x.cache _ BadFormat takes (λ e. cc) (refl, (refl, opcode, λ q reads. let e : None ≡ Some q = sym none ∙ reads in absurd (cc)))
   asked takes opcode (Some q) reads =
       cond_both (is_unserved q) _ _ P
-      (λ t. refused _ NotServed takes (λ e. cc) ((q, reads, refl), record { at_once = refl; opcode = opcode; question = q; reads = reads; unserved = t }))
+      (λ t. refused s.cache x.cache _ NotServed takes (λ e. cc) ((q, reads, refl), record { at_once = refl; opcode = opcode; question = q; reads = reads; unserved = t }))
       (λ f. routed takes opcode q reads f (route_of c q.name) refl)
 
   pub client_explained : P (row_of_request c n words client request s)
@@ -205,5 +314,5 @@ module _ (c : Config) (past : List Step) (w : List (List ℕ)) (s : State) (x : 
       cond_both (is_taken request) _ _ P
       (λ t. cond_both ((header_in request).opcode == 0) _ _ P
       (λ z. asked t (eqb-true (header_in request).opcode 0 z) (one_question request) refl)
-      (λ z. refused _ BadOpcode t (λ e. cc) (refl, (refl, eqb-false (header_in request).opcode 0 z))))
+      (λ z. refused s.cache x.cache _ BadOpcode t (λ e. cc) (refl, (refl, eqb-false (header_in request).opcode 0 z))))
       (λ f more_is. ([], idle_explained c past w s x handed unkept more n (record s { moment = n }) refl (refl, moment) f (no_delivery []) more_is))

@@ -1,16 +1,15 @@
 -- A delivery leaves explained what was explained.
-use Rattle.std.proofs.Common.{◌≡◌, ◌⊎◌, ℕ, ◌+◌, ◌^◌, ◌<◌, ◌≤◌, List, [], ◌∷◌, ◌++◌, length, Bool, true, false, refl, sym, ap, ◌∙◌, subst, inl, inr, ⊎_elim, arith, Option, Some, None}
-use Rattle.std.specs.Prelude.{option_map, map, ◌==◌, ◌&&◌, ◌||◌, min, max, nat_le, nat_lt, Result, Ok, Err}
-use Rattle.std.specs.List.{concat, AllByRecursion}
-use Rattle.std.proofs.lemmas.Bool.{and_from, lt-ltb, ltb-true, leb-true, leb-false, le-leb, cond-true, cond-false, cond_both, eq-eqb, eqb-true, or_cases, false≢true}
+use Rattle.std.proofs.Common.{◌≡◌, ◌⊎◌, ℕ, ◌+◌, ◌^◌, ◌<◌, ◌≤◌, List, [], ◌∷◌, ◌++◌, length, Bool, true, false, refl, sym, ap, ◌∙◌, subst, inl, inr, ⊎_elim, Option, Some, None}
+use Rattle.std.specs.Prelude.{slice_set, option_map, map, ◌==◌, ◌||◌, min, max, nat_lt, Result, Ok, Err}
+use Rattle.std.specs.List.{AllByRecursion}
+use Rattle.std.proofs.lemmas.Bool.{and_from, lt-ltb, ltb-true, le-leb, cond-true, cond-false, cond_both, eq-eqb, eqb-true, or_cases, false≢true}
 use Rattle.dns_message.specs.Header.{Header}
 use Rattle.dns_message.specs.Fault.{Fault}
 use Rattle.dns_message.specs.Values.{Question, Message}
-use Rattle.dns_message.specs.Messages.{message_of}
-use Rattle.dns_message.specs.Writing.{written}
+use Rattle.dns_message.specs.Messages.{Spells, HasShapes, message_of}
 use Rattle.dns_message.specs.Questions.{same_question}
 use Rattle.dns_message.specs.Header.{header_in}
-use Rattle.dns_message.proofs.CallerLemmas.{same_question_decides}
+use Rattle.dns_message.proofs.CallerLemmas.{spelled_message_has_shapes, spelled_message_is_message}
 use Rattle.suffix_routes.specs.declared.peer.Peer.{Peer}
 use Rattle.suffix_routes.specs.Values.{Config, Route}
 use Rattle.outstanding.specs.declared.ask.Path.{Path}
@@ -22,32 +21,33 @@ use Rattle.reply_match.specs.Questions.{asks_this}
 use Rattle.dns_message.specs.Questions.{one_question}
 use Rattle.reply_match.specs.Verdicts.{judge, judged_whole, matches}
 use Rattle.retry_failover.specs.declared.Failure.TheVariants as failure
-use Rattle.step_values.specs.declared.event.Client.{Client}
-use Rattle.step_values.specs.declared.event.Client.TheVariants.{Udp as FromUdp, Tcp as FromTcp}
-use Rattle.step_values.specs.declared.action.Why.TheVariants.{TooLarge}
 use Rattle.step_values.specs.Values.{delivery, Delivered, Action, Step}
 use Rattle.step_history.specs.Names.{route_of}
-use Rattle.step_history.specs.Pieces.{Piece, Held, Walk, is_lame, walk}
-use Rattle.step_history.specs.History.{InEra, Look, moment_at, ShownAsk, listed, on_path, Sends, Matches, Accepts, Carries, NothingAccepted}
-use Rattle.step_history.specs.Carried.{CarriedInEra, Justified}
-use Rattle.step_history.specs.Answers.{Chain}
-use Rattle.step_history.specs.Replies.{full_answer, truncated, sized_for, error_response}
+use Rattle.plain_list.specs.Octets.{AreOctets}
+use Rattle.record_cache.specs.Values.{Cache}
+use Rattle.trust_rank.specs.Values.{Piece, Walk}
+use Rattle.trust_rank.specs.Walks.{walk_of}
+use Rattle.step_history.specs.History.{moment_at, ShownAsk, listed, on_path, counts_as_lame, Matches, Accepts, Carries, NothingAccepted}
 use Rattle.step_rules.specs.State.{Waiting, State}
-use Rattle.step_rules.specs.Row.{Done, Fate, gets, waits, answered_over, answered, waits_for, is_given, end_piece, timeout_of, row_of_end, row_of_message, row_of_verdict, row_of_delivery}
+use Rattle.step_rules.specs.Steps.{Done, Fate, waits, waits_for, preferring, closing_step, offering_step}
+use Rattle.step_rules.specs.Attempts.{servers_in}
+use Rattle.step_rules.specs.Offering.{put_all, unkept_of}
+use Rattle.step_rules.specs.Row.{looked_by, fate_of, fate_by, timeout_of, row_of_acceptance, row_of_walk, row_of_message, row_of_verdict, row_of_delivery}
 use Rattle.step_soundness.specs.Explains.{shown, Waits, Tried, ArePreferred, Explains}
-use Rattle.step_history.proofs.Since.{carried_since}
-use Rattle.step_soundness.proofs.Fates.{Fated}
-use Rattle.step_soundness.proofs.Names.{same_peer-is, route_of-alike}
+use Rattle.step_keeping.specs.Kept.{CanBeKept, IsCached}
+use Rattle.step_soundness.proofs.Fates.{Fated, fated, fated_fates, fated_each}
+use Rattle.step_soundness.proofs.Names.{same_peer-is}
 use Rattle.step_soundness.proofs.Messages.{spells_read, read_spells, read_header}
-use Rattle.step_soundness.proofs.SetLaws.{EndsAtSet, ends_at_set, end_piece_is, end_piece_at, set_ends, set_route}
 use Rattle.step_soundness.proofs.Listed.{on_path-shown, ask_on-is, shown_from}
 use Rattle.step_soundness.proofs.Matching.{judged_parts, MatchFacts, match_facts}
 use Rattle.step_soundness.proofs.Attempts.{peer_within, preferred_put}
-use Rattle.step_soundness.proofs.Actions.{OwnsReply, Speaks}
+use Rattle.step_soundness.proofs.Actions.{OwnsReply, Speaks, fated_speak}
+use Rattle.step_keeping.proofs.CallerLemmas.{accepted_pieces_can_be_kept, offers_keep_cached}
+use Rattle.step_soundness.proofs.Accepting.{closed_at_end, fate_accepted}
 use Rattle.step_soundness.proofs.Cases.{waits_later}
 use Rattle.step_soundness.proofs.Failures as failures
 
-module _ (c : Config) (past : List Step) (w : List (List ℕ)) (s : State) (x : Explains c past w s) (now : ℕ) (words : List ℕ) (unkept : ℕ) (more : Bool) (path : Path) (from : Peer) (octets : List ℕ) where
+module _ (c : Config) (past : List Step) (w : List (List ℕ)) (s : State) (x : Explains c past w s) (now : ℕ) (words : List ℕ) (unkept : ℕ) (more : Bool) (path : Path) (from : Peer) (octets : List ℕ) (rooms : List Bool) (are_octets : AreOctets octets) where
   abbrev n : ℕ
   n = max (min now (2 ^ 62)) s.moment
 
@@ -68,8 +68,7 @@ module _ (c : Config) (past : List Step) (w : List (List ℕ)) (s : State) (x : 
     pub whole : judge ask from octets ≡ Whole
     pub message : Message
     pub read : message_of octets ≡ Ok message
-    pub piece : Piece
-    pub ends : end_piece (walk c message ask.question ask.route) ≡ Some piece
+    pub fine : counts_as_lame (walk_of c message ask.question ask.route).end ≡ false
 
   heard : (actions : List Action) (ps : List Piece) → Carries c (told actions) past ps → IsHeard
   heard actions ps k = record {
@@ -79,8 +78,7 @@ module _ (c : Config) (past : List Step) (w : List (List ℕ)) (s : State) (x : 
     whole = cond-true (matches a from octets) _ _ matched ∙ cond-false (header_in octets).tc _ _ (ap (λ (h : Header). h.tc) header_is ∙ k.accepts.untruncated) ∙ cond-true (((header_in octets).rcode == 0) || ((header_in octets).rcode == 3)) _ _ rcode ∙ ap judged_whole read;
     message = k.message;
     read = read;
-    piece = piece.0;
-    ends = end_piece_is c k.message a.question a.route piece.0 piece.1;
+    fine = subst (λ (z : Question × ℕ). counts_as_lame (walk_of c k.message z.0 z.1).end ≡ false) (λ i. (question_is i, route_is i)) accepts.not_lame;
   }
     where
       accepts : Accepts c (told actions) past k.ask k.asked k.route k.message
@@ -149,13 +147,10 @@ module _ (c : Config) (past : List Step) (w : List (List ℕ)) (s : State) (x : 
           (same_peer-is from a.peer (ap (λ (d : Delivered). d.from) delivered_is ∙ ap (λ (q : ShownAsk). q.server) (sym at.2))))
           (ap (asks_this a.question) (ap one_question octets_is ∙ of_ask.reads) ∙ subst (λ (q : Question). same_question of_ask.question q ≡ true) question_is of_ask.same_question_as_ask)
 
-      piece : (p : Piece) × EndsAtSet c k.message a.question a.route p
-      piece = ends_at_set c k.message a.question a.route (subst (λ (z : Question × ℕ). is_lame (walk c k.message z.0 z.1).end ≡ false) (λ i. (question_is i, route_is i)) accepts.not_lame)
-
   quiet : (IsHeard → ⊥) → (actions : List Action) → NothingAccepted c (told actions) past
   quiet none actions ps k = none (heard actions ps k)
 
-  nothing_more : (IsHeard → ⊥) → D (record { actions = []; state = record s { moment = n } })
+  nothing_more : (IsHeard → ⊥) → D (record { actions = []; unkept = 0; state = record s { moment = n } })
   nothing_more none = failures.idle_row c past w s x now words unkept more (delivery path from octets) refl refl (quiet none [])
 
   module _ (a : Ask) (on : ask_on path s.asks ≡ Some a) where
@@ -174,195 +169,125 @@ module _ (c : Config) (past : List Step) (w : List (List ℕ)) (s : State) (x : 
     failed : (IsHeard → ⊥) → (f : Rattle.retry_failover.specs.declared.Failure.Failure) → D (Rattle.step_rules.specs.Row.row_of_failure c n words a f s)
     failed none f = failures.failure_row c past w s x now words unkept more (delivery path from octets) refl refl a on_own (quiet none) f
 
-    accepted_row : (m : Message) (p : Piece) → nat_lt n (timeout_of c a) ≡ true → judge a from octets ≡ Whole → message_of octets ≡ Ok m → end_piece (walk c m a.question a.route) ≡ Some p → D (row_of_end c n words a s (Some p))
-    accepted_row m p live whole read ends =
-        failures.closed_row c past w s x now words unkept more (delivery path from octets) refl refl a on_own (is_given n held a.question) None (Rattle.std.specs.Prelude.slice_set s.preferred a.route a.server) (held ∷ x.carried)
-        (speak_all s.waiting) fates tt tt tt tt tt preferred carried_now
+    -- an accepted reply: all that wait for it are answered, and its pieces are offered
+    module _ (m : Message) (live : nat_lt n (timeout_of c a) ≡ true) (whole : judge a from octets ≡ Whole) (read : message_of octets ≡ Ok m) (fine : counts_as_lame (walk_of c m a.question a.route).end ≡ false) where
+      abbrev walk : Walk
+      walk = walk_of c m a.question a.route
+
+      abbrev fate : Waiting → Fate
+      fate = fate_by c n s.cache.entries a walk
+
+      abbrev answers : List Action
+      answers = failures.actions_by c past w s x now words unkept more (delivery path from octets) refl refl a on_own (map fate s.waiting) None
+
+      header_is : header_in octets ≡ m.header
+      header_is = read_header octets m read
+
+      spelled : Spells octets m
+      spelled = read_spells octets m read
+
+      parts : (matches a from octets ≡ true) × ((header_in octets).tc ≡ false) × ((((header_in octets).rcode == 0) || ((header_in octets).rcode == 3)) ≡ true)
+      parts = judged_parts from octets a whole
+
+      rcode : (m.header.rcode ≡ 0) ⊎ (m.header.rcode ≡ 3)
+      rcode = ⊎_elim
+          (λ (e : ((header_in octets).rcode == 0) ≡ true). inl (ap (λ (h : Header). h.rcode) (sym header_is) ∙ eqb-true (header_in octets).rcode 0 e))
+          (λ (e : ((header_in octets).rcode == 3) ≡ true). inr (ap (λ (h : Header). h.rcode) (sym header_is) ∙ eqb-true (header_in octets).rcode 3 e))
+          (or_cases ((header_in octets).rcode == 0) ((header_in octets).rcode == 3) parts.2)
+
+      facts : MatchFacts a from octets
+      facts = match_facts a from octets parts.0
+
+      shown_on : on_path a.path (listed past) ≡ Some (shown a)
+      shown_on = ap (on_path a.path) (sym x.asks) ∙ on_path-shown a.path s.asks ∙ ap (option_map shown) on_own
+
+      accepts : Accepts c (told answers) past (shown a) a.question a.route m
+      accepts = record {
+        octets = octets;
+        matches = record {
+          delivered = λ i. Some (record { path = sym path_is i; from = facts.server i; octets = octets });
+          is_listed = shown_on;
+          is_live = subst (λ (t : ℕ). t < timeout_of c a) (moment_now answers) (ltb-true n (timeout_of c a) live);
+          long_enough = facts.long_enough;
+          not_too_long = facts.not_too_long;
+          is_reply = facts.is_reply;
+          opcode = facts.opcode;
+          identifier = facts.identifier ∙ sym tried_a.identifier;
+          ask_reads = tried_a.reads;
+          question = facts.question;
+          reads = facts.reads;
+          same_question_as_ask = facts.same;
+        };
+        spells = spelled;
+        untruncated = ap (λ (h : Header). h.tc) (sym header_is) ∙ parts.1;
+        rcode = rcode;
+        route_is = tried_a.on_route;
+        not_lame = fine;
+      }
+
+      carries : Carries c (told answers) past (walk.pieces ++ walk.authority)
+      carries = record { ask = shown a; asked = a.question; route = a.route; message = m; accepts = accepts; are = refl }
+
+      shapes : HasShapes m
+      shapes = spelled_message_has_shapes octets m spelled
+
+      offered : AllByRecursion (CanBeKept c) (walk.pieces ++ walk.authority)
+      offered = accepted_pieces_can_be_kept c m a.question a.route (spelled_message_is_message octets m are_octets spelled) shapes tried_a.question tried_a.on_route fine
+
+      fates : (y : Waiting) (i : ℕ) → Waits c past y i → Fated (OwnsReply c (told answers ∷ past)) (Waits c (told answers ∷ past)) (fate y) i
+      fates y i was = cond_both (waits_for a.question y) (fate_of c n y (looked_by c n s.cache.entries walk y walk.end)) (waits y) (λ v. Fated (OwnsReply c (told answers ∷ past)) (Waits c (told answers ∷ past)) v i)
+          (λ t. fate_accepted c past (told answers) n x.cache.carried a m refl (moment_now answers) x.cache.carried_is tried_a.on_route shapes fine offered carries y i was t s.cache.entries)
+          (λ _. waits_later c (told answers) past y i (refl, inr (walk.pieces ++ walk.authority, carries)) was)
+
+      speak : AllByRecursion Speaks (map fate s.waiting)
+      speak = subst (AllByRecursion Speaks) (fated_fates fate x.numbers_of ∙ ap (map fate) x.waiting)
+          (fated_speak c (told answers ∷ past) (fated fate x.numbers_of) (fated_each (OwnsReply c (told answers ∷ past)) (Waits c (told answers ∷ past)) (Waits c past) fate x.numbers_of fates x.waits))
+
+      preferred : ArePreferred c.routes (slice_set s.preferred a.route a.server)
+      preferred = preferred_put c.routes s.preferred a.route a.server x.preferred (λ r there. subst (λ (o : Option Route). a.server < length (servers_in o)) there (peer_within c a.route a.server a.peer tried_a.server))
+
+      abbrev kept : Cache
+      kept = record { capacity = s.cache.capacity; entries = put_all s.cache.capacity n rooms (walk.pieces ++ walk.authority) s.cache.entries }
+
+      cached_now : IsCached c (told answers ∷ past) n kept
+      cached_now = offers_keep_cached c past s.moment n s.cache (told answers) rooms (walk.pieces ++ walk.authority) x.cache x.moment refl (moment_now answers) carries offered
+
+      closed : D (offering_step n rooms (walk.pieces ++ walk.authority) (closing_step n a fate None (preferring a s)))
+      closed = failures.closed_row c past w s x now words unkept more (delivery path from octets) refl refl a on_own fate None (slice_set s.preferred a.route a.server) kept
+          (unkept_of s.cache.capacity n rooms (walk.pieces ++ walk.authority) s.cache.entries) speak fates tt tt tt tt tt preferred cached_now
+
+      accepted_row : D (row_of_acceptance c n words rooms a walk s)
+      accepted_row = subst (λ (d : Done). D (offering_step n rooms (walk.pieces ++ walk.authority) d)) (sym (closed_at_end c n words a walk fate (preferring a s) walk.end fine)) closed
+
+    walk_row : (m : Message) → nat_lt n (timeout_of c a) ≡ true → judge a from octets ≡ Whole → message_of octets ≡ Ok m → D (row_of_walk c n words rooms a s (walk_of c m a.question a.route))
+    walk_row m live whole read =
+        cond_both (counts_as_lame (walk_of c m a.question a.route).end) _ _ D
+        (λ t. failed (λ h. no_end h (same_ask h) t) failure.Lame)
+        (λ f. accepted_row m live whole read f)
       where
-        held : Held
-        held = record { piece = p; accepted = n }
-
-        actions : List Action
-        actions = failures.actions_by c past w s x now words unkept more (delivery path from octets) refl refl a on_own (map (is_given n held a.question) s.waiting) None
-
-        step : Step
-        step = told actions
-
-        preferred : ArePreferred c.routes (Rattle.std.specs.Prelude.slice_set s.preferred a.route a.server)
-        preferred = preferred_put c.routes s.preferred a.route a.server x.preferred (λ r there. subst (λ (o : Option Route). a.server < length (Rattle.step_rules.specs.Attempts.servers_in o)) there (peer_within c a.route a.server a.peer tried_a.server))
-
-        speaks : (y : Waiting) (client : Client) → Speaks (gets (answered_over client y (written (full_answer y.header y.question [] held n)) (written (truncated y.header y.question held))))
-        speaks y (FromUdp peer) = tt
-        speaks y (FromTcp conn) = cond_both (nat_le (length (written (full_answer y.header y.question [] held n))) 65535) _ _ (λ (v : Action). Speaks (gets v)) (λ _. tt) (λ _. tt)
-
-        speak_all : (ys : List Waiting) → AllByRecursion Speaks (map (is_given n held a.question) ys)
-        speak_all [] = tt
-        speak_all (y ∷ ys) = (cond_both (waits_for a.question y) (gets (answered n held y)) (waits y) Speaks (λ _. speaks y y.client) (λ _. tt), speak_all ys)
-
-        at_set : (is_lame (walk c m a.question a.route).end ≡ false) × EndsAtSet c m a.question a.route p
-        at_set = end_piece_at c m a.question a.route p ends
-
-        header_is : header_in octets ≡ m.header
-        header_is = read_header octets m read
-
-        parts : (matches a from octets ≡ true) × ((header_in octets).tc ≡ false) × ((((header_in octets).rcode == 0) || ((header_in octets).rcode == 3)) ≡ true)
-        parts = judged_parts from octets a whole
-
-        rcode : (m.header.rcode ≡ 0) ⊎ (m.header.rcode ≡ 3)
-        rcode = ⊎_elim
-            (λ (e : ((header_in octets).rcode == 0) ≡ true). inl (ap (λ (h : Header). h.rcode) (sym header_is) ∙ eqb-true (header_in octets).rcode 0 e))
-            (λ (e : ((header_in octets).rcode == 3) ≡ true). inr (ap (λ (h : Header). h.rcode) (sym header_is) ∙ eqb-true (header_in octets).rcode 3 e))
-            (or_cases ((header_in octets).rcode == 0) ((header_in octets).rcode == 3) parts.2)
-
-        facts : MatchFacts a from octets
-        facts = match_facts a from octets parts.0
-
-        shown_on : on_path a.path (listed past) ≡ Some (shown a)
-        shown_on = ap (on_path a.path) (sym x.asks) ∙ on_path-shown a.path s.asks ∙ ap (option_map shown) on_own
-
-        accepts : Accepts c step past (shown a) a.question a.route m
-        accepts = record {
-          octets = octets;
-          matches = record {
-            delivered = λ i. Some (record { path = sym path_is i; from = facts.server i; octets = octets });
-            is_listed = shown_on;
-            is_live = subst (λ (t : ℕ). t < timeout_of c a) (moment_now actions) (ltb-true n (timeout_of c a) live);
-            long_enough = facts.long_enough;
-            not_too_long = facts.not_too_long;
-            is_reply = facts.is_reply;
-            opcode = facts.opcode;
-            identifier = facts.identifier ∙ sym tried_a.identifier;
-            ask_reads = tried_a.reads;
-            question = facts.question;
-            reads = facts.reads;
-            same_question_as_ask = facts.same;
-          };
-          spells = read_spells octets m read;
-          untruncated = ap (λ (h : Header). h.tc) (sym header_is) ∙ parts.1;
-          rcode = rcode;
-          route_is = tried_a.on_route;
-          not_lame = at_set.0;
-        }
-
-        carries : Carries c step past (p ∷ [])
-        carries = record { ask = shown a; asked = a.question; route = a.route; message = m; accepts = accepts; are = sym (ap (λ (v : Walk). v.pieces ++ v.authority) at_set.1.walk_is) }
-
-        carried_now : CarriedInEra c (step ∷ past) (held ∷ x.carried)
-        carried_now = inr (inr (refl, p ∷ [], x.carried, carries, x.carried_is, ap (λ (t : ℕ). record { piece = p; accepted = t } ∷ x.carried) (moment_now actions)))
-
-        look : (asked : Step) (before : List Step) → Look
-        look asked before = record { config = c; asked = asked; before = before; now = step ∷ past }
-
-        justified : (y : Waiting) (asked : Step) (before : List Step) → InEra (asked ∷ before) past → same_question y.question a.question ≡ true → Justified (look asked before) y.question.name held
-        justified y asked before era same =
-            let since = carried_since c (asked ∷ before) past x.carried era x.carried_is in
-            record {
-              old = since.0;
-              new = held ∷ since.1;
-              carried_before = since.2;
-              carried_now = subst (λ (os : List Held). CarriedInEra c (step ∷ past) (held ∷ os)) since.3 carried_now;
-              on_route = route_of-alike c y.question a.question ((same_question_decides y.question a.question).0 same) ∙ tried_a.on_route ∙ ap Some (sym (set_route a.question a.route p at_set.1.set));
-              counts = inr (inl refl);
-            }
-
-        chain : (y : Waiting) (asked : Step) (before : List Step) → InEra (asked ∷ before) past → same_question y.question a.question ≡ true → Chain (look asked before) y.question [] held
-        chain y asked before era same = record {
-          few = omega arith;
-          last = y.question;
-          follows = refl;
-          justified = justified y asked before era same;
-          ends = set_ends a.question y.question a.route p ((same_question_decides y.question a.question).0 same) at_set.1.set;
-        }
-
-        full_is : (y : Waiting) (request : List ℕ) → y.header ≡ header_in request → written (full_answer y.header y.question [] held n) ≡ written (full_answer (header_in request) y.question [] held (moment_at (step ∷ past)))
-        full_is y request e = λ i. written (full_answer (e i) y.question [] held (moment_now actions i))
-
-        cut_is : (y : Waiting) (request : List ℕ) → y.header ≡ header_in request → written (truncated y.header y.question held) ≡ written (truncated (header_in request) y.question held)
-        cut_is y request e = λ i. written (truncated (e i) y.question held)
-
-        owns : (y : Waiting) (i : ℕ) → Waits c past y i → same_question y.question a.question ≡ true → (client : Client) → y.client ≡ client
-            → OwnsReply c (step ∷ past) i (answered_over client y (written (full_answer y.header y.question [] held n)) (written (truncated y.header y.question held)))
-        owns y i was same (FromUdp peer) client_is = λ owners. record {
-          asked = was.asked;
-          before = was.before;
-          in_era = inr (refl, was.in_era);
-          number = was.number;
-          request = was.request;
-          sent = subst (λ (cl : Client). Sends was.asked.handed.event cl was.request) client_is was.sent;
-          taken = was.taken;
-          right = record {
-            opcode = was.opcode;
-            question = y.question;
-            reads = was.reads;
-            served = was.served;
-            answers = record { aliases = []; end = held; chain = chain y was.asked was.before was.in_era same; text = λ i. sized_for (FromUdp peer) (full_is y was.request was.header_is i) (cut_is y was.request was.header_is i); fits = tt };
-          };
-        }
-        owns y i was same (FromTcp conn) client_is =
-            cond_both (nat_le (length (written (full_answer y.header y.question [] held n))) 65535) _ _ (OwnsReply c (step ∷ past) i)
-            (λ t owners. record {
-              asked = was.asked;
-              before = was.before;
-              in_era = inr (refl, was.in_era);
-              number = was.number;
-              request = was.request;
-              sent = subst (λ (cl : Client). Sends was.asked.handed.event cl was.request) client_is was.sent;
-              taken = was.taken;
-              right = record {
-                opcode = was.opcode;
-                question = y.question;
-                reads = was.reads;
-                served = was.served;
-                answers = record { aliases = []; end = held; chain = chain y was.asked was.before was.in_era same; text = full_is y was.request was.header_is; fits = leb-true (length (written (full_answer y.header y.question [] held n))) 65535 t };
-              };
-            })
-            (λ f owners. record {
-              asked = was.asked;
-              before = was.before;
-              in_era = inr (refl, was.in_era);
-              number = was.number;
-              request = was.request;
-              sent = subst (λ (cl : Client). Sends was.asked.handed.event cl was.request) client_is was.sent;
-              taken = was.taken;
-              right = (
-                (y.question, was.reads, ap (λ (h : Header). written (error_response h TooLarge (y.question ∷ []))) was.header_is),
-                record { question = y.question; aliases = []; end = held; reads = was.reads; chain = chain y was.asked was.before was.in_era same; large = subst (λ (o : List ℕ). 65535 < length o) (full_is y was.request was.header_is) (leb-false (length (written (full_answer y.header y.question [] held n))) 65535 f) },
-              );
-            })
-
-        fates : (y : Waiting) (i : ℕ) → Waits c past y i → Fated (OwnsReply c (step ∷ past)) (Waits c (step ∷ past)) (is_given n held a.question y) i
-        fates y i was = cond_both (waits_for a.question y) (gets (answered n held y)) (waits y) (λ v. Fated (OwnsReply c (step ∷ past)) (Waits c (step ∷ past)) v i)
-            (λ t. owns y i was t y.client refl)
-            (λ _. waits_later c step past y i refl was)
-
-    ended_row : (m : Message) → nat_lt n (timeout_of c a) ≡ true → judge a from octets ≡ Whole → message_of octets ≡ Ok m → (r : Option Piece) → end_piece (walk c m a.question a.route) ≡ r → D (row_of_end c n words a s r)
-    ended_row m live whole read (Some p) ends = accepted_row m p live whole read ends
-    ended_row m live whole read None ends = failed (λ h. no_end h (same_ask h)) failure.Lame
-      where
-        no_end : (h : IsHeard) → h.ask ≡ a → ⊥
-        no_end h same =
+        no_end : (h : IsHeard) → h.ask ≡ a → counts_as_lame (walk_of c m a.question a.route).end ≡ true → ⊥
+        no_end h same t =
             let one : Ok h.message ≡ Ok m = sym h.read ∙ read in
             let message_is : h.message ≡ m = cc in
-            let e : Some h.piece ≡ None = sym h.ends ∙ (λ i. end_piece (walk c (message_is i) (same i).question (same i).route)) ∙ ends in
-            cc
+            false≢true (sym h.fine ∙ (λ i. counts_as_lame (walk_of c (message_is i) (same i).question (same i).route).end) ∙ t)
 
-    message_row : nat_lt n (timeout_of c a) ≡ true → judge a from octets ≡ Whole → (r : Result Message Fault) → message_of octets ≡ r → D (row_of_message c n words a s r)
-    message_row live whole (Ok m) read = ended_row m live whole read (end_piece (walk c m a.question a.route)) refl
+    message_row : nat_lt n (timeout_of c a) ≡ true → judge a from octets ≡ Whole → (r : Result Message Fault) → message_of octets ≡ r → D (row_of_message c n words rooms a s r)
+    message_row live whole (Ok m) read = walk_row m live whole read
     message_row live whole (Err fault) read = failed (λ h. let e : Ok h.message ≡ Err fault = sym h.read ∙ read in absurd (cc)) failure.Malformed
 
-    verdict_row : nat_lt n (timeout_of c a) ≡ true → (v : Verdict) → judge a from octets ≡ v → D (row_of_verdict c n words a octets s v)
+    verdict_row : nat_lt n (timeout_of c a) ≡ true → (v : Verdict) → judge a from octets ≡ v → D (row_of_verdict c n words rooms a octets s v)
     verdict_row live Stranger is = nothing_more (λ h. let e : Stranger ≡ Whole = sym is ∙ ap (λ q. judge q from octets) (sym (same_ask h)) ∙ h.whole in absurd (cc))
     verdict_row live Truncated is = failed (λ h. let e : Truncated ≡ Whole = sym is ∙ ap (λ q. judge q from octets) (sym (same_ask h)) ∙ h.whole in absurd (cc)) failure.Truncated
     verdict_row live (Failed rcode) is = failed (λ h. let e : Failed rcode ≡ Whole = sym is ∙ ap (λ q. judge q from octets) (sym (same_ask h)) ∙ h.whole in absurd (cc)) failure.Rcode
     verdict_row live Malformed is = failed (λ h. let e : Malformed ≡ Whole = sym is ∙ ap (λ q. judge q from octets) (sym (same_ask h)) ∙ h.whole in absurd (cc)) failure.Malformed
     verdict_row live Whole is = message_row live is (message_of octets) refl
 
-  delivery_row : (r : Option Ask) → ask_on path s.asks ≡ r → D (row_of_delivery c n words from octets s r)
+  delivery_row : (r : Option Ask) → ask_on path s.asks ≡ r → D (row_of_delivery c n words rooms from octets s r)
   delivery_row None on = nothing_more (λ h. let e : Some h.ask ≡ None = sym h.on ∙ on in absurd (cc))
   delivery_row (Some a) on =
       cond_both (nat_lt n (timeout_of c a)) _ _ D
       (λ t. verdict_row a on t (judge a from octets) refl)
       (λ f. nothing_more (λ h. absurd (false≢true (sym f ∙ ap (λ q. nat_lt n (timeout_of c q)) (sym (same_ask a on h)) ∙ h.live))))
 
-  pub delivery_explained : D (row_of_delivery c n words from octets s (ask_on path s.asks))
+  pub delivery_explained : D (row_of_delivery c n words rooms from octets s (ask_on path s.asks))
   delivery_explained = delivery_row (ask_on path s.asks) refl

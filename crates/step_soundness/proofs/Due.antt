@@ -33,7 +33,7 @@ waits_due : (c : Config) (now : List Step) (d t : ℕ) (zs : List (Waiting × �
 waits_due c now d t [] all = refl
 waits_due c now d t (z ∷ zs) all =
     let w : Waits c now z.0 z.1 = all.0 in
-    let is : z.0.taken ≡ moment_of now z.1 = w.moment ∙ sym (moment_of-era w.asked w.before now w.in_era) ∙ ap (moment_of now) (sym w.number) in
+    let is : z.0.taken ≡ moment_of now z.1 = w.moment ∙ sym (moment_of-era w.comes.asked w.comes.before now w.comes.in_era) ∙ ap (moment_of now) (sym w.comes.number) in
     (λ i. nat_le (is i + d) t || waits_due c now d t zs all.1 i)
 
 asks_due : (d t : ℕ) (asks : List Ask) → list_any (λ (a : Ask). nat_le (a.asked + d) t) asks ≡ list_any (λ (a : ShownAsk). nat_le (a.moment + d) t) (map shown asks)

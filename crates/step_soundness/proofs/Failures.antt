@@ -4,11 +4,8 @@ use Rattle.std.specs.Prelude.{◌==◌, ◌||◌, min, max, map, nat_le, slice_g
 use Rattle.std.specs.List.{concat, list_any, AllByRecursion}
 use Rattle.std.proofs.lemmas.Bool.{cond_both, cond-false, eqb-true}
 use Rattle.std.proofs.lemmas.List.{length-map}
-use Rattle.dns_message.specs.Header.{Header}
 use Rattle.dns_message.specs.Values.{Question}
 use Rattle.dns_message.specs.Questions.{same_question}
-use Rattle.dns_message.specs.Writing.{written}
-use Rattle.dns_message.specs.Header.{header_in}
 use Rattle.suffix_routes.specs.declared.peer.Peer.{Peer}
 use Rattle.suffix_routes.specs.Values.{Config}
 use Rattle.outstanding.specs.declared.ask.Path.{Path}
@@ -25,27 +22,34 @@ use Rattle.retry_failover.specs.Table.{next_server, after_failure}
 use Rattle.step_values.specs.declared.action.Why.{Why}
 use Rattle.step_values.specs.declared.action.Why.TheVariants.{NoPort, Exhausted}
 use Rattle.step_values.specs.Values.{Event, request_in, Action, Handed, Step}
-use Rattle.step_history.specs.Pieces.{Held}
+use Rattle.record_cache.specs.Values.{Cache}
 use Rattle.step_history.specs.History.{is_restart_event, is_taken_request, moment_at, listed, tcp_asks, on_path, closes_path, takes_question, Look, NothingAccepted}
-use Rattle.step_history.specs.Carried.{CarriedInEra}
 use Rattle.step_history.specs.Draws.{drawn, drawn_by_tcp}
 use Rattle.step_history.specs.Causes.{ClosesAsk, LastFailed, NoneAsks}
 use Rattle.step_history.specs.Asked.{IsDrawn}
-use Rattle.step_history.specs.Sound.{unanswered, RightReply, FromCache, AsksIn}
-use Rattle.step_history.specs.Replies.{error_response}
+use Rattle.step_history.specs.Sound.{RightReply, FromCache, AsksIn}
+use Rattle.step_history.specs.Replies.{failure_text}
 use Rattle.step_rules.specs.State.{Waiting, State}
 use Rattle.step_rules.specs.Attempts.{peer_at, over_udp, over_tcp, freed_by, plan_of, next_ask}
-use Rattle.step_rules.specs.Row.{Done, Fate, gets, waits, gives_up, waits_for, fails, asks, asks_by, ask_list, tcp_count, closing, replies, closing_step, settling_step, expiry_step, without_ask, is_due_at, row_of_attempt, row_of_next, row_of_failure, row_of_failed_path, deadline_of, timeout_of, Item, question, attempt, nothing, first_item, left_alone, row_of_item, row_of_tick}
+use Rattle.step_rules.specs.Steps.{Done, Fate, gets, waits, gives_up, waits_for, fails, asks, asks_by, ask_list, tcp_count, closing, replies, closing_step, settling_step, without_ask}
+use Rattle.step_rules.specs.Row.{is_due_at, row_of_attempt, row_of_next, row_of_failure}
+use Rattle.step_keeping.specs.Kept.{IsCached}
+use Rattle.step_keeping.specs.Chains.{GoesOn}
+use Rattle.step_keeping.proofs.CallerLemmas.{leads_stay_leads}
+use Rattle.step_keeping.proofs.CallerLemmas.{quiet_steps_keep}
+use Rattle.step_soundness.proofs.Answering.{comes_later, owns, failure_told}
+use Rattle.step_keeping.specs.Chains.{look_from}
 use Rattle.step_soundness.specs.Explains.{shown, Waits, Tried, IsBelow, ArePreferred, Explains}
 use Rattle.step_soundness.proofs.Names.{same_question-sym, same_question-trans}
-use Rattle.step_soundness.proofs.Fates.{All-append, All-filter, Fated, fates_in, fated, fated_fates, fated_numbers, fated_each}
+use Rattle.step_keeping.proofs.CallerLemmas.{All-append, All-filter}
+use Rattle.step_soundness.proofs.Fates.{Fated, fates_in, fated, fated_fates, fated_numbers, fated_each}
 use Rattle.step_soundness.proofs.Asking.{still_earlier, closes_one, others_tried_on, none_asks}
 use Rattle.step_soundness.proofs.Attempts.{IsAskBy, ask_by-some, ask_by-none, udp-some, udp-none, tcp-some, tcp-none, peer_within, peer_there}
 use Rattle.step_soundness.proofs.Listed.{on_path-shown, ask_on-is, drawn-shown, drawn_fresh, free_then, none_above, drawn_numbered, drawn_last, without_shorter, none_same}
 use Rattle.step_soundness.proofs.Nexts.{IsNext, next_tried, next_right, MayFollow, listed_next, all_below, append_nil, gave_up, asked_next, asked_again}
 use Rattle.step_soundness.proofs.Actions.{OwnsReply, Speaks, AskedAt, IsRightNext, listed_settled, closes_settled}
 use Rattle.step_soundness.proofs.Cases.{step_of, waits_later, idle_explained, settled_explained}
-use Rattle.step_history.proofs.Moments.{moment_small}
+use Rattle.step_history.proofs.CallerLemmas.{moment_small}
 
 -- what closes an ask of a question closes one of each equal question
 closes_alike : (q q' : Question) (s : Step) (past : List Step) → same_question q q' ≡ true → ClosesAsk q s past → ClosesAsk q' s past
@@ -100,7 +104,7 @@ module _ (c : Config) (past : List Step) (w : List (List ℕ)) (s : State) (x : 
   small_moment = let small = moment_small past in let was : s.moment ≡ moment_at past = x.moment in omega (arith, small, was)
 
   -- nothing happens
-  pub idle_row : NothingAccepted c (step []) past → P (record { actions = []; state = record s { moment = n } })
+  pub idle_row : NothingAccepted c (step []) past → P (record { actions = []; unkept = 0; state = record s { moment = n } })
   idle_row quiet more_is = ([], idle_explained c past w s x handed unkept more n (record s { moment = n }) refl (runs, moment_now []) takes quiet more_is)
 
   fates_eq : (fate : Waiting → Fate) → fates_in (fated fate x.numbers_of) ≡ map fate s.waiting
@@ -139,20 +143,20 @@ module _ (c : Config) (past : List Step) (w : List (List ℕ)) (s : State) (x : 
         others_left (All-filter (Tried c past) (λ b. Rattle.std.specs.Prelude.not (same_path b.path a.path)) s.asks x.tried)
 
     -- an ask is closed, with a fate by the question
-    pub closed_row : (fate : Waiting → Fate) (next : Option Ask) (preferred : List ℕ) (carried : List Held)
+    pub closed_row : (fate : Waiting → Fate) (next : Option Ask) (preferred : List ℕ) (cache : Cache) (count : ℕ)
         → AllByRecursion Speaks (map fate s.waiting)
         → ((y : Waiting) (i : ℕ) → Waits c past y i → Fated (OwnsReply c (step (actions_by (map fate s.waiting) next) ∷ past)) (Waits c (step (actions_by (map fate s.waiting) next) ∷ past)) (fate y) i)
         → AskedAt n next → MayFollow c (without_path a.path s.asks) next
         → AllByRecursion (Tried c (step (actions_by (map fate s.waiting) next) ∷ past)) (ask_list next)
         → AllByRecursion (λ b. IsBelow (s.tcp_asks + tcp_count next) b.path) (ask_list next)
         → IsRightNext c (step (actions_by (map fate s.waiting) next)) past next → ArePreferred c.routes preferred
-        → CarriedInEra c (step (actions_by (map fate s.waiting) next) ∷ past) carried
-        → P (closing_step n a fate next (record s { preferred = preferred }))
-    closed_row fate next preferred carried speak fates asked_at may tried below right are_preferred carried_is more_is =
-        settled_explained c past w s x handed unkept more n (Some a) (fated fate x.numbers_of) next preferred carried (actions_by (map fate s.waiting) next)
-        (closing_step n a fate next (record s { preferred = preferred })).state
+        → IsCached c (step (actions_by (map fate s.waiting) next) ∷ past) n cache
+        → P (record { actions = actions_by (map fate s.waiting) next; unkept = count; state = record (closing_step n a fate next (record s { preferred = preferred })).state { cache = cache } })
+    closed_row fate next preferred cache count speak fates asked_at may tried below right are_preferred cached more_is =
+        settled_explained c past w s x handed unkept more n (Some a) (fated fate x.numbers_of) next preferred cache (actions_by (map fate s.waiting) next)
+        (record (closing_step n a fate next (record s { preferred = preferred })).state { cache = cache })
         (ap (λ (vs : List Fate). actions_by vs next) (sym (fates_eq fate)))
-        (λ i. record { asks = without_path a.path s.asks ++ ask_list next; waiting = Rattle.step_rules.specs.Row.still_waiting (sym (fates_eq fate) i); preferred = preferred; moment = n; tcp_asks = s.tcp_asks + tcp_count next })
+        (λ i. record { cache = cache; asks = without_path a.path s.asks ++ ask_list next; waiting = Rattle.step_rules.specs.Steps.still_waiting (sym (fates_eq fate) i); preferred = preferred; moment = n; tcp_asks = s.tcp_asks + tcp_count next })
         (runs, moment_now (actions_by (map fate s.waiting) next)) takes (no_question (actions_by (map fate s.waiting) next))
         (fated_numbers fate x.numbers_of)
         (let long = ap length (fates_eq fate) ∙ length-map s.waiting fate in let few = x.few in omega (arith, long, few))
@@ -162,34 +166,25 @@ module _ (c : Config) (past : List Step) (w : List (List ℕ)) (s : State) (x : 
         (All-append (Tried c (step (actions_by (map fate s.waiting) next) ∷ past)) (without_path a.path s.asks) (ask_list next) (others_tried (map fate s.waiting) next speak) tried)
         (All-append (λ b. IsBelow (s.tcp_asks + tcp_count next) b.path) (without_path a.path s.asks) (ask_list next)
         (all_below s.tcp_asks (tcp_count next) (without_path a.path s.asks) (All-filter (λ b. IsBelow s.tcp_asks b.path) (λ b. Rattle.std.specs.Prelude.not (same_path b.path a.path)) s.asks x.connections)) below)
-        right are_preferred carried_is more_is
+        right are_preferred cached more_is
 
     -- ---- a failed attempt
 
     module _ (quiet : (actions : List Action) → NothingAccepted c (step actions) past) where
-      carried_on : (actions : List Action) → CarriedInEra c (step actions ∷ past) x.carried
-      carried_on actions = inr (inl (runs, quiet actions, x.carried_is))
+      on_now : (actions : List Action) → GoesOn c (step actions) past
+      on_now actions = (runs, inl (quiet actions))
+
+      cached_now : (actions : List Action) → IsCached c (step actions ∷ past) n s.cache
+      cached_now actions = quiet_steps_keep c past s.moment n s.cache (step actions) x.cache x.moment (runs, quiet actions) (moment_now actions) (λ q octets f. absurd (no_question actions q octets f))
 
       -- those that wait for it are told why not
       told : (why : Why) (actions : List Action)
-          → ((y : Waiting) (i : ℕ) (was : Waits c past y i) → same_question y.question a.question ≡ true → (k : ℕ)
-          → RightReply (record { config = c; asked = was.asked; before = was.before; now = step actions ∷ past }) y.client was.request k why (written (error_response y.header why (y.question ∷ []))))
+          → ((y : Waiting) (i : ℕ) (was : Waits c past y i) → same_question y.wanted a.question ≡ true → (k : ℕ)
+          → RightReply (look_from c was.comes.asked was.comes.before (step actions ∷ past)) y.client was.comes.request k why (failure_text y.asked why))
           → (y : Waiting) (i : ℕ) → Waits c past y i → Fated (OwnsReply c (step actions ∷ past)) (Waits c (step actions ∷ past)) (fails why a.question y) i
       told why actions right y i was = cond_both (waits_for a.question y) (gets (gives_up why y)) (waits y) (λ v. Fated (OwnsReply c (step actions ∷ past)) (Waits c (step actions ∷ past)) v i)
-          (λ t owners. record {
-            asked = was.asked;
-            before = was.before;
-            in_era = inr (runs, was.in_era);
-            number = was.number;
-            request = was.request;
-            sent = was.sent;
-            taken = was.taken;
-            right = right y i was t (length (unanswered was.before owners));
-          })
-          (λ _. waits_later c (step actions) past y i runs was)
-
-      error_text : (y : Waiting) (i : ℕ) (was : Waits c past y i) (why : Why) → (q : Question) × (Rattle.step_history.specs.History.Reads was.request q) × (written (error_response y.header why (y.question ∷ [])) ≡ written (error_response (header_in was.request) why (q ∷ [])))
-      error_text y i was why = (y.question, was.reads, ap (λ (h : Header). written (error_response h why (y.question ∷ []))) was.header_is)
+          (λ t. owns c (step actions ∷ past) y.client y.asked i (comes_later (step actions) past y.client y.asked i runs was.comes) why (failure_text y.asked why) (right y i was t))
+          (λ _. waits_later c (step actions) past y i (on_now actions) was)
 
       abbrev given_up : List Fate
       given_up = map (fails Exhausted a.question) s.waiting
@@ -203,46 +198,49 @@ module _ (c : Config) (past : List Step) (w : List (List ℕ)) (s : State) (x : 
 
       -- all tries are used
       exhausted_row : (a.used == c.limits.tries) ≡ true → P (closing_step n a (fails Exhausted a.question) None s)
-      exhausted_row last = closed_row (fails Exhausted a.question) None s.preferred x.carried (fails_speak Exhausted a.question s.waiting)
+      exhausted_row last = closed_row (fails Exhausted a.question) None s.preferred s.cache 0 (fails_speak Exhausted a.question s.waiting)
           (told Exhausted (actions_by given_up None) (λ y i was t k. (
-            error_text y i was Exhausted,
+            failure_told past y.client y.asked i was.comes Exhausted,
             record {
-              question = y.question;
-              reads = was.reads;
-              failed = subst (LastFailed c y.question (step (actions_by given_up None) ∷ past)) (sym tried_a.used ∙ eqb-true a.used c.limits.tries last) (runs, inl (closes y t, quiet (actions_by given_up None), failed_alike c a.question y.question (same_question-sym y.question a.question t) past tried_a.before tried_a.failed));
+              question = was.comes.question;
+              reads = was.comes.reads;
+              aliases = y.held;
+              last = y.wanted;
+              leads = leads_stay_leads c was.comes.asked (step (actions_by given_up None)) was.comes.before past was.comes.question y.held y.wanted (on_now (actions_by given_up None)) was.leads;
+              failed = subst (LastFailed c y.wanted (step (actions_by given_up None) ∷ past)) (sym tried_a.used ∙ eqb-true a.used c.limits.tries last) (runs, inl (closes y t, quiet (actions_by given_up None), failed_alike c a.question y.wanted (same_question-sym y.wanted a.question t) past tried_a.before tried_a.failed));
               closed = closes y t;
               none_left = none y t;
             },
           )))
-          tt tt tt tt tt x.preferred (carried_on (actions_by given_up None))
+          tt tt tt tt tt x.preferred (cached_now (actions_by given_up None))
         where
-          closes : (y : Waiting) → same_question y.question a.question ≡ true → ClosesAsk y.question (step (actions_by given_up None)) past
-          closes y t = closes_ask given_up None (fails_speak Exhausted a.question s.waiting) y.question (same_question-sym y.question a.question t)
+          closes : (y : Waiting) → same_question y.wanted a.question ≡ true → ClosesAsk y.wanted (step (actions_by given_up None)) past
+          closes y t = closes_ask given_up None (fails_speak Exhausted a.question s.waiting) y.wanted (same_question-sym y.wanted a.question t)
 
-          none : (y : Waiting) → same_question y.question a.question ≡ true → NoneAsks y.question (listed (step (actions_by given_up None) ∷ past))
-          none y t = subst (NoneAsks y.question) left_listed (none_asks c past y.question (without_path a.path s.asks) (All-filter (Tried c past) (λ b. Rattle.std.specs.Prelude.not (same_path b.path a.path)) s.asks x.tried)
-              (none_same y.question (without_path a.path s.asks) (question_free a.path y.question s.asks a x.asks_are.in_turn on (same_question-sym y.question a.question t))))
+          none : (y : Waiting) → same_question y.wanted a.question ≡ true → NoneAsks y.wanted (listed (step (actions_by given_up None) ∷ past))
+          none y t = subst (NoneAsks y.wanted) left_listed (none_asks c past y.wanted (without_path a.path s.asks) (All-filter (Tried c past) (λ b. Rattle.std.specs.Prelude.not (same_path b.path a.path)) s.asks x.tried)
+              (none_same y.wanted (without_path a.path s.asks) (question_free a.path y.wanted s.asks a x.asks_are.in_turn on (same_question-sym y.wanted a.question t))))
 
       -- no path is free for the next ask
       no_path_row : (actions_by (map (fails NoPort a.question) s.waiting) None ≡ actions_by (map (fails NoPort a.question) s.waiting) None)
           → ((drawn words (listed past) (actions_by (map (fails NoPort a.question) s.waiting) None) ≡ None) ⊎ (tcp_asks past ≡ 2 ^ 64 - 1)) → P (closing_step n a (fails NoPort a.question) None s)
-      no_path_row same none = closed_row (fails NoPort a.question) None s.preferred x.carried (fails_speak NoPort a.question s.waiting)
-          (told NoPort (actions_by (map (fails NoPort a.question) s.waiting) None) (λ y i was t k. (error_text y i was NoPort, none)))
-          tt tt tt tt tt x.preferred (carried_on (actions_by (map (fails NoPort a.question) s.waiting) None))
+      no_path_row same none = closed_row (fails NoPort a.question) None s.preferred s.cache 0 (fails_speak NoPort a.question s.waiting)
+          (told NoPort (actions_by (map (fails NoPort a.question) s.waiting) None) (λ y i was t k. (failure_told past y.client y.asked i was.comes NoPort, none)))
+          tt tt tt tt tt x.preferred (cached_now (actions_by (map (fails NoPort a.question) s.waiting) None))
 
       -- the next ask goes out
       next_row : (next : Ask) (server : ℕ) (peer : Option Peer) (draw : Option (ℕ × Path)) → IsAskBy n a.question a.route server (a.used + 1) peer draw next → peer_at c a.route server ≡ peer
           → next.id < 2 ^ 16 → ask_on next.path (without_path a.path s.asks) ≡ None → IsBelow (s.tcp_asks + tcp_count (Some next)) next.path
           → IsDrawn (step (actions_by (map (λ y. waits y) s.waiting) (Some next))) past next.id next.path
           → P (closing_step n a (λ y. waits y) (Some next) s)
-      next_row next server peer draw facts there small free below drawn_so = closed_row (λ y. waits y) (Some next) s.preferred x.carried (waits_speak s.waiting)
-          (λ y i was. waits_later c (step (actions_by (map (λ y. waits y) s.waiting) (Some next))) past y i runs was)
+      next_row next server peer draw facts there small free below drawn_so = closed_row (λ y. waits y) (Some next) s.preferred s.cache 0 (waits_speak s.waiting)
+          (λ y i was. waits_later c (step (actions_by (map (λ y. waits y) s.waiting) (Some next))) past y i (on_now (actions_by (map (λ z. waits z) s.waiting) (Some next))) was)
           facts.asked
           (next_begins s.asks a.path a next x.asks_are.in_turn on same free later in_time, let fewer = without_shorter a.path s.asks a on in let few = x.asks_are.few in omega (arith, fewer, few))
           (next_tried c (step (actions_by (map (λ y. waits y) s.waiting) (Some next)) ∷ past) a.question next is_next, tt)
           (below, tt)
           (next_right c (step (actions_by (map (λ y. waits y) s.waiting) (Some next))) past (step (actions_by (map (λ y. waits y) s.waiting) (Some next)) ∷ past) a.question next is_next drawn_so)
-          x.preferred (carried_on (actions_by (map (λ y. waits y) s.waiting) (Some next)))
+          x.preferred (cached_now (actions_by (map (λ y. waits y) s.waiting) (Some next)))
         where
           same : same_question a.question next.question ≡ true
           same = subst (λ (q : Question). same_question a.question q ≡ true) (sym facts.question) ((Rattle.dns_message.proofs.CallerLemmas.same_question_decides a.question a.question).1 (record { name = refl; kind = refl; class = refl }))

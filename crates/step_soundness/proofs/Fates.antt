@@ -1,24 +1,13 @@
 -- Waiting questions, each with the number of its step, and their fates.
-use Rattle.std.proofs.Common.{◌≡◌, ℕ, List, [], ◌∷◌, ◌++◌, Bool, true, false, cond, refl, sym, ap, ◌∙◌, Option, Some, None}
+use Rattle.std.proofs.Common.{◌≡◌, ℕ, List, [], ◌∷◌, Bool, false, cond, refl, sym, ap, ◌∙◌, Option, Some, None}
 use Rattle.std.specs.Prelude.{filter, map, not, ◌==◌, ◌||◌}
 use Rattle.std.specs.List.{filter_map, cons_option, AllByRecursion}
 use Rattle.std.proofs.lemmas.Bool.{eqb-false, eq-eqb, ne_eqb, cond-true, cond-false}
 use Rattle.step_values.specs.Values.{Action}
 use Rattle.step_rules.specs.State.{Waiting}
-use Rattle.step_rules.specs.Row.{Fate, gets, waits, waiting_in, still_waiting}
+use Rattle.step_rules.specs.Steps.{Fate, gets, waits, waiting_in, still_waiting}
 use Rattle.step_history.specs.Sound.{among}
-
-pub All-weaker : {X : Type 0} (P Q : X → Type 0) → ((x : X) → P x → Q x) → (xs : List X) → AllByRecursion P xs → AllByRecursion Q xs
-All-weaker P Q f [] h = tt
-All-weaker P Q f (x ∷ xs) h = (f x h.0, All-weaker P Q f xs h.1)
-
-pub All-append : {X : Type 0} (P : X → Type 0) (xs ys : List X) → AllByRecursion P xs → AllByRecursion P ys → AllByRecursion P (xs ++ ys)
-All-append P [] ys h k = k
-All-append P (x ∷ xs) ys h k = (h.0, All-append P xs ys h.1 k)
-
-pub All-filter : {X : Type 0} (P : X → Type 0) (test : X → Bool) (xs : List X) → AllByRecursion P xs → AllByRecursion P (filter test xs)
-All-filter P test [] h = tt
-All-filter P test (x ∷ xs) h = elim (test x) as (λ v. AllByRecursion P (cond v (x ∷ filter test xs) (filter test xs))) [ true ↦ (h.0, All-filter P test xs h.1) | false ↦ All-filter P test xs h.1 ]
+use Rattle.step_keeping.proofs.CallerLemmas.{All-weaker}
 
 abbrev pub Distinct : List ℕ → Type 0
 Distinct [] = Unit {0}

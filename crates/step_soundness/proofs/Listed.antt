@@ -97,6 +97,9 @@ pub record IsFresh (asks : List Ask) (freed : Option ℕ) (id port : ℕ) : Type
   pub small : id < 2 ^ 16
   pub free : is_free port asks freed ≡ true
 
+sixteen_bits : (word : ℕ) → word % 65536 < 2 ^ 16
+sixteen_bits word = omega arith
+
 fresh_by : (word : ℕ) (words : List ℕ) (asks : List Ask) (freed : Option ℕ) (id port : ℕ) → (udp_draw words asks freed ≡ Some (id, port) → IsFresh asks freed id port)
     → (b : Bool) → is_free (port_of word) asks freed ≡ b → udp_draw (word ∷ words) asks freed ≡ Some (id, port) → IsFresh asks freed id port
 fresh_by word words asks freed id port rest false used e = rest (sym (cond-false (is_free (port_of word) asks freed) _ _ used) ∙ e)
@@ -104,7 +107,7 @@ fresh_by word words asks freed id port rest true free e =
     let is : Some (word % 65536, port_of word) ≡ Some (id, port) = sym (cond-true (is_free (port_of word) asks freed) _ _ free) ∙ e in
     let same : (word % 65536, port_of word) ≡ (id, port) = cc in
     let first : word % 65536 ≡ id = ap (λ (d : ℕ × ℕ). d.0) same in
-    record { small = omega (arith, first); free = ap (λ (d : ℕ × ℕ). is_free d.1 asks freed) (sym same) ∙ free }
+    record { small = subst (λ (k : ℕ). k < 2 ^ 16) first (sixteen_bits word); free = ap (λ (d : ℕ × ℕ). is_free d.1 asks freed) (sym same) ∙ free }
 
 pub drawn_fresh : (words : List ℕ) (asks : List Ask) (freed : Option ℕ) (id port : ℕ) → udp_draw words asks freed ≡ Some (id, port) → IsFresh asks freed id port
 drawn_fresh [] asks freed id port e = absurd (cc)

@@ -2,7 +2,7 @@
 use Rattle.std.proofs.Common.{◌≡◌, ℕ, List, Bool, true, refl, sym, ap, ◌∙◌, subst}
 use Rattle.std.specs.Prelude.{◌==◌}
 use Rattle.std.proofs.lemmas.Bool.{and_parts, and_from, eqb-true, eq-eqb}
-use Rattle.dns_name.specs.Labels.{IsSame}
+use Rattle.dns_name.specs.Labels.{IsSame, same as same_name}
 use Rattle.dns_name.proofs.CallerLemmas.{same_decides, answer_is_test as told}
 use Rattle.dns_message.specs.Values.{Question}
 use Rattle.dns_message.specs.Messages.{IsSameQuestion}
@@ -11,7 +11,7 @@ use Rattle.suffix_routes.specs.declared.peer.Peer.{Peer}
 use Rattle.suffix_routes.specs.Values.{Config}
 use Rattle.suffix_routes.specs.Routes.{route_of as route_among}
 use Rattle.suffix_routes.proofs.CallerLemmas.{route_of_lowered}
-use Rattle.step_history.specs.Names.{same_name, route_of}
+use Rattle.step_history.specs.Names.{route_of}
 use Rattle.plain_list.specs.Octets.{same_octets}
 use Rattle.plain_list.proofs.CallerLemmas.{same_octets_reflexive, same_octets_equal}
 use Rattle.reply_match.specs.Peers.{same_peer}

@@ -22,7 +22,7 @@ use Rattle.step_history.specs.Draws.{ask_message}
 use Rattle.step_history.specs.Causes.{LastFailed}
 use Rattle.step_history.specs.Asked.{IsDrawn}
 use Rattle.step_rules.specs.Attempts.{peer_at}
-use Rattle.step_rules.specs.Row.{ask_list}
+use Rattle.step_rules.specs.Steps.{ask_list}
 use Rattle.step_soundness.specs.Explains.{Tried, IsBelow}
 use Rattle.step_soundness.proofs.AskText.{ask_reads}
 use Rattle.step_soundness.proofs.Attempts.{serves}

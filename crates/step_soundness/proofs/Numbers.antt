@@ -7,7 +7,8 @@ use Rattle.step_values.specs.Values.{Step}
 use Rattle.step_history.specs.History.{is_restart, takes_question}
 use Rattle.step_history.specs.Sound.{among, unanswered}
 use Rattle.std.specs.List.{AllByRecursion}
-use Rattle.step_soundness.proofs.Fates.{All-append, All-weaker, Distinct}
+use Rattle.step_keeping.proofs.CallerLemmas.{All-append, All-weaker}
+use Rattle.step_soundness.proofs.Fates.{Distinct}
 
 among-append : (i : ℕ) (is js : List ℕ) → among i (is ++ js) ≡ (among i is || among i js)
 among-append i [] js = refl

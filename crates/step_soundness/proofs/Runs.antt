@@ -8,7 +8,8 @@ use Rattle.suffix_routes.specs.Values.{Config, IsConfig}
 use Rattle.step_values.specs.Values.{Handed, Outcome, Step}
 use Rattle.step_history.specs.Sound.{unanswered}
 use Rattle.step_rules.specs.State.{Waiting, State}
-use Rattle.step_rules.specs.Row.{Row, start}
+use Rattle.step_rules.specs.Steps.{start}
+use Rattle.step_rules.specs.Row.{Row}
 use Rattle.step_history.specs.Asked.{AsksWell}
 use Rattle.step_soundness.specs.Explains.{Explains}
 use Rattle.step_soundness.specs.Runs.{Run, IsExplained, IsSound, StaysExplained}

@@ -4,7 +4,8 @@ use Rattle.std.specs.Prelude.{min, max}
 use Rattle.suffix_routes.specs.Values.{Config, IsConfig}
 use Rattle.step_values.specs.Values.{Event, from_client, delivery, path_failed, tick, restart, Handed, Outcome, Step}
 use Rattle.step_rules.specs.State.{State}
-use Rattle.step_rules.specs.Row.{Done, start, is_due_at, Happens, HandsOctets, Row}
+use Rattle.step_rules.specs.Steps.{Done, start}
+use Rattle.step_rules.specs.Row.{is_due_at, Happens, HandsOctets, Row}
 use Rattle.step_soundness.specs.Explains.{Explains}
 use Rattle.step_soundness.proofs.Attempts.{preferred_first}
 use Rattle.step_soundness.proofs.Cases.{step_of, restart_explained}
@@ -21,7 +22,7 @@ module _ (c : Config) (past : List Step) (w : List (List ℕ)) (s : State) (x : 
 
   event_row : (e : Event) → HandsOctets e → (d : Done) → Happens c n words s e d → Explained e d
   event_row (from_client client request) are d h = subst (Explained (from_client client request)) (sym h) (client_explained c past w s x now words unkept more client request are)
-  event_row (delivery path from octets) are d h = subst (Explained (delivery path from octets)) (sym h) (delivery_explained c past w s x now words unkept more path from octets)
+  event_row (delivery path from octets) are d h = subst (Explained (delivery path from octets)) (sym h.1) (delivery_explained c past w s x now words unkept more path from octets h.0 are)
   event_row (path_failed path) are d h = subst (Explained (path_failed path)) (sym h) (path_explained c past w s x now words unkept more path)
   event_row tick are d h = subst (Explained tick) (sym h) (tick_explained c past w s x now words unkept more)
   event_row restart are d h = subst (Explained restart) (sym h) (λ more_is. ([], restart_explained c past w s x (record { now = now; words = words; event = restart }) unkept more n (start c) refl refl more_is))
@@ -29,7 +30,7 @@ module _ (c : Config) (past : List Step) (w : List (List ℕ)) (s : State) (x : 
 -- what is explained stays explained
 pub row_explained : (c : Config) (past : List Step) (w : List (List ℕ)) (s : State) (h : Handed) (o : Outcome) (s' : State) → Explains c past w s → Row c s h o s'
     → (os : List ℕ) × Explains c (record { handed = h; outcome = o } ∷ past) (os ∷ w) s'
-row_explained c past w s h o s' x r = event_row c past w s x h.now h.words o.unkept o.more h.event r.octets (record { actions = o.actions; state = s' }) r.happens r.more
+row_explained c past w s h o s' x r = event_row c past w s x h.now h.words o.unkept o.more h.event r.octets (record { actions = o.actions; unkept = o.unkept; state = s' }) r.happens r.more
 
 -- the empty history explains a new forwarder
 pub start_explained : (c : Config) → IsConfig c → Explains c [] [] (start c)
@@ -46,8 +47,14 @@ start_explained c config = record {
   tried = tt;
   connections = tt;
   preferred = preferred_first c.routes config.each;
-  carried = [];
-  carried_is = refl;
+  cache = record {
+    carried = [];
+    carried_is = refl;
+    capacity = refl;
+    held = record { some = config.limits.cache.0; few = omega arith; apart = tt; formed = tt };
+    kept = tt;
+    found = tt;
+  };
   numbers_of = [];
   waiting = refl;
   numbers = refl;

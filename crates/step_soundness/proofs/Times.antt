@@ -4,8 +4,6 @@ use Rattle.std.specs.Prelude.{min, max, map, nat_le, not}
 use Rattle.std.specs.List.{list_any, AllByRecursion}
 use Rattle.std.proofs.lemmas.Bool.{cond_both, cond-true, leb-true}
 use Rattle.std.proofs.lemmas.List.{length-map}
-use Rattle.dns_message.specs.Header.{Header}
-use Rattle.dns_message.specs.Writing.{written}
 use Rattle.suffix_routes.specs.Values.{Config}
 use Rattle.outstanding.specs.declared.ask.Path.{Path}
 use Rattle.outstanding.specs.Lists.{of_question, on_path as ask_on, same_path, AreListed}
@@ -15,11 +13,15 @@ use Rattle.retry_failover.specs.declared.Failure.TheVariants as failure
 use Rattle.step_values.specs.declared.action.Why.TheVariants.{Deadline}
 use Rattle.step_values.specs.Values.{path_failed, tick, Action, Step}
 use Rattle.step_history.specs.History.{moment_at, NothingAccepted}
-use Rattle.step_history.specs.Replies.{error_response}
+use Rattle.step_history.specs.Replies.{failure_text}
 use Rattle.step_rules.specs.State.{Waiting, State}
-use Rattle.step_rules.specs.Row.{Done, Fate, gets, waits, gives_up, asks, ask_list, closing, replies, settling_step, expiry_step, without_ask, is_due_at, row_of_failure, row_of_failed_path, deadline_of, timeout_of, Item, question, attempt, nothing, first_item, left_alone, row_of_item, row_of_tick, waits_for}
+use Rattle.step_rules.specs.Steps.{Done, Fate, gets, waits, gives_up, asks, ask_list, closing, replies, settling_step, without_ask, waits_for}
+use Rattle.step_rules.specs.Row.{expiry_step, row_of_failed_path, deadline_of, timeout_of, Item, question, attempt, first_item, left_alone, row_of_item, row_of_tick}
 use Rattle.step_soundness.specs.Explains.{Waits, Tried, IsBelow, Explains}
-use Rattle.step_soundness.proofs.Fates.{All-filter, fates_in, fated, fated_fates, fated_numbers}
+use Rattle.step_keeping.proofs.CallerLemmas.{quiet_steps_keep}
+use Rattle.step_soundness.proofs.Answering.{comes_later, owns, failure_told}
+use Rattle.step_keeping.proofs.CallerLemmas.{All-filter}
+use Rattle.step_soundness.proofs.Fates.{fates_in, fated, fated_fates, fated_numbers}
 use Rattle.step_soundness.proofs.Asking.{all_tried_on, closes_none}
 use Rattle.step_soundness.proofs.Listed.{ask_on-is, own_on}
 use Rattle.step_soundness.proofs.Nexts.{listed_next, all_below, append_nil}
@@ -66,7 +68,7 @@ module _ (c : Config) (past : List Step) (w : List (List ℕ)) (s : State) (x : 
   no_delivery : (actions : List Action) → NothingAccepted c (step actions) past
   no_delivery actions ps k = absurd (let never = k.accepts.matches.delivered in cc)
 
-  idle_tick : T (record { actions = []; state = record s { moment = n } })
+  idle_tick : T (record { actions = []; unkept = 0; state = record s { moment = n } })
   idle_tick = failures.idle_row c past w s x now words unkept more tick refl refl (no_delivery [])
 
   moment_now : (actions : List Action) → n ≡ moment_at (step actions ∷ past)
@@ -94,22 +96,13 @@ module _ (c : Config) (past : List Step) (w : List (List ℕ)) (s : State) (x : 
 
     all_waits : (o : Option Ask) (zs : List (Waiting × ℕ)) → AllByRecursion (λ z. Waits c past z.0 z.1) zs → AreFated c (step (actions o) ∷ past) (fated (λ z. waits z) zs)
     all_waits o [] h = tt
-    all_waits o (z ∷ zs) h = (waits_later c (step (actions o)) past z.0 z.1 refl h.0, all_waits o zs h.1)
+    all_waits o (z ∷ zs) h = (waits_later c (step (actions o)) past z.0 z.1 (refl, inl (no_delivery (actions o))) h.0, all_waits o zs h.1)
 
     owned : (o : Option Ask) (i : ℕ) → Waits c past y i → OwnsReply c (step (actions o) ∷ past) i (gives_up Deadline y)
-    owned o i was = λ owners. record {
-      asked = was.asked;
-      before = was.before;
-      in_era = inr (refl, was.in_era);
-      number = was.number;
-      request = was.request;
-      sent = was.sent;
-      taken = was.taken;
-      right = (
-        (y.question, was.reads, ap (λ (h : Header). written (error_response h Deadline (y.question ∷ []))) was.header_is),
-        record { passed = refl; late = let from : y.taken ≡ moment_at (was.asked ∷ was.before) = was.moment in let is : n ≡ moment_at (step (actions o) ∷ past) = moment_now (actions o) in omega (arith, late, from, is) },
-      );
-    }
+    owned o i was = owns c (step (actions o) ∷ past) y.client y.asked i (comes_later (step (actions o)) past y.client y.asked i refl was.comes) Deadline (failure_text y.asked Deadline) (λ waiting. (
+      failure_told past y.client y.asked i was.comes Deadline,
+      record { passed = refl; late = let from : y.taken ≡ moment_at (was.comes.asked ∷ was.comes.before) = was.moment in let is : n ≡ moment_at (step (actions o) ∷ past) = moment_now (actions o) in omega (arith, late, from, is) },
+    ))
 
     tried_left : (o : Option Ask) → IsListed o → AllByRecursion (Tried c (step (actions o) ∷ past)) (without_ask o s.asks)
     tried_left None on = all_tried_on c (step (actions None)) past s.asks refl (closes_none (step (actions None)) past (λ p. closes_settled p None fates None speak)) x.tried
@@ -126,9 +119,9 @@ module _ (c : Config) (past : List Step) (w : List (List ℕ)) (s : State) (x : 
     expired_by : (o : Option Ask) → IsListed o → (zs : List (Waiting × ℕ)) → x.numbers_of ≡ zs → T (expiry_step n y others o s)
     expired_by o on [] e more_is = absurd (let none : [] ≡ y ∷ others = ap (map (λ (z : Waiting × ℕ). z.0)) (sym e) ∙ x.waiting ∙ first in cc)
     expired_by o on (z ∷ zs) e more_is =
-        settled_explained c past w s x (record { now = now; words = words; event = tick }) unkept more n o gs None s.preferred x.carried (actions o) (expiry_step n y others o s).state
+        settled_explained c past w s x (record { now = now; words = words; event = tick }) unkept more n o gs None s.preferred s.cache (actions o) (expiry_step n y others o s).state
         (ap (λ (vs : List Fate). closing o ++ (replies vs ++ [])) (sym fates_are))
-        (λ i. record { asks = without_ask o s.asks ++ []; waiting = Rattle.step_rules.specs.Row.still_waiting (sym fates_are i); preferred = s.preferred; moment = n; tcp_asks = s.tcp_asks + 0 })
+        (λ i. record { cache = s.cache; asks = without_ask o s.asks ++ []; waiting = Rattle.step_rules.specs.Steps.still_waiting (sym fates_are i); preferred = s.preferred; moment = n; tcp_asks = s.tcp_asks + 0 })
         (refl, moment_now (actions o)) refl (λ q octets f. f.0)
         (ap (λ is. z.1 ∷ is) (fated_numbers (λ v. waits v) zs) ∙ ap (map (λ (v : Waiting × ℕ). v.1)) (sym e))
         (let long : length (fates_in gs) ≡ length (y ∷ others) = ap length fates_are ∙ ap (λ k. Rattle.std.proofs.Common.suc k) (length-map others (λ v. waits v)) in let few = x.few in let is : length s.waiting ≡ length (y ∷ others) = ap length first in omega (arith, long, few, is))
@@ -137,7 +130,7 @@ module _ (c : Config) (past : List Step) (w : List (List ℕ)) (s : State) (x : 
         (listed_next c (without_ask o s.asks) None (listed_left o) tt)
         (subst (AllByRecursion (Tried c (step (actions o) ∷ past))) (sym (append_nil (without_ask o s.asks))) (tried_left o on))
         (subst (AllByRecursion (λ a. IsBelow (s.tcp_asks + 0) a.path)) (sym (append_nil (without_ask o s.asks))) (all_below s.tcp_asks 0 (without_ask o s.asks) (below_left o)))
-        tt x.preferred (inr (inl (refl, no_delivery (actions o), x.carried_is))) more_is
+        tt x.preferred (quiet_steps_keep c past s.moment n s.cache (step (actions o)) x.cache x.moment (refl, no_delivery (actions o)) (moment_now (actions o)) (λ q octets f. absurd f.0)) more_is
       where
         gs : List (Fate × ℕ)
         gs = (gets (gives_up Deadline y), z.1) ∷ fated (λ v. waits v) zs
@@ -157,13 +150,13 @@ module _ (c : Config) (past : List Step) (w : List (List ℕ)) (s : State) (x : 
         owned_at : (v : Waiting) → v ≡ y → Waits c past v z.1 → OwnsReply c (step (actions o) ∷ past) z.1 (gives_up Deadline v)
         owned_at v is was = subst (λ (u : Waiting). OwnsReply c (step (actions o) ∷ past) z.1 (gives_up Deadline u)) (sym is) (owned o z.1 (subst (λ (u : Waiting). Waits c past u z.1) is was))
 
-    alone_listed : (r : Option Ask) → of_question y.question s.asks ≡ r → (b : Bool) → IsListed (cond b None r)
+    alone_listed : (r : Option Ask) → of_question y.wanted s.asks ≡ r → (b : Bool) → IsListed (cond b None r)
     alone_listed r e true = tt
     alone_listed None e false = tt
-    alone_listed (Some a) e false = own_on y.question s.asks a x.asks_are.in_turn e
+    alone_listed (Some a) e false = own_on y.wanted s.asks a x.asks_are.in_turn e
 
-    expired_row : T (expiry_step n y others (left_alone y.question others s.asks) s)
-    expired_row = expired_by (left_alone y.question others s.asks) (alone_listed (of_question y.question s.asks) refl (list_any (waits_for y.question) others)) x.numbers_of refl
+    expired_row : T (expiry_step n y others (left_alone y.wanted others s.asks) s)
+    expired_row = expired_by (left_alone y.wanted others s.asks) (alone_listed (of_question y.wanted s.asks) refl (list_any (waits_for y.wanted) others)) x.numbers_of refl
 
   due_question : (y : Waiting) (others : List Waiting) → s.waiting ≡ y ∷ others → T (row_of_item c n words s (question y others))
   due_question y others first =

@@ -2,14 +2,18 @@
 use Rattle.std.specs.Prelude.{◌≡◌, ℕ, suc, ◌<◌, ◌≤◌, true, false, List, [], ◌∷◌, length, map, Some}
 use Rattle.std.specs.List.{concat, AllByRecursion}
 use Rattle.dns_message.specs.Writing.{written}
+use Rattle.dns_message.specs.Values.{Question}
 use Rattle.dns_message.specs.Written.{IsQuestion}
+use Rattle.plain_list.specs.Octets.{AreOctets}
 use Rattle.suffix_routes.specs.Values.{Config, Route, IsConfig}
 use Rattle.step_values.specs.Values.{Step}
 use Rattle.step_history.specs.Names.{route_of}
 use Rattle.dns_message.specs.Header.{header_in}
-use Rattle.step_history.specs.Pieces.{Held}
+use Rattle.answer_builder.specs.Values.{Asked}
+use Rattle.step_values.specs.declared.event.Client.{Client}
+use Rattle.step_history.specs.Answers.{Leads}
+use Rattle.step_history.specs.Replies.{asked_in}
 use Rattle.step_history.specs.History.{InEra, moment_at, ShownAsk, listed, tcp_asks, Reads, Sends, takes_question}
-use Rattle.step_history.specs.Carried.{CarriedInEra}
 use Rattle.step_history.specs.Draws.{ask_message}
 use Rattle.step_history.specs.Causes.{is_unserved, LastFailed}
 use Rattle.step_history.specs.Sound.{Sound, unanswered}
@@ -21,25 +25,36 @@ use Rattle.outstanding.specs.declared.ask.Path.TheVariants.{Udp, Tcp}
 use Rattle.outstanding.specs.Values.{Ask}
 use Rattle.outstanding.specs.Lists.{AreListed}
 use Rattle.step_history.specs.Asked.{AsksWell}
+use Rattle.step_keeping.specs.Kept.{CanBeTold, IsCached}
+use Rattle.step_keeping.specs.Chains.{look_from}
 
 -- an ask as its action showed it
 abbrev pub shown : Ask → ShownAsk
 shown a = record { path = a.path; server = a.peer; octets = written (ask_message a.id a.question); moment = a.asked }
 
--- the step with this number asked the question that waits
-pub record Waits (c : Config) (now : List Step) (x : Waiting) (i : ℕ) : Type 0 where
+-- the step with this number is a client's message, with a question that is to be answered
+pub record Comes (now : List Step) (client : Client) (a : Asked) (i : ℕ) : Type 0 where
   pub asked : Step
   pub before : List Step
   pub in_era : InEra (asked ∷ before) now
   pub number : i ≡ length before
   pub request : List ℕ
-  pub sent : Sends asked.handed.event x.client request
+  pub octets : AreOctets request
+  pub sent : Sends asked.handed.event client request
   pub taken : takes_question asked.handed.event ≡ true
-  pub reads : Reads request x.question
-  pub header_is : x.header ≡ header_in request
+  pub question : Question
+  pub reads : Reads request question
+  pub asked_is : a ≡ asked_in (header_in request) (Some question)
   pub opcode : (header_in request).opcode ≡ 0
-  pub served : is_unserved x.question ≡ false
-  pub moment : x.taken ≡ moment_at (asked ∷ before)
+  pub served : is_unserved question ≡ false
+
+-- the step with this number asked the question that waits; the aliases that it holds lead to what it wants to know, and
+-- can be told
+pub record Waits (c : Config) (now : List Step) (x : Waiting) (i : ℕ) : Type 0 where
+  pub comes : Comes now x.client x.asked i
+  pub moment : x.taken ≡ moment_at (comes.asked ∷ comes.before)
+  pub leads : Leads (look_from c comes.asked comes.before now) comes.question x.held x.wanted
+  pub told : AllByRecursion (CanBeTold (moment_at now)) x.held
 
 -- the text of a listed ask reads as its question, on its route; it went to the server at its place in the group; the tries before it failed
 pub record Tried (c : Config) (now : List Step) (a : Ask) : Type 0 where
@@ -77,8 +92,7 @@ pub record Explains (c : Config) (past : List Step) (w : List (List ℕ)) (s : S
   pub tried : AllByRecursion (Tried c past) s.asks
   pub connections : AllByRecursion (λ a. IsBelow s.tcp_asks a.path) s.asks
   pub preferred : ArePreferred c.routes s.preferred
-  pub carried : List Held
-  pub carried_is : CarriedInEra c past carried
+  pub cache : IsCached c past s.moment s.cache
   -- the waiting questions, each with the number of its step
   pub numbers_of : List (Waiting × ℕ)
   pub waiting : map (λ z. z.0) numbers_of ≡ s.waiting

@@ -3,6 +3,8 @@
 #![tactic(auto)]
 
 #[cfg(test)]
+mod hits;
+#[cfg(test)]
 mod quiet;
 #[cfg(test)]
 mod runs;

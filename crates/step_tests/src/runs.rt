@@ -26,22 +26,22 @@ fn second<A: Allocator + Copy>(alloc: A) -> Result<Handed<A>, AllocError> {
     })
 }
 
-/// The two steps: the query goes out, and the answer comes back.
-fn are_worked<A: Allocator>(steps: &[Step<A>]) -> bool {
+/// The two steps: the query goes out, and the answer comes back, with so many pieces that found no memory.
+fn are_worked<A: Allocator>(steps: &[Step<A>], unkept: u32) -> bool {
     match steps {
         [asks, answers] => {
             send_alone(asks.outcome.actions.as_slice(), &QUERY)
                 && answer_whole(answers.outcome.actions.as_slice())
-                && is_plain(asks, 1000)
-                && is_plain(answers, 1020)
+                && is_plain(asks, 1000, 0)
+                && is_plain(answers, 1020, unkept)
         }
         _ => false,
     }
 }
 
-/// The step was handed this moment; everything was kept, and nothing more is due.
-fn is_plain<A: Allocator>(step: &Step<A>, now: u64) -> bool {
-    step.handed.now == now && step.outcome.unkept == 0 && !step.outcome.more
+/// The step was handed this moment; so many pieces were not kept, and nothing more is due.
+fn is_plain<A: Allocator>(step: &Step<A>, now: u64, unkept: u32) -> bool {
+    step.handed.now == now && step.outcome.unkept == unkept && !step.outcome.more
 }
 
 #[test]
@@ -51,20 +51,24 @@ fn a_run_over_a_list(rt: HostRuntime) -> Result<(), Fail> {
     let mut handed = Vec::new(&heap);
     handed.push(first(&heap)?)?;
     handed.push(second(&heap)?)?;
-    let mut refused = 0u64;
+    let (mut refused, mut unkept) = (0u64, 0u64);
     for count in 0..200u64 {
         heap.allow(count);
         let steps = run_list(&heap, &config, &handed);
         heap.allow(u64::MAX);
-        if let Ok(steps) = steps {
-            assert!(rt; are_worked(&steps));
+        let Ok(steps) = steps else {
+            refused = refused.saturating_add(1);
+            continue;
+        };
+        if are_worked(&steps, 0) {
             break;
         }
-        refused = refused.saturating_add(1);
+        assert!(rt; are_worked(&steps, 1), "after {count}");
+        unkept = unkept.saturating_add(1);
     }
-    // The configuration takes 2 growths and a new forwarder one; a step takes one more for each of its two copies, and
-    // the first for the list.
-    assert_eq!(rt; refused, 2 + 1 + (10 + 3) + (23 + 2));
+    // The configuration takes 2 growths and a new forwarder 7, all but one for its cache; a step takes one more for each
+    // of its two copies, and the first for the list. With the last growth refused, the set is not kept.
+    assert_eq!(rt; (refused, unkept), (2 + 7 + (6 + 3) + (14 + 2), 1));
     Ok(())
 }
 
@@ -72,7 +76,7 @@ fn a_run_over_a_list(rt: HostRuntime) -> Result<(), Fail> {
 #[test]
 fn a_recorded_run(rt: HostRuntime) -> Result<(), Fail> {
     let heap = Refusing::new(rt.alloc());
-    let mut refused = 0u64;
+    let (mut refused, mut unkept) = (0u64, 0u64);
     for count in 0..200u64 {
         let mut recorded = Recorded::new(&heap, config(&heap)?, DefaultHasher::default())?;
         recorded.step(first(&heap)?)?;
@@ -80,16 +84,20 @@ fn a_recorded_run(rt: HostRuntime) -> Result<(), Fail> {
         heap.allow(count);
         let outcome = recorded.step(handed);
         heap.allow(u64::MAX);
-        if outcome.is_ok() {
-            assert!(rt; are_worked(recorded.steps()));
+        if are_worked(recorded.steps(), 0) {
             break;
+        }
+        if outcome.is_ok() {
+            assert!(rt; are_worked(recorded.steps(), 1), "after {count}");
+            unkept = unkept.saturating_add(1);
+            continue;
         }
         refused = refused.saturating_add(1);
         assert_eq!(rt; recorded.steps().len(), 1, "after {count}");
         recorded.step(second(&heap)?)?;
-        assert!(rt; are_worked(recorded.steps()), "after {count}");
+        assert!(rt; are_worked(recorded.steps(), 0), "after {count}");
     }
     // Those of the step, and the copy of its event.
-    assert_eq!(rt; refused, 23 + 1);
+    assert_eq!(rt; (refused, unkept), (14 + 1, 1));
     Ok(())
 }

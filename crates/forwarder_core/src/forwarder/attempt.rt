@@ -1,13 +1,13 @@
 //! What a failed attempt calls for: another ask, or an end.
 
-ghost use Rattle.std.specs.Prelude.{◌≡◌, ◌^◌, ◌<◌, ◌≤◌, ◌+◌, IfOk, IfSome, Some, None};
+ghost use Rattle.std.specs.Prelude.{◌≡◌, Bool, List, ◌^◌, ◌<◌, ◌≤◌, ◌+◌, IfOk, IfSome, Some, None};
 ghost use Rattle.outstanding.specs.Values.{Ask as AskValue};
 ghost use Rattle.outstanding.specs.Lists.{on_path as ask_on, without_path};
 ghost use Rattle.step_rules.specs.Attempts.{ask_by, peer_at};
-ghost use Rattle.step_rules.specs.Row.{closing_step, fails, row_of_attempt, row_of_failure, row_of_failed_path};
+ghost use Rattle.step_rules.specs.Steps.{closing_step, fails};
+ghost use Rattle.step_rules.specs.Row.{row_of_attempt, row_of_failure, row_of_failed_path};
 ghost use Rattle.forwarder_core.specs.Next.{next_of, IsQuiet, CanFollow, CanChange};
 
-use crate::answers::ask as ask_action;
 use crate::attempts::{Try, by_tcp, by_udp, draw_connection, freed_port, new_ask, plan};
 use crate::forwarder::Forwarder;
 use crate::next::{Change, Next};
@@ -16,9 +16,11 @@ use outstanding::{Ask, Path, draw};
 use plain_list::PlainList;
 use retry_failover::{Failure, Next as Attempt, after};
 use std::alloc::{AllocError, Allocator};
+use std::hash::BuildHasher;
+use step_replies::ask as ask_action;
 use step_values::Why;
 
-impl<H: Drop, A: Allocator + Copy> Forwarder<H, A> {
+impl<H: BuildHasher + Drop, A: Allocator + Copy> Forwarder<H, A> {
     /// The ask on a path is closed, and those that wait for it are told why.
     pub(crate) fn give_up(
         &self,
@@ -28,14 +30,11 @@ impl<H: Drop, A: Allocator + Copy> Forwarder<H, A> {
         why: Why,
     ) -> Result<Next<A>, AllocError>
         requires { ask_on path self.now.state.asks ≡ Some ask.now }
-        ensures row { IfOk result (λ next. next_of moment self.now.state next ≡ closing_step moment ask.now (fails why ask.now.question) None self.now.state) }
-        ensures fits { IfOk result (λ next. CanChange self.now.config moment self.now.state next.change) }
+        ensures row { IfOk result (λ next. (rooms : List Bool) → next_of moment rooms self.now.state next ≡ closing_step moment ask.now (fails why ask.now.question) None self.now.state) }
+        ensures fits { IfOk result (λ next. CanChange self.now.config moment self.now.state next) }
     {
         let actions = failures(self.alloc, ask, &self.waiting, why)?;
-        Ok(Next {
-            actions,
-            change: Change::Close(path, None),
-        })
+        Ok(Next::without_cache(self.alloc, actions, Change::Close(path, None)))
     }
 
     /// The ask on a path is closed, and the next one goes out.
@@ -48,17 +47,14 @@ impl<H: Drop, A: Allocator + Copy> Forwarder<H, A> {
     ) -> Result<Next<A>, AllocError>
         requires on { ask_on path self.now.state.asks ≡ Some ask.now }
         requires follows { CanFollow self.now.config moment self.now.state (without_path path self.now.state.asks) next }
-        ensures row { IfOk result (λ n. next_of moment self.now.state n ≡ row_of_attempt moment ask.now self.now.state (Some next)) }
-        ensures fits { IfOk result (λ n. CanChange self.now.config moment self.now.state n.change) }
+        ensures row { IfOk result (λ n. (rooms : List Bool) → next_of moment rooms self.now.state n ≡ row_of_attempt moment ask.now self.now.state (Some next)) }
+        ensures fits { IfOk result (λ n. CanChange self.now.config moment self.now.state n) }
     {
         let mut actions = PlainList::new(self.alloc);
         actions.push(close(ask.path))?;
         let action = ask_action(self.alloc, &next)?;
         actions.push(action)?;
-        Ok(Next {
-            actions,
-            change: Change::AskAgain(path, next),
-        })
+        Ok(Next::without_cache(self.alloc, actions, Change::AskAgain(path, next)))
     }
 
     /// The ask on a path is closed. Another server is asked over what was drawn; without a path those that wait fail.
@@ -73,8 +69,8 @@ impl<H: Drop, A: Allocator + Copy> Forwarder<H, A> {
         requires on { ask_on path self.now.state.asks ≡ Some ask.now }
         requires tries { ask.now.used < 255 }
         requires follows { (next : AskValue) → ask_by moment ask.now.question ask.now.route server (ask.now.used + 1) (peer_at self.now.config ask.now.route server) drawn ≡ Some next → CanFollow self.now.config moment self.now.state (without_path path self.now.state.asks) next }
-        ensures row { IfOk result (λ n. next_of moment self.now.state n ≡ row_of_attempt moment ask.now self.now.state (ask_by moment ask.now.question ask.now.route server (ask.now.used + 1) (peer_at self.now.config ask.now.route server) drawn)) }
-        ensures fits { IfOk result (λ n. CanChange self.now.config moment self.now.state n.change) }
+        ensures row { IfOk result (λ n. (rooms : List Bool) → next_of moment rooms self.now.state n ≡ row_of_attempt moment ask.now self.now.state (ask_by moment ask.now.question ask.now.route server (ask.now.used + 1) (peer_at self.now.config ask.now.route server) drawn)) }
+        ensures fits { IfOk result (λ n. CanChange self.now.config moment self.now.state n) }
     {
         let attempt = Try {
             route: ask.route,
@@ -106,8 +102,8 @@ impl<H: Drop, A: Allocator + Copy> Forwarder<H, A> {
         requires on { ask_on path self.now.state.asks ≡ Some ask.now }
         requires later { self.now.state.moment ≤ moment }
         requires in_time { moment ≤ 2 ^ 62 }
-        ensures row { IfOk result (λ next. next_of moment self.now.state next ≡ row_of_failure self.now.config moment words ask.now failure self.now.state) }
-        ensures fits { IfOk result (λ next. CanChange self.now.config moment self.now.state next.change) }
+        ensures row { IfOk result (λ next. (rooms : List Bool) → next_of moment rooms self.now.state next ≡ row_of_failure self.now.config moment words ask.now failure self.now.state) }
+        ensures fits { IfOk result (λ next. CanChange self.now.config moment self.now.state next) }
     {
         let _listed = self.inquiries.by_path(path);
         let plan = plan(&self.config, ask);
@@ -133,9 +129,9 @@ impl<H: Drop, A: Allocator + Copy> Forwarder<H, A> {
     ) -> Result<Next<A>, AllocError>
         requires later { self.now.state.moment ≤ moment }
         requires in_time { moment ≤ 2 ^ 62 }
-        ensures row { IfOk result (λ next. next_of moment self.now.state next ≡ row_of_failed_path self.now.config moment words self.now.state (ask_on path self.now.state.asks)) }
+        ensures row { IfOk result (λ next. (rooms : List Bool) → next_of moment rooms self.now.state next ≡ row_of_failed_path self.now.config moment words self.now.state (ask_on path self.now.state.asks)) }
         ensures unlisted { ask_on path self.now.state.asks ≡ None → IsQuiet result }
-        ensures fits { IfOk result (λ next. CanChange self.now.config moment self.now.state next.change) }
+        ensures fits { IfOk result (λ next. CanChange self.now.config moment self.now.state next) }
     {
         match self.inquiries.by_path(path) {
             Some(ask) => self.fail(moment, words, path, ask, Failure::Broken),

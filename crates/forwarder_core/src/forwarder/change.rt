@@ -1,17 +1,23 @@
 //! What was decided is put in place. All memory is taken before anything changes.
 
 ghost use Rattle.outstanding.specs.Lists.{MayBegin, on_path as ask_on, without_path};
-ghost use Rattle.std.specs.Prelude.{◌≡◌, ◌^◌, ◌<◌, ◌≤◌, ◌+◌, ◌∷◌, ◌++◌, [], drop, slice_set, nat_le, IfOk, OnOk, OnErr, IsOk, IsSome};
-ghost use Rattle.std.specs.List.{list_any};
+ghost use Rattle.std.specs.Prelude.{◌≡◌, ◌^◌, ◌<◌, ◌≤◌, ◌+◌, ◌∷◌, ◌++◌, [], Bool, List, drop, slice_set, length, nat_le, IfOk, OnOk, OnErr, IsOk, IsSome};
+ghost use Rattle.std.specs.List.{AllByRecursion, list_any};
+ghost use Rattle.step_rules.specs.LookingUp.{promoted_all};
+ghost use Rattle.step_rules.specs.Offering.{put_all, unkept_of};
+ghost use Rattle.step_rules.specs.Steps.{with_entries};
 ghost use Rattle.step_rules.specs.Row.{is_due_at, deadline_of, timeout_of};
-ghost use Rattle.forwarder_core.specs.Next.{tcp_count_of, left_waiting, with_preferred, without_closed, changed, next_of, IsOutcome, CanWait, CanFollow, CanChange, IsServed};
+ghost use Rattle.forwarder_core.specs.Next.{tcp_count_of, left_waiting, with_preferred, without_closed, changed, next_of, pieces_of, IsOutcome, IsRouted, CanWait, CanFollow, CanChange, FitsChange, IsServed};
 
 use crate::forwarder::Forwarder;
 use crate::lists::{close, drop_first, end_closed, is_late, is_overdue, list};
-use crate::next::{Change, Next, Preferred};
-use crate::state::Waiting;
+use crate::next::{Carried, Change, Next, Preferred};
+use crate::offers::offer_carried;
 use outstanding::{Ask, Path};
 use std::alloc::{AllocError, Allocator};
+use std::hash::BuildHasher;
+use step_look_ups::{Slots, promote_all};
+use step_replies::Waiting;
 use step_values::Outcome;
 
 /// One more ask by TCP, where the path is a connection.
@@ -43,7 +49,7 @@ fn put_place(places: &mut [usize], route: usize, server: usize)
     }
 }
 
-impl<H: Drop, A: Allocator + Copy> Forwarder<H, A> {
+impl<H: BuildHasher + Drop, A: Allocator + Copy> Forwarder<H, A> {
     /// The moment has come.
     fn pass(&mut self, moment: u64)
         requires later { self.old.state.moment ≤ moment }
@@ -124,7 +130,7 @@ impl<H: Drop, A: Allocator + Copy> Forwarder<H, A> {
     fn apply(&mut self, moment: u64, change: Change<A>) -> Result<(), AllocError>
         requires later { self.old.state.moment ≤ moment }
         requires in_time { moment ≤ 2 ^ 62 }
-        requires fits { CanChange self.old.config moment self.old.state change }
+        requires fits { FitsChange self.old.config moment self.old.state change }
         ensures ok { OnOk result (self.new.state ≡ changed moment self.old.state change) }
         ensures config { self.new.config ≡ self.old.config }
         ensures quiet { change ≡ Change.Nothing → IsOk result }
@@ -150,6 +156,18 @@ impl<H: Drop, A: Allocator + Copy> Forwarder<H, A> {
                 Ok(())
             }
         }
+    }
+
+    /// Promotes the entries that a look-up used, then offers what an accepted reply carries, and tells how many of its pieces
+    /// found no memory.
+    fn keep(&mut self, used: &Slots<A>, carried: Carried<A>) -> u32
+        requires few { length (pieces_of carried) < 2 ^ 32 }
+        requires routed { AllByRecursion (IsRouted self.old.config) (pieces_of carried) }
+        ensures { (rooms : List Bool) × (self.new ≡ record self.old { state = with_entries (put_all self.old.state.cache.capacity self.old.state.moment rooms (pieces_of carried) (promoted_all used.now self.old.state.cache.entries)) self.old.state })
+            × (result ≡ unkept_of self.old.state.cache.capacity self.old.state.moment rooms (pieces_of carried) (promoted_all used.now self.old.state.cache.entries)) }
+    {
+        promote_all(&mut self.cache, used);
+        offer_carried(&mut self.cache, carried, self.moment)
     }
 
     /// A question has waited as long as it may: the list is in the order of time, so the first one tells.
@@ -183,18 +201,24 @@ impl<H: Drop, A: Allocator + Copy> Forwarder<H, A> {
     pub(crate) fn carry_out(&mut self, moment: u64, next: Next<A>) -> Result<Outcome<A>, AllocError>
         requires later { self.old.state.moment ≤ moment }
         requires in_time { moment ≤ 2 ^ 62 }
-        requires fits { CanChange self.old.config moment self.old.state next.change }
-        ensures ok { IfOk result (λ outcome. IsOutcome self.old.config (next_of moment self.old.state next) outcome self.new.state) }
+        requires fits { CanChange self.old.config moment self.old.state next }
+        ensures ok { IfOk result (λ outcome. (rooms : List Bool) × IsOutcome self.old.config (next_of moment rooms self.old.state next) outcome self.new.state) }
         ensures config { self.new.config ≡ self.old.config }
         ensures quiet { next.change ≡ Change.Nothing → IsOk result }
         ensures err { OnErr result (self.new ≡ self.old) }
     {
-        let Next { actions, change } = next;
+        let Next {
+            actions,
+            used,
+            change,
+            carried,
+        } = next;
         self.apply(moment, change)?;
+        let unkept = self.keep(&used, carried);
         let more = self.is_due();
         Ok(Outcome {
             actions,
-            unkept: 0,
+            unkept,
             more,
         })
     }

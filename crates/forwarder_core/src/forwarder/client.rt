@@ -1,118 +1,104 @@
 //! What a client's message calls for.
 
-ghost use Rattle.std.specs.Prelude.{◌≡◌, ◌^◌, ℕ, ◌<◌, ◌≤◌, false, length, IfOk, Some, None};
+ghost use Rattle.std.specs.Prelude.{◌≡◌, ◌^◌, ℕ, ◌<◌, ◌≤◌, [], false, true, length, Bool, List, IfOk, Some, None};
+ghost use Rattle.std.specs.List.{AllByRecursion};
+ghost use Rattle.answer_builder.specs.Answers.{IsEarlier};
 ghost use Rattle.outstanding.specs.Lists.{of_question, AreListed};
-ghost use Rattle.step_rules.specs.Attempts.{first_ask};
-ghost use Rattle.step_values.specs.Values.{action_of};
+ghost use Rattle.step_history.specs.Names.{route_of};
 ghost use Rattle.step_history.specs.History.{is_taken};
-ghost use Rattle.step_rules.specs.Row.{idle_step, reply_step, taking_step, row_of_opening, row_of_new_inquiry, row_of_admission, row_of_waiting, row_of_service, row_of_request};
+ghost use Rattle.step_look_ups.specs.Seen.{is_ended, seen_of};
+ghost use Rattle.step_rules.specs.Attempts.{first_ask};
+ghost use Rattle.step_rules.specs.LookingUp.{asked_look_up, look_up, missed};
+ghost use Rattle.step_history.specs.Replies.{asked_in};
+ghost use Rattle.step_rules.specs.Steps.{using, idle_step, reply_step, taking_step, gives_up, failed};
+ghost use Rattle.step_rules.specs.Row.{row_of_opening, row_of_new_inquiry, row_of_inquiry, row_of_waiting, row_of_look_up, row_of_route, row_of_service, row_of_request};
+ghost use Rattle.step_values.specs.Values.{action_of};
+ghost use Rattle.trust_rank.specs.Walks.{most_aliases};
 ghost use Rattle.forwarder_core.specs.Next.{next_of, IsQuiet, CanWait, CanFollow, CanChange};
 
-use crate::answers::{ask as ask_action, failure, refusal};
 use crate::attempts::{Try, by_udp, new_ask};
 use crate::forwarder::Forwarder;
-use crate::next::{Change, Next};
+use crate::next::{Carried, Change, Next};
 use crate::request::{is_not_served, only_question, taken_header};
-use crate::state::Waiting;
-use dns_message::Question;
+use dns_message::{Header, Question};
 use outstanding::{Ask, draw};
 use plain_list::PlainList;
 use std::alloc::{AllocError, Allocator};
+use std::hash::BuildHasher;
+use step_look_ups::{Looked, Slots, look_up};
+use step_replies::{Waiting, answer, ask as ask_action, failure, refusal};
 use step_values::{Action, Client, Why};
 use suffix_routes::RouteId;
 
-impl<H: Drop, A: Allocator + Copy> Forwarder<H, A> {
+impl<H: BuildHasher + Drop, A: Allocator + Copy> Forwarder<H, A> {
     /// Nothing is done.
     pub(crate) fn nothing(&self) -> Next<A>
-        ensures row { (n : ℕ) → next_of n self.now.state result ≡ idle_step n self.now.state }
+        ensures row { (n : ℕ) → (rooms : List Bool) → next_of n rooms self.now.state result ≡ idle_step n self.now.state }
         ensures quiet { result.change ≡ Change.Nothing }
+        ensures fits { (n : ℕ) → CanChange self.now.config n self.now.state result }
     {
-        Next {
-            actions: PlainList::new(self.alloc),
-            change: Change::Nothing,
-        }
+        Next::without_cache(self.alloc, PlainList::new(self.alloc), Change::Nothing)
     }
 
-    /// One reply, and nothing else.
-    fn reply(&self, action: Action<A>) -> Result<Next<A>, AllocError>
-        ensures row { IfOk result (λ next. (n : ℕ) → next_of n self.now.state next ≡ reply_step n (action_of action) self.now.state) }
-        ensures fits { IfOk result (λ next. (n : ℕ) → CanChange self.now.config n self.now.state next.change) }
+    /// One reply, and the promotion of what a look-up used.
+    fn reply(&self, action: Action<A>, used: Slots<A>) -> Result<Next<A>, AllocError>
+        ensures row { IfOk result (λ next. (n : ℕ) → (rooms : List Bool) → next_of n rooms self.now.state next ≡ reply_step n (action_of action) (using used self.now.state)) }
+        ensures fits { IfOk result (λ next. (n : ℕ) → CanChange self.now.config n self.now.state next) }
     {
         let mut actions = PlainList::new(self.alloc);
         actions.push(action)?;
         Ok(Next {
             actions,
+            used,
             change: Change::Nothing,
+            carried: Carried::nothing(self.alloc),
         })
     }
 
+    /// The question fails at once.
+    fn refuse(&self, waiting: &Waiting<A>, why: Why, used: Slots<A>) -> Result<Next<A>, AllocError>
+        ensures row { IfOk result (λ next. (n : ℕ) → (rooms : List Bool) → next_of n rooms self.now.state next ≡ reply_step n (gives_up why waiting.now) (using used self.now.state)) }
+        ensures fits { IfOk result (λ next. (n : ℕ) → CanChange self.now.config n self.now.state next) }
+    {
+        let action = failure(self.alloc, waiting, why)?;
+        self.reply(action, used)
+    }
+
     /// The question waits, and its ask goes out.
-    fn open(&self, moment: u64, waiting: Waiting<A>, ask: Ask<A>) -> Result<Next<A>, AllocError>
+    fn open(
+        &self,
+        moment: u64,
+        waiting: Waiting<A>,
+        ask: Ask<A>,
+        used: Slots<A>,
+    ) -> Result<Next<A>, AllocError>
         requires waits { CanWait self.now.config moment self.now.state waiting }
         requires follows { CanFollow self.now.config moment self.now.state self.now.state.asks ask }
-        ensures row { IfOk result (λ next. next_of moment self.now.state next ≡ row_of_opening moment waiting self.now.state (Some ask)) }
-        ensures fits { IfOk result (λ next. CanChange self.now.config moment self.now.state next.change) }
+        ensures row { IfOk result (λ next. (rooms : List Bool) → next_of moment rooms self.now.state next ≡ row_of_opening moment waiting (using used self.now.state) (Some ask)) }
+        ensures fits { IfOk result (λ next. CanChange self.now.config moment self.now.state next) }
     {
         let mut actions = PlainList::new(self.alloc);
         let action = ask_action(self.alloc, &ask)?;
         actions.push(action)?;
         Ok(Next {
             actions,
+            used,
             change: Change::Open(waiting, ask),
+            carried: Carried::nothing(self.alloc),
         })
     }
 
-    /// A question that has a route.
-    fn wait(
-        &self,
-        moment: u64,
-        words: [u32; 8],
-        waiting: Waiting<A>,
-        route: RouteId,
-    ) -> Result<Next<A>, AllocError>
-        requires later { self.now.state.moment ≤ moment }
-        requires in_time { moment ≤ 2 ^ 62 }
-        requires taken { waiting.taken ≡ moment }
-        ensures row { IfOk result (λ next. next_of moment self.now.state next ≡ row_of_waiting self.now.config moment words waiting route self.now.state) }
-        ensures fits { IfOk result (λ next. CanChange self.now.config moment self.now.state next.change) }
-    {
-        if self.waiting.len() >= self.config.limits.questions {
-            let action = failure(self.alloc, &waiting, Why::QuestionsFull)?;
-            return self.reply(action);
-        }
-        self.admit(moment, words, waiting, route)
-    }
-
-    /// A question for which there is room: where its ask is listed already, none goes out.
-    fn admit(
-        &self,
-        moment: u64,
-        words: [u32; 8],
-        waiting: Waiting<A>,
-        route: RouteId,
-    ) -> Result<Next<A>, AllocError>
-        requires later { self.now.state.moment ≤ moment }
-        requires in_time { moment ≤ 2 ^ 62 }
-        requires taken { waiting.taken ≡ moment }
-        requires room { length self.now.state.waiting < self.now.config.limits.questions }
-        ensures row { IfOk result (λ next. next_of moment self.now.state next ≡ row_of_admission self.now.config moment words waiting route self.now.state) }
-        ensures fits { IfOk result (λ next. CanChange self.now.config moment self.now.state next.change) }
-    {
-        match self.inquiries.by_question(&waiting.question) {
-            Some(_) => Ok(self.join(moment, waiting)),
-            None => self.ask_anew(moment, words, waiting, route),
-        }
-    }
-
     /// The question waits for the ask that is listed already.
-    fn join(&self, moment: u64, waiting: Waiting<A>) -> Next<A>
+    fn join(&self, moment: u64, waiting: Waiting<A>, used: Slots<A>) -> Next<A>
         requires { CanWait self.now.config moment self.now.state waiting }
-        ensures row { next_of moment self.now.state result ≡ taking_step moment waiting None self.now.state }
-        ensures fits { CanChange self.now.config moment self.now.state result.change }
+        ensures row { (rooms : List Bool) → next_of moment rooms self.now.state result ≡ taking_step moment waiting None (using used self.now.state) }
+        ensures fits { CanChange self.now.config moment self.now.state result }
     {
         Next {
             actions: PlainList::new(self.alloc),
+            used,
             change: Change::Join(waiting),
+            carried: Carried::nothing(self.alloc),
         }
     }
 
@@ -126,10 +112,7 @@ impl<H: Drop, A: Allocator + Copy> Forwarder<H, A> {
     ) -> Result<Option<Ask<A>>, AllocError>
         ensures { IfOk result (λ ask. ask ≡ first_ask self.now.config moment words question.now route self.now.state) }
     {
-        let server = match self.preferred.get(route.place) {
-            Some(place) => *place,
-            None => 0,
-        };
+        let server = self.preferred.get(route.place).copied().unwrap_or(0);
         let attempt = Try {
             route,
             server,
@@ -154,26 +137,132 @@ impl<H: Drop, A: Allocator + Copy> Forwarder<H, A> {
         words: [u32; 8],
         waiting: Waiting<A>,
         route: RouteId,
+        used: Slots<A>,
     ) -> Result<Next<A>, AllocError>
-        requires new { of_question waiting.question self.now.state.asks ≡ None }
+        requires new { of_question waiting.wanted self.now.state.asks ≡ None }
+        requires on { route_of self.now.config waiting.wanted.name ≡ Some route }
         requires later { self.now.state.moment ≤ moment }
         requires in_time { moment ≤ 2 ^ 62 }
         requires taken { waiting.taken ≡ moment }
         requires room { length self.now.state.waiting < self.now.config.limits.questions }
-        ensures row { IfOk result (λ next. next_of moment self.now.state next ≡ row_of_new_inquiry self.now.config moment words waiting route self.now.state) }
-        ensures fits { IfOk result (λ next. CanChange self.now.config moment self.now.state next.change) }
+        ensures row { IfOk result (λ next. (rooms : List Bool) → next_of moment rooms self.now.state next ≡ row_of_new_inquiry self.now.config moment words waiting (using used self.now.state)) }
+        ensures fits { IfOk result (λ next. CanChange self.now.config moment self.now.state next) }
     {
         if self.asks_under_way() >= self.config.limits.inquiries {
-            let action = failure(self.alloc, &waiting, Why::InquiriesFull)?;
-            return self.reply(action);
+            return self.refuse(&waiting, Why::InquiriesFull, used);
         }
         match self.first_ask(moment, words, &waiting.question, route)? {
-            Some(ask) => self.open(moment, waiting, ask),
-            None => {
-                let action = failure(self.alloc, &waiting, Why::NoPort)?;
-                self.reply(action)
-            }
+            Some(ask) => self.open(moment, waiting, ask, used),
+            None => self.refuse(&waiting, Why::NoPort, used),
         }
+    }
+
+    /// A question for which there is room: where its ask is listed already, none goes out.
+    fn admit(
+        &self,
+        moment: u64,
+        words: [u32; 8],
+        waiting: Waiting<A>,
+        route: RouteId,
+        used: Slots<A>,
+    ) -> Result<Next<A>, AllocError>
+        requires on { route_of self.now.config waiting.wanted.name ≡ Some route }
+        requires later { self.now.state.moment ≤ moment }
+        requires in_time { moment ≤ 2 ^ 62 }
+        requires taken { waiting.taken ≡ moment }
+        requires room { length self.now.state.waiting < self.now.config.limits.questions }
+        ensures row { IfOk result (λ next. (rooms : List Bool) → next_of moment rooms self.now.state next ≡ row_of_inquiry self.now.config moment words waiting (using used self.now.state) (of_question waiting.wanted self.now.state.asks)) }
+        ensures fits { IfOk result (λ next. CanChange self.now.config moment self.now.state next) }
+    {
+        match self.inquiries.by_question(&waiting.question) {
+            Some(_) => Ok(self.join(moment, waiting, used)),
+            None => self.ask_anew(moment, words, waiting, route, used),
+        }
+    }
+
+    /// A question that has a route, and to which the cache has no answer.
+    fn wait(
+        &self,
+        moment: u64,
+        words: [u32; 8],
+        waiting: Waiting<A>,
+        route: RouteId,
+        used: Slots<A>,
+    ) -> Result<Next<A>, AllocError>
+        requires on { route_of self.now.config waiting.wanted.name ≡ Some route }
+        requires later { self.now.state.moment ≤ moment }
+        requires in_time { moment ≤ 2 ^ 62 }
+        requires taken { waiting.taken ≡ moment }
+        ensures row { IfOk result (λ next. (rooms : List Bool) → next_of moment rooms self.now.state next ≡ row_of_waiting self.now.config moment words waiting (using used self.now.state)) }
+        ensures fits { IfOk result (λ next. CanChange self.now.config moment self.now.state next) }
+    {
+        if self.waiting.len() >= self.config.limits.questions {
+            return self.refuse(&waiting, Why::QuestionsFull, used);
+        }
+        self.admit(moment, words, waiting, route, used)
+    }
+
+    /// A question to which the cache has the answer.
+    fn hit(
+        &self,
+        moment: u64,
+        waiting: &Waiting<A>,
+        looked: &Looked<'_, A>,
+    ) -> Result<Next<A>, AllocError>
+        requires ended { is_ended looked.now.met ≡ true }
+        requires earlier { AllByRecursion (IsEarlier moment) looked.now.used }
+        requires found { looked.now ≡ seen_of (look_up self.now.config.routes moment self.now.state.cache.entries most_aliases [] waiting.now.wanted) }
+        ensures row { (words : List ℕ) → IfOk result (λ next. (rooms : List Bool) → next_of moment rooms self.now.state next ≡ row_of_look_up self.now.config moment words waiting.now self.now.state (asked_look_up self.now.config.routes moment self.now.state.cache.entries waiting.now.wanted)) }
+        ensures fits { IfOk result (λ next. CanChange self.now.config moment self.now.state next) }
+    {
+        let used = looked.slots(self.alloc)?;
+        let action = answer(self.alloc, waiting, looked.used(), moment)?;
+        self.reply(action, used)
+    }
+
+    /// A question to which the cache has no answer, where a look-up used these entries.
+    fn miss(
+        &self,
+        moment: u64,
+        words: [u32; 8],
+        waiting: Waiting<A>,
+        used: Slots<A>,
+    ) -> Result<Next<A>, AllocError>
+        requires later { self.now.state.moment ≤ moment }
+        requires in_time { moment ≤ 2 ^ 62 }
+        requires taken { waiting.taken ≡ moment }
+        ensures row { IfOk result (λ next. (rooms : List Bool) → next_of moment rooms self.now.state next ≡ row_of_look_up self.now.config moment words waiting self.now.state (record { held = []; wanted = waiting.wanted; met = missed; used = used })) }
+        ensures fits { IfOk result (λ next. CanChange self.now.config moment self.now.state next) }
+    {
+        match self.config.route_of(&waiting.question.name) {
+            Some(route) => self.wait(moment, words, waiting, route, used),
+            None => self.refuse(&waiting, Why::NoRoute, used),
+        }
+    }
+
+    /// A question that is served. No route is looked up where the cache has an answer: its entries are on their routes.
+    fn look(&self, moment: u64, words: [u32; 8], waiting: Waiting<A>) -> Result<Next<A>, AllocError>
+        requires later { self.now.state.moment ≤ moment }
+        requires in_time { moment ≤ 2 ^ 62 }
+        requires taken { waiting.taken ≡ moment }
+        ensures row { IfOk result (λ next. (rooms : List Bool) → next_of moment rooms self.now.state next ≡ row_of_route self.now.config moment words waiting self.now.state (route_of self.now.config waiting.wanted.name)) }
+        ensures fits { IfOk result (λ next. CanChange self.now.config moment self.now.state next) }
+    {
+        let question = &waiting.question;
+        let looked = look_up(
+            self.alloc,
+            &self.cache,
+            &question.name.key(),
+            question.class,
+            question.kind,
+            moment,
+            &self.config,
+        )?;
+        if looked.is_ended() {
+            return self.hit(moment, &waiting, &looked);
+        }
+        let used = looked.slots(self.alloc)?;
+        self.miss(moment, words, waiting, used)
     }
 
     /// A question that was read.
@@ -186,18 +275,28 @@ impl<H: Drop, A: Allocator + Copy> Forwarder<H, A> {
         requires later { self.now.state.moment ≤ moment }
         requires in_time { moment ≤ 2 ^ 62 }
         requires taken { waiting.taken ≡ moment }
-        ensures row { IfOk result (λ next. next_of moment self.now.state next ≡ row_of_service self.now.config moment words waiting self.now.state) }
-        ensures fits { IfOk result (λ next. CanChange self.now.config moment self.now.state next.change) }
+        ensures row { IfOk result (λ next. (rooms : List Bool) → next_of moment rooms self.now.state next ≡ row_of_service self.now.config moment words waiting self.now.state) }
+        ensures fits { IfOk result (λ next. CanChange self.now.config moment self.now.state next) }
     {
         if is_not_served(&waiting.question) {
-            let action = failure(self.alloc, &waiting, Why::NotServed)?;
-            return self.reply(action);
+            return self.refuse(&waiting, Why::NotServed, Slots::none(self.alloc));
         }
-        let Some(route) = self.config.route_of(&waiting.question.name) else {
-            let action = failure(self.alloc, &waiting, Why::NoRoute)?;
-            return self.reply(action);
-        };
-        self.wait(moment, words, waiting, route)
+        self.look(moment, words, waiting)
+    }
+
+    /// A message without a question that can be served.
+    fn refuse_message(
+        &self,
+        client: Client,
+        header: &Header,
+        why: Why,
+    ) -> Result<Next<A>, AllocError>
+        requires { header.now.opcode < 16 }
+        ensures row { IfOk result (λ next. (n : ℕ) → (rooms : List Bool) → next_of n rooms self.now.state next ≡ reply_step n (failed client (asked_in header.now None) why) self.now.state) }
+        ensures fits { IfOk result (λ next. (n : ℕ) → CanChange self.now.config n self.now.state next) }
+    {
+        let action = refusal(self.alloc, client, header, why)?;
+        self.reply(action, Slots::none(self.alloc))
     }
 
     /// A message of a client.
@@ -210,20 +309,18 @@ impl<H: Drop, A: Allocator + Copy> Forwarder<H, A> {
     ) -> Result<Next<A>, AllocError>
         requires later { self.now.state.moment ≤ moment }
         requires in_time { moment ≤ 2 ^ 62 }
-        ensures row { IfOk result (λ next. next_of moment self.now.state next ≡ row_of_request self.now.config moment words client bytes.now self.now.state) }
+        ensures row { IfOk result (λ next. (rooms : List Bool) → next_of moment rooms self.now.state next ≡ row_of_request self.now.config moment words client bytes.now self.now.state) }
         ensures dropped { is_taken bytes.now ≡ false → IsQuiet result }
-        ensures fits { IfOk result (λ next. CanChange self.now.config moment self.now.state next.change) }
+        ensures fits { IfOk result (λ next. CanChange self.now.config moment self.now.state next) }
     {
         let Some(header) = taken_header(bytes) else {
             return Ok(self.nothing());
         };
         if header.opcode != 0 {
-            let action = refusal(self.alloc, client, &header, Why::BadOpcode)?;
-            return self.reply(action);
+            return self.refuse_message(client, &header, Why::BadOpcode);
         }
         let Some(question) = only_question(self.alloc, bytes, &header)? else {
-            let action = refusal(self.alloc, client, &header, Why::BadFormat)?;
-            return self.reply(action);
+            return self.refuse_message(client, &header, Why::BadFormat);
         };
         self.serve(
             moment,

@@ -1,49 +1,78 @@
 //! What a message on a path to a server calls for.
 
-ghost use Rattle.std.specs.Prelude.{◌≡◌, ◌^◌, ◌≤◌, IfOk, IsOk, Some};
+ghost use Rattle.std.specs.Prelude.{◌≡◌, ◌^◌, ◌≤◌, ℕ, false, Bool, List, IfOk, IsOk, Some};
 ghost use Rattle.dns_message.specs.Messages.{first_question, message_of};
-ghost use Rattle.step_rules.specs.Row.{row_of_verdict, row_of_delivery, row_of_end, row_of_message, set_ending, verdict_on};
+ghost use Rattle.dns_message.specs.Reading.{wants_memory};
+ghost use Rattle.trust_rank.specs.Values.{end_of};
+ghost use Rattle.trust_rank.specs.Walks.{walk_of};
+ghost use Rattle.step_history.specs.History.{counts_as_lame};
+ghost use Rattle.step_rules.specs.Row.{row_of_verdict, row_of_delivery, row_of_acceptance, row_of_walk, row_of_message, verdict_on};
 ghost use Rattle.outstanding.specs.Lists.{on_path as ask_on};
 ghost use Rattle.forwarder_core.specs.Next.{next_of, IsQuiet, CanChange};
+ghost use Rattle.forwarder_core.specs.Walked.{IsRead, IsWalkFor};
 
 use crate::forwarder::Forwarder;
 use crate::lists::is_live;
-use crate::next::{Change, Next, Preferred};
+use crate::next::{Carried, Change, Next, Preferred};
+use crate::offers::held_from;
 use crate::replies::answers_to;
-use crate::sets::{RecordSet, set_in};
 use dns_message::{Fault, Message, MessageRef};
 use outstanding::{Ask, Path};
 use reply_match::{Verdict, judge};
 use retry_failover::Failure;
 use std::alloc::{AllocError, Allocator};
+use std::hash::BuildHasher;
+use step_look_ups::Slots;
 use suffix_routes::Peer;
+use trust_rank::{End, Walk, pieces};
 
-impl<H: Drop, A: Allocator + Copy> Forwarder<H, A> {
-    /// A reply has the set that was asked for.
+/// The reply is a failed attempt, since its walk is lame, or ends at a name that has to be asked for.
+fn counts_as_lame<A: Allocator>(end: &End<A>) -> bool
+    ensures { result ≡ counts_as_lame (end_of end.now) }
+{
+    matches!(end, End::Lame | End::Elsewhere(_))
+}
+
+/// The fault is none of the octets: memory ran out.
+fn wants_memory(fault: Fault) -> bool
+    ensures { result ≡ wants_memory fault }
+{
+    matches!(fault, Fault::Memory)
+}
+
+impl<H: BuildHasher + Drop, A: Allocator + Copy> Forwarder<H, A> {
+    /// A reply is accepted: all that wait for it are answered, and what it carries is kept.
     fn accept(
         &self,
         moment: u64,
-        words: [u32; 8],
         path: Path,
         ask: &Ask<A>,
-        set: &RecordSet<A>,
+        walk: Walk<A>,
     ) -> Result<Next<A>, AllocError>
         requires on { ask_on path self.now.state.asks ≡ Some ask.now }
         requires later { self.now.state.moment ≤ moment }
         requires in_time { moment ≤ 2 ^ 62 }
-        ensures row { IfOk result (λ next. next_of moment self.now.state next ≡ row_of_end self.now.config moment words ask.now self.now.state (Some set.now)) }
-        ensures fits { IfOk result (λ next. CanChange self.now.config moment self.now.state next.change) }
+        requires taken { counts_as_lame walk.end ≡ false }
+        requires carried { IsWalkFor self.now.config ask.now walk }
+        ensures row { (words : List ℕ) → IfOk result (λ next. (rooms : List Bool) → next_of moment rooms self.now.state next ≡ row_of_acceptance self.now.config moment words rooms ask.now walk self.now.state) }
+        ensures fits { IfOk result (λ next. CanChange self.now.config moment self.now.state next) }
     {
-        let actions = answers_to(self.alloc, ask, set, moment, &self.waiting)?;
+        let Walk {
+            pieces,
+            authority,
+            end: _,
+        } = walk;
+        let held = held_from(self.alloc, pieces, moment)?;
+        let actions = answers_to(self.alloc, ask, &held, moment, &self.waiting)?;
+        let preferred = Preferred {
+            route: ask.route,
+            server: ask.server,
+        };
         Ok(Next {
             actions,
-            change: Change::Close(
-                path,
-                Some(Preferred {
-                    route: ask.route,
-                    server: ask.server,
-                }),
-            ),
+            used: Slots::none(self.alloc),
+            change: Change::Close(path, Some(preferred)),
+            carried: Carried { held, authority },
         })
     }
 
@@ -59,13 +88,15 @@ impl<H: Drop, A: Allocator + Copy> Forwarder<H, A> {
         requires on { ask_on path self.now.state.asks ≡ Some ask.now }
         requires later { self.now.state.moment ≤ moment }
         requires in_time { moment ≤ 2 ^ 62 }
-        ensures row { IfOk result (λ next. next_of moment self.now.state next ≡ row_of_end self.now.config moment words ask.now self.now.state (set_ending message.now ask.now.question ask.now.route)) }
-        ensures fits { IfOk result (λ next. CanChange self.now.config moment self.now.state next.change) }
+        requires read { IsRead message.now }
+        ensures row { IfOk result (λ next. (rooms : List Bool) → next_of moment rooms self.now.state next ≡ row_of_walk self.now.config moment words rooms ask.now self.now.state (walk_of self.now.config message.now ask.now.question ask.now.route)) }
+        ensures fits { IfOk result (λ next. CanChange self.now.config moment self.now.state next) }
     {
-        match set_in(self.alloc, message, &ask.question, ask.route)? {
-            Some(set) => self.accept(moment, words, path, ask, &set),
-            None => self.fail(moment, words, path, ask, Failure::Lame),
+        let walk = pieces(self.alloc, message, &ask.question, ask.route, &self.config)?;
+        if counts_as_lame(&walk.end) {
+            return self.fail(moment, words, path, ask, Failure::Lame);
         }
+        self.accept(moment, path, ask, walk)
     }
 
     /// Octets that match the ask, and are a whole message.
@@ -81,15 +112,15 @@ impl<H: Drop, A: Allocator + Copy> Forwarder<H, A> {
         requires later { self.now.state.moment ≤ moment }
         requires in_time { moment ≤ 2 ^ 62 }
         requires viewed { IsOk (first_question bytes.now) }
-        ensures row { IfOk result (λ next. next_of moment self.now.state next ≡ row_of_message self.now.config moment words ask.now self.now.state (message_of bytes.now)) }
-        ensures fits { IfOk result (λ next. CanChange self.now.config moment self.now.state next.change) }
+        ensures row { IfOk result (λ next. (rooms : List Bool) → next_of moment rooms self.now.state next ≡ row_of_message self.now.config moment words rooms ask.now self.now.state (message_of bytes.now)) }
+        ensures fits { IfOk result (λ next. CanChange self.now.config moment self.now.state next) }
     {
         let Ok(view) = MessageRef::view(bytes) else {
             unreachable!();
         };
         match view.read_whole(self.alloc) {
             Ok(message) => self.on_message(moment, words, path, ask, &message),
-            Err(Fault::Memory) => Err(AllocError),
+            Err(fault) if wants_memory(fault) => Err(AllocError),
             Err(_) => self.fail(moment, words, path, ask, Failure::Malformed),
         }
     }
@@ -108,9 +139,9 @@ impl<H: Drop, A: Allocator + Copy> Forwarder<H, A> {
         requires later { self.now.state.moment ≤ moment }
         requires in_time { moment ≤ 2 ^ 62 }
         requires viewed { verdict ≡ Verdict.Whole → IsOk (first_question bytes.now) }
-        ensures row { IfOk result (λ next. next_of moment self.now.state next ≡ row_of_verdict self.now.config moment words ask.now bytes.now self.now.state verdict) }
+        ensures row { IfOk result (λ next. (rooms : List Bool) → next_of moment rooms self.now.state next ≡ row_of_verdict self.now.config moment words rooms ask.now bytes.now self.now.state verdict) }
         ensures unmatched { verdict ≡ Verdict.Stranger → IsQuiet result }
-        ensures fits { IfOk result (λ next. CanChange self.now.config moment self.now.state next.change) }
+        ensures fits { IfOk result (λ next. CanChange self.now.config moment self.now.state next) }
     {
         match verdict {
             Verdict::Stranger => Ok(self.nothing()),
@@ -132,9 +163,9 @@ impl<H: Drop, A: Allocator + Copy> Forwarder<H, A> {
     ) -> Result<Next<A>, AllocError>
         requires later { self.now.state.moment ≤ moment }
         requires in_time { moment ≤ 2 ^ 62 }
-        ensures row { IfOk result (λ next. next_of moment self.now.state next ≡ row_of_delivery self.now.config moment words from bytes.now self.now.state (ask_on path self.now.state.asks)) }
+        ensures row { IfOk result (λ next. (rooms : List Bool) → next_of moment rooms self.now.state next ≡ row_of_delivery self.now.config moment words rooms from bytes.now self.now.state (ask_on path self.now.state.asks)) }
         ensures unmatched { verdict_on self.now.config moment from bytes.now (ask_on path self.now.state.asks) ≡ Verdict.Stranger → IsQuiet result }
-        ensures fits { IfOk result (λ next. CanChange self.now.config moment self.now.state next.change) }
+        ensures fits { IfOk result (λ next. CanChange self.now.config moment self.now.state next) }
     {
         let Some(ask) = self.inquiries.by_path(path) else {
             return Ok(self.nothing());

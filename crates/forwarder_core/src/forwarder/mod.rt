@@ -4,7 +4,8 @@ ghost use Rattle.std.specs.Prelude.{◌≡◌, ◌^◌, ◌≤◌, ◌<◌, ◌+
 ghost use Rattle.suffix_routes.specs.Values.{IsConfig};
 ghost use Rattle.step_values.specs.Values.{event_of};
 ghost use Rattle.plain_list.specs.Octets.{AreOctets};
-ghost use Rattle.step_rules.specs.Row.{start, HandsOctets, TakesNoMemory, effective, Row, is_due_at};
+ghost use Rattle.step_rules.specs.Steps.{start};
+ghost use Rattle.step_rules.specs.Row.{HandsOctets, TakesNoMemory, effective, Row, is_due_at};
 ghost use Rattle.step_rules.specs.Progress.{left_to_do, ServesSomething, next_due, IsInOrder};
 ghost use Rattle.forwarder_core.specs.Next.{IsDecided, IsDecidedQuietly, CanChange};
 ghost use Rattle.step_soundness.specs.Runs.{StaysExplained};
@@ -17,11 +18,13 @@ mod delivery;
 mod tick;
 
 use crate::next::Next;
-use crate::state::Waiting;
 use outstanding::Inquiries;
 use plain_list::PlainList;
+use record_cache::Cache;
 use std::alloc::{AllocError, Allocator, Global};
+use std::hash::BuildHasher;
 use std::marker::Model;
+use step_replies::Waiting;
 use step_values::{Event, Outcome};
 use suffix_routes::{Config, Route};
 
@@ -68,14 +71,13 @@ fn forget_places(places: &mut [usize])
     }
 }
 
-/// A forwarder: its configuration, the asks that are under way, the questions that wait, the server of each group that
-/// is asked first, its effective moment, and how many asks went by TCP.
+/// A forwarder: its configuration, what it keeps of replies, the asks that are under way, the questions that wait, the
+/// server of each group that is asked first, its effective moment, and how many asks went by TCP.
 #[derive(Drop)]
-pub struct Forwarder<H, A: Allocator = Global> {
+pub struct Forwarder<H: BuildHasher, A: Allocator = Global> {
     alloc: A,
     config: Config<A>,
-    /// Kept for the cache that is to come, and not read yet.
-    hasher: H,
+    cache: Cache<H, A>,
     inquiries: Inquiries<A>,
     waiting: Vec<Waiting<A>, A>,
     preferred: Vec<usize, A>,
@@ -83,18 +85,18 @@ pub struct Forwarder<H, A: Allocator = Global> {
     tcp_asks: u64,
 }
 
-impl<H, A: Allocator> Model for Forwarder<H, A> {
+impl<H: BuildHasher, A: Allocator> Model for Forwarder<H, A> {
     ghost use Rattle.step_rules.specs.State.{Running};
     ghost use Rattle.forwarder_core.specs.Kept.{IsKept};
 
     ghost Value = { Running };
 
-    ghost view = { λ f. record { config = f.config; state = record { asks = f.inquiries.asks; waiting = f.waiting.items; preferred = f.preferred.items; moment = f.moment; tcp_asks = f.tcp_asks } } };
+    ghost view = { λ f. record { config = f.config; state = record { cache = f.cache; asks = f.inquiries.asks; waiting = f.waiting.items; preferred = f.preferred.items; moment = f.moment; tcp_asks = f.tcp_asks } } };
 
-    ghost invariant = { λ f. IsKept f.config f.inquiries f.waiting.items f.preferred.items f.moment f.tcp_asks };
+    ghost invariant = { λ f. IsKept f.config f.cache f.inquiries f.waiting.items f.preferred.items f.moment f.tcp_asks };
 }
 
-impl<H: Drop, A: Allocator + Copy> Forwarder<H, A> {
+impl<H: BuildHasher + Drop, A: Allocator + Copy> Forwarder<H, A> {
     /// Both lists are in the order of time and within their limits.
     fn check_order(&self)
         ensures { IsInOrder self.now.config self.now.state }
@@ -113,7 +115,7 @@ impl<H: Drop, A: Allocator + Copy> Forwarder<H, A> {
         requires in_time { moment ≤ 2 ^ 62 }
         ensures row { IfOk result (λ next. IsDecided self.now.config moment words self.now.state (event_of event.now) next) }
         ensures no_memory { TakesNoMemory self.now.config moment self.now.state (event_of event.now) → IsDecidedQuietly result }
-        ensures fits { IfOk result (λ next. IfSome next (λ some. CanChange self.now.config moment self.now.state some.change)) }
+        ensures fits { IfOk result (λ next. IfSome next (λ some. CanChange self.now.config moment self.now.state some)) }
     {
         match event {
             Event::Client { client, bytes } => {
@@ -177,10 +179,11 @@ impl<H: Drop, A: Allocator + Copy> Forwarder<H, A> {
     {
         let capacity = config.limits.inquiries;
         let preferred = first_places(alloc, config.routes())?;
+        let cache = Cache::new(alloc, config.limits.cache, hasher)?;
         Ok(Forwarder {
             alloc,
             config,
-            hasher,
+            cache,
             inquiries: Inquiries::new(alloc, capacity),
             waiting: Vec::new(alloc),
             preferred,
@@ -193,6 +196,7 @@ impl<H: Drop, A: Allocator + Copy> Forwarder<H, A> {
     pub fn restart(&mut self)
         ensures { self.new ≡ record { config = self.old.config; state = start self.old.config } }
     {
+        self.cache.clear();
         self.inquiries.clear();
         self.waiting.clear();
         forget_places(&mut self.preferred);
@@ -201,7 +205,8 @@ impl<H: Drop, A: Allocator + Copy> Forwarder<H, A> {
     }
 
     /// One step: what is to be done about the event, at this moment in milliseconds and with these random words. A
-    /// moment below an earlier one counts as that one. `Err` where memory ran out, and then nothing has changed.
+    /// moment below an earlier one counts as that one. `Err` where memory ran out, and then nothing has changed. A piece of
+    /// a reply that finds no memory in the cache refuses no step: `unkept` counts it.
     pub fn step(
         &mut self,
         now: u64,

@@ -1,26 +1,26 @@
 //! What the passing of time calls for: the oldest question or the oldest ask is served, where it is due.
 
-ghost use Rattle.std.specs.Prelude.{◌≡◌, ◌^◌, ◌≤◌, ◌∷◌, false, IfOk, Some, drop, map, slice_get};
+ghost use Rattle.std.specs.Prelude.{◌≡◌, Bool, List, ◌^◌, ◌≤◌, ◌∷◌, false, IfOk, Some, drop, map, slice_get};
 ghost use Rattle.std.specs.List.{list_any};
 ghost use Rattle.step_rules.specs.Row.{expiry_step, left_alone, attempt, question, row_of_item, row_of_tick, is_due_at, deadline_of, timeout_of};
 ghost use Rattle.step_rules.specs.Progress.{least};
 ghost use Rattle.forwarder_core.specs.Next.{closed_path, next_of, IsQuiet, CanChange};
 
-use crate::answers::failure;
 use crate::forwarder::Forwarder;
 use crate::lists::{comes_first, is_any_waiting_for, is_late, is_overdue};
 use crate::next::{Change, Next};
 use crate::replies::closes;
-use crate::state::Waiting;
 use outstanding::{Ask, Path};
 use retry_failover::Failure;
 use std::alloc::{AllocError, Allocator};
+use std::hash::BuildHasher;
+use step_replies::{Waiting, failure};
 use step_values::Why;
 
-impl<H: Drop, A: Allocator + Copy> Forwarder<H, A> {
+impl<H: BuildHasher + Drop, A: Allocator + Copy> Forwarder<H, A> {
     /// The path of the question's ask, where no other question waits for it.
     fn left_alone(&self, oldest: &Waiting<A>, others: &[Waiting<A>]) -> Option<Path>
-        ensures { result ≡ closed_path (left_alone oldest.now.question others.now self.now.state.asks) }
+        ensures { result ≡ closed_path (left_alone oldest.now.wanted others.now self.now.state.asks) }
     {
         if is_any_waiting_for(&oldest.question, others) {
             return None;
@@ -39,17 +39,14 @@ impl<H: Drop, A: Allocator + Copy> Forwarder<H, A> {
         others: &[Waiting<A>],
     ) -> Result<Next<A>, AllocError>
         requires { self.now.state.waiting ≡ oldest.now ∷ others.now }
-        ensures row { IfOk result (λ next. next_of moment self.now.state next ≡ expiry_step moment oldest.now others.now (left_alone oldest.now.question others.now self.now.state.asks) self.now.state) }
-        ensures fits { IfOk result (λ next. CanChange self.now.config moment self.now.state next.change) }
+        ensures row { IfOk result (λ next. (rooms : List Bool) → next_of moment rooms self.now.state next ≡ expiry_step moment oldest.now others.now (left_alone oldest.now.wanted others.now self.now.state.asks) self.now.state) }
+        ensures fits { IfOk result (λ next. CanChange self.now.config moment self.now.state next) }
     {
         let closed = self.left_alone(oldest, others);
         let mut actions = closes(self.alloc, closed)?;
         let action = failure(self.alloc, oldest, Why::Deadline)?;
         actions.push(action)?;
-        Ok(Next {
-            actions,
-            change: Change::Expire(closed),
-        })
+        Ok(Next::without_cache(self.alloc, actions, Change::Expire(closed)))
     }
 
     /// The oldest question comes first.
@@ -61,9 +58,9 @@ impl<H: Drop, A: Allocator + Copy> Forwarder<H, A> {
         others: &[Waiting<A>],
     ) -> Result<Next<A>, AllocError>
         requires { self.now.state.waiting ≡ oldest.now ∷ others.now }
-        ensures row { IfOk result (λ next. next_of moment self.now.state next ≡ row_of_item self.now.config moment words self.now.state (question oldest.now others.now)) }
+        ensures row { IfOk result (λ next. (rooms : List Bool) → next_of moment rooms self.now.state next ≡ row_of_item self.now.config moment words self.now.state (question oldest.now others.now)) }
         ensures early { is_due_at self.now.config moment self.now.state ≡ false → IsQuiet result }
-        ensures fits { IfOk result (λ next. CanChange self.now.config moment self.now.state next.change) }
+        ensures fits { IfOk result (λ next. CanChange self.now.config moment self.now.state next) }
     {
         let _words = words;
         if !is_overdue(&self.config, moment, oldest) {
@@ -82,9 +79,9 @@ impl<H: Drop, A: Allocator + Copy> Forwarder<H, A> {
         requires first { slice_get self.now.state.asks 0 ≡ Some oldest.now }
         requires later { self.now.state.moment ≤ moment }
         requires in_time { moment ≤ 2 ^ 62 }
-        ensures row { IfOk result (λ next. next_of moment self.now.state next ≡ row_of_item self.now.config moment words self.now.state (attempt oldest.now)) }
+        ensures row { IfOk result (λ next. (rooms : List Bool) → next_of moment rooms self.now.state next ≡ row_of_item self.now.config moment words self.now.state (attempt oldest.now)) }
         ensures early { is_due_at self.now.config moment self.now.state ≡ false → IsQuiet result }
-        ensures fits { IfOk result (λ next. CanChange self.now.config moment self.now.state next.change) }
+        ensures fits { IfOk result (λ next. CanChange self.now.config moment self.now.state next) }
     {
         if !is_late(&self.config, moment, oldest) {
             return Ok(self.nothing());
@@ -96,9 +93,9 @@ impl<H: Drop, A: Allocator + Copy> Forwarder<H, A> {
     pub(crate) fn on_tick(&self, moment: u64, words: [u32; 8]) -> Result<Next<A>, AllocError>
         requires later { self.now.state.moment ≤ moment }
         requires in_time { moment ≤ 2 ^ 62 }
-        ensures row { IfOk result (λ next. next_of moment self.now.state next ≡ row_of_tick self.now.config moment words self.now.state) }
+        ensures row { IfOk result (λ next. (rooms : List Bool) → next_of moment rooms self.now.state next ≡ row_of_tick self.now.config moment words self.now.state) }
         ensures early { is_due_at self.now.config moment self.now.state ≡ false → IsQuiet result }
-        ensures fits { IfOk result (λ next. CanChange self.now.config moment self.now.state next.change) }
+        ensures fits { IfOk result (λ next. CanChange self.now.config moment self.now.state next) }
     {
         match (self.waiting.split_first(), self.inquiries.oldest()) {
             (None, None) => Ok(self.nothing()),

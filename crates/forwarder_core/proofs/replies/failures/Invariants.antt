@@ -1,6 +1,6 @@
 use Rattle.std.proofs.Common.{◌≡◌, [], ◌∷◌, drop}
 use Rattle.step_values.specs.Values.{actions_of}
-use Rattle.step_rules.specs.Row.{closes, fails}
+use Rattle.step_rules.specs.Steps.{closes, fails}
 use Rattle.forwarder_core.specs.Next.{with_replies}
 use Rattle.forwarder_core.proofs.replies.failures.Given as goal
 

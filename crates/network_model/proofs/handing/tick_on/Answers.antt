@@ -1,5 +1,8 @@
-use Rattle.network_model.proofs.Handling.{ticks_again, ticks_end}
+use Rattle.network_model.proofs.Handling.{ticks_again, ticks_end, ticks_none}
 use Rattle.network_model.proofs.handing.tick_on.Goals as goal
+
+pub loop-init : goal.loop-init
+loop-init g c = ticks_none _
 
 pub loop-preserved : goal.loop-preserved
 loop-preserved g c = ticks_again _ _ _ _ c.loop-test.true c.loop.invariant c.hand_on.ensures

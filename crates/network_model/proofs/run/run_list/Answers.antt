@@ -4,7 +4,8 @@ use Rattle.std.proofs.Math.Seq.{take-length}
 use Rattle.suffix_routes.specs.Values.{Config}
 use Rattle.step_values.specs.Values.{event_of, Handed, Step}
 use Rattle.step_rules.specs.State.{Running}
-use Rattle.step_rules.specs.Row.{Row, start}
+use Rattle.step_rules.specs.Row.{Row}
+use Rattle.step_rules.specs.Steps.{start}
 use Rattle.step_soundness.specs.Runs.{Run, IsExplained, StaysExplained}
 use Rattle.step_soundness.proofs.CallerLemmas.{explained_is_sound, explained_more, run_more, stays_at, handed_more}
 use Rattle.network_model.proofs.run.run_list.Goals as goal

@@ -1,6 +1,6 @@
 use Rattle.std.proofs.Common.{◌≡◌, take}
 use Rattle.std.specs.Prelude.{map}
-use Rattle.step_rules.specs.Row.{start}
+use Rattle.step_rules.specs.Steps.{start}
 use Rattle.step_soundness.specs.Runs.{Run, IsExplained}
 use Rattle.network_model.proofs.run.run_list.Given as goal
 

@@ -1,24 +1,43 @@
-use Rattle.std.proofs.Common.{◌∙◌, ap, [], ◌∷◌, None, Some, sym, subst, ◌<◌, length, ◌≡◌}
-use Rattle.step_rules.specs.State.{Running}
-use Rattle.step_rules.specs.Attempts.{servers_in, group_of}
-use Rattle.step_rules.specs.Row.{closes, closing_step, is_given, preferring}
+use Rattle.std.proofs.Common.{◌∙◌, ap, [], ◌∷◌, ◌++◌, List, Some, sym, subst, ◌<◌, ◌^◌, length, ◌≡◌}
+use Rattle.std.specs.Prelude.{map}
+use Rattle.std.specs.List.{AllByRecursion}
+use Rattle.trust_rank.specs.Values.{Piece, Walk}
 use Rattle.outstanding.specs.Values.{Ask}
 use Rattle.outstanding.specs.Lists.{on_path as ask_on}
-use Rattle.forwarder_core.specs.Next.{with_replies}
-use Rattle.forwarder_core.proofs.Deciding.{closed_is, given_frees}
-use Rattle.forwarder_core.proofs.Following.{server_within}
+use Rattle.step_history.specs.Names.{route_of}
+use Rattle.step_rules.specs.State.{Running, Waiting}
+use Rattle.step_rules.specs.Attempts.{servers_in, group_of}
+use Rattle.step_rules.specs.Steps.{closes}
+use Rattle.step_rules.specs.Row.{held_at}
+use Rattle.forwarder_core.specs.Next.{with_replies, gives_from, IsRouted}
+use Rattle.forwarder_core.proofs.Accepting.{accepted_is, carried_few, carried_routed, carried_is}
+use Rattle.forwarder_core.proofs.Following.{server_within, kept_of}
 use Rattle.forwarder_core.proofs.forwarder.Forwarder.accept.Goals as goal
 
 pub returns-clause-row : goal.returns-clause-row
-returns-clause-row g c =
-    closed_is g.row.A.Denot c.args.moment c.args.path c.args.self.now.state c.args.ask.now (is_given c.args.moment (record { piece = c.args.set.now; accepted = c.args.moment }) c.args.ask.now.question) (Some (record { route = c.ask.inside.route; server = c.ask.inside.server })) _ c.requires.on
+returns-clause-row g c = λ words rooms.
+    let routed : route_of c.args.self.now.config c.args.ask.now.question.name ≡ Some c.args.ask.now.route =
+    subst (λ (r : Running). route_of r.config c.args.ask.now.question.name ≡ Some c.args.ask.now.route) c.self.view_is
+    (kept_of c.self.inside.config c.self.inside.moment c.self.inside.tcp_asks c.args.path c.self.inside.inquiries.asks c.args.ask.now (subst (λ (r : Running). ask_on c.args.path r.state.asks ≡ Some c.args.ask.now) (sym c.self.view_is) c.requires.on) c.self.invariant.asks).on_route in
+    accepted_is c.args.self.now.config c.args.moment c.args.ask.now c.args.walk c.requires.carried routed c.requires.taken g.row.A.Denot words rooms c.args.path c.args.self.now.state _ _ _ _ _ c.requires.on
+    (subst (λ (r : Running). AllByRecursion (λ (x : Waiting). x.held ≡ []) r.state.waiting) c.self.view_is c.self.invariant.plain)
+    c.none.ensures
+    (ap (λ (a : Ask). a.route) c.ask.view_is)
+    (ap (λ (a : Ask). a.server) c.ask.view_is)
     (c.in_ok-actions.ensures
-    ∙ ap (with_replies (is_given c.args.moment (record { piece = c.args.set.now; accepted = c.args.moment }) c.args.ask.now.question) (closes c.args.ask.now.path ∷ [])) (c.deref.ensures.value ∙ ap (λ (r : Running). r.state.waiting) c.self.view_is))
-    (given_frees c.args.moment (record { piece = c.args.set.now; accepted = c.args.moment }) c.args.ask.now.question)
-    ∙ ap (λ (a : Ask). closing_step c.args.moment c.args.ask.now (is_given c.args.moment (record { piece = c.args.set.now; accepted = c.args.moment }) c.args.ask.now.question) None (preferring a c.args.self.now.state)) c.ask.view_is
+    ∙ (λ i. with_replies (gives_from (record { chain = (c.deref.ensures.value ∙ c.in_ok-held.ensures.held ∙ ap (λ (v : Walk). map (held_at c.args.moment) v.pieces) c.walk.view_is) i; moment = c.args.moment }) c.args.ask.now.question) (closes c.args.ask.now.path ∷ []) ((c.deref-2.ensures.value ∙ ap (λ (r : Running). r.state.waiting) c.self.view_is) i)))
+    (carried_is c.args.self.now.config c.args.moment c.args.ask.now c.args.walk c.requires.carried routed c.requires.taken c.in_ok-held.held.items c.walk.inside.pieces c.walk.inside.authority c.in_ok-held.ensures.held (ap (λ (v : Walk). v.pieces) c.walk.view_is) (ap (λ (v : Walk). v.authority) c.walk.view_is))
 
 pub returns-clause-fits : goal.returns-clause-fits
 returns-clause-fits g c =
-    subst (λ (a : Ask). a.server < length (servers_in (group_of c.args.self.now.config a.route))) (sym c.ask.view_is)
-    (subst (λ (r : Running). c.args.ask.now.server < length (servers_in (group_of r.config c.args.ask.now.route))) c.self.view_is
-    (server_within c.self.inside.config c.self.inside.moment c.self.inside.tcp_asks c.args.path c.self.inside.inquiries.asks c.args.ask.now (subst (λ (r : Running). ask_on c.args.path r.state.asks ≡ Some c.args.ask.now) (sym c.self.view_is) c.requires.on) c.self.invariant.asks))
+    let on : ask_on c.args.path c.self.inside.inquiries.asks ≡ Some c.args.ask.now = subst (λ (r : Running). ask_on c.args.path r.state.asks ≡ Some c.args.ask.now) (sym c.self.view_is) c.requires.on in
+    let routed : route_of c.args.self.now.config c.args.ask.now.question.name ≡ Some c.args.ask.now.route = subst (λ (r : Running). route_of r.config c.args.ask.now.question.name ≡ Some c.args.ask.now.route) c.self.view_is (kept_of c.self.inside.config c.self.inside.moment c.self.inside.tcp_asks c.args.path c.self.inside.inquiries.asks c.args.ask.now on c.self.invariant.asks).on_route in
+    let pieces : map (λ h. h.piece) c.in_ok-held.held.items ++ c.walk.inside.authority ≡ c.args.walk.pieces ++ c.args.walk.authority =
+    carried_is c.args.self.now.config c.args.moment c.args.ask.now c.args.walk c.requires.carried routed c.requires.taken c.in_ok-held.held.items c.walk.inside.pieces c.walk.inside.authority c.in_ok-held.ensures.held (ap (λ (v : Walk). v.pieces) c.walk.view_is) (ap (λ (v : Walk). v.authority) c.walk.view_is) in
+    record {
+      fits = subst (λ (a : Ask). a.server < length (servers_in (group_of c.args.self.now.config a.route))) (sym c.ask.view_is)
+          (subst (λ (r : Running). c.args.ask.now.server < length (servers_in (group_of r.config c.args.ask.now.route))) c.self.view_is
+          (server_within c.self.inside.config c.self.inside.moment c.self.inside.tcp_asks c.args.path c.self.inside.inquiries.asks c.args.ask.now on c.self.invariant.asks));
+      few = subst (λ (ps : List Piece). length ps < 2 ^ 32) (sym pieces) (carried_few c.args.self.now.config c.args.moment c.args.ask.now c.args.walk c.requires.carried routed c.requires.taken);
+      routed = subst (AllByRecursion (IsRouted c.args.self.now.config)) (sym pieces) (carried_routed c.args.self.now.config c.args.moment c.args.ask.now c.args.walk c.requires.carried routed c.requires.taken);
+    }

@@ -7,4 +7,4 @@ use Rattle.forwarder_core.proofs.forwarder.Forwarder.asks_under_way.Goals as goa
 pub returns-clause-listed : goal.returns-clause-listed
 returns-clause-listed g c =
     subst (λ (r : Running). AreListed (record { capacity = r.config.limits.inquiries; asks = r.state.asks })) c.self.view_is
-    (listed_within c.self.inside.config c.self.inside.inquiries c.self.inside.waiting.items c.self.inside.preferred.items c.self.inside.moment c.self.inside.tcp_asks c.self.invariant c.len.ensures.listed)
+    (listed_within c.self.inside.config c.self.inside.cache c.self.inside.inquiries c.self.inside.waiting.items c.self.inside.preferred.items c.self.inside.moment c.self.inside.tcp_asks c.self.invariant c.len.ensures.listed)

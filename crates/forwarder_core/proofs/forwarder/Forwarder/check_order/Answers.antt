@@ -7,4 +7,4 @@ use Rattle.forwarder_core.proofs.forwarder.Forwarder.check_order.Goals as goal
 pub returns : goal.returns
 returns g c =
     subst (λ (r : Running). IsInOrder r.config r.state) c.self.view_is
-    (kept_in_order c.self.inside.config c.self.inside.inquiries c.self.inside.waiting.items c.self.inside.preferred.items c.self.inside.moment c.self.inside.tcp_asks c.self.invariant c.len-asks.ensures.listed)
+    (kept_in_order c.self.inside.config c.self.inside.cache c.self.inside.inquiries c.self.inside.waiting.items c.self.inside.preferred.items c.self.inside.moment c.self.inside.tcp_asks c.self.invariant c.len-asks.ensures.listed)

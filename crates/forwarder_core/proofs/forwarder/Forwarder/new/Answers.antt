@@ -1,19 +1,34 @@
-use Rattle.std.proofs.Common.{◌∙◌, ℕ, List, ap}
+use Rattle.std.proofs.Common.{◌∙◌, ℕ, List, [], ap, subst, sym}
 use Rattle.std.specs.Prelude.{map}
 use Rattle.suffix_routes.specs.Values.{Config, Route}
 use Rattle.outstanding.specs.Values.{Inquiries}
+use Rattle.step_rules.specs.State.{State}
+use Rattle.step_soundness.specs.Explains.{Explains}
 use Rattle.step_soundness.proofs.CallerLemmas.{start_explained}
-use Rattle.forwarder_core.proofs.KeptLaws.{kept_first, room_is}
+use Rattle.forwarder_core.proofs.KeptLaws.{kept_first, room_is, cache_is}
 use Rattle.forwarder_core.proofs.forwarder.Forwarder.new.Goals as goal
 
 pub invariant_of-result : goal.invariant_of-result
 invariant_of-result g c =
-    kept_first c.args.config c.new.result c.new-2.result.items c.in_ok-preferred.preferred.items c.routes.ensures.accepted
-    (room_is c.new.result c.config.inside.limits.inquiries c.args.config.limits.inquiries c.new.ensures (ap (λ (k : Config). k.limits.inquiries) c.config.view_is))
-    c.new-2.ensures.items
+    kept_first c.args.config c.in_ok-cache.cache c.new-2.result c.new-3.result.items c.in_ok-preferred.preferred.items c.routes.ensures.accepted
+    (cache_is c.in_ok-cache.cache c.config.inside.limits.cache c.args.config.limits.cache c.in_ok-cache.ensures (ap (λ (k : Config). k.limits.cache) c.config.view_is))
+    (room_is c.new-2.result c.config.inside.limits.inquiries c.args.config.limits.inquiries c.new-2.ensures (ap (λ (k : Config). k.limits.inquiries) c.config.view_is))
+    c.new-3.ensures.items
     (c.in_ok-preferred.ensures ∙ ap (λ (routes : List Route). map {B = ℕ} (λ (r : Route). 0) routes) c.routes.ensures.routes)
+
+pub returns-clause-new : goal.returns-clause-new
+returns-clause-new g c = λ i. record {
+  config = c.args.config;
+  state = record {
+    cache = cache_is c.in_ok-cache.cache c.config.inside.limits.cache c.args.config.limits.cache c.in_ok-cache.ensures (ap (λ (k : Config). k.limits.cache) c.config.view_is) i;
+    asks = (ap (λ (q : Inquiries). q.asks) c.new-2.ensures) i;
+    waiting = c.new-3.ensures.items i;
+    preferred = (c.in_ok-preferred.ensures ∙ ap (λ (routes : List Route). map {B = ℕ} (λ (r : Route). 0) routes) c.routes.ensures.routes) i;
+    moment = 0;
+    tcp_asks = 0;
+  };
+}
 
 pub returns-clause-explained : goal.returns-clause-explained
 returns-clause-explained g c =
-    rw (ap (λ (i : Inquiries). i.asks) c.new.ensures, c.new-2.ensures.items, c.in_ok-preferred.ensures ∙ ap (λ (routes : List Route). map {B = ℕ} (λ (r : Route). 0) routes) c.routes.ensures.routes)
-    (start_explained c.args.config c.routes.ensures.accepted)
+    subst (λ (s : State). Explains c.args.config [] [] s) (sym (λ i. (returns-clause-new g c i).state)) (start_explained c.args.config c.routes.ensures.accepted)

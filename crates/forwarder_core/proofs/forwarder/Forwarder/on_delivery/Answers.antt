@@ -8,25 +8,34 @@ use Rattle.forwarder_core.proofs.Deciding.{idle_unlisted, idle_late, judged_is, 
 use Rattle.forwarder_core.proofs.forwarder.Forwarder.on_delivery.Goals as goal
 
 pub returns-in_default-clause-row : goal.returns-in_default-clause-row
-returns-in_default-clause-row g c =
-    idle_unlisted c.args.self.now.config c.args.moment c.args.words c.args.from c.args.bytes.now c.args.self.now.state _ _
+returns-in_default-clause-row g c = λ rooms.
+    idle_unlisted c.args.self.now.config c.args.moment c.args.words rooms c.args.from c.args.bytes.now c.args.self.now.state _ _
     (sym (ap (ask_on c.args.path) (ap (λ (r : Running). r.state.asks) c.self.view_is)) ∙ c.in_default.ensures.found)
-    (c.nothing.ensures.row c.args.moment)
+    (c.nothing.ensures.row c.args.moment rooms)
+
+pub returns-in_default-clause-fits : goal.returns-in_default-clause-fits
+returns-in_default-clause-fits g c = c.nothing.ensures.fits c.args.moment
 
 pub returns-then-not-is_live-clause-row : goal.returns-then-not-is_live-clause-row
-returns-then-not-is_live-clause-row g c =
-    idle_late c.args.self.now.config c.args.moment c.args.words c.args.from c.args.bytes.now c.args.self.now.state _ c.in-Some.ask.now _
+returns-then-not-is_live-clause-row g c = λ rooms.
+    idle_late c.args.self.now.config c.args.moment c.args.words rooms c.args.from c.args.bytes.now c.args.self.now.state _ c.in-Some.ask.now _
     (sym (ap (ask_on c.args.path) (ap (λ (r : Running). r.state.asks) c.self.view_is)) ∙ c.in-Some.ensures.found)
     (ap (λ (r : Running). nat_lt c.args.moment (c.in-Some.ask.now.asked + r.config.limits.ask_ms)) (sym c.self.view_is) ∙ sym c.is_live.ensures ∙ c.if-not-is_live.true)
-    (c.nothing-then-not-is_live.ensures.row c.args.moment)
+    (c.nothing-then-not-is_live.ensures.row c.args.moment rooms)
+
+pub returns-then-not-is_live-clause-fits : goal.returns-then-not-is_live-clause-fits
+returns-then-not-is_live-clause-fits g c = c.nothing-then-not-is_live.ensures.fits c.args.moment
+
+pub on_verdict-requires-clause-on : goal.on_verdict-requires-clause-on
+on_verdict-requires-clause-on g c = sym (ap (ask_on c.args.path) (ap (λ (r : Running). r.state.asks) c.self.view_is)) ∙ c.in-Some.ensures.found
 
 pub returns-clause-row : goal.returns-clause-row
 returns-clause-row g c =
     IfOk-weaker c.on_verdict.result _ _
-    (λ next e. judged_is c.args.self.now.config c.args.moment c.args.words c.args.from c.args.bytes.now c.args.self.now.state _ c.in-Some.ask.now _
+    (λ next e. λ rooms. judged_is c.args.self.now.config c.args.moment c.args.words rooms c.args.from c.args.bytes.now c.args.self.now.state _ c.in-Some.ask.now _
     (sym (ap (ask_on c.args.path) (ap (λ (r : Running). r.state.asks) c.self.view_is)) ∙ c.in-Some.ensures.found)
     (ap (λ (r : Running). nat_lt c.args.moment (c.in-Some.ask.now.asked + r.config.limits.ask_ms)) (sym c.self.view_is) ∙ sym c.is_live.ensures ∙ c.if-not-is_live.false)
-    (e ∙ ap (row_of_verdict c.args.self.now.config c.args.moment c.args.words c.in-Some.ask.now c.args.bytes.now c.args.self.now.state) c.judge-verdict.ensures))
+    (e rooms ∙ ap (row_of_verdict c.args.self.now.config c.args.moment c.args.words rooms c.in-Some.ask.now c.args.bytes.now c.args.self.now.state) c.judge-verdict.ensures))
     c.on_verdict.ensures.row
 
 pub returns-clause-unmatched : goal.returns-clause-unmatched

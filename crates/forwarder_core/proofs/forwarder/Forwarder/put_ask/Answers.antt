@@ -9,11 +9,11 @@ use Rattle.forwarder_core.proofs.forwarder.Forwarder.put_ask.Goals as goal
 pub invariant_of-self-2 : goal.invariant_of-self-2
 invariant_of-self-2 g c =
     let one = subst (λ (r : Running). IsKeptAsk r.config c.args.moment (r.state.tcp_asks + tcp_count_of c.args.ask.path) c.args.ask) (sym c.self.view_is) c.requires.follows.kept in
-    let joined = kept_joined c.self.inside.config c.self.inside.inquiries c.self.inside.waiting.items _ c.self.inside.preferred.items c.self.inside.moment c.args.moment c.self.inside.tcp_asks c.args.waiting c.self.invariant
+    let joined = kept_joined c.self.inside.config c.self.inside.cache c.self.inside.inquiries c.self.inside.waiting.items _ c.self.inside.preferred.items c.self.inside.moment c.args.moment c.self.inside.tcp_asks c.args.waiting c.self.invariant
     (subst (λ (r : Running). r.state.moment ≤ c.args.moment) (sym c.self.view_is) c.requires.later) c.requires.in_time
-    (subst (λ (r : Running). length r.state.waiting < r.config.limits.questions) (sym c.self.view_is) c.requires.waits.room) c.requires.waits.taken
+    (subst (λ (r : Running). length r.state.waiting < r.config.limits.questions) (sym c.self.view_is) c.requires.waits.room) c.requires.waits.taken c.requires.waits.plain
     (c.push_reserved.ensures.items ∙ ap (λ (xs : List Waiting). xs ++ c.args.waiting ∷ []) c.in_ok-reserve.ensures.items) in
-    subst (λ (k : ℕ). IsKept c.self.inside.config c.list.new.inquiries c.push_reserved.new.self.items c.self.inside.preferred.items c.args.moment k) (sym c.count_tcp-count.ensures)
-    (subst (λ (a : Ask). IsKept c.self.inside.config c.list.new.inquiries c.push_reserved.new.self.items c.self.inside.preferred.items c.args.moment (c.self.inside.tcp_asks + tcp_count_of a.path)) (sym c.ask.view_is)
-    (kept_asked c.self.inside.config c.self.inside.inquiries c.list.new.inquiries c.push_reserved.new.self.items c.self.inside.preferred.items c.args.moment c.args.moment c.self.inside.tcp_asks (tcp_count_of c.args.ask.path) c.self.inside.inquiries.asks c.args.ask joined
+    subst (λ (k : ℕ). IsKept c.self.inside.config c.self.inside.cache c.list.new.inquiries c.push_reserved.new.self.items c.self.inside.preferred.items c.args.moment k) (sym c.count_tcp-count.ensures)
+    (subst (λ (a : Ask). IsKept c.self.inside.config c.self.inside.cache c.list.new.inquiries c.push_reserved.new.self.items c.self.inside.preferred.items c.args.moment (c.self.inside.tcp_asks + tcp_count_of a.path)) (sym c.ask.view_is)
+    (kept_asked c.self.inside.config c.self.inside.cache c.self.inside.inquiries c.list.new.inquiries c.push_reserved.new.self.items c.self.inside.preferred.items c.args.moment c.args.moment c.self.inside.tcp_asks (tcp_count_of c.args.ask.path) c.self.inside.inquiries.asks c.args.ask joined
     (omega arith) c.requires.in_time joined.asks one (subst (λ (r : Running). r.state.tcp_asks + tcp_count_of c.args.ask.path < 2 ^ 64) (sym c.self.view_is) c.requires.follows.counted) c.in_ok-list.ensures.ok))

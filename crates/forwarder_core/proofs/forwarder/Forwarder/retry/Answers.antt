@@ -13,7 +13,7 @@ ask_again-requires-clause-follows g c =
 pub returns-in-Some-clause-row : goal.returns-in-Some-clause-row
 returns-in-Some-clause-row g c =
     IfOk-weaker c.ask_again.result _ _
-    (λ n e. e ∙ ap (row_of_attempt c.args.moment c.args.ask.now c.args.self.now.state)
+    (λ n e. λ rooms. e rooms ∙ ap (row_of_attempt c.args.moment c.args.ask.now c.args.self.now.state)
     (sym c.in-Some.is ∙ c.in_ok-next.ensures
     ∙ (λ i. ask_by c.args.moment (c.ask.view_is i).question (c.ask.view_is i).route (c.from.ensures i) ((c.ask.view_is i).used + 1) (peer_at (c.self.view_is i).config (c.ask.view_is i).route (c.from.ensures i)) c.args.drawn)))
     c.ask_again.ensures.row

@@ -1,7 +1,0 @@
-use Rattle.std.proofs.Common.{◌≡◌, drop}
-use Rattle.std.specs.List.{find}
-use Rattle.forwarder_core.specs.Spelling.{is_for}
-use Rattle.forwarder_core.proofs.spelled.find_spelled.Given as goal
-
-abbrev pub invariant-loop-spelled : goal.invariant-loop-spelled
-invariant-loop-spelled g l = find (is_for l.question) (drop l.spelled-index l.texts) ≡ find (is_for l.question) l.texts

@@ -1,0 +1,19 @@
+-- The walk of a reply that was read.
+use Rattle.std.specs.Prelude.{◌≡◌, ◌<◌, length}
+use Rattle.dns_message.specs.Values.{Message}
+use Rattle.dns_message.specs.Messages.{HasShapes}
+use Rattle.suffix_routes.specs.Values.{Config}
+use Rattle.trust_rank.specs.Values.{Walk}
+use Rattle.trust_rank.specs.Walks.{walk_of}
+use Rattle.outstanding.specs.Values.{Ask}
+
+-- a message as it is read: the data of each record is of its type's shape, and a section's count has 16 bits
+pub record IsRead (m : Message) : Type 0 where
+  pub shapes : HasShapes m
+  pub few : length m.authority < 65536
+
+-- the walk of a message that was read, from the name that the ask is for
+pub record IsWalkFor (c : Config) (a : Ask) (w : Walk) : Type 0 where
+  pub message : Message
+  pub read : IsRead message
+  pub is : w ≡ walk_of c message a.question a.route

@@ -1,0 +1,127 @@
+-- What replies carried, computed: in what order, how long it counts, what takes its place, whom it may serve, and what it answers.
+use Rattle.std.proofs.Common.{◌≡◌, ℕ, ◌<◌, List, [], ◌∷◌, Some, None, true, false, refl, sym, ◌∙◌, subst, ◌⊎◌, inl, inr, arith}
+use Rattle.std.proofs.lemmas.Bool.{true≢false}
+use Rattle.dns_message.specs.Values.{Question, Record}
+use Rattle.dns_message.specs.Data.{name_of_rdata}
+use Rattle.dns_message.specs.Names.{step as name_step, walk_in, name_within}
+use Rattle.dns_message.specs.Writing.{◌▹◌, each, name_text, data_text, with_length, written}
+use Rattle.dns_message.specs.Shapes.{shape_of}
+use Rattle.trust_rank.specs.Values.{rows, no_data, denied, Piece, found, ends_no_data, ends_denied, elsewhere, lame}
+use Rattle.trust_rank.specs.Walks.{target_of}
+use Rattle.record_cache.specs.Values.{Held}
+use Rattle.record_cache.specs.Ageing.{end_of, seconds_left}
+use Rattle.record_cache.specs.Laws.{Among}
+use Rattle.step_values.specs.declared.action.Why.TheVariants.{ChainLong}
+use Rattle.step_history.specs.Names.{route_of}
+use Rattle.step_history.specs.History.{moment_at, Look, counts_as_lame}
+use Rattle.step_history.specs.Carried.{then_carried, NotReplaced, Justified}
+use Rattle.step_history.specs.Answers.{has_slot, EndsChain}
+use Rattle.step_history.specs.Replies.{asked_in, answer_text, failure_text}
+
+-- ---- names below e, and pieces of them
+
+abbrev below : ℕ → List (List ℕ)
+below letter = (letter ∷ []) ∷ (101 ∷ []) ∷ []
+
+abbrev a : List (List ℕ)
+a = below 97
+
+abbrev set : List (List ℕ) → ℕ → ℕ → Piece
+set name lifetime rank = record { owner = name; slot = record { key = name; class = 1; kind = Some 1 }; body = rows ((198 ∷ 51 ∷ 100 ∷ 5 ∷ []) ∷ []); lifetime = lifetime; rank = rank; route = 0 }
+
+abbrev name_error : List (List ℕ) → Piece
+name_error name = record { owner = name; slot = record { key = name; class = 1; kind = None }; body = denied None; lifetime = 600; rank = 3; route = 0 }
+
+abbrev at : ℕ → Piece → Held
+at moment p = record { piece = p; accepted = moment }
+
+-- ---- what a reply carries
+
+-- a reply that leads on to another name counts as lame
+lame_ends : (counts_as_lame lame ≡ true) × (counts_as_lame (elsewhere a) ≡ true) × (counts_as_lame found ≡ false) × (counts_as_lame ends_no_data ≡ false) × (counts_as_lame ends_denied ≡ false)
+lame_ends = (refl, refl, refl, refl, refl)
+
+-- what comes last is the newest
+order : then_carried 1020 (set a 300 3 ∷ name_error (below 98) ∷ []) (at 1000 (set a 60 1) ∷ []) ≡ at 1020 (name_error (below 98)) ∷ at 1020 (set a 300 3) ∷ at 1000 (set a 60 1) ∷ []
+order = refl
+
+-- ---- how long it counts
+
+-- up to its last millisecond, in seconds rounded down
+ages : (301019 < end_of (at 1020 (set a 300 3))) × (seconds_left 11520 (at 1020 (set a 300 3)) ≡ 289) × (seconds_left 301019 (at 1020 (set a 300 3)) ≡ 0) × (seconds_left 400000 (at 1020 (set a 300 3)) ≡ 0)
+ages = (omega arith, refl, refl, refl)
+
+ended : 301020 < end_of (at 1020 (set a 300 3)) → ⊥
+ended h = omega (arith, h)
+
+-- ---- what takes its place
+
+-- a set that is believed less takes the place of none
+believed_less : NotReplaced (at 1020 (set a 300 3)) (at 2020 (set a 600 1) ∷ at 1020 (set a 300 3) ∷ [])
+believed_less = inr (refl, inl refl)
+
+-- one that is believed as much does, of whatever lifetime
+replaced : NotReplaced (at 1020 (set a 300 3)) (at 2020 (set a 0 3) ∷ at 1020 (set a 300 3) ∷ []) → ⊥
+replaced (inl same) = let two : 2020 ≡ 1020 = Rattle.std.proofs.Common.ap (λ (h : Held). h.accepted) same in omega (arith, two)
+replaced (inr later) = true≢false later.0
+
+-- a name error takes the place of no set, and a set below it that of the name error
+set_stays : NotReplaced (at 1020 (set a 300 3)) (at 2020 (name_error ((101 ∷ []) ∷ [])) ∷ at 1020 (set a 300 3) ∷ [])
+set_stays = inr (refl, inl refl)
+
+error_over : NotReplaced (at 1020 (name_error ((101 ∷ []) ∷ []))) (at 2020 (set a 0 1) ∷ at 1020 (name_error ((101 ∷ []) ∷ [])) ∷ []) → ⊥
+error_over (inl same) = let two : 2020 ≡ 1020 = Rattle.std.proofs.Common.ap (λ (h : Held). h.accepted) same in omega (arith, two)
+error_over (inr later) = true≢false later.0
+
+-- ---- whom it may serve
+
+-- it serves names on its own route alone
+on_its_route : (l : Look) (name : List (List ℕ)) (o : Held) → Justified l name o → (k : ℕ) → route_of l.config name ≡ Some k → k ≡ o.piece.route
+on_its_route l name o j k is = let same : Some k ≡ Some o.piece.route = sym is ∙ j.on_route in cc
+
+-- what came before the client asked was alive then
+was_alive : (l : Look) (name : List (List ℕ)) (o : Held) (j : Justified l name o) → j.new ≡ [] → moment_at (l.asked ∷ l.before) < end_of o
+was_alive l name o j none = by j.counts
+  where
+    by : (NotReplaced o j.old × (moment_at (l.asked ∷ l.before) < end_of o)) ⊎ Among o j.new → moment_at (l.asked ∷ l.before) < end_of o
+    by (inl before) = before.1
+    by (inr since) = absurd (subst (Among o) none since)
+
+-- ---- what it answers
+
+abbrev address : List (List ℕ) → Question
+address name = record { name = name; kind = 1; class = 1 }
+
+-- letter case aside, its own name, class and type
+own_slot : (has_slot (set a 300 3) (below 65) 1 (Some 1) ≡ true) × (has_slot (set a 300 3) (below 98) 1 (Some 1) ≡ false) × (has_slot (set a 300 3) a 3 (Some 1) ≡ false) × (has_slot (set a 300 3) a 1 (Some 28) ≡ false)
+own_slot = (refl, refl, refl, refl)
+
+-- a name error answers its own name and those below it, whatever the type, and no sibling
+denied_names : EndsChain (address a) (name_error ((101 ∷ []) ∷ [])) (denied None) × EndsChain (address a) (name_error a) (denied None)
+denied_names = ((refl, refl), (refl, refl))
+
+sibling : EndsChain (address (below 98)) (name_error a) (denied None) → ⊥
+sibling h = true≢false (Rattle.std.proofs.Common.sym h.0)
+
+-- an alias leads to the name of its one record
+targets : (target_of (rows ((1 ∷ 98 ∷ 0 ∷ []) ∷ [])) ≡ Some ((98 ∷ []) ∷ [])) × (target_of (rows ((1 ∷ 98 ∷ 0 ∷ []) ∷ (1 ∷ 99 ∷ 0 ∷ []) ∷ [])) ≡ None) × (target_of (no_data None) ≡ None)
+unfolding name_of_rdata name_within walk_in name_step
+targets = (refl, refl, refl)
+
+-- ---- texts
+
+abbrev text : ℕ → List ℕ
+text ttl = 18 ∷ 53 ∷ 129 ∷ 128 ∷ 0 ∷ 1 ∷ 0 ∷ 1 ∷ 0 ∷ 0 ∷ 0 ∷ 0 ∷ 1 ∷ 97 ∷ 1 ∷ 101 ∷ 0 ∷ 0 ∷ 1 ∷ 0 ∷ 1 ∷ 192 ∷ 12 ∷ 0 ∷ 1 ∷ 0 ∷ 1 ∷ 0 ∷ 0 ∷ 1 ∷ ttl ∷ 0 ∷ 4 ∷ 198 ∷ 51 ∷ 100 ∷ 5 ∷ []
+
+abbrev request : Rattle.dns_message.specs.Header.Header
+request = record { id = 4661; qr = false; opcode = 0; aa = false; tc = false; rd = true; ra = false; z = 0; rcode = 0; counts = 1 ∷ 0 ∷ 0 ∷ 0 ∷ [] }
+
+-- the answer with the seconds that are left
+aged : answer_text (asked_in request (Some (address a))) [] (at 1020 (set a 300 3)) 11520 ≡ text 33
+unfolding written ◌▹◌ each name_text data_text with_length shape_of
+aged = refl
+
+-- a failure repeats the question, with its response code
+failure : failure_text (asked_in request (Some (address a))) ChainLong ≡ 18 ∷ 53 ∷ 129 ∷ 130 ∷ 0 ∷ 1 ∷ 0 ∷ 0 ∷ 0 ∷ 0 ∷ 0 ∷ 0 ∷ 1 ∷ 97 ∷ 1 ∷ 101 ∷ 0 ∷ 0 ∷ 1 ∷ 0 ∷ 1 ∷ []
+unfolding written ◌▹◌ each name_text
+failure = refl

@@ -1,0 +1,34 @@
+-- What a client's question meets in the cache.
+use Rattle.std.proofs.Common.{ℕ, ◌<◌, ◌≤◌, List, [], ◌∷◌, subst, inl, inr, refl, arith}
+use Rattle.std.specs.List.{AllByRecursion}
+use Rattle.trust_rank.specs.Formed.{IsPiece}
+use Rattle.record_cache.specs.Values.{Held}
+use Rattle.record_cache.specs.Ageing.{end_of}
+use Rattle.step_history.proofs.CallerLemmas.{moment_later}
+use Rattle.step_keeping.specs.Kept.{IsKept}
+use Rattle.step_keeping.specs.Chains.{look_from}
+use Rattle.step_keeping.specs.Laws.{LookUpsAreRight}
+use Rattle.step_keeping.proofs.Justifying.{kept_is_justified}
+use Rattle.step_keeping.proofs.LookingUp.{IsUsable, look_up_right, look_up_sized}
+
+pub look_ups_are_right : LookUpsAreRight
+look_ups_are_right c past m n cache s q was is (run, quiet) now = record { told = led.told; follows = led.follows; right_end = led.right_end; sized = look_up_sized c.routes n cache.entries 8 [] q refl }
+  where
+    -- each entry may serve the question now
+    usable : (es : List Held) → AllByRecursion (λ h. IsPiece h.piece) es → AllByRecursion (IsKept c was.carried m) es → AllByRecursion (IsUsable (look_from c s past (s ∷ past)) n) es
+    usable [] formed kept = tt
+    usable (h ∷ es) formed kept = (
+      record {
+        told = record { formed = formed.0; writable = kept.0.writable; earlier = let before : h.accepted ≤ m = kept.0.earlier in let le = moment_later s past run in omega (arith, before, le, is, now) };
+        formed = formed.0;
+        on_route = kept.0.on_route;
+        serves = λ name alive route. kept_is_justified c s past (s ∷ past) name was.carried h (inl refl) (inr (inl (run, quiet, was.carried_is))) kept.0.not_replaced (subst (λ (t : ℕ). t < end_of h) now alive) route;
+      },
+      usable es formed.1 kept.1,
+    )
+
+    all_usable : AllByRecursion (IsUsable (look_from c s past (s ∷ past)) n) cache.entries
+    all_usable = usable cache.entries was.held.formed was.kept
+
+    led : Rattle.step_keeping.proofs.LookingUp.IsLed (look_from c s past (s ∷ past)) n cache.entries all_usable q (Rattle.step_keeping.specs.Kept.looked c n cache.entries q)
+    led = look_up_right (look_from c s past (s ∷ past)) n cache.entries all_usable q 8 [] q tt refl

@@ -1,0 +1,13 @@
+pub mod Lists
+pub mod Slots
+pub mod Short
+pub mod Justifying
+pub mod Walking
+pub mod Carrying
+pub mod LookingUp
+pub mod Offers
+pub mod Keeping
+pub mod Texts
+pub mod Caching
+pub mod Hits
+pub mod CallerLemmas

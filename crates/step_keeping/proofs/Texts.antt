@@ -1,0 +1,154 @@
+-- What is written of an answer is read as the answer.
+use Rattle.std.proofs.Common.{◌≡◌, ℕ, ◌<◌, ◌≤◌, List, [], ◌∷◌, ◌++◌, length, Bool, true, false, cond, refl, sym, ap, ◌∙◌, subst, inl, inr, arith, Option, Some, None}
+use Rattle.std.specs.Prelude.{map, nat_le}
+use Rattle.std.specs.List.{flat_map, AllByRecursion}
+use Rattle.std.specs.Option.{IfSome}
+use Rattle.std.proofs.lemmas.Bool.{leb-true, true≢false}
+use Rattle.dns_message.specs.Values.{Question, Record, Message}
+use Rattle.dns_message.specs.Data.{IsShaped}
+use Rattle.dns_message.specs.Messages.{Spells, AreShaped, HasShapes}
+use Rattle.dns_message.specs.Writing.{written}
+use Rattle.dns_message.specs.Written.{IsQuestion, IsRecord, IsMessage}
+use Rattle.dns_message.proofs.CallerLemmas.{written_message_is_spelled, one_message_is_spelled}
+use Rattle.trust_rank.specs.Values.{Body, rows, no_data, denied, Piece}
+use Rattle.trust_rank.specs.Formed.{FitsKind, IsSoa}
+use Rattle.trust_rank.specs.Writable.{IsWritableBody, IsWritable}
+use Rattle.record_cache.specs.Values.{Held}
+use Rattle.record_cache.specs.Ageing.{seconds_left}
+use Rattle.answer_builder.specs.Values.{Asked, Sections}
+use Rattle.answer_builder.specs.Answers.{record_of, records_in, aged, soa_records, rcode_of, answers_of, authority_of, last_of, sections_of, full_answer, cut_answer, answer_message, bare}
+use Rattle.step_values.specs.declared.event.Client.{Client}
+use Rattle.step_values.specs.declared.event.Client.TheVariants.{Udp, Tcp}
+use Rattle.step_history.specs.Replies.{sized_for, FitsTransport}
+use Rattle.step_history.specs.Sound.{SameSections}
+use Rattle.step_keeping.specs.Kept.{CanBeTold, CanBeRepeated, SpellsAnswer}
+use Rattle.step_keeping.specs.Laws.{AnswersAreSpelled}
+use Rattle.step_keeping.proofs.Short.{question_short}
+use Rattle.step_keeping.proofs.Lists.{All-append}
+
+-- what is left of a lifetime fits 32 bits
+seconds_fit : (t : ℕ) (h : Held) → CanBeTold t h → seconds_left t h < 4294967296
+seconds_fit t h told =
+    let short : h.piece.lifetime ≤ 604800 = told.formed.lifetime in
+    let before : h.accepted ≤ t = told.earlier in
+    let most : seconds_left t h ≤ 604800 = omega (arith, short, before) in
+    omega (arith, most)
+
+-- ---- the records of an answer
+
+abbrev Tells : Record → Type 0
+Tells r = IsRecord r × IsShaped r.kind r.rdata
+
+rows_tell : (t kind : ℕ) (p : Piece) (ttl : ℕ) → ttl < 4294967296 → IsWritable p → kind < 65536 → (each : List (List ℕ)) → AllByRecursion (IsShaped kind) each → AllByRecursion Tells (map (record_of ttl p kind) each)
+rows_tell t kind p ttl small can k [] all = tt
+rows_tell t kind p ttl small can k (row ∷ each) all = ((record { owner = can.owner; kind = k; class = can.class; ttl = small }, all.0), rows_tell t kind p ttl small can k each all.1)
+
+set_tells : (t : ℕ) (h : Held) → CanBeTold t h → AllByRecursion Tells (answers_of t h)
+set_tells t h told = by h.piece.slot.kind h.piece.body told.formed.body told.writable.kind
+  where
+    by : (k : Option ℕ) (b : Body) → FitsKind k b → IfSome k (λ kind. kind < 65536) → AllByRecursion Tells (records_in (seconds_left t h) h.piece k b)
+    by (Some kind) (rows each) fits small = rows_tell t kind h.piece (seconds_left t h) (seconds_fit t h told) told.writable small each fits.shaped
+    by (Some kind) (no_data soa) fits small = tt
+    by (Some kind) (denied soa) fits small = tt
+    by None b fits small = tt
+
+soa_tells : (t : ℕ) (h : Held) → CanBeTold t h → AllByRecursion Tells (authority_of t h)
+soa_tells t h told = by h.piece.slot.kind h.piece.body told.formed.body told.writable.body
+  where
+    one : (soa : Option Record) → IfSome soa IsSoa → IfSome soa IsRecord → AllByRecursion Tells (aged (seconds_left t h) soa)
+    one None is can = tt
+    one (Some r) is can = ((record { owner = can.owner; kind = can.kind; class = can.class; ttl = seconds_fit t h told }, subst (λ (k : ℕ). IsShaped k r.rdata) (sym is.kind) is.shaped), tt)
+
+    by : (k : Option ℕ) (b : Body) → FitsKind k b → IsWritableBody b → AllByRecursion Tells (soa_records (seconds_left t h) b)
+    by k (rows each) fits can = tt
+    by (Some kind) (no_data soa) fits can = one soa fits can
+    by None (no_data soa) fits can = absurd fits
+    by None (denied soa) fits can = one soa fits can
+    by (Some kind) (denied soa) fits can = absurd fits
+
+all_tell : (t : ℕ) (chain : List Held) → AllByRecursion (CanBeTold t) chain → AllByRecursion Tells (flat_map (answers_of t) chain)
+all_tell t [] all = tt
+all_tell t (h ∷ chain) all = All-append Tells (answers_of t h) (flat_map (answers_of t) chain) (set_tells t h all.0) (all_tell t chain all.1)
+
+last_told : (t : ℕ) (h : Held) (chain : List Held) → CanBeTold t h → AllByRecursion (CanBeTold t) chain → CanBeTold t (last_of h chain)
+last_told t h [] told all = told
+last_told t h (other ∷ chain) told all = last_told t other chain all.0 all.1
+
+small_code : (b : Body) → rcode_of b < 16
+small_code (rows each) = omega arith
+small_code (no_data soa) = omega arith
+small_code (denied soa) = omega arith
+
+-- sections whose records can be written, with a response code of four bits
+record CanBeWritten (s : Sections) : Type 0 where
+  pub answers : AllByRecursion Tells s.answers
+  pub authority : AllByRecursion Tells s.authority
+  pub rcode : s.rcode < 16
+
+sections_can : (t : ℕ) (chain : List Held) → AllByRecursion (CanBeTold t) chain → CanBeWritten (sections_of t chain)
+sections_can t [] all = record { answers = tt; authority = tt; rcode = omega arith }
+sections_can t (h ∷ chain) all = record {
+  answers = all_tell t (h ∷ chain) all;
+  authority = soa_tells t (last_of h chain) (last_told t h chain all.0 all.1);
+  rcode = small_code (last_of h chain).piece.body;
+}
+
+records_of : (rs : List Record) → AllByRecursion Tells rs → AllByRecursion IsRecord rs
+records_of [] all = tt
+records_of (r ∷ rs) all = (all.0.0, records_of rs all.1)
+
+shapes_of : (rs : List Record) → AllByRecursion Tells rs → AreShaped rs
+shapes_of [] all = tt
+shapes_of (r ∷ rs) all = (all.0.1, shapes_of rs all.1)
+
+-- ---- the message
+
+message_spelled : (a : Asked) (q : Question) (cut : Bool) (s : Sections) → CanBeRepeated a q → CanBeWritten s → length (written (answer_message a cut s)) ≤ 65535 → Spells (written (answer_message a cut s)) (answer_message a cut s)
+message_spelled a q cut s asks can short = written_message_is_spelled (answer_message a cut s) (record {
+  id = asks.id;
+  bits = record { opcode = asks.opcode; z = omega arith; rcode = can.rcode };
+  questions = subst (λ (o : Option Question). AllByRecursion IsQuestion (Rattle.dns_message.specs.Borrowed.questions_of o)) (sym asks.question) (asks.is_question, tt);
+  answers = records_of s.answers can.answers;
+  authority = records_of s.authority can.authority;
+  additional = tt;
+}) refl (record { answers = shapes_of s.answers can.answers; authority = shapes_of s.authority can.authority; additional = tt }) short
+
+cut_short : (a : Asked) (q : Question) (s : Sections) → CanBeRepeated a q → length (written (cut_answer a s)) ≤ 65535
+cut_short a q s asks = question_short (cut_answer a s) q (ap Rattle.dns_message.specs.Borrowed.questions_of asks.question) refl refl refl asks.is_question.name
+
+answer_spelled : (a : Asked) (q : Question) (t : ℕ) (chain : List Held) → CanBeRepeated a q → AllByRecursion (CanBeTold t) chain
+    → (client : Client) → FitsTransport client (sized_for client (written (full_answer a (sections_of t chain))) (written (cut_answer a (sections_of t chain))))
+    → SpellsAnswer (sized_for client (written (full_answer a (sections_of t chain))) (written (cut_answer a (sections_of t chain)))) a chain t
+answer_spelled a q t chain asks told (Tcp conn) fits = inl (message_spelled a q false (sections_of t chain) asks (sections_can t chain told) fits)
+answer_spelled a q t chain asks told (Udp peer) fits = by (nat_le (length full) 512) refl
+  where
+    full : List ℕ
+    full = written (full_answer a (sections_of t chain))
+
+    bare_can : CanBeWritten (bare (sections_of t chain).rcode)
+    bare_can = record { answers = tt; authority = tt; rcode = (sections_can t chain told).rcode }
+
+    by : (b : Bool) → nat_le (length full) 512 ≡ b → SpellsAnswer (cond b full (written (cut_answer a (sections_of t chain)))) a chain t
+    by true few = inl (message_spelled a q false (sections_of t chain) asks (sections_can t chain told) (let small = leb-true (length full) 512 few in omega (arith, small)))
+    by false many = inr (message_spelled a q true (bare (sections_of t chain).rcode) asks bare_can (cut_short a q (sections_of t chain) asks))
+
+-- what a client gets is read as the answer, or as the answer cut to the question
+pub answers_are_spelled : AnswersAreSpelled
+answers_are_spelled a q t aliases end asks told client fits = answer_spelled a q t (aliases ++ end ∷ []) asks told client fits
+
+-- ---- sections after reading
+
+-- octets that are read without TC are read as the whole answer
+read_whole : (octets : List ℕ) (a : Asked) (chain : List Held) (t : ℕ) (m : Message) → SpellsAnswer octets a chain t → Spells octets m → m.header.tc ≡ false → m ≡ full_answer a (sections_of t chain)
+read_whole octets a chain t m (inl full) spells clear = one_message_is_spelled octets m (full_answer a (sections_of t chain)) spells full
+read_whole octets a chain t m (inr cut) spells clear = absurd (true≢false (sym (ap (λ (x : Message). x.header.tc) (one_message_is_spelled octets m (cut_answer a (sections_of t chain)) spells cut)) ∙ clear))
+
+-- answers from one chain at one moment have the same sections
+pub same_sections : (octets other : List ℕ) (a b : Asked) (chain : List Held) (t : ℕ) → SpellsAnswer octets a chain t → SpellsAnswer other b chain t → SameSections octets other
+same_sections octets other a b chain t one two m m' spells spells' clear clear' =
+    let first = read_whole octets a chain t m one spells clear in
+    let second = read_whole other b chain t m' two spells' clear' in (
+      ap (λ (x : Message). x.header.rcode) first ∙ sym (ap (λ (x : Message). x.header.rcode) second),
+      ap (λ (x : Message). x.answers) first ∙ sym (ap (λ (x : Message). x.answers) second),
+      ap (λ (x : Message). x.authority) first ∙ sym (ap (λ (x : Message). x.authority) second),
+    )

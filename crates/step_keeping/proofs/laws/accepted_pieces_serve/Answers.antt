@@ -1,0 +1,8 @@
+use Rattle.step_keeping.proofs.Carrying.{accepted_pieces_can_be_kept, accepted_pieces_answer}
+use Rattle.step_keeping.proofs.laws.accepted_pieces_serve.Goals as goal
+
+pub returns-clause-kept : goal.returns-clause-kept
+returns-clause-kept c = accepted_pieces_can_be_kept
+
+pub returns-clause-answered : goal.returns-clause-answered
+returns-clause-answered c = accepted_pieces_answer

@@ -1,0 +1,58 @@
+-- Chains that a history justifies: those of a look-up, and those of an accepted reply.
+use Rattle.std.specs.Prelude.{◌≡◌, ℕ, ◌≤◌, false, List, [], ◌∷◌, ◌++◌, length, map, ◌⊎◌}
+use Rattle.std.specs.List.{AllByRecursion}
+use Rattle.dns_message.specs.Values.{Question}
+use Rattle.suffix_routes.specs.Values.{Config}
+use Rattle.trust_rank.specs.Values.{Piece}
+use Rattle.record_cache.specs.Values.{Held}
+use Rattle.step_values.specs.Values.{Step}
+use Rattle.step_history.specs.History.{is_restart, Look, Carries, NothingAccepted}
+use Rattle.step_history.specs.Carried.{Justified}
+use Rattle.step_history.specs.Answers.{FollowsAliases, EndsChain}
+use Rattle.step_rules.specs.LookingUp.{Met, ends, too_long, missed, Looked}
+use Rattle.step_rules.specs.Row.{held_at}
+use Rattle.step_keeping.specs.Kept.{CanBeTold}
+
+-- a step, and what came before it, seen from now
+abbrev pub look_from : Config → Step → List Step → List Step → Look
+look_from c asked before now = record { config = c; asked = asked; before = before; now = now }
+
+-- a step that is no restart: it accepts nothing, or carries these pieces
+abbrev pub GoesOn : Config → Step → List Step → Type 0
+GoesOn c s past = (is_restart s ≡ false) × (NothingAccepted c s past ⊎ ((ps : List Piece) × Carries c s past ps))
+
+-- ---- of a look-up
+
+-- it can be told at the moment, is justified, and ends the look-up of the question
+abbrev pub IsRightEnd : Look → ℕ → Question → Held → Type 0
+IsRightEnd l t q h = CanBeTold t h × Justified l q.name h × EndsChain q h.piece h.piece.body
+
+abbrev pub EndsRight : Look → ℕ → Question → Met → Type 0
+EndsRight l t q (ends h) = IsRightEnd l t q h
+EndsRight l t q too_long = Unit {0}
+EndsRight l t q missed = Unit {0}
+
+-- a look-up that fails by its aliases holds nine, any other at most eight
+abbrev pub IsSized : Met → ℕ → Type 0
+IsSized (ends h) k = k ≤ 8
+IsSized too_long k = k ≡ 9
+IsSized missed k = k ≤ 8
+
+-- its aliases lead from the question to what is wanted at the end, and the end is right for that
+pub record IsRight (l : Look) (t : ℕ) (q : Question) (v : Looked) : Type 0 where
+  pub told : AllByRecursion (CanBeTold t) v.held
+  pub follows : FollowsAliases l q v.held v.wanted
+  pub right_end : EndsRight l t v.wanted v.met
+  pub sized : IsSized v.met (length v.held)
+
+-- ---- of an accepted reply
+
+-- pieces that came at the moment t: aliases that lead on from the question, and the one that ends its look-up
+pub record LeadToEnd (l : Look) (t : ℕ) (q : Question) (ps : List Piece) : Type 0 where
+  pub aliases : List Piece
+  pub last : Piece
+  pub whole : ps ≡ aliases ++ last ∷ []
+  pub to : Question
+  pub follows : FollowsAliases l q (map (held_at t) aliases) to
+  pub justified : Justified l to.name (held_at t last)
+  pub right_end : EndsChain to last last.body

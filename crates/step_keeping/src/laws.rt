@@ -1,0 +1,39 @@
+//! What is kept and found, over plain values: no code is mentioned.
+
+ghost use Rattle.step_keeping.specs.Laws.{AcceptedPiecesAnswer, AcceptedPiecesCanBeKept, AnswersAreSpelled, AnswersFromCacheAgree, LeadsStayLeads, LookUpsAreRight, OffersKeep, PromotionsFindTheSame, PromotionsKeep, QuietStepsKeep};
+
+/// What the history explains of the cache stays explained: by a step that accepts nothing, where what it answers from
+/// cache is found now; by a promotion; and by the offers of what an accepted reply carried, whatever memory there is.
+pub fn what_is_kept_stays_explained()
+    ensures quiet { QuietStepsKeep }
+    ensures promoted { PromotionsKeep }
+    ensures offered { OffersKeep }
+{}
+
+/// The pieces of an accepted reply can be kept, and answer each question of the era that is equal to the one asked.
+pub fn accepted_pieces_serve()
+    ensures kept { AcceptedPiecesCanBeKept }
+    ensures answered { AcceptedPiecesAnswer }
+{}
+
+/// A client's question is led by justified aliases, eight at most, to what ends its look-up; or by nine.
+pub fn look_ups_are_right()
+    ensures { LookUpsAreRight }
+{}
+
+/// An answer from cache has the result code and sections of each earlier one to an equal question at its moment, as far
+/// back as nothing was accepted; and promotions leave what is found.
+pub fn answers_from_cache_agree()
+    ensures agree { AnswersFromCacheAgree }
+    ensures found { PromotionsFindTheSame }
+{}
+
+/// What a client gets of a chain is read as the answer, or as the same cut to the question.
+pub fn answers_are_spelled()
+    ensures { AnswersAreSpelled }
+{}
+
+/// The aliases that a waiting question holds still lead on after each step of the era.
+pub fn what_leads_still_leads()
+    ensures { LeadsStayLeads }
+{}

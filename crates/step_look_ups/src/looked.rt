@@ -1,0 +1,79 @@
+//! What a look-up along aliases comes to.
+
+ghost use Rattle.std.specs.Prelude.{◌≡◌, IfOk, map};
+ghost use Rattle.step_look_ups.specs.Seen.{is_ended};
+ghost use Rattle.answer_builder.specs.Building.{lent};
+
+use crate::slots::Slots;
+use record_cache::Held;
+use std::alloc::{AllocError, Allocator, Global};
+use std::marker::Model;
+use std::slice;
+
+/// How a look-up ends.
+#[derive(Clone, Copy, Debug, PartialEq, Eq)]
+pub enum Met {
+    /// At a set or a denial.
+    Ends,
+    /// At one alias too many.
+    TooLong,
+    /// At a name of which nothing is known.
+    Missed,
+}
+
+/// Entries in order, of which one alone takes no memory.
+#[derive(Drop)]
+pub(crate) enum Used<'a, A: Allocator> {
+    One(&'a Held<A>),
+    More(Vec<&'a Held<A>, A>),
+}
+
+/// The entries that a look-up used, in order, and how it ended: where it came to an end the last of them is that end, and
+/// all others are aliases.
+#[derive(Drop)]
+pub struct Looked<'a, A: Allocator = Global> {
+    pub(crate) used: Used<'a, A>,
+    pub(crate) met: Met,
+}
+
+impl<'a, A: Allocator> Model for Looked<'a, A> {
+    ghost use Rattle.step_look_ups.specs.Seen.{Seen, entries_of};
+
+    ghost Value = { Seen };
+
+    ghost view = { λ l. record { used = entries_of l.used; met = l.met } };
+}
+
+impl<'a, A: Allocator + Copy> Looked<'a, A> {
+    /// How it ended.
+    pub fn met(&self) -> Met
+        ensures { result ≡ self.now.met }
+    {
+        self.met
+    }
+
+    /// It came to a set or a denial.
+    pub fn is_ended(&self) -> bool
+        ensures { result ≡ is_ended self.now.met }
+    {
+        matches!(self.met, Met::Ends)
+    }
+
+    /// The entries that it used, in order.
+    pub fn used(&self) -> &[&'a Held<A>]
+        ensures { lent result.now ≡ self.now.used }
+    {
+        match &self.used {
+            Used::One(held) => slice::from_ref(held),
+            Used::More(entries) => entries,
+        }
+    }
+
+    /// The slots of the entries that it used, in order. Only where there are more than one does it take memory; `Err` where
+    /// that ran out.
+    pub fn slots(&self, alloc: A) -> Result<Slots<A>, AllocError>
+        ensures { IfOk result (λ slots. slots ≡ map (λ h. h.piece.slot) self.now.used) }
+    {
+        Slots::of(alloc, self.used())
+    }
+}

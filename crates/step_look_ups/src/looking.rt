@@ -1,0 +1,122 @@
+//! A question, looked up along the aliases that are met: RFC 1034 3.6.2.
+
+ghost use Rattle.std.specs.Prelude.{◌≡◌, ℕ, List, [], option_map, IfOk, OnErr};
+ghost use Rattle.answer_builder.specs.Building.{lent};
+ghost use Rattle.negative_cache.specs.Finding.{found};
+ghost use Rattle.negative_cache.specs.Values.{alias as alias_found};
+ghost use Rattle.dns_name.specs.Labels.{lowered};
+ghost use Rattle.dns_message.specs.Data.{name_of_rdata};
+ghost use Rattle.trust_rank.specs.Walks.{most_aliases, target_of};
+ghost use Rattle.step_rules.specs.LookingUp.{look_up};
+ghost use Rattle.step_look_ups.specs.Seen.{seen_from, seen_of, IsAlias};
+
+use crate::looked::{Looked, Met, Used};
+use dns_name::NameKey;
+use message_names::{Bound, skip_name};
+use negative_cache::{Found, find_by_key};
+use record_cache::{Cache, Held};
+use std::alloc::{AllocError, Allocator};
+use std::hash::BuildHasher;
+use suffix_routes::Config;
+use trust_rank::Body;
+
+/// No question takes more aliases.
+const MOST_ALIASES: usize = 8;
+
+/// The look-up of the question whose name has this key, at a moment in milliseconds: what is found at the name, and where
+/// that is an alias, what is found at the name that it leads to, and so on, until a set or a denial, a ninth alias, or a
+/// name of which nothing is known. Only aliases take memory; `Err` where it ran out.
+pub fn look_up<'a, H: BuildHasher + Drop, A: Allocator + Copy>(
+    alloc: A,
+    cache: &'a Cache<H, A>,
+    key: &NameKey,
+    class: u16,
+    kind: u16,
+    moment: u64,
+    config: &Config<A>,
+) -> Result<Looked<'a, A>, AllocError>
+    ensures exact { (name : List (List ℕ)) → lowered name ≡ key.now → IfOk result (λ looked. looked
+        ≡ seen_of (look_up config.now.routes moment cache.now.entries most_aliases [] (record { name = name; kind = kind; class = class }))) }
+    ensures no_alias { (name : List (List ℕ)) → lowered name ≡ key.now → OnErr result
+        (IsAlias (found config.now.routes moment cache.now.entries (record { name = name; kind = kind; class = class }))) }
+{
+    match find_by_key(cache, key, class, kind, moment, config) {
+        Found::Rows(held) | Found::NoData(held) | Found::Denied(held) => Ok(Looked {
+            used: Used::One(held),
+            met: Met::Ends,
+        }),
+        Found::Alias(held) => follow(alloc, cache, held, class, kind, moment, config),
+        Found::Miss => Ok(Looked {
+            used: Used::More(Vec::new(alloc)),
+            met: Met::Missed,
+        }),
+    }
+}
+
+/// The look-up that meets this alias first.
+fn follow<'a, H: BuildHasher + Drop, A: Allocator + Copy>(
+    alloc: A,
+    cache: &'a Cache<H, A>,
+    first: &'a Held<A>,
+    class: u16,
+    kind: u16,
+    moment: u64,
+    config: &Config<A>,
+) -> Result<Looked<'a, A>, AllocError>
+    ensures { IfOk result (λ looked. looked
+        ≡ seen_from config.now.routes moment cache.now.entries class kind most_aliases [] (alias_found first.now)) }
+{
+    let mut used = Vec::new(alloc);
+    let mut alias = first;
+    loop {
+        let Some(target) = target_of(alias) else {
+            return Ok(ended(used, Met::Missed));
+        };
+        used.push(alias)?;
+        if used.len() > MOST_ALIASES {
+            return Ok(ended(used, Met::TooLong));
+        }
+        match find_by_key(cache, &target, class, kind, moment, config) {
+            Found::Rows(held) | Found::NoData(held) | Found::Denied(held) => {
+                used.push(held)?;
+                return Ok(ended(used, Met::Ends));
+            }
+            Found::Alias(held) => alias = held,
+            Found::Miss => return Ok(ended(used, Met::Missed)),
+        }
+    }
+}
+
+/// A look-up that used these entries and ended so.
+fn ended<A: Allocator>(used: Vec<&Held<A>, A>, met: Met) -> Looked<'_, A>
+    ensures { result ≡ record { used = lent used.entry.items; met = met } }
+{
+    Looked {
+        used: Used::More(used),
+        met,
+    }
+}
+
+/// The key of the name that an alias leads to: that of its one record.
+fn target_of<A: Allocator>(alias: &Held<A>) -> Option<NameKey>
+    ensures { result ≡ option_map lowered (target_of alias.now.piece.body) }
+{
+    let Body::Rows(rows) = &alias.piece.body else {
+        return None;
+    };
+    match rows.as_slice() {
+        [row] => key_of_data(row.octets()),
+        _ => None,
+    }
+}
+
+/// The key of the name that all of these octets are, written out with the zero octet at its end. It takes no memory.
+#[tactic(auto, using(dns_message::proofs::CallerLemmas::name_to_the_end, dns_message::proofs::CallerLemmas::no_name_to_the_end))]
+fn key_of_data(octets: &[u8]) -> Option<NameKey>
+    ensures { result ≡ option_map lowered (name_of_rdata octets.now) }
+{
+    match skip_name(octets, &mut [], Bound::whole(octets), 0) {
+        Ok(end) if end == octets.len() => Some(NameKey::from_octets(&octets[..end - 1])),
+        _ => None,
+    }
+}

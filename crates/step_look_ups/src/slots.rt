@@ -1,0 +1,83 @@
+//! Slots that a look-up used.
+
+ghost use Rattle.std.specs.Prelude.{◌≡◌, [], map, IfOk};
+ghost use Rattle.answer_builder.specs.Building.{lent};
+ghost use Rattle.step_rules.specs.LookingUp.{promoted_all};
+
+use record_cache::{Cache, Held};
+use std::alloc::{AllocError, Allocator, Global};
+use std::hash::BuildHasher;
+use std::marker::Model;
+use trust_rank::Slot;
+
+/// Slots in order, of which the first takes no memory.
+#[derive(Drop)]
+pub struct Slots<A: Allocator = Global> {
+    first: Option<Slot>,
+    others: Vec<Slot, A>,
+}
+
+impl<A: Allocator> Model for Slots<A> {
+    ghost use Rattle.std.specs.Prelude.{List};
+    ghost use Rattle.trust_rank.specs.declared.slot.Slot.{Slot};
+    ghost use Rattle.step_look_ups.specs.Seen.{first_and_others};
+
+    ghost Value = { List Slot };
+
+    ghost view = { λ s. first_and_others s.first s.others.items };
+
+    ghost use Rattle.std.specs.Prelude.{◌≡◌, [], None};
+
+    ghost invariant = { λ s. s.first ≡ None → s.others.items ≡ [] };
+}
+
+impl<A: Allocator> Slots<A> {
+    /// No slot; it takes no memory.
+    pub fn none(alloc: A) -> Slots<A>
+        ensures { result ≡ [] }
+    {
+        Slots {
+            first: None,
+            others: Vec::new(alloc),
+        }
+    }
+
+    /// The slots of these entries.
+    pub(crate) fn of(alloc: A, entries: &[&Held<A>]) -> Result<Slots<A>, AllocError>
+        ensures { IfOk result (λ slots. slots ≡ map (λ h. h.piece.slot) (lent entries.now)) }
+    {
+        let Some((first, more)) = entries.split_first() else {
+            return Ok(Slots::none(alloc));
+        };
+        Ok(Slots {
+            first: Some(first.piece.slot),
+            others: slots_of(alloc, more)?,
+        })
+    }
+}
+
+/// The slots of these entries, in a vector.
+fn slots_of<A: Allocator>(alloc: A, entries: &[&Held<A>]) -> Result<Vec<Slot, A>, AllocError>
+    ensures { IfOk result (λ slots. slots.items ≡ map (λ h. h.piece.slot) (lent entries.now)) }
+{
+    let mut slots = Vec::new(alloc);
+    for held in entries {
+        slots.push(held.piece.slot)?;
+    }
+    Ok(slots)
+}
+
+/// Makes the entries of these slots the most recently used, one after another. It takes no memory.
+pub fn promote_all<H: BuildHasher + Drop, A: Allocator + Copy>(
+    cache: &mut Cache<H, A>,
+    slots: &Slots<A>,
+)
+    ensures { cache.new ≡ record cache.old { entries = promoted_all slots.now cache.old.entries } }
+{
+    if let Some(first) = &slots.first {
+        cache.promote(first);
+    }
+    for slot in &slots.others {
+        cache.promote(slot);
+    }
+}

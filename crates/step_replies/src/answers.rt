@@ -1,0 +1,241 @@
+//! Answers from borrowed pieces. A text over TCP is written once for questions that are spelled alike, since the answers to
+//! them differ in identifier, opcode and RD alone (RFC 1035 4.1.1); over UDP none is written past 512 octets.
+
+ghost use Rattle.std.specs.Prelude.{◌≡◌, ◌<◌, ◌≤◌, IfOk, MatchOption, Some, None, length, option_map};
+ghost use Rattle.std.specs.List.{AllByRecursion, find};
+ghost use Rattle.std.specs.Option.{IfSome};
+ghost use Rattle.answer_builder.specs.Answers.{IsEarlier};
+ghost use Rattle.answer_builder.specs.Building.{lent};
+ghost use Rattle.answer_builder.specs.Transports.{answer_of};
+ghost use Rattle.answer_builder.specs.declared.asked.Transport.TheVariants as transport;
+ghost use Rattle.step_values.specs.Values.{action_of};
+ghost use Rattle.step_rules.specs.Steps.{sends, transport_of};
+ghost use Rattle.step_replies.specs.Spelling.{are_alike, front_of, is_for, IsSpelled, ok_text, same_spelling, sends_text, with_front};
+
+use crate::failures::failure;
+use crate::waiting::Waiting;
+use answer_builder::{AskedRef, Fault, Transport, put_answer};
+use dns_message::Question;
+use dns_name::Name;
+use plain_list::{Octets, PlainList};
+use record_cache::Held;
+use std::alloc::{AllocError, Allocator, Global};
+use std::marker::Model;
+use step_values::{Action, Client, Why};
+
+/// Room for what UDP carries (RFC 1035 4.2.1).
+const ROOM: usize = 512;
+
+/// What carries the answer to a client.
+fn transport_of(client: Client) -> Transport
+    ensures { result ≡ transport_of client }
+{
+    match client {
+        Client::Udp(_) => Transport::Udp,
+        Client::Tcp(_) => Transport::Tcp,
+    }
+}
+
+/// The text of the answer from a chain of pieces; `None` where it is too large.
+fn text_from<A: Allocator + Copy>(
+    alloc: A,
+    waiting: &Waiting<A>,
+    chain: &[&Held<A>],
+    moment: u64,
+    transport: Transport,
+) -> Result<Option<Octets<A>>, AllocError>
+    requires earlier { AllByRecursion (IsEarlier moment) (lent chain.now) }
+    ensures { IfOk result (λ text. text ≡ ok_text (answer_of waiting.now.asked (lent chain.now) moment transport)) }
+{
+    let mut octets = Vec::with_capacity(alloc, ROOM)?;
+    let asked = waiting.asked();
+    match put_answer(alloc, &mut octets, asked, chain, moment, transport) {
+        Ok(()) => Ok(Some(Octets::from_vec(octets))),
+        Err(Fault::TooLarge) => Ok(None),
+        Err(Fault::Memory) => Err(AllocError),
+    }
+}
+
+/// The reply with this text, or that it is too large.
+fn reply<A: Allocator + Copy>(
+    alloc: A,
+    waiting: &Waiting<A>,
+    text: Option<Octets<A>>,
+) -> Result<Action<A>, AllocError>
+    ensures { IfOk result (λ action. action_of action ≡ sends_text waiting.now text) }
+{
+    match text {
+        Some(bytes) => Ok(Action::Reply {
+            client: waiting.client,
+            bytes,
+            why: Why::Answered,
+        }),
+        None => failure(alloc, waiting, Why::TooLarge),
+    }
+}
+
+/// The reply to a question from a chain of pieces, none accepted after the moment, in milliseconds: aliases in order, then a
+/// set or a denial. `Err` where memory ran out.
+pub fn answer<A: Allocator + Copy>(
+    alloc: A,
+    waiting: &Waiting<A>,
+    chain: &[&Held<A>],
+    moment: u64,
+) -> Result<Action<A>, AllocError>
+    requires earlier { AllByRecursion (IsEarlier moment) (lent chain.now) }
+    ensures { IfOk result (λ action. action_of action ≡ sends waiting.now (answer_of waiting.now.asked (lent chain.now) moment (transport_of waiting.now.client))) }
+{
+    let transport = transport_of(waiting.client);
+    let text = text_from(alloc, waiting, chain, moment, transport)?;
+    reply(alloc, waiting, text)
+}
+
+/// The text over TCP for a question as it is spelled; `None` where it is too large.
+#[derive(Drop)]
+pub(crate) struct Spelled<'a, A: Allocator = Global> {
+    question: &'a Question<A>,
+    text: Option<Octets<A>>,
+}
+
+/// The names are equal, letter case included.
+fn is_same_spelling<A: Allocator>(a: &Name<A>, b: &Name<A>) -> bool
+    ensures { result ≡ same_spelling a.now b.now }
+{
+    a.octets() == b.octets()
+}
+
+/// The questions are equal, letter case included.
+fn is_alike<A: Allocator>(a: &Question<A>, b: &Question<A>) -> bool
+    ensures { result ≡ are_alike a.now b.now }
+{
+    is_same_spelling(&a.name, &b.name) && a.kind == b.kind && a.class == b.class
+}
+
+/// The text for this question, if it was written.
+fn find_spelled<'a, 'b, A: Allocator>(
+    texts: &'b [Spelled<'a, A>],
+    question: &Question<A>,
+) -> Option<&'b Spelled<'a, A>>
+    ensures { MatchOption result (find (is_for question.now) texts.now ≡ None) (λ s. find (is_for question.now) texts.now ≡ Some s.now) }
+{
+    for spelled in texts {
+        if is_alike(spelled.question, question) {
+            return Some(spelled);
+        }
+    }
+    None
+}
+
+/// The first three octets of the answer to a request: identifier, QR, opcode and RD; AA and TC are clear.
+fn front_of(asked: &AskedRef<'_>) -> [u8; 3]
+    requires { asked.now.opcode < 16 }
+    ensures { result ≡ front_of asked.now }
+{
+    let [high, low] = asked.id.to_be_bytes();
+    [high, low, 128 + 8 * asked.opcode + u8::from(asked.rd)]
+}
+
+/// The octets of an answer under the front of another one.
+fn under_front<A: Allocator + Copy>(
+    alloc: A,
+    asked: &AskedRef<'_>,
+    text: &[u8],
+) -> Result<Octets<A>, AllocError>
+    requires opcode { asked.now.opcode < 16 }
+    requires some { 3 ≤ length text.now }
+    ensures { IfOk result (λ own. own ≡ with_front asked.now text.now) }
+{
+    let mut octets = Vec::with_capacity(alloc, text.len())?;
+    octets.extend_from_slice(&front_of(asked))?;
+    octets.extend_from_slice(&text[3..])?;
+    Ok(Octets::from_vec(octets))
+}
+
+/// The replies to all that wait, from one chain of pieces.
+#[derive(Drop)]
+pub struct Answers<'a, A: Allocator = Global> {
+    alloc: A,
+    chain: &'a [&'a Held<A>],
+    /// In milliseconds.
+    moment: u64,
+    /// The texts over TCP.
+    spelled: PlainList<Spelled<'a, A>, A>,
+}
+
+impl<'a, A: Allocator> Model for Answers<'a, A> {
+    ghost use Rattle.std.specs.List.{AllByRecursion};
+    ghost use Rattle.answer_builder.specs.Answers.{IsEarlier};
+    ghost use Rattle.answer_builder.specs.Building.{lent};
+    ghost use Rattle.step_replies.specs.Spelling.{Source, AreSpelled};
+
+    ghost Value = { Source };
+
+    ghost view = { λ a. record { chain = lent a.chain.now; moment = a.moment } };
+
+    ghost invariant = { λ a. AreSpelled (lent a.chain.now) a.moment a.spelled };
+}
+
+impl<'a, A: Allocator + Copy> Answers<'a, A> {
+    /// Those from this chain, none of it accepted after the moment, in milliseconds. It takes no memory.
+    pub fn new(alloc: A, chain: &'a [&'a Held<A>], moment: u64) -> Answers<'a, A>
+        requires { AllByRecursion (IsEarlier moment) (lent chain.now) }
+        ensures { result ≡ record { chain = lent chain.now; moment = moment } }
+    {
+        Answers {
+            alloc,
+            chain,
+            moment,
+            spelled: PlainList::new(alloc),
+        }
+    }
+
+    /// The text over TCP for a question that is spelled like one before, or that is written now.
+    fn over_tcp(&mut self, waiting: &'a Waiting<A>) -> Result<Option<Octets<A>>, AllocError>
+        ensures same { self.new ≡ self.old }
+        ensures text { IfOk result (λ text. text ≡ ok_text (answer_of waiting.now.asked self.old.chain self.old.moment transport.Tcp)) }
+    {
+        if let Some(spelled) = find_spelled(self.spelled.as_slice(), &waiting.question) {
+            return repeated(self.alloc, waiting, spelled);
+        }
+        let text = text_from(self.alloc, waiting, self.chain, self.moment, Transport::Tcp)?;
+        let spelled = Spelled {
+            question: &waiting.question,
+            text,
+        };
+        let own = repeated(self.alloc, waiting, &spelled)?;
+        self.spelled.push(spelled)?;
+        Ok(own)
+    }
+
+    /// The reply to a question. `Err` where memory ran out.
+    pub fn reply(&mut self, waiting: &'a Waiting<A>) -> Result<Action<A>, AllocError>
+        ensures same { self.new ≡ self.old }
+        ensures reply { IfOk result (λ action. action_of action ≡ sends waiting.now (answer_of waiting.now.asked self.old.chain self.old.moment (transport_of waiting.now.client))) }
+    {
+        match waiting.client {
+            Client::Udp(_) => answer(self.alloc, waiting, self.chain, self.moment),
+            Client::Tcp(_) => {
+                let text = self.over_tcp(waiting)?;
+                reply(self.alloc, waiting, text)
+            }
+        }
+    }
+}
+
+/// The text that was written, under the front of the answer to this question.
+fn repeated<A: Allocator + Copy>(
+    alloc: A,
+    waiting: &Waiting<A>,
+    spelled: &Spelled<'_, A>,
+) -> Result<Option<Octets<A>>, AllocError>
+    requires { IfSome spelled.now.text (λ text. 3 ≤ length text) }
+    ensures { IfOk result (λ text. text ≡ option_map (with_front waiting.now.asked) spelled.now.text) }
+{
+    match &spelled.text {
+        None => Ok(None),
+        Some(text) => {
+            let own = under_front(alloc, &waiting.asked(), text.as_slice())?;
+            Ok(Some(own))
+        }
+    }
+}

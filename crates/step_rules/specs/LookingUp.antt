@@ -1,0 +1,77 @@
+-- How a question is looked up among the entries, along the aliases that it meets: RFC 1034 3.6.2.
+use Rattle.std.specs.Prelude.{ℕ, zero, suc, List, [], ◌∷◌, ◌++◌, Option, Some, None}
+use Rattle.dns_message.specs.Values.{Question}
+use Rattle.suffix_routes.specs.Values.{Route}
+use Rattle.trust_rank.specs.declared.slot.Slot.{Slot}
+use Rattle.trust_rank.specs.Walks.{target_of, most_aliases}
+use Rattle.record_cache.specs.Values.{Held}
+use Rattle.record_cache.specs.Entries.{promoted}
+use Rattle.negative_cache.specs.Values.{Found, rows, alias, no_data, denied, miss}
+use Rattle.negative_cache.specs.Finding.{found}
+use Rattle.step_history.specs.Answers.{asked_at}
+
+-- how a look-up ends: at a set or a denial, at one alias too many, or at a name of which nothing is known
+pub data Met : Type 0 where
+  ends : Held → Met
+  too_long : Met
+  missed : Met
+
+-- the aliases that are held at its end, what is wanted then, how it ended, and the slots that it used, in order
+pub record Looked : Type 0 where
+  pub held : List Held
+  pub wanted : Question
+  pub met : Met
+  pub used : List Slot
+
+abbrev pub ended : List Held → Question → Held → Looked
+ended held q e = record { held = held; wanted = q; met = ends e; used = e.piece.slot ∷ [] }
+
+abbrev pub missing : List Held → Question → Looked
+missing held q = record { held = held; wanted = q; met = missed; used = [] }
+
+-- it goes on at the name that an alias leads to
+abbrev pub led : List Held → Question → (Held → List (List ℕ) → Looked) → Held → Option (List (List ℕ)) → Looked
+led held q onward e None = missing held q
+led held q onward e (Some target) = onward e target
+
+abbrev pub followed : List Held → Question → (Held → List (List ℕ) → Looked) → Found → Looked
+followed held q onward (rows e) = ended held q e
+followed held q onward (alias e) = led held q onward e (target_of e.piece.body)
+followed held q onward (no_data e) = ended held q e
+followed held q onward (denied e) = ended held q e
+followed held q onward miss = missing held q
+
+abbrev pub one_too_many : List Held → Question → Held → List (List ℕ) → Looked
+one_too_many held q e target = record { held = held ++ e ∷ []; wanted = asked_at q target; met = too_long; used = e.piece.slot ∷ [] }
+
+abbrev pub through : Held → Looked → Looked
+through e l = record l { used = e.piece.slot ∷ l.used }
+
+-- the look-up of a question that holds these aliases, and may take so many more
+abbrev pub look_up : List Route → ℕ → List Held → ℕ → List Held → Question → Looked
+look_up routes n entries zero held q = followed held q (one_too_many held q) (found routes n entries q)
+look_up routes n entries (suc more) held q =
+    followed held q (λ e target. through e (look_up routes n entries more (held ++ e ∷ []) (asked_at q target))) (found routes n entries q)
+
+-- what a look-up used is the most recently used now
+abbrev pub promoted_all : List Slot → List Held → List Held
+promoted_all [] entries = entries
+promoted_all (slot ∷ used) entries = promoted_all used (promoted slot entries)
+
+-- ---- a client's question
+
+-- what is wanted is to be asked for as the client asked it, whatever the look-up met
+abbrev pub missed_as_asked : Question → Looked → Looked
+missed_as_asked q l = record { held = []; wanted = q; met = missed; used = l.used }
+
+-- a look-up counts only where it came to an end
+abbrev pub if_ended : Question → Looked → Met → Looked
+if_ended q l (ends e) = l
+if_ended q l too_long = missed_as_asked q l
+if_ended q l missed = missed_as_asked q l
+
+-- the look-up of a client's question
+abbrev pub asked_look_up : List Route → ℕ → List Held → Question → Looked
+asked_look_up routes n entries q =
+    let l = look_up routes n entries most_aliases [] q in
+    if_ended q l l.met
