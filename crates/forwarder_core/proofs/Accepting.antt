@@ -35,11 +35,11 @@ use Rattle.retry_failover.specs.declared.Failure.TheVariants.{Lame}
 use Rattle.step_soundness.proofs.AskText.{header_there}
 use Rattle.step_soundness.proofs.Accepting.{looked_at_end, closed_at_end}
 use Rattle.step_soundness.proofs.CallerLemmas.{All-append}
-use Rattle.forwarder_core.specs.declared.next.Change.TheVariants.{Close}
-use Rattle.forwarder_core.specs.Next.{changed, gives_from, with_replies, IsRouted}
+use Rattle.step_changes.specs.declared.next.Change.TheVariants.{Close}
+use Rattle.step_changes.specs.Next.{changed, gives_from, with_replies, IsRouted}
 use Rattle.forwarder_core.specs.Walked.{IsWalkFor}
 use Rattle.forwarder_core.proofs.Deciding.{closed_is, given_frees}
-use Rattle.forwarder_core.proofs.Offering.{same_pieces}
+use Rattle.step_changes.proofs.CallerLemmas.{same_pieces}
 
 -- ---- a section has no more records than its count of 16 bits tells
 
@@ -186,10 +186,9 @@ module _ (c : Config) (n : ℕ) (a : Ask) (w : Walk) (walk : IsWalkFor c a w) (o
           ∙ ap (λ (fates : List Fate). settling_step n (Some a) fates None (preferring a s)) (sym (fates_are s.cache.entries s.waiting plain))
           ∙ sym (closed_at_end c n words a w (fate_by c n s.cache.entries a w) (preferring a s) w.end fine)
 
-  -- what is offered, with the pieces of the walk as they are held
-  pub carried_is : (held : List Held) (pieces authority : List Piece) → held ≡ map (held_at n) pieces → pieces ≡ w.pieces → authority ≡ w.authority → map (λ h. h.piece) held ++ authority ≡ w.pieces ++ w.authority
-  carried_is held pieces authority are first second =
-      (λ i. map (λ h. h.piece) (are i) ++ second i) ∙ ap (λ (ps : List Piece). ps ++ w.authority) (same_pieces n pieces ∙ first)
+  -- what is offered: the walk, then the name servers
+  pub carried_is : (held : List Held) (pieces authority : List Piece) → held ≡ map (held_at n) (pieces ++ authority) → pieces ≡ w.pieces → authority ≡ w.authority → map (λ h. h.piece) held ≡ w.pieces ++ w.authority
+  carried_is held pieces authority are first second = ap (map (λ h. h.piece)) are ∙ same_pieces n (pieces ++ authority) ∙ (λ i. first i ++ second i)
 
 -- ---- a walk that is lame, and one that isn't
 

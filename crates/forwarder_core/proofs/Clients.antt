@@ -22,8 +22,8 @@ use Rattle.step_rules.specs.Steps.{Done, using, idle_step, reply_step, failed, t
 use Rattle.step_rules.specs.Row.{row_of_request, row_of_opening, row_of_new_inquiry, row_of_inquiry}
 use Rattle.step_values.specs.declared.action.Why.TheVariants.{BadOpcode}
 use Rattle.step_values.specs.declared.event.Client.{Client}
-use Rattle.forwarder_core.specs.declared.next.Next.{Next}
-use Rattle.forwarder_core.specs.Next.{pieces_of, FitsChange, IsRouted, CanChange}
+use Rattle.step_changes.specs.declared.next.Next.{Next}
+use Rattle.step_changes.specs.Next.{pieces_of, FitsChange, IsRouted, CanChange}
 
 -- ---- what is decided
 
@@ -32,7 +32,7 @@ pub fits_at : {A : Type 0} (r : Result (Next A) AllocError) (c : Config) (s : St
 fits_at r c s all m = IfOk-weaker r _ _ (λ next e. e m) all
 
 -- where nothing is carried, only the change has to fit
-pub carries_nothing : {A : Type 0} (c : Config) (n : ℕ) (s : State) (d : Next A) → pieces_of d.carried ≡ [] → FitsChange c n s d.change → CanChange c n s d
+pub carries_nothing : {A : Type 0} (c : Config) (n : ℕ) (s : State) (d : Next A) → pieces_of d.carried.items ≡ [] → FitsChange c n s d.change → CanChange c n s d
 carries_nothing c n s d none fits = record {
   fits = fits;
   few = subst (λ (ps : List Piece). length ps < 2 ^ 32) (sym none) (omega arith);

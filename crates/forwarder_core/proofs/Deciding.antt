@@ -24,11 +24,11 @@ use Rattle.answer_builder.specs.Transports.{answer_of}
 use Rattle.step_replies.specs.Spelling.{Source}
 use Rattle.reply_match.specs.Verdicts.{judge}
 use Rattle.forwarder_core.proofs.Clients.{carries_nothing}
-use Rattle.forwarder_core.specs.declared.next.Preferred.{Preferred}
-use Rattle.forwarder_core.specs.declared.next.Change.{Change}
-use Rattle.forwarder_core.specs.declared.next.Change.TheVariants.{Nothing, Join, Open, Close, AskAgain, Expire}
-use Rattle.forwarder_core.specs.declared.next.Next.{Next}
-use Rattle.forwarder_core.specs.Next.{left_waiting, with_preferred, without_closed, closed_path, closing_path, changed, pieces_of, next_of, FitsChange, CanChange, IsDecided, IsDecidedQuietly, IsOutcome, gives_from, with_reply, with_replies}
+use Rattle.step_changes.specs.declared.next.Preferred.{Preferred}
+use Rattle.step_changes.specs.declared.next.Change.{Change}
+use Rattle.step_changes.specs.declared.next.Change.TheVariants.{Nothing, Join, Open, Close, AskAgain, Expire}
+use Rattle.step_changes.specs.declared.next.Next.{Next}
+use Rattle.step_changes.specs.Next.{left_waiting, with_preferred, without_closed, closed_path, closing_path, changed, pieces_of, next_of, FitsChange, CanChange, IsDecided, IsDecidedQuietly, IsOutcome, gives_from, with_reply, with_replies}
 use Rattle.step_soundness.proofs.CallerLemmas.{ask_on-is, append_nil}
 
 -- one more action
@@ -39,17 +39,17 @@ pushed A (a ∷ owned) last actions action are is = ap (λ ys. action_of a ∷ y
 -- ---- what is decided, as it is done
 
 -- no piece is offered
-pub next_is : {A : Type 0} (n : ℕ) (rooms : List Bool) (s : State) (d : Next A) (used : List Slot) (change : Change A) → d.used ≡ used → d.change ≡ change → pieces_of d.carried ≡ []
+pub next_is : {A : Type 0} (n : ℕ) (rooms : List Bool) (s : State) (d : Next A) (used : List Slot) (change : Change A) → d.used ≡ used → d.change ≡ change → pieces_of d.carried.items ≡ []
     → next_of n rooms s d ≡ record { actions = actions_of d.actions; unkept = 0; state = changed n (using used s) change }
 next_is {A} n rooms s d used change is_used is_change none = λ i. offering_step n rooms (none i) (record { actions = actions_of d.actions; unkept = 0; state = changed n (using (is_used i) s) (is_change i) })
 
 -- and no look-up used anything
-pub plain_next : {A : Type 0} (n : ℕ) (rooms : List Bool) (s : State) (d : Next A) (change : Change A) (made : Done) → d.used ≡ [] → d.change ≡ change → pieces_of d.carried ≡ []
+pub plain_next : {A : Type 0} (n : ℕ) (rooms : List Bool) (s : State) (d : Next A) (change : Change A) (made : Done) → d.used ≡ [] → d.change ≡ change → pieces_of d.carried.items ≡ []
     → record { actions = actions_of d.actions; unkept = 0; state = changed n s change } ≡ made → next_of n rooms s d ≡ made
 plain_next n rooms s d change made no_used is_change none is = next_is n rooms s d [] change no_used is_change none ∙ is
 
 -- what may be done without a piece
-pub fits_plain : {A : Type 0} (c : Config) (n : ℕ) (s : State) (d : Next A) (change : Change A) → d.change ≡ change → FitsChange c n s change → pieces_of d.carried ≡ [] → CanChange c n s d
+pub fits_plain : {A : Type 0} (c : Config) (n : ℕ) (s : State) (d : Next A) (change : Change A) → d.change ≡ change → FitsChange c n s change → pieces_of d.carried.items ≡ [] → CanChange c n s d
 fits_plain {A} c n s d change is fits none = carries_nothing c n s d none (subst (FitsChange {A = A} c n s) (sym is) fits)
 
 -- an ask is listed on the path
@@ -72,17 +72,17 @@ by_change n rooms s actions used ps (AskAgain path a) = refl
 by_change n rooms s actions used ps (Expire closed) = refl
 
 pub carried_out : {A : Type 0} (n : ℕ) (rooms : List Bool) (s : State) (d : Next A) (mid after : State) (unkept : ℕ) → mid ≡ changed n s d.change
-    → after ≡ with_entries (put_all mid.cache.capacity mid.moment rooms (pieces_of d.carried) (promoted_all d.used mid.cache.entries)) mid
-    → unkept ≡ unkept_of mid.cache.capacity mid.moment rooms (pieces_of d.carried) (promoted_all d.used mid.cache.entries)
+    → after ≡ with_entries (put_all mid.cache.capacity mid.moment rooms (pieces_of d.carried.items) (promoted_all d.used mid.cache.entries)) mid
+    → unkept ≡ unkept_of mid.cache.capacity mid.moment rooms (pieces_of d.carried.items) (promoted_all d.used mid.cache.entries)
     → record { actions = actions_of d.actions; unkept = unkept; state = after } ≡ next_of n rooms s d
 carried_out n rooms s d mid after unkept first second count =
     (λ i. record { actions = actions_of d.actions; unkept = count i; state = second i })
     ∙ (λ i. record {
       actions = actions_of d.actions;
-      unkept = unkept_of (first i).cache.capacity (first i).moment rooms (pieces_of d.carried) (promoted_all d.used (first i).cache.entries);
-      state = with_entries (put_all (first i).cache.capacity (first i).moment rooms (pieces_of d.carried) (promoted_all d.used (first i).cache.entries)) (first i);
+      unkept = unkept_of (first i).cache.capacity (first i).moment rooms (pieces_of d.carried.items) (promoted_all d.used (first i).cache.entries);
+      state = with_entries (put_all (first i).cache.capacity (first i).moment rooms (pieces_of d.carried.items) (promoted_all d.used (first i).cache.entries)) (first i);
     })
-    ∙ by_change n rooms s (actions_of d.actions) d.used (pieces_of d.carried) d.change
+    ∙ by_change n rooms s (actions_of d.actions) d.used (pieces_of d.carried.items) d.change
 
 no_more : (n : ℕ) → n ≡ n + 0
 no_more n = omega arith

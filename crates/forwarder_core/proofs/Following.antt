@@ -25,8 +25,8 @@ use Rattle.retry_failover.specs.declared.Failure.{Failure}
 use Rattle.retry_failover.specs.declared.Next.{Next}
 use Rattle.retry_failover.specs.declared.Next.TheVariants.{AskUdp, AskTcp, GiveUp}
 use Rattle.retry_failover.specs.Table.{row, after_failure}
-use Rattle.forwarder_core.specs.Kept.{IsKeptAsk, IsKept}
-use Rattle.forwarder_core.specs.Next.{tcp_count_of, CanFollow}
+use Rattle.step_changes.specs.Kept.{IsKeptAsk, IsKept}
+use Rattle.step_changes.specs.Next.{tcp_count_of, CanFollow}
 
 earlier : (c : Config) (m k : ℕ) (asks : List Ask) → AllByRecursion (IsKeptAsk c m k) asks → AllByRecursion (λ a. a.asked ≤ m) asks
 earlier c m k asks all = All-weaker (IsKeptAsk c m k) (λ a. a.asked ≤ m) (λ a h. h.earlier) asks all

@@ -21,9 +21,9 @@ use Rattle.step_rules.specs.Progress.{AreTakenInTurn, IsTry, IsOnRoute, lesser, 
 use Rattle.step_rules.proofs.CallerLemmas.{first_due, first_late, first_deadline}
 use Rattle.step_soundness.specs.Explains.{IsBelow, ArePreferred}
 use Rattle.step_soundness.proofs.CallerLemmas.{All-append, All-filter, All-weaker, preferred_first, preferred_put}
-use Rattle.forwarder_core.specs.declared.next.Preferred.{Preferred}
-use Rattle.forwarder_core.specs.Kept.{IsKeptAsk, IsKept}
-use Rattle.forwarder_core.specs.Next.{left_waiting, with_preferred, without_closed, IsServed}
+use Rattle.step_changes.specs.declared.next.Preferred.{Preferred}
+use Rattle.step_changes.specs.Kept.{IsKeptAsk, IsKept}
+use Rattle.step_changes.specs.Next.{left_waiting, with_preferred, without_closed, IsServed}
 
 -- ---- asks, later
 

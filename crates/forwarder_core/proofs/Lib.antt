@@ -1,4 +1,3 @@
-pub mod Offering
 pub mod Entries
 pub mod Deciding
 pub mod Following

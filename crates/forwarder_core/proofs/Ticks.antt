@@ -10,7 +10,7 @@ use Rattle.outstanding.specs.Lists.{on_path as ask_on, of_question, same_path}
 use Rattle.outstanding.proofs.CallerLemmas.{same_path_reflexive}
 use Rattle.step_rules.specs.State.{Waiting, State}
 use Rattle.step_rules.specs.Steps.{idle_step, waits_for}
-use Rattle.forwarder_core.specs.Next.{closed_path}
+use Rattle.step_changes.specs.Next.{closed_path}
 use Rattle.step_rules.specs.Row.{left_alone, deadline_of, timeout_of, question, attempt, first_item, row_of_item, row_of_tick, is_due_at}
 
 pub tick_idle : (c : Config) (n : ℕ) (words : List ℕ) (s : State) → s.waiting ≡ [] → s.asks ≡ [] → idle_step n s ≡ row_of_tick c n words s

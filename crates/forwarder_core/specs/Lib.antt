@@ -1,3 +1,1 @@
-pub mod Kept
-pub mod Next
 pub mod Walked

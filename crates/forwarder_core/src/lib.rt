@@ -2,12 +2,7 @@
 //! what is to be done; it reads no clock, opens no socket and draws nothing at random.
 #![tactic(auto)]
 
-mod attempts;
 mod forwarder;
-mod lists;
-mod next;
-mod offers;
-mod replies;
 mod request;
 
 pub use forwarder::Forwarder;

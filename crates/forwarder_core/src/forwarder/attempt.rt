@@ -6,17 +6,18 @@ ghost use Rattle.outstanding.specs.Lists.{on_path as ask_on, without_path};
 ghost use Rattle.step_rules.specs.Attempts.{ask_by, peer_at};
 ghost use Rattle.step_rules.specs.Steps.{closing_step, fails};
 ghost use Rattle.step_rules.specs.Row.{row_of_attempt, row_of_failure, row_of_failed_path};
-ghost use Rattle.forwarder_core.specs.Next.{next_of, IsQuiet, CanFollow, CanChange};
+ghost use Rattle.step_changes.specs.Next.{next_of, IsQuiet, CanFollow, CanChange};
 
-use crate::attempts::{Try, by_tcp, by_udp, draw_connection, freed_port, new_ask, plan};
 use crate::forwarder::Forwarder;
-use crate::next::{Change, Next};
-use crate::replies::{close, failures};
 use outstanding::{Ask, Path, draw};
 use plain_list::PlainList;
 use retry_failover::{Failure, Next as Attempt, after};
 use std::alloc::{AllocError, Allocator};
 use std::hash::BuildHasher;
+use step_changes::{
+    Change, Next, Try, by_tcp, by_udp, close_path, draw_connection, failures, freed_port, new_ask,
+    plan,
+};
 use step_replies::ask as ask_action;
 use step_values::Why;
 
@@ -51,7 +52,7 @@ impl<H: BuildHasher + Drop, A: Allocator + Copy> Forwarder<H, A> {
         ensures fits { IfOk result (λ n. CanChange self.now.config moment self.now.state n) }
     {
         let mut actions = PlainList::new(self.alloc);
-        actions.push(close(ask.path))?;
+        actions.push(close_path(ask.path))?;
         let action = ask_action(self.alloc, &next)?;
         actions.push(action)?;
         Ok(Next::without_cache(self.alloc, actions, Change::AskAgain(path, next)))

@@ -7,15 +7,17 @@ ghost use Rattle.step_rules.specs.LookingUp.{promoted_all};
 ghost use Rattle.step_rules.specs.Offering.{put_all, unkept_of};
 ghost use Rattle.step_rules.specs.Steps.{with_entries};
 ghost use Rattle.step_rules.specs.Row.{is_due_at, deadline_of, timeout_of};
-ghost use Rattle.forwarder_core.specs.Next.{tcp_count_of, left_waiting, with_preferred, without_closed, changed, next_of, pieces_of, IsOutcome, IsRouted, CanWait, CanFollow, CanChange, FitsChange, IsServed};
+ghost use Rattle.step_changes.specs.Next.{tcp_count_of, left_waiting, with_preferred, without_closed, changed, next_of, pieces_of, IsOutcome, IsRouted, CanWait, CanFollow, CanChange, FitsChange, IsServed};
 
 use crate::forwarder::Forwarder;
-use crate::lists::{close, drop_first, end_closed, is_late, is_overdue, list};
-use crate::next::{Carried, Change, Next, Preferred};
-use crate::offers::offer_carried;
 use outstanding::{Ask, Path};
+use record_cache::Held;
 use std::alloc::{AllocError, Allocator};
 use std::hash::BuildHasher;
+use step_changes::{
+    Change, Next, Preferred, close_inquiry, drop_first, end_closed, is_late, is_overdue, list_ask,
+    offer_all,
+};
 use step_look_ups::{Slots, promote_all};
 use step_replies::Waiting;
 use step_values::Outcome;
@@ -83,7 +85,7 @@ impl<H: BuildHasher + Drop, A: Allocator + Copy> Forwarder<H, A> {
     {
         let count = count_tcp(self.tcp_asks, ask.path);
         self.waiting.reserve(1)?;
-        list(&mut self.inquiries, ask)?;
+        list_ask(&mut self.inquiries, ask)?;
         self.waiting.push_reserved(waiting);
         self.tcp_asks = count;
         self.moment = moment;
@@ -97,7 +99,7 @@ impl<H: BuildHasher + Drop, A: Allocator + Copy> Forwarder<H, A> {
         requires served { IsServed self.old.config preferred }
         ensures { self.new ≡ record { config = self.old.config; state = record self.old.state { asks = without_path path self.old.state.asks; waiting = left_waiting (ask_on path self.old.state.asks) self.old.state.waiting; preferred = with_preferred preferred self.old.state.preferred; moment = moment } } }
     {
-        close(&mut self.inquiries, &mut self.waiting, path);
+        close_inquiry(&mut self.inquiries, &mut self.waiting, path);
         prefer(&mut self.preferred, preferred);
         self.moment = moment;
     }
@@ -160,14 +162,14 @@ impl<H: BuildHasher + Drop, A: Allocator + Copy> Forwarder<H, A> {
 
     /// Promotes the entries that a look-up used, then offers what an accepted reply carries, and tells how many of its pieces
     /// found no memory.
-    fn keep(&mut self, used: &Slots<A>, carried: Carried<A>) -> u32
-        requires few { length (pieces_of carried) < 2 ^ 32 }
-        requires routed { AllByRecursion (IsRouted self.old.config) (pieces_of carried) }
-        ensures { (rooms : List Bool) × (self.new ≡ record self.old { state = with_entries (put_all self.old.state.cache.capacity self.old.state.moment rooms (pieces_of carried) (promoted_all used.now self.old.state.cache.entries)) self.old.state })
-            × (result ≡ unkept_of self.old.state.cache.capacity self.old.state.moment rooms (pieces_of carried) (promoted_all used.now self.old.state.cache.entries)) }
+    fn keep(&mut self, used: &Slots<A>, carried: Vec<Held<A>, A>) -> u32
+        requires few { length (pieces_of carried.items) < 2 ^ 32 }
+        requires routed { AllByRecursion (IsRouted self.old.config) (pieces_of carried.items) }
+        ensures { (rooms : List Bool) × (self.new ≡ record self.old { state = with_entries (put_all self.old.state.cache.capacity self.old.state.moment rooms (pieces_of carried.items) (promoted_all used.now self.old.state.cache.entries)) self.old.state })
+            × (result ≡ unkept_of self.old.state.cache.capacity self.old.state.moment rooms (pieces_of carried.items) (promoted_all used.now self.old.state.cache.entries)) }
     {
         promote_all(&mut self.cache, used);
-        offer_carried(&mut self.cache, carried, self.moment)
+        offer_all(&mut self.cache, carried, self.moment)
     }
 
     /// A question has waited as long as it may: the list is in the order of time, so the first one tells.

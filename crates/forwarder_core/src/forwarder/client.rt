@@ -14,17 +14,16 @@ ghost use Rattle.step_rules.specs.Steps.{using, idle_step, reply_step, taking_st
 ghost use Rattle.step_rules.specs.Row.{row_of_opening, row_of_new_inquiry, row_of_inquiry, row_of_waiting, row_of_look_up, row_of_route, row_of_service, row_of_request};
 ghost use Rattle.step_values.specs.Values.{action_of};
 ghost use Rattle.trust_rank.specs.Walks.{most_aliases};
-ghost use Rattle.forwarder_core.specs.Next.{next_of, IsQuiet, CanWait, CanFollow, CanChange};
+ghost use Rattle.step_changes.specs.Next.{next_of, IsQuiet, CanWait, CanFollow, CanChange};
 
-use crate::attempts::{Try, by_udp, new_ask};
 use crate::forwarder::Forwarder;
-use crate::next::{Carried, Change, Next};
 use crate::request::{is_not_served, only_question, taken_header};
 use dns_message::{Header, Question};
 use outstanding::{Ask, draw};
 use plain_list::PlainList;
 use std::alloc::{AllocError, Allocator};
 use std::hash::BuildHasher;
+use step_changes::{Change, Next, Try, by_udp, new_ask};
 use step_look_ups::{Looked, Slots, look_up};
 use step_replies::{Waiting, answer, ask as ask_action, failure, refusal};
 use step_values::{Action, Client, Why};
@@ -51,7 +50,7 @@ impl<H: BuildHasher + Drop, A: Allocator + Copy> Forwarder<H, A> {
             actions,
             used,
             change: Change::Nothing,
-            carried: Carried::nothing(self.alloc),
+            carried: Vec::new(self.alloc),
         })
     }
 
@@ -84,7 +83,7 @@ impl<H: BuildHasher + Drop, A: Allocator + Copy> Forwarder<H, A> {
             actions,
             used,
             change: Change::Open(waiting, ask),
-            carried: Carried::nothing(self.alloc),
+            carried: Vec::new(self.alloc),
         })
     }
 
@@ -98,7 +97,7 @@ impl<H: BuildHasher + Drop, A: Allocator + Copy> Forwarder<H, A> {
             actions: PlainList::new(self.alloc),
             used,
             change: Change::Join(waiting),
-            carried: Carried::nothing(self.alloc),
+            carried: Vec::new(self.alloc),
         }
     }
 

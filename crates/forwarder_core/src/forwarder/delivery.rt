@@ -8,20 +8,17 @@ ghost use Rattle.trust_rank.specs.Walks.{walk_of};
 ghost use Rattle.step_history.specs.History.{counts_as_lame};
 ghost use Rattle.step_rules.specs.Row.{row_of_verdict, row_of_delivery, row_of_acceptance, row_of_walk, row_of_message, verdict_on};
 ghost use Rattle.outstanding.specs.Lists.{on_path as ask_on};
-ghost use Rattle.forwarder_core.specs.Next.{next_of, IsQuiet, CanChange};
+ghost use Rattle.step_changes.specs.Next.{next_of, IsQuiet, CanChange};
 ghost use Rattle.forwarder_core.specs.Walked.{IsRead, IsWalkFor};
 
 use crate::forwarder::Forwarder;
-use crate::lists::is_live;
-use crate::next::{Carried, Change, Next, Preferred};
-use crate::offers::held_from;
-use crate::replies::answers_to;
 use dns_message::{Fault, Message, MessageRef};
 use outstanding::{Ask, Path};
 use reply_match::{Verdict, judge};
 use retry_failover::Failure;
 use std::alloc::{AllocError, Allocator};
 use std::hash::BuildHasher;
+use step_changes::{Change, Next, Preferred, answers_to, held_from, is_live};
 use step_look_ups::Slots;
 use suffix_routes::Peer;
 use trust_rank::{End, Walk, pieces};
@@ -62,8 +59,9 @@ impl<H: BuildHasher + Drop, A: Allocator + Copy> Forwarder<H, A> {
             authority,
             end: _,
         } = walk;
-        let held = held_from(self.alloc, pieces, moment)?;
-        let actions = answers_to(self.alloc, ask, &held, moment, &self.waiting)?;
+        let walked = pieces.as_slice().len();
+        let held = held_from(self.alloc, pieces, authority, moment)?;
+        let actions = answers_to(self.alloc, ask, &held[..walked], moment, &self.waiting)?;
         let preferred = Preferred {
             route: ask.route,
             server: ask.server,
@@ -72,7 +70,7 @@ impl<H: BuildHasher + Drop, A: Allocator + Copy> Forwarder<H, A> {
             actions,
             used: Slots::none(self.alloc),
             change: Change::Close(path, Some(preferred)),
-            carried: Carried { held, authority },
+            carried: held,
         })
     }
 

@@ -7,7 +7,7 @@ ghost use Rattle.plain_list.specs.Octets.{AreOctets};
 ghost use Rattle.step_rules.specs.Steps.{start};
 ghost use Rattle.step_rules.specs.Row.{HandsOctets, TakesNoMemory, effective, Row, is_due_at};
 ghost use Rattle.step_rules.specs.Progress.{left_to_do, ServesSomething, next_due, IsInOrder};
-ghost use Rattle.forwarder_core.specs.Next.{IsDecided, IsDecidedQuietly, CanChange};
+ghost use Rattle.step_changes.specs.Next.{IsDecided, IsDecidedQuietly, CanChange};
 ghost use Rattle.step_soundness.specs.Runs.{StaysExplained};
 ghost use Rattle.step_soundness.specs.Explains.{Explains};
 
@@ -17,13 +17,13 @@ mod client;
 mod delivery;
 mod tick;
 
-use crate::next::Next;
 use outstanding::Inquiries;
 use plain_list::PlainList;
 use record_cache::Cache;
 use std::alloc::{AllocError, Allocator, Global};
 use std::hash::BuildHasher;
 use std::marker::Model;
+use step_changes::Next;
 use step_replies::Waiting;
 use step_values::{Event, Outcome};
 use suffix_routes::{Config, Route};
@@ -87,7 +87,7 @@ pub struct Forwarder<H: BuildHasher, A: Allocator = Global> {
 
 impl<H: BuildHasher, A: Allocator> Model for Forwarder<H, A> {
     ghost use Rattle.step_rules.specs.State.{Running};
-    ghost use Rattle.forwarder_core.specs.Kept.{IsKept};
+    ghost use Rattle.step_changes.specs.Kept.{IsKept};
 
     ghost Value = { Running };
 

@@ -4,16 +4,16 @@ ghost use Rattle.std.specs.Prelude.{◌≡◌, Bool, List, ◌^◌, ◌≤◌, �
 ghost use Rattle.std.specs.List.{list_any};
 ghost use Rattle.step_rules.specs.Row.{expiry_step, left_alone, attempt, question, row_of_item, row_of_tick, is_due_at, deadline_of, timeout_of};
 ghost use Rattle.step_rules.specs.Progress.{least};
-ghost use Rattle.forwarder_core.specs.Next.{closed_path, next_of, IsQuiet, CanChange};
+ghost use Rattle.step_changes.specs.Next.{closed_path, next_of, IsQuiet, CanChange};
 
 use crate::forwarder::Forwarder;
-use crate::lists::{comes_first, is_any_waiting_for, is_late, is_overdue};
-use crate::next::{Change, Next};
-use crate::replies::closes;
 use outstanding::{Ask, Path};
 use retry_failover::Failure;
 use std::alloc::{AllocError, Allocator};
 use std::hash::BuildHasher;
+use step_changes::{
+    Change, Next, close_paths, comes_first, is_any_waiting_for, is_late, is_overdue,
+};
 use step_replies::{Waiting, failure};
 use step_values::Why;
 
@@ -43,7 +43,7 @@ impl<H: BuildHasher + Drop, A: Allocator + Copy> Forwarder<H, A> {
         ensures fits { IfOk result (λ next. CanChange self.now.config moment self.now.state next) }
     {
         let closed = self.left_alone(oldest, others);
-        let mut actions = closes(self.alloc, closed)?;
+        let mut actions = close_paths(self.alloc, closed)?;
         let action = failure(self.alloc, oldest, Why::Deadline)?;
         actions.push(action)?;
         Ok(Next::without_cache(self.alloc, actions, Change::Expire(closed)))

@@ -3,7 +3,7 @@ use Rattle.std.proofs.lemmas.Result.{IfOk-weaker}
 use Rattle.outstanding.specs.Lists.{of_question}
 use Rattle.step_rules.specs.State.{Running, Waiting}
 use Rattle.step_rules.specs.Steps.{using}
-use Rattle.forwarder_core.specs.Next.{next_of}
+use Rattle.step_changes.specs.Next.{next_of}
 use Rattle.forwarder_core.proofs.Clients.{joined_row, new_row}
 use Rattle.forwarder_core.proofs.forwarder.Forwarder.admit.Goals as goal
 

@@ -4,7 +4,7 @@ use Rattle.outstanding.specs.Lists.{of_question, AreListed}
 use Rattle.step_history.specs.Names.{route_of}
 use Rattle.step_rules.specs.State.{Running, Waiting}
 use Rattle.step_rules.specs.Attempts.{first_ask}
-use Rattle.forwarder_core.specs.Next.{next_of, CanFollow}
+use Rattle.step_changes.specs.Next.{next_of, CanFollow}
 use Rattle.forwarder_core.proofs.Clients.{fits_at, opened_row}
 use Rattle.forwarder_core.proofs.Following.{first_follows}
 use Rattle.forwarder_core.proofs.forwarder.Forwarder.ask_anew.Goals as goal

@@ -1,16 +1,17 @@
+use Rattle.std.proofs.lemmas.Bool.{false≢true}
 use Rattle.std.proofs.Common.{◌∙◌, ap, sym, subst}
 use Rattle.std.specs.List.{AllByRecursion}
 use Rattle.suffix_routes.specs.Values.{Config}
 use Rattle.step_rules.specs.Row.{is_due_at}
 use Rattle.step_rules.specs.State.{Running}
-use Rattle.forwarder_core.specs.Next.{pieces_of, IsRouted}
+use Rattle.step_changes.specs.Next.{pieces_of, IsRouted}
 use Rattle.forwarder_core.proofs.Deciding.{carried_out}
 use Rattle.forwarder_core.proofs.forwarder.Forwarder.carry_out.Goals as goal
 
 pub keep-unkept-requires : goal.keep-unkept-requires
 keep-unkept-requires g c = record {
   few = c.requires.fits.few;
-  routed = subst (λ (k : Config). AllByRecursion (IsRouted k) (pieces_of c.args.next.carried)) (sym c.in_ok-apply.ensures.config) c.requires.fits.routed;
+  routed = subst (λ (k : Config). AllByRecursion (IsRouted k) (pieces_of c.args.next.carried.items)) (sym c.in_ok-apply.ensures.config) c.requires.fits.routed;
 }
 
 pub returns-clause-ok : goal.returns-clause-ok
@@ -22,3 +23,6 @@ returns-clause-ok g c = (
     more = c.is_due-more.ensures ∙ ap (λ (k : Config). is_due_at k c.keep-unkept.new.self.state.moment c.keep-unkept.new.self.state) (ap (λ (r : Running). r.config) c.keep-unkept.ensures.1 ∙ c.in_ok-apply.ensures.config);
   },
 )
+
+pub returns-in_err-apply-clause-quiet : goal.returns-in_err-apply-clause-quiet
+returns-in_err-apply-clause-quiet g c = λ nothing. absurd (false≢true (c.in_err-apply.ensures.quiet nothing))

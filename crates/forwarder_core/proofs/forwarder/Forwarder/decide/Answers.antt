@@ -2,8 +2,8 @@ use Rattle.std.proofs.Common.{◌∙◌, List, ℕ, ap, sym, subst}
 use Rattle.outstanding.specs.Lists.{on_path as ask_on}
 use Rattle.step_values.specs.declared.event.Event.{Event as OwnedEvent}
 use Rattle.step_values.specs.Values.{event_of}
-use Rattle.step_rules.specs.Row.{Happens, row_of_request, row_of_delivery}
-use Rattle.forwarder_core.specs.Next.{next_of}
+use Rattle.step_rules.specs.Row.{Happens, TakesNoMemory, row_of_request, row_of_delivery}
+use Rattle.step_changes.specs.Next.{next_of}
 use Rattle.forwarder_core.proofs.forwarder.Forwarder.decide.Goals as goal
 
 pub returns-in_ok-next-in-Client-clause-row : goal.returns-in_ok-next-in-Client-clause-row
@@ -28,3 +28,7 @@ pub returns-in_ok-next-in-Tick-clause-row : goal.returns-in_ok-next-in-Tick-clau
 returns-in_ok-next-in-Tick-clause-row g c = λ rooms.
     subst (λ (e : OwnedEvent g.row.A.Denot). Happens c.args.self.now.config c.args.moment c.args.words c.args.self.now.state (event_of e) (next_of c.args.moment rooms c.args.self.now.state c.in_ok-next-in-Tick.next)) (sym c.in-Tick.is)
     (c.in_ok-next-in-Tick.ensures.row rooms)
+
+pub returns-in_ok-next-in-Tick-clause-no_memory : goal.returns-in_ok-next-in-Tick-clause-no_memory
+returns-in_ok-next-in-Tick-clause-no_memory g c = λ quiet.
+    c.in_ok-next-in-Tick.ensures.early (subst (λ (e : OwnedEvent g.row.A.Denot). TakesNoMemory c.args.self.now.config c.args.moment c.args.self.now.state (event_of e)) c.in-Tick.is quiet)

@@ -1,7 +1,7 @@
 use Rattle.std.proofs.Common.{◌∙◌, ap}
 use Rattle.step_values.specs.Values.{actions_of}
 use Rattle.step_rules.specs.Row.{left_alone}
-use Rattle.forwarder_core.specs.declared.next.Change.TheVariants.{Expire}
+use Rattle.step_changes.specs.declared.next.Change.TheVariants.{Expire}
 use Rattle.forwarder_core.proofs.Deciding.{plain_next, fits_plain, expired_row, pushed}
 use Rattle.forwarder_core.proofs.forwarder.Forwarder.expire.Goals as goal
 

@@ -10,7 +10,7 @@ use Rattle.outstanding.specs.Lists.{on_path as ask_on, without_path}
 use Rattle.outstanding.specs.Values.{Ask}
 use Rattle.step_rules.specs.State.{Running}
 use Rattle.step_rules.specs.Attempts.{ask_by, peer_at, over_udp, over_tcp, freed_by, plan_of}
-use Rattle.forwarder_core.specs.Next.{CanFollow}
+use Rattle.step_changes.specs.Next.{CanFollow}
 use Rattle.forwarder_core.proofs.Following.{server_within, more_left, udp_goes_on, tcp_goes_on, next_by_udp, next_by_tcp}
 use Rattle.forwarder_core.proofs.forwarder.Forwarder.fail.Goals as goal
 

@@ -1,8 +1,8 @@
 use Rattle.std.proofs.Common.{◌∙◌, ap, [], ◌∷◌, None}
 use Rattle.step_rules.specs.State.{Running}
 use Rattle.step_rules.specs.Steps.{closes, fails}
-use Rattle.forwarder_core.specs.declared.next.Change.TheVariants.{Close}
-use Rattle.forwarder_core.specs.Next.{with_replies}
+use Rattle.step_changes.specs.declared.next.Change.TheVariants.{Close}
+use Rattle.step_changes.specs.Next.{with_replies}
 use Rattle.forwarder_core.proofs.Deciding.{plain_next, fits_plain, closed_is, fails_frees}
 use Rattle.forwarder_core.proofs.forwarder.Forwarder.give_up.Goals as goal
 

@@ -4,7 +4,7 @@ use Rattle.record_cache.specs.Values.{Held}
 use Rattle.answer_builder.specs.Transports.{answer_of}
 use Rattle.step_values.specs.Values.{action_of}
 use Rattle.step_rules.specs.Steps.{sends, transport_of}
-use Rattle.forwarder_core.specs.Next.{next_of}
+use Rattle.step_changes.specs.Next.{next_of}
 use Rattle.forwarder_core.proofs.Clients.{fits_at}
 use Rattle.forwarder_core.proofs.Hits.{hit_row}
 use Rattle.forwarder_core.proofs.forwarder.Forwarder.hit.Goals as goal

@@ -8,7 +8,7 @@ use Rattle.step_rules.specs.Progress.{IsOnRoute}
 use Rattle.step_rules.specs.LookingUp.{look_up}
 use Rattle.trust_rank.specs.Walks.{most_aliases}
 use Rattle.step_look_ups.specs.Seen.{Seen, seen_of}
-use Rattle.forwarder_core.specs.Next.{next_of}
+use Rattle.step_changes.specs.Next.{next_of}
 use Rattle.forwarder_core.proofs.Hits.{earlier_used, missed_row, ended_row}
 use Rattle.forwarder_core.proofs.forwarder.Forwarder.look.Goals as goal
 

@@ -1,5 +1,5 @@
 use Rattle.std.proofs.lemmas.Result.{IfOk-weaker}
-use Rattle.forwarder_core.specs.Next.{next_of}
+use Rattle.step_changes.specs.Next.{next_of}
 use Rattle.forwarder_core.proofs.Clients.{fits_at, dropped_row, opcode_row}
 use Rattle.forwarder_core.proofs.forwarder.Forwarder.on_client.Goals as goal
 

@@ -1,8 +1,8 @@
 use Rattle.std.proofs.Common.{◌∙◌, ℕ, ◌+◌, ◌^◌, ◌≤◌, ◌<◌, ◌∷◌, [], ◌++◌, length, sym, ap, subst, List, arith}
 use Rattle.outstanding.specs.Values.{Ask}
 use Rattle.step_rules.specs.State.{Running, Waiting}
-use Rattle.forwarder_core.specs.Kept.{IsKeptAsk, IsKept}
-use Rattle.forwarder_core.specs.Next.{tcp_count_of}
+use Rattle.step_changes.specs.Kept.{IsKeptAsk, IsKept}
+use Rattle.step_changes.specs.Next.{tcp_count_of}
 use Rattle.forwarder_core.proofs.KeptLaws.{kept_joined, kept_asked}
 use Rattle.forwarder_core.proofs.forwarder.Forwarder.put_ask.Goals as goal
 
@@ -13,7 +13,7 @@ invariant_of-self-2 g c =
     (subst (λ (r : Running). r.state.moment ≤ c.args.moment) (sym c.self.view_is) c.requires.later) c.requires.in_time
     (subst (λ (r : Running). length r.state.waiting < r.config.limits.questions) (sym c.self.view_is) c.requires.waits.room) c.requires.waits.taken c.requires.waits.plain
     (c.push_reserved.ensures.items ∙ ap (λ (xs : List Waiting). xs ++ c.args.waiting ∷ []) c.in_ok-reserve.ensures.items) in
-    subst (λ (k : ℕ). IsKept c.self.inside.config c.self.inside.cache c.list.new.inquiries c.push_reserved.new.self.items c.self.inside.preferred.items c.args.moment k) (sym c.count_tcp-count.ensures)
-    (subst (λ (a : Ask). IsKept c.self.inside.config c.self.inside.cache c.list.new.inquiries c.push_reserved.new.self.items c.self.inside.preferred.items c.args.moment (c.self.inside.tcp_asks + tcp_count_of a.path)) (sym c.ask.view_is)
-    (kept_asked c.self.inside.config c.self.inside.cache c.self.inside.inquiries c.list.new.inquiries c.push_reserved.new.self.items c.self.inside.preferred.items c.args.moment c.args.moment c.self.inside.tcp_asks (tcp_count_of c.args.ask.path) c.self.inside.inquiries.asks c.args.ask joined
-    (omega arith) c.requires.in_time joined.asks one (subst (λ (r : Running). r.state.tcp_asks + tcp_count_of c.args.ask.path < 2 ^ 64) (sym c.self.view_is) c.requires.follows.counted) c.in_ok-list.ensures.ok))
+    subst (λ (k : ℕ). IsKept c.self.inside.config c.self.inside.cache c.list_ask.new.inquiries c.push_reserved.new.self.items c.self.inside.preferred.items c.args.moment k) (sym c.count_tcp-count.ensures)
+    (subst (λ (a : Ask). IsKept c.self.inside.config c.self.inside.cache c.list_ask.new.inquiries c.push_reserved.new.self.items c.self.inside.preferred.items c.args.moment (c.self.inside.tcp_asks + tcp_count_of a.path)) (sym c.ask.view_is)
+    (kept_asked c.self.inside.config c.self.inside.cache c.self.inside.inquiries c.list_ask.new.inquiries c.push_reserved.new.self.items c.self.inside.preferred.items c.args.moment c.args.moment c.self.inside.tcp_asks (tcp_count_of c.args.ask.path) c.self.inside.inquiries.asks c.args.ask joined
+    (omega arith) c.requires.in_time joined.asks one (subst (λ (r : Running). r.state.tcp_asks + tcp_count_of c.args.ask.path < 2 ^ 64) (sym c.self.view_is) c.requires.follows.counted) c.in_ok-list_ask.ensures.ok))

@@ -2,8 +2,8 @@ use Rattle.std.proofs.Common.{ℕ, ◌+◌, ◌^◌, ◌<◌, ◌≤◌, sym, su
 use Rattle.step_rules.specs.State.{Running}
 use Rattle.outstanding.specs.Lists.{without_path}
 use Rattle.outstanding.specs.Values.{Ask}
-use Rattle.forwarder_core.specs.Kept.{IsKeptAsk, IsKept}
-use Rattle.forwarder_core.specs.Next.{tcp_count_of}
+use Rattle.step_changes.specs.Kept.{IsKeptAsk, IsKept}
+use Rattle.step_changes.specs.Next.{tcp_count_of}
 use Rattle.forwarder_core.proofs.KeptLaws.{kept_asked, kept_rest}
 use Rattle.forwarder_core.proofs.forwarder.Forwarder.replace.Goals as goal
 

@@ -1,0 +1,134 @@
+-- What a step is about to do, before it is put in place.
+use Rattle.std.specs.Prelude.{◌≡◌, ℕ, ◌+◌, ◌^◌, ◌<◌, ◌≤◌, Bool, if◌then◌else◌, not, List, [], ◌∷◌, ◌++◌, length, map, drop, filter, slice_set, Option, Some, None, Result, Ok, Err}
+use Rattle.std.specs.declared.alloc.AllocError.{AllocError}
+use Rattle.suffix_routes.specs.Values.{Config}
+use Rattle.dns_message.specs.Values.{Question}
+use Rattle.outstanding.specs.declared.ask.Path.{Path}
+use Rattle.step_changes.specs.declared.next.Preferred.{Preferred}
+use Rattle.step_changes.specs.declared.next.Change.{Change}
+use Rattle.step_changes.specs.declared.next.Change.TheVariants.{Nothing, Join, Open, Close, AskAgain, Expire}
+use Rattle.step_changes.specs.declared.next.Next.{Next}
+use Rattle.step_values.specs.Values.{Event, restart, Action, actions_of, Outcome}
+use Rattle.step_rules.specs.State.{Waiting, State}
+use Rattle.outstanding.specs.Lists.{on_path as ask_on, without_path, MayBegin}
+use Rattle.outstanding.specs.Values.{Ask}
+use Rattle.step_rules.specs.Steps.{Done, Fate, gets, waits, closes, reply_in, waits_for, using, offering_step, sends, transport_of}
+use Rattle.step_rules.specs.Row.{is_due_at, Happens}
+use Rattle.answer_builder.specs.Transports.{answer_of}
+use Rattle.trust_rank.specs.Values.{Piece}
+use Rattle.record_cache.specs.Values.{Held}
+use Rattle.step_replies.specs.Spelling.{Source}
+use Rattle.step_history.specs.History.{is_tcp}
+use Rattle.step_changes.specs.Kept.{IsKeptAsk}
+
+-- one more ask by TCP, where the path is a connection
+abbrev pub tcp_count_of : Path → ℕ
+tcp_count_of p = if is_tcp p then 1 else 0
+
+-- those that did not wait for the ask
+abbrev pub left_waiting : Option Ask → List Waiting → List Waiting
+left_waiting None xs = xs
+left_waiting (Some a) xs = filter (λ x. not (waits_for a.question x)) xs
+
+abbrev pub with_preferred : Option Preferred → List ℕ → List ℕ
+with_preferred None places = places
+with_preferred (Some p) places = slice_set places p.route p.server
+
+abbrev pub without_closed : Option Path → List Ask → List Ask
+without_closed None listed = listed
+without_closed (Some path) listed = without_path path listed
+
+abbrev pub closed_path : Option Ask → Option Path
+closed_path None = None
+closed_path (Some a) = Some a.path
+
+-- a path that is given up, where there is one
+abbrev pub closing_path : Option Path → List Action
+closing_path None = []
+closing_path (Some path) = closes path ∷ []
+
+abbrev pub changed : {A : Type 0} → ℕ → State → Change A → State
+changed n s Nothing = record s { moment = n }
+changed n s (Join x) = record s { waiting = s.waiting ++ x ∷ []; moment = n }
+changed n s (Open x a) = record s { asks = s.asks ++ a ∷ []; waiting = s.waiting ++ x ∷ []; moment = n; tcp_asks = s.tcp_asks + tcp_count_of a.path }
+changed n s (Close path preferred) = record s { asks = without_path path s.asks; waiting = left_waiting (ask_on path s.asks) s.waiting; preferred = with_preferred preferred s.preferred; moment = n }
+changed n s (AskAgain path a) = record s { asks = without_path path s.asks ++ a ∷ []; moment = n; tcp_asks = s.tcp_asks + tcp_count_of a.path }
+changed n s (Expire closed) = record s { asks = without_closed closed s.asks; waiting = drop 1 s.waiting; moment = n }
+
+-- an ask that may be listed behind these
+pub record CanFollow (c : Config) (n : ℕ) (s : State) (listed : List Ask) (a : Ask) : Type 0 where
+  pub begins : MayBegin a listed
+  pub room : length listed < c.limits.inquiries
+  pub kept : IsKeptAsk c n (s.tcp_asks + tcp_count_of a.path) a
+  pub counted : s.tcp_asks + tcp_count_of a.path < 2 ^ 64
+
+-- a question that may be taken now
+pub record CanWait (c : Config) (n : ℕ) (s : State) (x : Waiting) : Type 0 where
+  pub room : length s.waiting < c.limits.questions
+  pub taken : x.taken ≡ n
+  pub plain : x.held ≡ []
+
+abbrev pub IsServed : Config → Option Preferred → Type 0
+IsServed c None = Unit {0}
+IsServed c (Some p) = p.server < length (Rattle.step_rules.specs.Attempts.servers_in (Rattle.step_rules.specs.Attempts.group_of c p.route))
+
+abbrev pub FitsChange : {A : Type 0} → Config → ℕ → State → Change A → Type 0
+FitsChange c n s Nothing = Unit {0}
+FitsChange c n s (Join x) = CanWait c n s x
+FitsChange c n s (Open x a) = CanWait c n s x × CanFollow c n s s.asks a
+FitsChange c n s (Close path preferred) = IsServed c preferred
+FitsChange c n s (AskAgain path a) = Rattle.std.specs.Prelude.IsSome (ask_on path s.asks) × CanFollow c n s (without_path path s.asks) a
+FitsChange c n s (Expire closed) = Unit {0}
+
+-- what an accepted reply carries, in the order in which it is offered
+abbrev pub pieces_of : List Held → List Piece
+pieces_of = map (λ h. h.piece)
+
+-- a piece that the cache may keep: its name is on the route of the ask that brought it
+abbrev pub IsRouted : Config → Piece → Type 0
+IsRouted c p = Rattle.step_history.specs.Names.route_of c p.slot.key ≡ Some p.route
+
+-- what may be done now
+pub record CanChange {A : Type 0} (c : Config) (n : ℕ) (s : State) (d : Next A) : Type 0 where
+  pub fits : FitsChange c n s d.change
+  pub few : length (pieces_of d.carried.items) < 2 ^ 32
+  pub routed : Rattle.std.specs.List.AllByRecursion (IsRouted c) (pieces_of d.carried.items)
+
+-- what is done, where rooms tells which of the new slots found memory
+abbrev pub next_of : {A : Type 0} → ℕ → List Bool → State → Next A → Done
+next_of n rooms s d =
+    offering_step n rooms (pieces_of d.carried.items)
+    (record { actions = actions_of d.actions; unkept = 0; state = changed n (using d.used s) d.change })
+
+-- the step takes no memory
+abbrev pub IsQuiet : {A : Type 0} → Result (Next A) AllocError → Type 0
+IsQuiet (Ok next) = next.change ≡ Nothing
+IsQuiet (Err refused) = ⊥
+
+-- what is decided of an event: a restart is told, all else happens as the row has it
+abbrev pub IsDecided : {A : Type 0} → Config → ℕ → List ℕ → State → Event → Option (Next A) → Type 0
+IsDecided c n words s e None = e ≡ restart
+IsDecided c n words s e (Some next) = (rooms : List Bool) → Happens c n words s e (next_of n rooms s next)
+
+abbrev pub IsDecidedQuietly : {A : Type 0} → Result (Option (Next A)) AllocError → Type 0
+IsDecidedQuietly (Ok None) = Unit {0}
+IsDecidedQuietly (Ok (Some next)) = next.change ≡ Nothing
+IsDecidedQuietly (Err refused) = ⊥
+
+-- the outcome and the state after are these
+pub record IsOutcome (c : Config) (d : Done) (o : Outcome) (s' : State) : Type 0 where
+  pub done : record { actions = o.actions; unkept = o.unkept; state = s' } ≡ d
+  pub more : o.more ≡ is_due_at c s'.moment s'
+
+-- those that wait for this question get their answers from a chain of pieces, all others wait on
+abbrev pub gives_from : Source → Question → Waiting → Fate
+gives_from d q x = if waits_for q x then gets (sends x (answer_of x.asked d.chain d.moment (transport_of x.client))) else waits x
+
+-- replies put one behind another
+abbrev pub with_reply : List Action → Option Action → List Action
+with_reply actions None = actions
+with_reply actions (Some a) = actions ++ a ∷ []
+
+abbrev pub with_replies : (Waiting → Fate) → List Action → List Waiting → List Action
+with_replies fate actions [] = actions
+with_replies fate actions (x ∷ xs) = with_replies fate (with_reply actions (reply_in (fate x))) xs

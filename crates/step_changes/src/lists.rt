@@ -1,0 +1,104 @@
+//! The lists of a forwarder: the asks that are under way, and the questions that wait; and when their time ends.
+
+ghost use Rattle.std.specs.Prelude.{◌≡◌, ◌<◌, ◌+◌, ◌∷◌, ◌++◌, [], length, nat_lt, nat_le, not, drop, filter, OnOk, OnErr};
+ghost use Rattle.std.specs.List.{list_any};
+ghost use Rattle.outstanding.specs.Lists.{MayBegin, on_path as ask_on, without_path};
+ghost use Rattle.step_rules.specs.Steps.{waits_for};
+ghost use Rattle.step_rules.specs.Row.{timeout_of, deadline_of};
+ghost use Rattle.step_changes.specs.Next.{left_waiting, without_closed};
+
+use crate::replies::is_waiting_for;
+use dns_message::Question;
+use outstanding::{Ask, Inquiries, Path, Refusal};
+use std::alloc::{AllocError, Allocator};
+use step_replies::Waiting;
+use suffix_routes::Config;
+
+/// Lists an ask for which there is room. `Err` where memory ran out, and then nothing has changed.
+pub fn list_ask<A: Allocator>(inquiries: &mut Inquiries<A>, ask: Ask<A>) -> Result<(), AllocError>
+    requires begins { MayBegin ask inquiries.old.asks }
+    requires room { length inquiries.old.asks < inquiries.old.capacity }
+    ensures ok { OnOk result (inquiries.new ≡ record inquiries.old { asks = inquiries.old.asks ++ ask ∷ [] }) }
+    ensures err { OnErr result (inquiries.new ≡ inquiries.old) }
+{
+    match inquiries.begin(ask) {
+        Ok(()) => Ok(()),
+        Err((_, Refusal::Full)) => unreachable!(),
+        Err((_, Refusal::Memory)) => Err(AllocError),
+    }
+}
+
+/// The ask on the path is closed, and those that waited for it wait no more.
+pub fn close_inquiry<A: Allocator>(
+    inquiries: &mut Inquiries<A>,
+    waiting: &mut Vec<Waiting<A>, A>,
+    path: Path,
+)
+    ensures asks { inquiries.new ≡ record inquiries.old { asks = without_path path inquiries.old.asks } }
+    ensures waiting { waiting.new.items ≡ left_waiting (ask_on path inquiries.old.asks) waiting.old.items }
+{
+    if let Some(ask) = inquiries.end(path) {
+        drop_waiting(waiting, &ask.question);
+    }
+}
+
+/// Leaves out those that wait for this question.
+fn drop_waiting<A: Allocator>(waiting: &mut Vec<Waiting<A>, A>, question: &Question<A>)
+    ensures { waiting.new.items ≡ filter (λ x. not (waits_for question.now x)) waiting.old.items }
+{
+    waiting.retain(|x| !is_waiting_for(question, x));
+}
+
+/// Ends the ask on a path, where there is one.
+pub fn end_closed<A: Allocator>(inquiries: &mut Inquiries<A>, closed: Option<Path>)
+    ensures { inquiries.new ≡ record inquiries.old { asks = without_closed closed inquiries.old.asks } }
+{
+    if let Some(path) = closed {
+        let _ended = inquiries.end(path);
+    }
+}
+
+/// The oldest question waits no more.
+pub fn drop_first<A: Allocator>(waiting: &mut Vec<Waiting<A>, A>)
+    ensures { waiting.new.items ≡ drop 1 waiting.old.items }
+{
+    if !waiting.is_empty() {
+        let _expired = waiting.remove(0);
+    }
+}
+
+/// A delivery at this moment, in milliseconds, is in time for the ask.
+pub fn is_live<A: Allocator>(config: &Config<A>, moment: u64, ask: &Ask<A>) -> bool
+    ensures { result ≡ nat_lt moment (timeout_of config.now ask.now) }
+{
+    u128::from(moment) < u128::from(ask.asked) + u128::from(config.limits.ask_ms)
+}
+
+/// The ask is past its time at this moment, in milliseconds.
+pub fn is_late<A: Allocator>(config: &Config<A>, moment: u64, ask: &Ask<A>) -> bool
+    ensures { result ≡ nat_le (timeout_of config.now ask.now) moment }
+{
+    u128::from(ask.asked) + u128::from(config.limits.ask_ms) <= u128::from(moment)
+}
+
+/// The question has waited as long as it may at this moment, in milliseconds.
+pub fn is_overdue<A: Allocator>(config: &Config<A>, moment: u64, waiting: &Waiting<A>) -> bool
+    ensures { result ≡ nat_le (deadline_of config.now waiting.now) moment }
+{
+    u128::from(waiting.taken) + u128::from(config.limits.deadline_ms) <= u128::from(moment)
+}
+
+/// The question's deadline comes no later than the ask's time ends.
+pub fn comes_first<A: Allocator>(config: &Config<A>, waiting: &Waiting<A>, ask: &Ask<A>) -> bool
+    ensures { result ≡ nat_le (deadline_of config.now waiting.now) (timeout_of config.now ask.now) }
+{
+    let deadline = u128::from(waiting.taken) + u128::from(config.limits.deadline_ms);
+    deadline <= u128::from(ask.asked) + u128::from(config.limits.ask_ms)
+}
+
+/// Another question waits for this one's ask.
+pub fn is_any_waiting_for<A: Allocator>(question: &Question<A>, waiting: &[Waiting<A>]) -> bool
+    ensures { result ≡ list_any (waits_for question.now) waiting.now }
+{
+    waiting.iter().any(|x| is_waiting_for(question, x))
+}

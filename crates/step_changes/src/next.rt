@@ -1,0 +1,65 @@
+//! What a step is about to do, with all the memory that it takes.
+
+ghost use Rattle.std.specs.Prelude.{◌≡◌, []};
+ghost use Rattle.step_values.specs.Values.{actions_of};
+ghost use Rattle.step_changes.specs.Next.{pieces_of};
+
+use outstanding::{Ask, Path};
+use plain_list::PlainList;
+use record_cache::Held;
+use std::alloc::{Allocator, Global};
+use step_look_ups::Slots;
+use step_replies::Waiting;
+use step_values::Action;
+use suffix_routes::RouteId;
+
+/// A server that is asked first from now on: its route, and its place in the route's group.
+#[derive(Clone, Copy)]
+pub struct Preferred {
+    pub route: RouteId,
+    pub server: usize,
+}
+
+/// What changes beside the moment and the cache.
+#[derive(Drop)]
+pub enum Change<A: Allocator = Global> {
+    Nothing,
+    /// A question waits for an ask that is listed already.
+    Join(Waiting<A>),
+    /// A question waits, and the first ask of its inquiry is listed.
+    Open(Waiting<A>, Ask<A>),
+    /// The ask on this path is closed, and those that waited for it wait no more.
+    Close(Path, Option<Preferred>),
+    /// The ask on this path is closed, and another one for its question is listed.
+    AskAgain(Path, Ask<A>),
+    /// The oldest question waits no more, and the ask on this path, where there is one, is closed.
+    Expire(Option<Path>),
+}
+
+/// The actions of a step, and what it changes: the entries of the slots that a look-up used are promoted, and the pieces
+/// that an accepted reply carries are offered to the cache, last.
+#[derive(Drop)]
+pub struct Next<A: Allocator = Global> {
+    pub actions: PlainList<Action<A>, A>,
+    pub used: Slots<A>,
+    pub change: Change<A>,
+    /// In the order in which they are offered.
+    pub carried: Vec<Held<A>, A>,
+}
+
+impl<A: Allocator + Copy> Next<A> {
+    /// These actions and this change, with no look-up and no accepted reply. It takes no memory.
+    pub fn without_cache(alloc: A, actions: PlainList<Action<A>, A>, change: Change<A>) -> Next<A>
+        ensures actions { actions_of result.actions ≡ actions_of actions }
+        ensures used { result.used ≡ [] }
+        ensures change { result.change ≡ change }
+        ensures carried { pieces_of result.carried.items ≡ [] }
+    {
+        Next {
+            actions,
+            used: Slots::none(alloc),
+            change,
+            carried: Vec::new(alloc),
+        }
+    }
+}
