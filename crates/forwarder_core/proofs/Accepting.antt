@@ -16,8 +16,7 @@ use Rattle.trust_rank.specs.declared.slot.Slot.{Slot}
 use Rattle.trust_rank.specs.Values.{Piece, End, found, ends_no_data, ends_denied, elsewhere, lame, Walk, Reply, reply_of}
 use Rattle.trust_rank.specs.Walks.{most_aliases, walk_from, walk_of, begins_set, servers_with, servers_at, servers_from, carries_servers}
 use Rattle.trust_rank.specs.Laws.{IsCarriedFor, Lead, last_kind, Closes, EndsSo, IsServerSet}
-use Rattle.trust_rank.proofs.CallerLemmas.{servers_fit, walk_leads}
-use Rattle.trust_rank.proofs.Leading.{walk_plain}
+use Rattle.trust_rank.proofs.CallerLemmas.{servers_fit, walk_leads, walk_plain}
 use Rattle.record_cache.specs.Values.{Held}
 use Rattle.answer_builder.specs.Transports.{answer_of}
 use Rattle.outstanding.specs.declared.ask.Path.{Path}
@@ -32,9 +31,7 @@ use Rattle.step_rules.specs.LookingUp.{ends, Looked}
 use Rattle.step_rules.specs.Steps.{Fate, gets, waits, closes, settling_step, offering_step, sends, transport_of, waits_for, preferring, using}
 use Rattle.step_rules.specs.Row.{held_at, before_last, last_of, ends_at, too_many, unless_many, fate_of, fate_by, row_of_end, row_of_acceptance, row_of_failure, row_of_walk}
 use Rattle.retry_failover.specs.declared.Failure.TheVariants.{Lame}
-use Rattle.step_soundness.proofs.AskText.{header_there}
-use Rattle.step_soundness.proofs.Accepting.{looked_at_end, closed_at_end}
-use Rattle.step_soundness.proofs.CallerLemmas.{All-append}
+use Rattle.step_soundness.proofs.CallerLemmas.{All-append, header_there, looked_at_end, closed_at_end}
 use Rattle.step_changes.specs.declared.next.Change.TheVariants.{Close}
 use Rattle.step_changes.specs.Next.{changed, gives_from, with_replies, IsRouted}
 use Rattle.forwarder_core.specs.Walked.{IsWalkFor}

@@ -16,7 +16,7 @@ use Rattle.record_cache.specs.Laws.{Among}
 use Rattle.negative_cache.specs.Values.{Found, rows, alias, no_data, denied, miss}
 use Rattle.negative_cache.specs.Finding.{found}
 use Rattle.negative_cache.specs.Laws.{Fits, IsTyped}
-use Rattle.negative_cache.proofs.Fitting.{found_fits}
+use Rattle.negative_cache.proofs.CallerLemmas.{found_fits}
 use Rattle.step_history.specs.Names.{route_of}
 use Rattle.step_history.specs.Answers.{asked_at}
 use Rattle.step_rules.specs.LookingUp.{Met, ends, too_long, missed, Looked, missing, led, followed, one_too_many, through, look_up, if_ended, asked_look_up}

@@ -9,8 +9,8 @@ mod replies;
 
 pub use attempts::{Try, by_tcp, by_udp, draw_connection, freed_port, new_ask, plan};
 pub use lists::{
-    close_inquiry, comes_first, drop_first, end_closed, is_any_waiting_for, is_late, is_live,
-    is_overdue, list_ask,
+    close_inquiry, comes_first, drop_first, end_closed, forget_all, is_any_waiting_for, is_late,
+    is_live, is_overdue, list_ask,
 };
 pub use next::{Change, Next, Preferred};
 pub use offers::{held_from, offer_all};

@@ -1,4 +1,4 @@
-//! The lists of a forwarder: the asks that are under way, and the questions that wait; and when their time ends.
+//! What a forwarder keeps: the asks that are under way, the questions that wait, when their time ends, and the end of all.
 
 ghost use Rattle.std.specs.Prelude.{◌≡◌, ◌<◌, ◌+◌, ◌∷◌, ◌++◌, [], length, nat_lt, nat_le, not, drop, filter, OnOk, OnErr};
 ghost use Rattle.std.specs.List.{list_any};
@@ -10,7 +10,9 @@ ghost use Rattle.step_changes.specs.Next.{left_waiting, without_closed};
 use crate::replies::is_waiting_for;
 use dns_message::Question;
 use outstanding::{Ask, Inquiries, Path, Refusal};
+use record_cache::Cache;
 use std::alloc::{AllocError, Allocator};
+use std::hash::BuildHasher;
 use step_replies::Waiting;
 use suffix_routes::Config;
 
@@ -65,6 +67,21 @@ pub fn drop_first<A: Allocator>(waiting: &mut Vec<Waiting<A>, A>)
     if !waiting.is_empty() {
         let _expired = waiting.remove(0);
     }
+}
+
+/// All entries, asks and waiting questions are forgotten. It takes no memory.
+pub fn forget_all<H: BuildHasher + Drop, A: Allocator + Copy>(
+    cache: &mut Cache<H, A>,
+    inquiries: &mut Inquiries<A>,
+    waiting: &mut Vec<Waiting<A>, A>,
+)
+    ensures entries { cache.new ≡ record cache.old { entries = [] } }
+    ensures asks { inquiries.new ≡ record inquiries.old { asks = [] } }
+    ensures waiting { waiting.new.items ≡ [] }
+{
+    cache.clear();
+    inquiries.clear();
+    waiting.clear();
 }
 
 /// A delivery at this moment, in milliseconds, is in time for the ask.

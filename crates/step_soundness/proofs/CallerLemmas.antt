@@ -7,3 +7,5 @@ pub use Rattle.step_soundness.proofs.Attempts.{IsAskBy, ask_by-some, udp-some, t
 pub use Rattle.step_keeping.proofs.CallerLemmas.{All-append, All-filter, All-weaker}
 pub use Rattle.step_soundness.proofs.Names.{told_same_name}
 pub use Rattle.step_soundness.proofs.Nexts.{append_nil, gave_up, asked_next, asked_again}
+pub use Rattle.step_soundness.proofs.AskText.{header_there}
+pub use Rattle.step_soundness.proofs.Accepting.{looked_at_end, closed_at_end}

@@ -23,7 +23,7 @@ use record_cache::Cache;
 use std::alloc::{AllocError, Allocator, Global};
 use std::hash::BuildHasher;
 use std::marker::Model;
-use step_changes::Next;
+use step_changes::{Next, forget_all};
 use step_replies::Waiting;
 use step_values::{Event, Outcome};
 use suffix_routes::{Config, Route};
@@ -196,9 +196,7 @@ impl<H: BuildHasher + Drop, A: Allocator + Copy> Forwarder<H, A> {
     pub fn restart(&mut self)
         ensures { self.new ≡ record { config = self.old.config; state = start self.old.config } }
     {
-        self.cache.clear();
-        self.inquiries.clear();
-        self.waiting.clear();
+        forget_all(&mut self.cache, &mut self.inquiries, &mut self.waiting);
         forget_places(&mut self.preferred);
         self.moment = 0;
         self.tcp_asks = 0;
