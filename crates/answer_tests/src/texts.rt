@@ -142,6 +142,44 @@ fn past_512_octets_udp_gets_the_question_alone(rt: HostRuntime) -> Result<(), Fa
     Ok(())
 }
 
+/// A reply of a.example with so many addresses, 198.51.100.0 and those behind it.
+fn with_addresses(heap: Global, count: u8) -> Result<Vec<u8>, Fail> {
+    let mut reply = hex::decode(heap, "000885000001")?;
+    reply.extend_from_slice(&[0, count, 0, 0, 0, 0])?;
+    reply.extend_from_slice(b"\x01a\x07example\x00\x00\x01\x00\x01".as_slice())?;
+    for last in 0..count {
+        reply.extend_from_slice(
+            b"\xc0\x0c\x00\x01\x00\x01\x00\x00\x01\x2c\x00\x04\xc6\x33\x64".as_slice(),
+        )?;
+        reply.push(last)?;
+    }
+    Ok(reply)
+}
+
+/// Header and question have 27 octets, each address 16: 30 of them are 507 octets.
+#[test]
+fn sets_of_up_to_64_records(rt: HostRuntime) -> Result<(), Fail> {
+    let heap = rt.alloc();
+    for count in 1..=64u8 {
+        let reply = with_addresses(heap, count)?;
+        let whole = usize::from(count) * 16 + 27;
+        for (transport, wanted) in [
+            (Transport::Udp, if count <= 30 { whole } else { 27 }),
+            (Transport::Tcp, whole),
+        ] {
+            let case = Case {
+                question: &reply,
+                reply: &reply,
+                moment: 1020,
+                transport,
+            };
+            let answer = told(heap, case)?;
+            assert_eq!(rt; answer.len(), wanted * 2, "{count} records");
+        }
+    }
+    Ok(())
+}
+
 #[test]
 fn past_65535_octets_tcp_gets_nothing(rt: HostRuntime) -> Result<(), Fail> {
     let heap = rt.alloc();
@@ -163,6 +201,16 @@ fn past_65535_octets_tcp_gets_nothing(rt: HostRuntime) -> Result<(), Fail> {
             }
         }
     }
+    Ok(())
+}
+
+#[test]
+fn what_is_said_of_a_fault(rt: HostRuntime) -> Result<(), Fail> {
+    let heap = rt.alloc();
+    let too_large = format!(in heap; "{}", Fault::TooLarge)?;
+    assert_eq!(rt; too_large.as_str(), "an answer of over 65,535 octets");
+    let memory = format!(in heap; "{}", Fault::Memory)?;
+    assert_eq!(rt; memory.as_str(), "memory ran out");
     Ok(())
 }
 

@@ -77,5 +77,7 @@ fn what_is_said_of_a_refusal(rt: HostRuntime) -> Result<(), Fail> {
     let heap = rt.alloc();
     let full = format!(in heap; "{}", Refusal::Full)?;
     assert_eq!(rt; full.as_str(), "as many asks are listed as there may be");
+    let memory = format!(in heap; "{}", Refusal::Memory)?;
+    assert_eq!(rt; memory.as_str(), "memory ran out");
     Ok(())
 }

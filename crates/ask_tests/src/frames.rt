@@ -34,6 +34,16 @@ fn a_frame_is_given_with_its_last_octet(rt: HostRuntime) -> Result<(), Fail> {
 }
 
 #[test]
+fn what_is_said_of_a_fault(rt: HostRuntime) -> Result<(), Fail> {
+    let heap = rt.alloc();
+    let memory = format!(in heap; "{}", FrameFault::Memory)?;
+    assert_eq!(rt; memory.as_str(), "memory ran out");
+    let too_long = format!(in heap; "{}", FrameFault::TooLong)?;
+    assert_eq!(rt; too_long.as_str(), "a message of over 65,535 octets");
+    Ok(())
+}
+
+#[test]
 fn each_growth_may_be_refused(rt: HostRuntime) -> Result<(), Fail> {
     let heap = Refusing::new(rt.alloc());
     let mut reader = FrameReader::new(&heap);

@@ -84,6 +84,22 @@ fn what_is_read(rt: HostRuntime) -> Result<(), Fail> {
 }
 
 #[test]
+fn as_many_routes_as_there_may_be(rt: HostRuntime) -> Result<(), Fail> {
+    let heap = rt.alloc();
+    let mut text = String::from_str(heap, "version = 1\n")?;
+    for route in 0..64u8 {
+        let suffix = format!(in heap; "[[route]]\nsuffix = \"n{route}\"\n")?;
+        text.push_str(suffix.as_str())?;
+        text.push_str("servers = [\"192.0.2.1:53\", \"192.0.2.2:53\"]\n")?;
+    }
+    let copy = Config::read(heap, heap, text.as_str())?.copy(heap)?;
+    assert_eq!(rt; copy.routes().len(), 64);
+    let name = Name::from_text(heap, "a.N63")?;
+    assert_eq!(rt; place_of(copy.route_of(&name)), Some(63));
+    Ok(())
+}
+
+#[test]
 fn texts_of_no_peer(rt: HostRuntime) {
     for text in [
         "",

@@ -174,6 +174,52 @@ fn numbers_of_faults_of_a_route(rt: HostRuntime) -> Result<(), Fail> {
     Ok(())
 }
 
+/// The octet at which the reader of TOML stopped: behind the last one where more is wanted, else that of what can't stand
+/// there, and of a key that is there already.
+#[test]
+fn where_a_text_is_no_toml(rt: HostRuntime) -> Result<(), Fail> {
+    let heap = rt.alloc();
+    for (head, rest, wanted) in [
+        ("version =", "", "the text is no TOML: see octet 9"),
+        (
+            "version = 1",
+            "\nversion = 1",
+            "the text is no TOML: see octet 12",
+        ),
+        (
+            "version = 1",
+            "\n\u{e4} = 1",
+            "the text is no TOML: see octet 12",
+        ),
+        (
+            "version = 1",
+            "\n[limits\ntries = 1",
+            "the text is no TOML: see octet 19",
+        ),
+    ] {
+        let text = joined(heap, head, rest)?;
+        assert_eq!(rt; said_of(heap, text.as_str())?.as_str(), wanted);
+    }
+    Ok(())
+}
+
+/// Arrays in one another are read up to 80; an unknown key is told then.
+#[test]
+fn deep_arrays_are_no_toml(rt: HostRuntime) -> Result<(), Fail> {
+    let heap = rt.alloc();
+    for (depth, wanted) in [(80u8, 11u8), (81, 1)] {
+        let mut text = String::from_str(heap, "version = 1\ndeep = ")?;
+        for _ in 0..depth {
+            text.push('[')?;
+        }
+        for _ in 0..depth {
+            text.push(']')?;
+        }
+        assert_eq!(rt; number_of(heap, text.as_str()), wanted, "{depth} arrays");
+    }
+    Ok(())
+}
+
 #[test]
 fn what_is_said_of_the_document(rt: HostRuntime) -> Result<(), Fail> {
     let heap = rt.alloc();

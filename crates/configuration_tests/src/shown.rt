@@ -1,7 +1,8 @@
-//! How a fault shows a text that was met.
+//! How a fault shows a text that was met, and what is said of a name that is none.
 
+use dns_name::NameFault;
 use std::test::Fail;
-use suffix_routes::Excerpt;
+use suffix_routes::{ConfigFault, Excerpt};
 
 #[test]
 fn what_is_shown_of_a_text(rt: HostRuntime) -> Result<(), Fail> {
@@ -32,5 +33,26 @@ fn what_is_shown_of_a_text(rt: HostRuntime) -> Result<(), Fail> {
         assert_eq!(rt; shown.as_str(), wanted);
     }
     assert_eq!(rt; Excerpt::of("a b").octets(), b"a b".as_slice());
+    Ok(())
+}
+
+#[test]
+fn what_is_said_of_a_name(rt: HostRuntime) -> Result<(), Fail> {
+    let heap = rt.alloc();
+    for (fault, wanted) in [
+        (NameFault::EmptyLabel, "a label is empty"),
+        (NameFault::LabelLong, "a label has more than 63 octets"),
+        (NameFault::NameLong, "the name has more than 255 octets"),
+        (
+            NameFault::BadCharacter,
+            "a character is no letter, digit, hyphen, underscore or dot",
+        ),
+        (NameFault::Memory, "memory ran out"),
+    ] {
+        let said = format!(in heap; "{fault}")?;
+        assert_eq!(rt; said.as_str(), wanted);
+    }
+    let memory = format!(in heap; "{}", ConfigFault::Memory)?;
+    assert_eq!(rt; memory.as_str(), "memory ran out");
     Ok(())
 }

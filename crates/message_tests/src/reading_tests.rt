@@ -243,6 +243,24 @@ fn the_first_fault_is_told(rt: HostRuntime) -> Result<(), Fail> {
     Ok(())
 }
 
+#[test]
+fn what_is_said_of_a_fault(rt: HostRuntime) -> Result<(), Fail> {
+    for (fault, wanted) in [
+        (Fault::Short, "the octets end too soon"),
+        (Fault::LabelForm, "no label and no pointer begins so"),
+        (Fault::Pointer, "a pointer does not lead back"),
+        (Fault::NameLong, "a name has more than 255 octets"),
+        (Fault::Rdata, "the data of a record is not of its shape"),
+        (Fault::TooLarge, "the message is too large"),
+        (Fault::Memory, "memory ran out"),
+        (Fault::NoQuestion, "the message has no question"),
+    ] {
+        let said = format!(in rt.alloc(); "{fault}")?;
+        assert_eq!(rt; said.as_str(), wanted);
+    }
+    Ok(())
+}
+
 /// A message whose question has 127 labels of one octet, and an address with this owner.
 fn under_127_labels(alloc: Global, owner: &[u8]) -> Result<Vec<u8>, Fail> {
     let mut octets = decoded(alloc, "000885000001000100000000")?;
@@ -261,8 +279,13 @@ fn a_name_has_at_most_255_octets(rt: HostRuntime) -> Result<(), Fail> {
     assert_eq!(rt; fault_of(rt.alloc(), &octets), Some(Fault::NameLong));
     let octets = under_127_labels(rt.alloc(), b"\x01a\xc0\x0e".as_slice())?;
     let message = MessageRef::view(&octets)?.read_whole(rt.alloc())?;
+    let question = MessageRef::view(&octets)?.question(rt.alloc())?;
+    assert_eq!(rt; question.copy(rt.alloc())?.name.labels().count(), 127);
     for record in message.answers.as_slice() {
-        assert_eq!(rt; record.owner.labels().count(), 127);
+        let owner = record.copy(rt.alloc())?.owner;
+        assert_eq!(rt; owner.labels().count(), 127);
+        let parent = owner.parent(rt.alloc())?.ok_or("a parent")?;
+        assert_eq!(rt; parent.octets().len(), 252);
     }
     Ok(())
 }

@@ -167,6 +167,20 @@ fn the_last_place_is_at_16383(rt: HostRuntime) -> Result<(), Fail> {
 }
 
 #[test]
+fn the_longest_text_is_written_and_read(rt: HostRuntime) -> Result<(), Fail> {
+    let text = behind_a_filler(rt.alloc(), 65481)?;
+    assert_eq!(rt; text.len(), 65535);
+    let message = MessageRef::view(&text)?.read_whole(rt.alloc())?;
+    for record in message.answers.as_slice() {
+        let copy = record.rdata.copy(rt.alloc())?;
+        let len = copy.octets().len();
+        assert!(rt; len == 65481 || len == 0);
+    }
+    assert!(rt; written(rt.alloc(), &message, 65535)?.as_slice() == text.as_slice());
+    Ok(())
+}
+
+#[test]
 fn data_of_another_shape_stands_as_it_is(rt: HostRuntime) -> Result<(), Fail> {
     let alloc = rt.alloc();
     let mut answers = Vec::new(alloc);
