@@ -2,6 +2,7 @@ pub mod DataLaws
 pub mod SpellLaws
 pub mod RecordLaws
 pub mod EndLaws
+pub mod NameLaws
 pub mod Counting
 pub mod MessageLaws
 pub mod QuestionLaws

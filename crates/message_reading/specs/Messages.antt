@@ -1,7 +1,7 @@
 -- Whole messages: RFC 1035 4.1.
-use Rattle.std.specs.Prelude.{◌≡◌, ℕ, ◌<◌, ◌≤◌, List, [], ◌∷◌, length, Option, Some, None, Result, Ok, Err, nat_lt, ◌==◌, if◌then◌else◌, slice_index}
+use Rattle.std.specs.Prelude.{◌≡◌, ℕ, ◌<◌, ◌≤◌, List, [], ◌∷◌, ◌++◌, length, take, drop, Option, Some, None, Result, Ok, Err, nat_lt, ◌==◌, if◌then◌else◌, slice_index}
 use Rattle.std.specs.List.{AllByRecursion}
-use Rattle.dns_name.specs.Labels.{IsSame}
+use Rattle.dns_name.specs.Labels.{IsSame, octets_of, size_of}
 use Rattle.message_names.specs.declared.fault.Fault.{Fault}
 use Rattle.message_names.specs.declared.fault.Fault.TheVariants.{Short, NoQuestion}
 use Rattle.message_reading.specs.Values.{Question, Record, Message}
@@ -80,6 +80,11 @@ pub record IsSameQuestion (a b : Question) : Type 0 where
   pub name : IsSame a.name b.name
   pub kind : a.kind ≡ b.kind
   pub class : a.class ≡ b.class
+
+-- The name stands whole at o, each label behind its length and the zero octet at its end: no pointer stands for a part of
+-- it (RFC 1035 3.1 and 4.1.4).
+abbrev pub IsUncompressed : List ℕ → ℕ → List (List ℕ) → Type 0
+IsUncompressed bytes o name = take (size_of name) (drop o bytes) ≡ octets_of name ++ 0 ∷ []
 
 -- the question that was read is this one
 abbrev pub QuestionIs : Result Question Fault → Question → Type 0

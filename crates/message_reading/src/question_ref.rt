@@ -1,11 +1,36 @@
 //! A question that is looked at where it lies.
 
-ghost use Rattle.std.specs.Prelude.{◌≡◌};
-ghost use Rattle.dns_name.specs.Labels.{labels_of, IsLaidOut};
+ghost use Rattle.std.specs.Prelude.{◌≡◌, IsOk, IfOk, MatchOption, length};
+ghost use Rattle.dns_name.specs.Labels.{labels_of, lowered, IsLaidOut};
+ghost use Rattle.message_names.specs.Names.{name_at};
+ghost use Rattle.message_reading.specs.Messages.{IsUncompressed};
 
 use crate::message::Question;
-use std::alloc::Allocator;
+use dns_name::{Name, NameKey};
+use message_names::part;
+use std::alloc::{AllocError, Allocator};
 use std::marker::Model;
+
+/// The octets of the name at a place, which can be read, without the zero octet at its end; `None` where it has a
+/// pointer.
+#[tactic(auto, using(crate::proofs::NameLaws::name_begins, crate::proofs::NameLaws::goes_on))]
+fn uncompressed_name(bytes: &[u8], offset: usize) -> Option<&[u8]>
+    requires { IsOk (name_at bytes.now offset) }
+    ensures { MatchOption result (IfOk (name_at bytes.now offset) (λ n. IsUncompressed bytes.now offset n.0 → ⊥))
+        (λ octets. IsLaidOut octets.now × IfOk (name_at bytes.now offset) (λ n. (n.0 ≡ labels_of octets.now) × IsUncompressed bytes.now offset n.0)) }
+{
+    let mut at = offset;
+    loop {
+        let first = bytes[at];
+        if first == 0 {
+            return Some(part(bytes, offset, at - offset));
+        }
+        if first >= 192 {
+            return None;
+        }
+        at += first as usize + 1;
+    }
+}
 
 /// A question, borrowed: its name stands somewhere without a pointer. Contracts see the question.
 #[derive(Drop)]
@@ -39,12 +64,57 @@ impl<'a> QuestionRef<'a> {
         }
     }
 
+    /// The question of this type and class whose name stands at a place without a pointer; `None` where it has one.
+    pub(crate) fn at(
+        bytes: &'a [u8],
+        offset: usize,
+        kind: u16,
+        class: u16,
+    ) -> Option<QuestionRef<'a>>
+        requires { IsOk (name_at bytes.now offset) }
+        ensures { MatchOption result (IfOk (name_at bytes.now offset) (λ n. IsUncompressed bytes.now offset n.0 → ⊥))
+            (λ question. IfOk (name_at bytes.now offset) (λ n. (question ≡ record { name = n.0; kind = kind; class = class }) × IsUncompressed bytes.now offset n.0)) }
+    {
+        let name = uncompressed_name(bytes, offset)?;
+        Some(QuestionRef { name, kind, class })
+    }
+
     /// The name as it stands, without the zero octet at its end: each label behind its length.
     pub fn name(&self) -> &'a [u8]
         ensures laid { IsLaidOut result.now }
         ensures labels { labels_of result.now ≡ self.now.name }
     {
         self.name
+    }
+
+    /// The same, borrowed once more. It takes no memory.
+    pub fn reborrow(&self) -> QuestionRef<'a>
+        ensures { result ≡ self.now }
+    {
+        QuestionRef {
+            name: self.name,
+            kind: self.kind,
+            class: self.class,
+        }
+    }
+
+    /// An equal question that owns its name, whose octets are copied once. `Err` where memory ran out.
+    pub fn copy<A: Allocator>(&self, alloc: A) -> Result<Question<A>, AllocError>
+        ensures { IfOk result (λ copy. copy ≡ self.now) }
+    {
+        let name = Name::from_octets(alloc, self.name)?;
+        Ok(Question {
+            name,
+            kind: self.kind,
+            class: self.class,
+        })
+    }
+
+    /// The key of the name. It takes no memory.
+    pub fn key(&self) -> NameKey
+        ensures { result ≡ lowered self.now.name }
+    {
+        NameKey::from_octets(self.name)
     }
 
     /// The type that is asked for.

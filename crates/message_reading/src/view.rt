@@ -1,18 +1,19 @@
 //! A message that is looked at where it lies. Nothing here takes memory but what makes a value.
 
-ghost use Rattle.std.specs.Prelude.{◌≡◌, ◌↔◌, ◌≤◌, IsTrue, IsOk, Ok, Err, Some, length, MatchResult, IfOk};
+ghost use Rattle.std.specs.Prelude.{◌≡◌, ◌↔◌, ◌≤◌, IsTrue, IsOk, Ok, Err, Some, length, MatchResult, MatchOption, IfOk};
 ghost use Rattle.message_names.specs.Reading.{Gives, behind};
 ghost use Rattle.dns_name.specs.Labels.{lowered};
 ghost use Rattle.message_reading.specs.Header.{FitsBits, header_of};
 ghost use Rattle.message_reading.specs.Records.{question_at};
 ghost use Rattle.message_names.specs.Shortcuts.{AreShortcuts};
 ghost use Rattle.message_names.specs.Sizes.{AreSizes};
-ghost use Rattle.message_reading.specs.Messages.{IsWhole, HasShapes, first_question, message_at, message_of, QuestionIs, IsViewed};
+ghost use Rattle.message_reading.specs.Messages.{IsWhole, HasShapes, first_question, message_at, message_of, QuestionIs, IsUncompressed, IsViewed};
 ghost use Rattle.message_reading.specs.Spans.{spans_of};
 ghost use Rattle.message_names.specs.declared.fault.Fault.TheVariants.{Memory};
 
 use crate::header::Header;
 use crate::message::{Message, Question};
+use crate::question_ref::QuestionRef;
 use crate::records::{
     read_question, read_questions, read_records, skip_octets, skip_question, skip_questions,
     skip_records,
@@ -218,6 +219,15 @@ impl<'a> MessageRef<'a> {
     {
         let (question, _) = read_question(alloc, self.bytes, &mut [], 12)?;
         Ok(question)
+    }
+
+    /// The first question where it lies, if its name stands without a pointer (RFC 1035 4.1.4); `None` exactly where a
+    /// pointer stands for a part of the name. It takes no memory.
+    pub fn question_ref(&self) -> Option<QuestionRef<'a>>
+        ensures { MatchOption result (IfOk (first_question self.now) (λ question. IsUncompressed self.now 12 question.name → ⊥))
+            (λ question. (first_question self.now ≡ Ok question) × IsUncompressed self.now 12 question.name) }
+    {
+        QuestionRef::at(self.bytes, 12, self.kind(), self.class())
     }
 
     /// Header, counted questions and counted records can be read. It takes no memory.

@@ -1,0 +1,18 @@
+use Rattle.std.proofs.Common.{arith}
+use Rattle.message_reading.proofs.NameLaws.{goes_on}
+use Rattle.message_reading.proofs.question_ref.uncompressed_name.Goals as goal
+
+pub returns-then-first-eq0 : goal.returns-then-first-eq0
+returns-then-first-eq0 c =
+    let here = goes_on c.args.bytes.now c.args.offset c.loop-offset.at c.loop-offset.invariant in
+    rw c.part.ensures (here.zero_octet c.if-first-eq0.true)
+
+pub returns-then-first-ge192 : goal.returns-then-first-ge192
+returns-then-first-ge192 c =
+    let here = goes_on c.args.bytes.now c.args.offset c.loop-offset.at c.loop-offset.invariant in
+    here.pointer c.if-first-ge192.true
+
+pub loop-offset-preserved : goal.loop-offset-preserved
+loop-offset-preserved c =
+    let here = goes_on c.args.bytes.now c.args.offset c.loop-offset.at c.loop-offset.invariant in
+    here.label (omega (arith, c.if-first-eq0.false)) (omega (arith, c.if-first-ge192.false))

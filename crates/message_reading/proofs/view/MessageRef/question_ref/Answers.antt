@@ -1,0 +1,10 @@
+use Rattle.message_reading.proofs.NameLaws.{first_borrowed, first_name_read}
+use Rattle.message_reading.proofs.view.MessageRef.question_ref.Goals as goal
+
+pub at-requires : goal.at-requires
+at-requires c = first_name_read c.self.inside.bytes.now c.self.inside.question_end c.self.invariant
+
+pub returns : goal.returns
+returns c =
+    rw (← c.self.view_is)
+    (first_borrowed c.self.inside.bytes.now c.self.inside.question_end c.kind.result c.class.result c.at.result c.self.invariant (rw c.self.view_is c.kind.ensures) (rw c.self.view_is c.class.ensures) c.at.ensures)
