@@ -107,6 +107,42 @@ fn the_first_question_is_read(rt: HostRuntime) -> Result<(), Fail> {
 }
 
 #[test]
+fn a_question_is_lent_where_it_lies(rt: HostRuntime) -> Result<(), Fail> {
+    let octets = decoded(rt.alloc(), REPLY)?;
+    let view = MessageRef::view(&octets)?;
+    let Some(question) = view.question_ref() else {
+        return Err(Fail::from("no question"));
+    };
+    assert!(rt; question.name() == b"\x01a\x07example".as_slice());
+    assert_eq!(rt; (question.kind(), question.class()), (1, 1));
+    assert!(rt; question.key() == view.key());
+    let copy = question.reborrow().copy(rt.alloc())?;
+    assert!(rt; view.question_is(&copy));
+    Ok(())
+}
+
+/// Questions for a and for b.a, whose names end with a pointer to the front of the message, where the identifier spells a.
+const COMPRESSED: [&str; 2] = [
+    "016100000001000000000000c00000010001",
+    "0161000000010000000000000162c00000010001",
+];
+
+#[test]
+fn a_question_with_a_pointer_is_not_lent(rt: HostRuntime) -> Result<(), Fail> {
+    for digits in &COMPRESSED {
+        let octets = decoded(rt.alloc(), digits)?;
+        let view = MessageRef::view(&octets)?;
+        assert!(rt; view.question_ref().is_none(), "{digits}");
+        let question = view.question(rt.alloc())?;
+        assert!(rt;
+            question.name.octets().ends_with(b"\x01a".as_slice()),
+            "{digits}"
+        );
+    }
+    Ok(())
+}
+
+#[test]
 fn the_spans_of_the_records_are_told(rt: HostRuntime) -> Result<(), Fail> {
     let octets = decoded(rt.alloc(), REPLY)?;
     let view = MessageRef::view(&octets)?;
