@@ -15,11 +15,12 @@ use Rattle.step_history.specs.Replies.{asked_in}
 use Rattle.dns_message.specs.Header.{Header, header_in}
 use Rattle.outstanding.specs.declared.ask.Path.{Path}
 use Rattle.outstanding.specs.Draws.{udp_draw}
+use Rattle.outstanding.specs.Lists.{of_question}
 use Rattle.outstanding.specs.Values.{Ask}
 use Rattle.step_rules.specs.State.{Waiting, State}
 use Rattle.step_rules.specs.Attempts.{preferred_on, peer_at, over_udp, ask_by, first_ask, first_ask_on}
 use Rattle.step_rules.specs.Steps.{Done, using, idle_step, reply_step, failed, taking_step}
-use Rattle.step_rules.specs.Row.{row_of_request, row_of_opening, row_of_new_inquiry, row_of_inquiry}
+use Rattle.step_rules.specs.Row.{row_of_request, row_of_opening, row_of_new_inquiry, row_of_inquiry, row_of_waiting}
 use Rattle.step_values.specs.declared.action.Why.TheVariants.{BadOpcode}
 use Rattle.step_values.specs.declared.event.Client.{Client}
 use Rattle.step_changes.specs.declared.next.Next.{Next}
@@ -58,6 +59,10 @@ joined_row c n words x s r a d is d_is = d_is ∙ sym (ap (row_of_inquiry c n wo
 
 pub new_row : (c : Config) (n : ℕ) (words : List ℕ) (x : Waiting) (s : State) (r : Option Ask) (d : Done) → r ≡ None → d ≡ row_of_new_inquiry c n words x s → d ≡ row_of_inquiry c n words x s r
 new_row c n words x s r d is d_is = d_is ∙ sym (ap (row_of_inquiry c n words x s) is)
+
+-- there is room for it
+pub waiting_row : (c : Config) (n : ℕ) (words : List ℕ) (x : Waiting) (s : State) (d : Done) → length s.waiting < c.limits.questions → d ≡ row_of_inquiry c n words x s (of_question x.wanted s.asks) → d ≡ row_of_waiting c n words x s
+waiting_row c n words x s d room d_is = d_is ∙ sym (cond-false (nat_le c.limits.questions (length s.waiting)) _ _ (lt-leb c.limits.questions (length s.waiting) room))
 
 -- the first ask goes to the server that its route prefers
 pub asked_first : (c : Config) (n : ℕ) (words : List ℕ) (q : Question) (route : ℕ) (s : State) (server : ℕ) (draw : Option (ℕ × ℕ)) (drawn : Option (ℕ × Path)) (ask : Option Ask) → server ≡ preferred_on s route → draw ≡ udp_draw words s.asks None

@@ -1,13 +1,16 @@
 //! A client's message, as far as it is read: its header and its first question.
 
-ghost use Rattle.std.specs.Prelude.{◌≡◌, true, false, MatchOption, IfOk};
+ghost use Rattle.std.specs.Prelude.{◌≡◌, true, false, MatchOption, IfOk, None, Ok};
 ghost use Rattle.dns_message.specs.Header.{header_in};
-ghost use Rattle.dns_message.specs.Questions.{one_question};
+ghost use Rattle.dns_message.specs.Messages.{first_question};
+ghost use Rattle.dns_message.specs.Questions.{one_question, question_read};
 ghost use Rattle.step_history.specs.History.{is_taken};
+ghost use Rattle.step_history.specs.Names.{route_of};
 ghost use Rattle.step_history.specs.Causes.{is_unserved};
 
-use dns_message::{Header, MessageRef, Question};
+use dns_message::{Header, MessageRef, Question, QuestionRef};
 use std::alloc::{AllocError, Allocator};
+use suffix_routes::{Config, RouteId};
 
 /// The header of a client's message, unless the message is dropped: one of fewer than 12 or more than 65,535 octets,
 /// or one that is itself a reply.
@@ -25,33 +28,45 @@ pub(crate) fn taken_header(bytes: &[u8]) -> Option<Header>
     Some(header)
 }
 
-/// The question of a message that has just one, which can be read.
-pub(crate) fn only_question<A: Allocator + Copy>(
-    alloc: A,
-    bytes: &[u8],
-    header: &Header,
-) -> Result<Option<Question<A>>, AllocError>
+/// The view of a message that has just one question, which can be read. It takes no memory.
+pub(crate) fn with_one_question<'a>(bytes: &'a [u8], header: &Header) -> Option<MessageRef<'a>>
     requires { header.now ≡ header_in bytes.now }
-    ensures { IfOk result (λ question. question ≡ one_question bytes.now) }
+    ensures { MatchOption result (one_question bytes.now ≡ None) (λ message. question_read (first_question message) ≡ one_question bytes.now) }
 {
     if header.counts[0] != 1 {
-        return Ok(None);
+        return None;
     }
-    let Ok(message) = MessageRef::view(bytes) else {
-        return Ok(None);
-    };
+    MessageRef::view(bytes).ok()
+}
+
+/// The first question of a message, read into memory.
+pub(crate) fn owned_question<A: Allocator>(
+    alloc: A,
+    message: &MessageRef<'_>,
+) -> Result<Question<A>, AllocError>
+    ensures { IfOk result (λ question. first_question message.now ≡ Ok question) }
+{
     match message.question(alloc) {
-        Ok(question) => Ok(Some(question)),
+        Ok(question) => Ok(question),
         Err(_) => Err(AllocError),
     }
 }
 
 /// Questions for what is no data, or for more than one type or class (RFC 1035 3.2.3 and 3.2.5, RFC 6895 3.1).
-pub(crate) fn is_not_served<A: Allocator>(question: &Question<A>) -> bool
+pub(crate) fn is_not_served(question: &QuestionRef<'_>) -> bool
     ensures { result ≡ is_unserved question.now }
 {
-    question.kind == 0
-        || question.kind == 41
-        || (question.kind >= 128 && question.kind <= 255)
-        || question.class == 255
+    let kind = question.kind();
+    kind == 0 || kind == 41 || (kind >= 128 && kind <= 255) || question.class() == 255
+}
+
+/// The route of a question's name. It takes no memory.
+#[tactic(auto, using(suffix_routes::proofs::CallerLemmas::route_of_respects_same, dns_name::proofs::CallerLemmas::lowered_is_same))]
+pub(crate) fn route_for<A: Allocator>(
+    config: &Config<A>,
+    question: &QuestionRef<'_>,
+) -> Option<RouteId>
+    ensures { result ≡ route_of config.now question.now.name }
+{
+    config.route_of_key(&question.key())
 }

@@ -61,7 +61,7 @@ fn put_failure<A: Allocator + Copy>(
     if !is_waiting_for(question, waiting) {
         return Ok(());
     }
-    let action = failure(alloc, waiting, why)?;
+    let action = failure(alloc, &waiting.request(), why)?;
     actions.push(action)
 }
 

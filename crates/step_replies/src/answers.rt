@@ -13,7 +13,7 @@ ghost use Rattle.step_rules.specs.Steps.{sends, transport_of};
 ghost use Rattle.step_replies.specs.Spelling.{are_alike, front_of, is_for, IsSpelled, ok_text, same_spelling, sends_text, with_front};
 
 use crate::failures::failure;
-use crate::waiting::Waiting;
+use crate::waiting::{Request, Waiting};
 use answer_builder::{AskedRef, Fault, Transport, put_answer};
 use dns_message::Question;
 use dns_name::Name;
@@ -39,16 +39,16 @@ fn transport_of(client: Client) -> Transport
 /// The text of the answer from a chain of pieces; `None` where it is too large.
 fn text_from<A: Allocator + Copy>(
     alloc: A,
-    waiting: &Waiting<A>,
+    request: &Request<'_>,
     chain: &[&Held<A>],
     moment: u64,
     transport: Transport,
 ) -> Result<Option<Octets<A>>, AllocError>
     requires earlier { AllByRecursion (IsEarlier moment) (lent chain.now) }
-    ensures { IfOk result (λ text. text ≡ ok_text (answer_of waiting.now.asked (lent chain.now) moment transport)) }
+    ensures { IfOk result (λ text. text ≡ ok_text (answer_of request.now.asked (lent chain.now) moment transport)) }
 {
     let mut octets = Vec::with_capacity(alloc, ROOM)?;
-    let asked = waiting.asked();
+    let asked = request.asked();
     match put_answer(alloc, &mut octets, asked, chain, moment, transport) {
         Ok(()) => Ok(Some(Octets::from_vec(octets))),
         Err(Fault::TooLarge) => Ok(None),
@@ -59,18 +59,18 @@ fn text_from<A: Allocator + Copy>(
 /// The reply with this text, or that it is too large.
 fn reply<A: Allocator + Copy>(
     alloc: A,
-    waiting: &Waiting<A>,
+    request: &Request<'_>,
     text: Option<Octets<A>>,
 ) -> Result<Action<A>, AllocError>
-    ensures { IfOk result (λ action. action_of action ≡ sends_text waiting.now text) }
+    ensures { IfOk result (λ action. action_of action ≡ sends_text request.now text) }
 {
     match text {
         Some(bytes) => Ok(Action::Reply {
-            client: waiting.client,
+            client: request.client,
             bytes,
             why: Why::Answered,
         }),
-        None => failure(alloc, waiting, Why::TooLarge),
+        None => failure(alloc, request, Why::TooLarge),
     }
 }
 
@@ -78,16 +78,16 @@ fn reply<A: Allocator + Copy>(
 /// set or a denial. `Err` where memory ran out.
 pub fn answer<A: Allocator + Copy>(
     alloc: A,
-    waiting: &Waiting<A>,
+    request: &Request<'_>,
     chain: &[&Held<A>],
     moment: u64,
 ) -> Result<Action<A>, AllocError>
     requires earlier { AllByRecursion (IsEarlier moment) (lent chain.now) }
-    ensures { IfOk result (λ action. action_of action ≡ sends waiting.now (answer_of waiting.now.asked (lent chain.now) moment (transport_of waiting.now.client))) }
+    ensures { IfOk result (λ action. action_of action ≡ sends request.now (answer_of request.now.asked (lent chain.now) moment (transport_of request.now.client))) }
 {
-    let transport = transport_of(waiting.client);
-    let text = text_from(alloc, waiting, chain, moment, transport)?;
-    reply(alloc, waiting, text)
+    let transport = transport_of(request.client);
+    let text = text_from(alloc, request, chain, moment, transport)?;
+    reply(alloc, request, text)
 }
 
 /// The text over TCP for a question as it is spelled; `None` where it is too large.
@@ -194,15 +194,22 @@ impl<'a, A: Allocator + Copy> Answers<'a, A> {
         ensures same { self.new ≡ self.old }
         ensures text { IfOk result (λ text. text ≡ ok_text (answer_of waiting.now.asked self.old.chain self.old.moment transport.Tcp)) }
     {
+        let request = waiting.request();
         if let Some(spelled) = find_spelled(self.spelled.as_slice(), &waiting.question) {
-            return repeated(self.alloc, waiting, spelled);
+            return repeated(self.alloc, &request, spelled);
         }
-        let text = text_from(self.alloc, waiting, self.chain, self.moment, Transport::Tcp)?;
+        let text = text_from(
+            self.alloc,
+            &request,
+            self.chain,
+            self.moment,
+            Transport::Tcp,
+        )?;
         let spelled = Spelled {
             question: &waiting.question,
             text,
         };
-        let own = repeated(self.alloc, waiting, &spelled)?;
+        let own = repeated(self.alloc, &request, &spelled)?;
         self.spelled.push(spelled)?;
         Ok(own)
     }
@@ -213,10 +220,10 @@ impl<'a, A: Allocator + Copy> Answers<'a, A> {
         ensures reply { IfOk result (λ action. action_of action ≡ sends waiting.now (answer_of waiting.now.asked self.old.chain self.old.moment (transport_of waiting.now.client))) }
     {
         match waiting.client {
-            Client::Udp(_) => answer(self.alloc, waiting, self.chain, self.moment),
+            Client::Udp(_) => answer(self.alloc, &waiting.request(), self.chain, self.moment),
             Client::Tcp(_) => {
                 let text = self.over_tcp(waiting)?;
-                reply(self.alloc, waiting, text)
+                reply(self.alloc, &waiting.request(), text)
             }
         }
     }
@@ -225,16 +232,16 @@ impl<'a, A: Allocator + Copy> Answers<'a, A> {
 /// The text that was written, under the front of the answer to this question.
 fn repeated<A: Allocator + Copy>(
     alloc: A,
-    waiting: &Waiting<A>,
+    request: &Request<'_>,
     spelled: &Spelled<'_, A>,
 ) -> Result<Option<Octets<A>>, AllocError>
     requires { IfSome spelled.now.text (λ text. 3 ≤ length text) }
-    ensures { IfOk result (λ text. text ≡ option_map (with_front waiting.now.asked) spelled.now.text) }
+    ensures { IfOk result (λ text. text ≡ option_map (with_front request.now.asked) spelled.now.text) }
 {
     match &spelled.text {
         None => Ok(None),
         Some(text) => {
-            let own = under_front(alloc, &waiting.asked(), text.as_slice())?;
+            let own = under_front(alloc, &request.asked(), text.as_slice())?;
             Ok(Some(own))
         }
     }

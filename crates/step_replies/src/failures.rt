@@ -5,7 +5,7 @@ ghost use Rattle.step_values.specs.Values.{action_of};
 ghost use Rattle.step_history.specs.Replies.{asked_in, rcode_of_why};
 ghost use Rattle.step_rules.specs.Steps.{failed, gives_up};
 
-use crate::waiting::Waiting;
+use crate::waiting::Request;
 use answer_builder::{AskedRef, put_failure};
 use dns_message::Header;
 use plain_list::Octets;
@@ -57,28 +57,28 @@ fn failed<A: Allocator + Copy>(
 /// The reply to a question that fails, with the question as it came. `Err` where memory ran out.
 pub fn failure<A: Allocator + Copy>(
     alloc: A,
-    waiting: &Waiting<A>,
+    request: &Request<'_>,
     why: Why,
 ) -> Result<Action<A>, AllocError>
-    ensures { IfOk result (λ action. action_of action ≡ gives_up why waiting.now) }
+    ensures { IfOk result (λ action. action_of action ≡ gives_up why request.now) }
 {
-    failed(alloc, waiting.client, waiting.asked(), why)
+    failed(alloc, request.client, request.asked(), why)
 }
 
 /// The reply to a message whose question was not taken, without a question. `Err` where memory ran out.
 pub fn refusal<A: Allocator + Copy>(
     alloc: A,
     client: Client,
-    request: &Header,
+    header: &Header,
     why: Why,
 ) -> Result<Action<A>, AllocError>
-    requires { request.now.opcode < 16 }
-    ensures { IfOk result (λ action. action_of action ≡ failed client (asked_in request.now None) why) }
+    requires { header.now.opcode < 16 }
+    ensures { IfOk result (λ action. action_of action ≡ failed client (asked_in header.now None) why) }
 {
     let asked = AskedRef {
-        id: request.id,
-        opcode: request.opcode,
-        rd: request.rd,
+        id: header.id,
+        opcode: header.opcode,
+        rd: header.rd,
         question: None,
     };
     failed(alloc, client, asked, why)

@@ -3,6 +3,8 @@
 ghost use Rattle.std.specs.Prelude.{◌≡◌, ◌^◌, ℕ, ◌<◌, ◌≤◌, [], false, true, length, Bool, List, IfOk, Some, None};
 ghost use Rattle.std.specs.List.{AllByRecursion};
 ghost use Rattle.answer_builder.specs.Answers.{IsEarlier};
+ghost use Rattle.dns_message.specs.Messages.{first_question};
+ghost use Rattle.dns_message.specs.Questions.{question_read};
 ghost use Rattle.outstanding.specs.Lists.{of_question, AreListed};
 ghost use Rattle.step_history.specs.Names.{route_of};
 ghost use Rattle.step_history.specs.History.{is_taken};
@@ -11,21 +13,21 @@ ghost use Rattle.step_rules.specs.Attempts.{first_ask};
 ghost use Rattle.step_rules.specs.LookingUp.{asked_look_up, look_up, missed};
 ghost use Rattle.step_history.specs.Replies.{asked_in};
 ghost use Rattle.step_rules.specs.Steps.{using, idle_step, reply_step, taking_step, gives_up, failed};
-ghost use Rattle.step_rules.specs.Row.{row_of_opening, row_of_new_inquiry, row_of_inquiry, row_of_waiting, row_of_look_up, row_of_route, row_of_service, row_of_request};
+ghost use Rattle.step_rules.specs.Row.{row_of_opening, row_of_new_inquiry, row_of_inquiry, row_of_waiting, row_of_look_up, row_of_route, row_of_service, row_of_question, row_of_request};
 ghost use Rattle.step_values.specs.Values.{action_of};
 ghost use Rattle.trust_rank.specs.Walks.{most_aliases};
 ghost use Rattle.step_changes.specs.Next.{next_of, IsQuiet, CanWait, CanFollow, CanChange};
 
 use crate::forwarder::Forwarder;
-use crate::request::{is_not_served, only_question, taken_header};
-use dns_message::{Header, Question};
+use crate::request::{is_not_served, owned_question, route_for, taken_header, with_one_question};
+use dns_message::{Header, MessageRef, Question, QuestionRef};
 use outstanding::{Ask, draw};
 use plain_list::PlainList;
 use std::alloc::{AllocError, Allocator};
 use std::hash::BuildHasher;
 use step_changes::{Change, Next, Try, by_udp, new_ask};
 use step_look_ups::{Looked, Slots, look_up};
-use step_replies::{Waiting, answer, ask as ask_action, failure, refusal};
+use step_replies::{Request, Waiting, answer, ask as ask_action, failure, refusal};
 use step_values::{Action, Client, Why};
 use suffix_routes::RouteId;
 
@@ -55,11 +57,11 @@ impl<H: BuildHasher + Drop, A: Allocator + Copy> Forwarder<H, A> {
     }
 
     /// The question fails at once.
-    fn refuse(&self, waiting: &Waiting<A>, why: Why, used: Slots<A>) -> Result<Next<A>, AllocError>
-        ensures row { IfOk result (λ next. (n : ℕ) → (rooms : List Bool) → next_of n rooms self.now.state next ≡ reply_step n (gives_up why waiting.now) (using used self.now.state)) }
+    fn refuse(&self, request: &Request<'_>, why: Why, used: Slots<A>) -> Result<Next<A>, AllocError>
+        ensures row { IfOk result (λ next. (n : ℕ) → (rooms : List Bool) → next_of n rooms self.now.state next ≡ reply_step n (gives_up why request.now) (using used self.now.state)) }
         ensures fits { IfOk result (λ next. (n : ℕ) → CanChange self.now.config n self.now.state next) }
     {
-        let action = failure(self.alloc, waiting, why)?;
+        let action = failure(self.alloc, request, why)?;
         self.reply(action, used)
     }
 
@@ -148,11 +150,11 @@ impl<H: BuildHasher + Drop, A: Allocator + Copy> Forwarder<H, A> {
         ensures fits { IfOk result (λ next. CanChange self.now.config moment self.now.state next) }
     {
         if self.asks_under_way() >= self.config.limits.inquiries {
-            return self.refuse(&waiting, Why::InquiriesFull, used);
+            return self.refuse(&waiting.request(), Why::InquiriesFull, used);
         }
         match self.first_ask(moment, words, &waiting.question, route)? {
             Some(ask) => self.open(moment, waiting, ask, used),
-            None => self.refuse(&waiting, Why::NoPort, used),
+            None => self.refuse(&waiting.request(), Why::NoPort, used),
         }
     }
 
@@ -184,20 +186,21 @@ impl<H: BuildHasher + Drop, A: Allocator + Copy> Forwarder<H, A> {
         &self,
         moment: u64,
         words: [u32; 8],
-        waiting: Waiting<A>,
+        request: &Request<'_>,
         route: RouteId,
         used: Slots<A>,
     ) -> Result<Next<A>, AllocError>
-        requires on { route_of self.now.config waiting.wanted.name ≡ Some route }
+        requires on { route_of self.now.config request.now.wanted.name ≡ Some route }
         requires later { self.now.state.moment ≤ moment }
         requires in_time { moment ≤ 2 ^ 62 }
-        requires taken { waiting.taken ≡ moment }
-        ensures row { IfOk result (λ next. (rooms : List Bool) → next_of moment rooms self.now.state next ≡ row_of_waiting self.now.config moment words waiting (using used self.now.state)) }
+        requires taken { request.now.taken ≡ moment }
+        ensures row { IfOk result (λ next. (rooms : List Bool) → next_of moment rooms self.now.state next ≡ row_of_waiting self.now.config moment words request.now (using used self.now.state)) }
         ensures fits { IfOk result (λ next. CanChange self.now.config moment self.now.state next) }
     {
         if self.waiting.len() >= self.config.limits.questions {
-            return self.refuse(&waiting, Why::QuestionsFull, used);
+            return self.refuse(request, Why::QuestionsFull, used);
         }
+        let waiting = request.to_waiting(self.alloc)?;
         self.admit(moment, words, waiting, route, used)
     }
 
@@ -205,17 +208,17 @@ impl<H: BuildHasher + Drop, A: Allocator + Copy> Forwarder<H, A> {
     fn hit(
         &self,
         moment: u64,
-        waiting: &Waiting<A>,
+        request: &Request<'_>,
         looked: &Looked<'_, A>,
     ) -> Result<Next<A>, AllocError>
         requires ended { is_ended looked.now.met ≡ true }
         requires earlier { AllByRecursion (IsEarlier moment) looked.now.used }
-        requires found { looked.now ≡ seen_of (look_up self.now.config.routes moment self.now.state.cache.entries most_aliases [] waiting.now.wanted) }
-        ensures row { (words : List ℕ) → IfOk result (λ next. (rooms : List Bool) → next_of moment rooms self.now.state next ≡ row_of_look_up self.now.config moment words waiting.now self.now.state (asked_look_up self.now.config.routes moment self.now.state.cache.entries waiting.now.wanted)) }
+        requires found { looked.now ≡ seen_of (look_up self.now.config.routes moment self.now.state.cache.entries most_aliases [] request.now.wanted) }
+        ensures row { (words : List ℕ) → IfOk result (λ next. (rooms : List Bool) → next_of moment rooms self.now.state next ≡ row_of_look_up self.now.config moment words request.now self.now.state (asked_look_up self.now.config.routes moment self.now.state.cache.entries request.now.wanted)) }
         ensures fits { IfOk result (λ next. CanChange self.now.config moment self.now.state next) }
     {
         let used = looked.slots(self.alloc)?;
-        let action = answer(self.alloc, waiting, looked.used(), moment)?;
+        let action = answer(self.alloc, request, looked.used(), moment)?;
         self.reply(action, used)
     }
 
@@ -224,44 +227,49 @@ impl<H: BuildHasher + Drop, A: Allocator + Copy> Forwarder<H, A> {
         &self,
         moment: u64,
         words: [u32; 8],
-        waiting: Waiting<A>,
+        request: &Request<'_>,
         used: Slots<A>,
     ) -> Result<Next<A>, AllocError>
         requires later { self.now.state.moment ≤ moment }
         requires in_time { moment ≤ 2 ^ 62 }
-        requires taken { waiting.taken ≡ moment }
-        ensures row { IfOk result (λ next. (rooms : List Bool) → next_of moment rooms self.now.state next ≡ row_of_look_up self.now.config moment words waiting self.now.state (record { held = []; wanted = waiting.wanted; met = missed; used = used })) }
+        requires taken { request.now.taken ≡ moment }
+        ensures row { IfOk result (λ next. (rooms : List Bool) → next_of moment rooms self.now.state next ≡ row_of_look_up self.now.config moment words request.now self.now.state (record { held = []; wanted = request.now.wanted; met = missed; used = used })) }
         ensures fits { IfOk result (λ next. CanChange self.now.config moment self.now.state next) }
     {
-        match self.config.route_of(&waiting.question.name) {
-            Some(route) => self.wait(moment, words, waiting, route, used),
-            None => self.refuse(&waiting, Why::NoRoute, used),
+        match route_for(&self.config, &request.question) {
+            Some(route) => self.wait(moment, words, request, route, used),
+            None => self.refuse(request, Why::NoRoute, used),
         }
     }
 
     /// A question that is served. No route is looked up where the cache has an answer: its entries are on their routes.
-    fn look(&self, moment: u64, words: [u32; 8], waiting: Waiting<A>) -> Result<Next<A>, AllocError>
+    fn look(
+        &self,
+        moment: u64,
+        words: [u32; 8],
+        request: &Request<'_>,
+    ) -> Result<Next<A>, AllocError>
         requires later { self.now.state.moment ≤ moment }
         requires in_time { moment ≤ 2 ^ 62 }
-        requires taken { waiting.taken ≡ moment }
-        ensures row { IfOk result (λ next. (rooms : List Bool) → next_of moment rooms self.now.state next ≡ row_of_route self.now.config moment words waiting self.now.state (route_of self.now.config waiting.wanted.name)) }
+        requires taken { request.now.taken ≡ moment }
+        ensures row { IfOk result (λ next. (rooms : List Bool) → next_of moment rooms self.now.state next ≡ row_of_route self.now.config moment words request.now self.now.state (route_of self.now.config request.now.wanted.name)) }
         ensures fits { IfOk result (λ next. CanChange self.now.config moment self.now.state next) }
     {
-        let question = &waiting.question;
+        let question = &request.question;
         let looked = look_up(
             self.alloc,
             &self.cache,
-            &question.name.key(),
-            question.class,
-            question.kind,
+            &question.key(),
+            question.class(),
+            question.kind(),
             moment,
             &self.config,
         )?;
         if looked.is_ended() {
-            return self.hit(moment, &waiting, &looked);
+            return self.hit(moment, request, &looked);
         }
         let used = looked.slots(self.alloc)?;
-        self.miss(moment, words, waiting, used)
+        self.miss(moment, words, request, used)
     }
 
     /// A question that was read.
@@ -269,18 +277,18 @@ impl<H: BuildHasher + Drop, A: Allocator + Copy> Forwarder<H, A> {
         &self,
         moment: u64,
         words: [u32; 8],
-        waiting: Waiting<A>,
+        request: &Request<'_>,
     ) -> Result<Next<A>, AllocError>
         requires later { self.now.state.moment ≤ moment }
         requires in_time { moment ≤ 2 ^ 62 }
-        requires taken { waiting.taken ≡ moment }
-        ensures row { IfOk result (λ next. (rooms : List Bool) → next_of moment rooms self.now.state next ≡ row_of_service self.now.config moment words waiting self.now.state) }
+        requires taken { request.now.taken ≡ moment }
+        ensures row { IfOk result (λ next. (rooms : List Bool) → next_of moment rooms self.now.state next ≡ row_of_service self.now.config moment words request.now self.now.state) }
         ensures fits { IfOk result (λ next. CanChange self.now.config moment self.now.state next) }
     {
-        if is_not_served(&waiting.question) {
-            return self.refuse(&waiting, Why::NotServed, Slots::none(self.alloc));
+        if is_not_served(&request.question) {
+            return self.refuse(request, Why::NotServed, Slots::none(self.alloc));
         }
-        self.look(moment, words, waiting)
+        self.look(moment, words, request)
     }
 
     /// A message without a question that can be served.
@@ -296,6 +304,42 @@ impl<H: BuildHasher + Drop, A: Allocator + Copy> Forwarder<H, A> {
     {
         let action = refusal(self.alloc, client, header, why)?;
         self.reply(action, Slots::none(self.alloc))
+    }
+
+    /// A message with one question. Its name is read into memory only where it has a pointer.
+    fn serve_message(
+        &self,
+        moment: u64,
+        words: [u32; 8],
+        client: Client,
+        header: Header,
+        message: &MessageRef<'_>,
+    ) -> Result<Next<A>, AllocError>
+        requires opcode { header.opcode < 16 }
+        requires later { self.now.state.moment ≤ moment }
+        requires in_time { moment ≤ 2 ^ 62 }
+        ensures row { IfOk result (λ next. (rooms : List Bool) → next_of moment rooms self.now.state next ≡ row_of_question self.now.config moment words client header self.now.state (question_read (first_question message.now))) }
+        ensures fits { IfOk result (λ next. CanChange self.now.config moment self.now.state next) }
+    {
+        let taken = moment;
+        if let Some(question) = message.question_ref() {
+            let request = Request {
+                client,
+                header,
+                question,
+                taken,
+            };
+            return self.serve(moment, words, &request);
+        }
+        let owned = owned_question(self.alloc, message)?;
+        let question = QuestionRef::of(&owned);
+        let request = Request {
+            client,
+            header,
+            question,
+            taken,
+        };
+        self.serve(moment, words, &request)
     }
 
     /// A message of a client.
@@ -318,18 +362,9 @@ impl<H: BuildHasher + Drop, A: Allocator + Copy> Forwarder<H, A> {
         if header.opcode != 0 {
             return self.refuse_message(client, &header, Why::BadOpcode);
         }
-        let Some(question) = only_question(self.alloc, bytes, &header)? else {
+        let Some(message) = with_one_question(bytes, &header) else {
             return self.refuse_message(client, &header, Why::BadFormat);
         };
-        self.serve(
-            moment,
-            words,
-            Waiting {
-                client,
-                header,
-                question,
-                taken: moment,
-            },
-        )
+        self.serve_message(moment, words, client, header, &message)
     }
 }

@@ -44,7 +44,7 @@ impl<H: BuildHasher + Drop, A: Allocator + Copy> Forwarder<H, A> {
     {
         let closed = self.left_alone(oldest, others);
         let mut actions = close_paths(self.alloc, closed)?;
-        let action = failure(self.alloc, oldest, Why::Deadline)?;
+        let action = failure(self.alloc, &oldest.request(), Why::Deadline)?;
         actions.push(action)?;
         Ok(Next::without_cache(self.alloc, actions, Change::Expire(closed)))
     }

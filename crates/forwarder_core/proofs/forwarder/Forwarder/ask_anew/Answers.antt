@@ -19,7 +19,7 @@ pub returns-in-None-clause-row : goal.returns-in-None-clause-row
 returns-in-None-clause-row g c = IfOk-weaker c.refuse-in-None.result _ _ (λ next told rooms.
     opened_row c.args.self.now.config c.args.moment c.args.words c.args.waiting c.args.self.now.state c.args.used c.args.route c.waiting.inside.question None (next_of c.args.moment rooms c.args.self.now.state next)
     (let count = c.asks_under_way.ensures.count in let limit : c.self-inside.inside.0.1.0.limits.inquiries ≡ c.args.self.now.config.limits.inquiries = (λ i. (c.self-inside.view_is i).config.limits.inquiries) ∙ ap (λ (r : Running). r.config.limits.inquiries) c.self.view_is in let test = c.if-asks_under_way-self.false in omega (arith, count, test, limit))
-    c.requires.on (ap (λ (x : Waiting). x.wanted) c.waiting.view_is) (sym c.in-None.is ∙ c.in_ok-ask.ensures) (told c.args.moment rooms)) c.refuse-in-None.ensures.row
+    c.requires.on (ap (λ (x : Waiting). x.wanted) c.waiting.view_is) (sym c.in-None.is ∙ c.in_ok-ask.ensures) (told c.args.moment rooms)) (rw c.request-in-None.ensures at c.refuse-in-None.ensures.row)
 
 pub returns-in-Some-clause-row : goal.returns-in-Some-clause-row
 returns-in-Some-clause-row g c = IfOk-weaker c.open.result _ _ (λ next told rooms.

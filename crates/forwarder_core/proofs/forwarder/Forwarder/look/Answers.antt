@@ -14,31 +14,34 @@ use Rattle.forwarder_core.proofs.forwarder.Forwarder.look.Goals as goal
 
 pub hit-requires-clause-found : goal.hit-requires-clause-found
 hit-requires-clause-found g c =
-    (subst (λ (r : Running). c.in_ok-looked.looked ≡ seen_of (look_up r.config.routes c.args.moment r.state.cache.entries most_aliases [] c.args.waiting.wanted)) c.self.view_is
-    (subst (λ (q : Question). c.in_ok-looked.looked ≡ seen_of (look_up c.self.inside.config.routes c.args.moment c.self.inside.cache.entries most_aliases [] q)) (c.question.view_is ∙ ap (λ (x : Waiting). x.wanted) c.waiting.view_is)
-    (c.in_ok-looked.ensures.exact c.question.inside.name (sym c.key.ensures))))
+    (subst (λ (r : Running). c.in_ok-looked.looked ≡ seen_of (look_up r.config.routes c.args.moment r.state.cache.entries most_aliases [] c.args.request.now.wanted)) c.self.view_is
+    (subst (λ (q : Question). c.in_ok-looked.looked ≡ seen_of (look_up c.self.inside.config.routes c.args.moment c.self.inside.cache.entries most_aliases [] q))
+    ((λ i. record { name = c.request.inside.question.name; kind = c.kind.ensures i; class = c.class.ensures i }) ∙ ap (λ (x : Waiting). x.wanted) c.request.view_is)
+    (c.in_ok-looked.ensures.exact c.request.inside.question.name (sym c.key.ensures))))
 
 pub hit-requires-clause-earlier : goal.hit-requires-clause-earlier
 hit-requires-clause-earlier g c =
-    subst (λ (v : Seen). AllByRecursion (IsEarlier c.args.moment) v.used) (sym (c.in_ok-looked.ensures.exact c.question.inside.name (sym c.key.ensures)))
-    (earlier_used c.self.inside.config.routes c.self.inside.moment c.args.moment c.self.inside.cache.entries (record { name = c.question.inside.name; kind = c.question.inside.kind; class = c.question.inside.class }) c.self.invariant.accepted (subst (λ (r : Running). r.state.moment ≤ c.args.moment) (sym c.self.view_is) c.requires.later))
+    subst (λ (v : Seen). AllByRecursion (IsEarlier c.args.moment) v.used) (sym (c.in_ok-looked.ensures.exact c.request.inside.question.name (sym c.key.ensures)))
+    (earlier_used c.self.inside.config.routes c.self.inside.moment c.args.moment c.self.inside.cache.entries (record { name = c.request.inside.question.name; kind = c.kind.result; class = c.class.result }) c.self.invariant.accepted (subst (λ (r : Running). r.state.moment ≤ c.args.moment) (sym c.self.view_is) c.requires.later))
 
 pub returns-then-is_ended-clause-row : goal.returns-then-is_ended-clause-row
 returns-then-is_ended-clause-row g c = IfOk-weaker c.hit.result _ _ (λ next told rooms.
-    ended_row c.args.self.now.config c.args.moment c.args.words c.args.waiting c.args.self.now.state
+    ended_row c.args.self.now.config c.args.moment c.args.words c.args.request.now c.args.self.now.state
     (subst (λ (r : Running). AllByRecursion (IsOnRoute r.config) r.state.cache.entries) c.self.view_is c.self.invariant.cache.on_routes)
     c.in_ok-looked.looked
-    (subst (λ (r : Running). c.in_ok-looked.looked ≡ seen_of (look_up r.config.routes c.args.moment r.state.cache.entries most_aliases [] c.args.waiting.wanted)) c.self.view_is
-    (subst (λ (q : Question). c.in_ok-looked.looked ≡ seen_of (look_up c.self.inside.config.routes c.args.moment c.self.inside.cache.entries most_aliases [] q)) (c.question.view_is ∙ ap (λ (x : Waiting). x.wanted) c.waiting.view_is)
-    (c.in_ok-looked.ensures.exact c.question.inside.name (sym c.key.ensures))))
+    (subst (λ (r : Running). c.in_ok-looked.looked ≡ seen_of (look_up r.config.routes c.args.moment r.state.cache.entries most_aliases [] c.args.request.now.wanted)) c.self.view_is
+    (subst (λ (q : Question). c.in_ok-looked.looked ≡ seen_of (look_up c.self.inside.config.routes c.args.moment c.self.inside.cache.entries most_aliases [] q))
+    ((λ i. record { name = c.request.inside.question.name; kind = c.kind.ensures i; class = c.class.ensures i }) ∙ ap (λ (x : Waiting). x.wanted) c.request.view_is)
+    (c.in_ok-looked.ensures.exact c.request.inside.question.name (sym c.key.ensures))))
     (next_of c.args.moment rooms c.args.self.now.state next) (sym c.is_ended.ensures ∙ c.if-is_ended.true) (told rooms)) (c.hit.ensures.row c.args.words)
 
 pub returns-clause-row : goal.returns-clause-row
 returns-clause-row g c = IfOk-weaker c.miss.result _ _ (λ next told rooms.
-    missed_row c.args.self.now.config c.args.moment c.args.words c.args.waiting c.args.self.now.state
+    missed_row c.args.self.now.config c.args.moment c.args.words c.args.request.now c.args.self.now.state
     (subst (λ (r : Running). AllByRecursion (IsOnRoute r.config) r.state.cache.entries) c.self.view_is c.self.invariant.cache.on_routes)
     c.in_ok-looked.looked
-    (subst (λ (r : Running). c.in_ok-looked.looked ≡ seen_of (look_up r.config.routes c.args.moment r.state.cache.entries most_aliases [] c.args.waiting.wanted)) c.self.view_is
-    (subst (λ (q : Question). c.in_ok-looked.looked ≡ seen_of (look_up c.self.inside.config.routes c.args.moment c.self.inside.cache.entries most_aliases [] q)) (c.question.view_is ∙ ap (λ (x : Waiting). x.wanted) c.waiting.view_is)
-    (c.in_ok-looked.ensures.exact c.question.inside.name (sym c.key.ensures))))
+    (subst (λ (r : Running). c.in_ok-looked.looked ≡ seen_of (look_up r.config.routes c.args.moment r.state.cache.entries most_aliases [] c.args.request.now.wanted)) c.self.view_is
+    (subst (λ (q : Question). c.in_ok-looked.looked ≡ seen_of (look_up c.self.inside.config.routes c.args.moment c.self.inside.cache.entries most_aliases [] q))
+    ((λ i. record { name = c.request.inside.question.name; kind = c.kind.ensures i; class = c.class.ensures i }) ∙ ap (λ (x : Waiting). x.wanted) c.request.view_is)
+    (c.in_ok-looked.ensures.exact c.request.inside.question.name (sym c.key.ensures))))
     c.in_ok-used.used (next_of c.args.moment rooms c.args.self.now.state next) (sym c.is_ended.ensures ∙ c.if-is_ended.false) c.in_ok-used.ensures (told rooms)) c.miss.ensures.row

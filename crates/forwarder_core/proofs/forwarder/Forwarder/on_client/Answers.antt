@@ -18,5 +18,5 @@ pub returns-in_default-clause-row : goal.returns-in_default-clause-row
 returns-in_default-clause-row g c = λ rooms.
     dropped_row c.args.self.now.config c.args.moment c.args.words c.args.client c.args.bytes.now c.args.self.now.state (next_of c.args.moment rooms c.args.self.now.state c.nothing.result) c.in_default.ensures (c.nothing.ensures.row c.args.moment rooms)
 
-pub returns-in_default-2-clause-fits : goal.returns-in_default-2-clause-fits
-returns-in_default-2-clause-fits g c = fits_at c.refuse_message-in_default-2.result c.args.self.now.config c.args.self.now.state c.refuse_message-in_default-2.ensures.fits c.args.moment
+pub returns-in_default-with_one_question-clause-fits : goal.returns-in_default-with_one_question-clause-fits
+returns-in_default-with_one_question-clause-fits g c = fits_at c.refuse_message-in_default-with_one_question.result c.args.self.now.config c.args.self.now.state c.refuse_message-in_default-with_one_question.ensures.fits c.args.moment

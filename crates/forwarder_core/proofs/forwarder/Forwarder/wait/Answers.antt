@@ -1,5 +1,18 @@
-use Rattle.forwarder_core.proofs.Clients.{fits_at}
+use Rattle.std.proofs.Common.{◌≡◌, ◌∙◌, ◌<◌, length, ap, arith}
+use Rattle.std.proofs.lemmas.Result.{IfOk-weaker}
+use Rattle.step_rules.specs.State.{Running}
+use Rattle.step_rules.specs.Steps.{using}
+use Rattle.forwarder_core.specs.Next.{next_of}
+use Rattle.forwarder_core.proofs.Clients.{fits_at, waiting_row}
 use Rattle.forwarder_core.proofs.forwarder.Forwarder.wait.Goals as goal
 
 pub returns-then-len-self-clause-fits : goal.returns-then-len-self-clause-fits
 returns-then-len-self-clause-fits g c = fits_at c.refuse.result c.args.self.now.config c.args.self.now.state c.refuse.ensures.fits c.args.moment
+
+pub returns-clause-row : goal.returns-clause-row
+returns-clause-row g c =
+    let room : length c.args.self.now.state.waiting < c.args.self.now.config.limits.questions =
+    (let count = c.len.ensures in let waiting : length c.self.inside.waiting.items ≡ length c.args.self.now.state.waiting = ap (λ (r : Running). length r.state.waiting) c.self.view_is in let limit : c.self-inside.inside.0.1.0.limits.questions ≡ c.args.self.now.config.limits.questions = (λ i. (c.self-inside.view_is i).config.limits.questions) ∙ ap (λ (r : Running). r.config.limits.questions) c.self.view_is in let test = c.if-len-self.false in grind (arith, count, waiting, test, limit)) in
+    IfOk-weaker c.admit.result _ _ (λ next told rooms.
+    waiting_row c.args.self.now.config c.args.moment c.args.words c.args.request.now (using c.args.used c.args.self.now.state) (next_of c.args.moment rooms c.args.self.now.state next) room (told rooms))
+    (rw c.in_ok-waiting.ensures at c.admit.ensures.row)
