@@ -1,34 +1,63 @@
-//! What a cached answer takes.
+//! What a cached answer and a refused question take.
 
 use crate::worked::{ANSWER, QUESTION, WORDS, asked, is_reply, replies, sends};
+use forwarder_core::Forwarder;
+use lru::DefaultHasher;
 use refusing_allocator::Refusing;
+use std::alloc::{AllocError, Global};
 use std::test::Fail;
-use step_values::Why;
+use step_values::{Outcome, Why};
 
-/// The name of the question, the octets of the answer, and the list of actions: no piece is copied.
-const GROWTHS: u64 = 3;
+/// The octets of the reply, and the list of actions: no piece and no name is copied.
+const GROWTHS: u64 = 2;
 
-#[test]
-fn a_cached_answer_copies_no_piece(rt: HostRuntime) -> Result<(), Fail> {
-    let heap = Refusing::new(rt.alloc());
+/// A question for all types of a.example (RFC 1035 3.2.3), which is not served.
+const UNSERVED: [u8; 27] =
+    *b"\x12\x34\x01\x00\x00\x01\x00\x00\x00\x00\x00\x00\x01a\x07example\x00\x00\xff\x00\x01";
+
+/// What the client gets.
+const REFUSAL: &[u8] =
+    b"\x12\x34\x81\x84\x00\x01\x00\x00\x00\x00\x00\x00\x01a\x07example\x00\x00\xff\x00\x01";
+
+/// A step with this question, which is granted so many growths.
+fn granted<'a>(
+    heap: &'a Refusing<Global>,
+    forwarder: &mut Forwarder<DefaultHasher, &'a Refusing<Global>>,
+    question: &[u8],
+    count: u64,
+) -> Result<Outcome<&'a Refusing<Global>>, AllocError> {
+    let event = sends(heap, question)?;
+    heap.allow(count);
+    let outcome = forwarder.step(1020, WORDS, event);
+    heap.allow(u64::MAX);
+    outcome
+}
+
+/// The question wants all of these growths, and then gets this reply alone.
+fn wants_them(alloc: Global, question: &[u8], text: &[u8], why: Why) -> Result<bool, Fail> {
+    let heap = Refusing::new(alloc);
     let mut forwarder = asked(&heap)?;
     let _answered = forwarder.step(1020, WORDS, replies(&heap)?)?;
     for count in 0..GROWTHS {
-        let event = sends(&heap, &QUESTION)?;
-        heap.allow(count);
-        let outcome = forwarder.step(1020, WORDS, event);
-        heap.allow(u64::MAX);
-        assert!(rt; outcome.is_err(), "after {count}");
+        if granted(&heap, &mut forwarder, question, count).is_ok() {
+            return Ok(false);
+        }
     }
-    let event = sends(&heap, &QUESTION)?;
-    heap.allow(GROWTHS);
-    let outcome = forwarder.step(1020, WORDS, event);
-    heap.allow(u64::MAX);
-    let outcome = outcome?;
-    let is_answer = match outcome.actions.as_slice() {
-        [reply] => is_reply(reply, ANSWER, Why::Answered),
-        _ => false,
-    };
-    assert!(rt; is_answer);
+    let outcome = granted(&heap, &mut forwarder, question, GROWTHS)?;
+    match outcome.actions.as_slice() {
+        [reply] => Ok(is_reply(reply, text, why)),
+        _ => Ok(false),
+    }
+}
+
+#[test]
+fn a_cached_answer_copies_neither_piece_nor_name(rt: HostRuntime) -> Result<(), Fail> {
+    assert!(rt; wants_them(rt.alloc(), &QUESTION, ANSWER, Why::Answered)?);
+    Ok(())
+}
+
+#[test]
+fn a_refused_question_copies_no_name(rt: HostRuntime) -> Result<(), Fail> {
+    assert!(rt; wants_them(rt.alloc(), &UNSERVED, REFUSAL, Why::NotServed)?);
     Ok(())
 }
