@@ -2,7 +2,7 @@ use Rattle.std.proofs.Common.{◌≡◌, ◌∙◌, ◌<◌, length, ap, arith}
 use Rattle.std.proofs.lemmas.Result.{IfOk-weaker}
 use Rattle.step_rules.specs.State.{Running}
 use Rattle.step_rules.specs.Steps.{using}
-use Rattle.forwarder_core.specs.Next.{next_of}
+use Rattle.step_changes.specs.Next.{next_of}
 use Rattle.forwarder_core.proofs.Clients.{fits_at, waiting_row}
 use Rattle.forwarder_core.proofs.forwarder.Forwarder.wait.Goals as goal
 
