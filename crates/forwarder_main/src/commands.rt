@@ -15,7 +15,11 @@ pub fn run<R>(rt: &R) -> Result<(), Fault>
 where
     R: Env + Files + Input + Print + AllocGlobal + Net + Clock + RandomSource,
 {
-    let mut args = env::args(rt)?;
+    let mut args = match env::args(rt) {
+        // An argument is no UTF-8.
+        Err(error) if error.kind() == io::ErrorKind::InvalidData => return Err(Fault::Usage),
+        args => args?,
+    };
     let _program = args.next();
     let Some(command) = args.next() else {
         return Err(Fault::Usage);
@@ -25,7 +29,7 @@ where
             let (Some(path), None) = (args.next(), args.next()) else {
                 return Err(Fault::Usage);
             };
-            let routes = check(rt, path.as_str())?;
+            let routes = explained(rt, check(rt, path.as_str()))?;
             println!(rt; "ok {routes}")?;
             Ok(())
         }
@@ -68,12 +72,21 @@ pub fn check<R: Files + AllocGlobal>(rt: &R, path: &str) -> Result<usize, Replay
     Ok(load(rt, path)?.routes().len())
 }
 
+/// What was loaded. Where the configuration is refused, prints what it has to say in place of what it says.
+fn explained<R: Print, T>(rt: &R, loaded: Result<T, ReplayFault>) -> Result<T, ReplayFault> {
+    if let Err(ReplayFault::Config(fault)) = &loaded {
+        // Where standard output fails too, the status tells the refusal.
+        let _ = println!(rt; "{fault}");
+    }
+    loaded
+}
+
 /// Serves so many turns by the configuration in a file, and prints what was counted.
 fn serve<R>(rt: &R, path: &str, turns: u64) -> Result<(), Fault>
 where
     R: Files + Print + AllocGlobal + Net + Clock + RandomSource,
 {
-    let config = load(rt, path)?;
+    let config = explained(rt, load(rt, path))?;
     let served = serve_config(rt, rt.alloc(), config, turns)?;
     println!(rt; "turns {} lost {}", served.turns, served.lost)?;
     Ok(())
