@@ -1,6 +1,7 @@
 //! A wire in memory, whose arrivals and refusals the caller chooses.
 
-ghost use Rattle.std.specs.Prelude.{◌≡◌, None, Some, false, OnOk, OnErr, IfSome, map};
+ghost use Rattle.std.specs.Prelude.{◌≡◌, ◌==◌, ◌+◌, ◌-◌, ◌^◌, min, None, Some, false, OnOk, OnErr, IfSome, map};
+ghost use Rattle.std.specs.List.{list_any};
 ghost use Rattle.step_values.specs.Values.{action_of};
 ghost use Rattle.network_model.specs.Wire.{silence, TellsMore, arrival_of, given, arrived, was_put, moment_was, words_were};
 ghost use Rattle.network_model.specs.Scripts.{put_of};
@@ -181,7 +182,10 @@ fn next_arrival<A: Allocator>(turns: &mut Vec<ScriptTurn<A>, A>, begun: &mut usi
 }
 
 /// Counts a call of `arrival` or `put`, and tells whether it is to be refused.
-fn is_refused(calls: &mut u64, refuse: &[u64]) -> bool {
+fn is_refused(calls: &mut u64, refuse: &[u64]) -> bool
+    ensures refused { result ≡ list_any (λ number. number == calls.old) refuse.now }
+    ensures counts { calls.new ≡ min (calls.old + 1) (2 ^ 64 - 1) }
+{
     let number = *calls;
     *calls = number.saturating_add(1);
     refuse.contains(&number)
@@ -209,6 +213,8 @@ impl<A: Allocator + Copy> ScriptWire<A> {
     pub fn new(alloc: A, turns: Vec<ScriptTurn<A>, A>, refuse: Vec<u64, A>) -> ScriptWire<A>
         ensures told { result.stored ≡ Some silence }
         ensures faults { result.faults ≡ 0 }
+        ensures script { (result.turns ≡ turns) × (result.begun ≡ 0) }
+        ensures refuses { (result.refuse ≡ refuse) × (result.calls ≡ 0) }
     {
         ScriptWire {
             turns,
