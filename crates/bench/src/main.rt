@@ -1,7 +1,9 @@
 //! Measures what steps and the reading of replies cost. `tools/bench` makes the messages and runs it.
 #![tactic(auto)]
 
+mod cached;
 mod carried;
+mod filling;
 mod look_ups;
 mod many_wait;
 
@@ -23,7 +25,10 @@ fn run(rt: &HostRuntime) -> Result<Option<()>> {
             many_wait::measure(rt, question.as_str(), reply.as_str())?;
         }
         ("carried", Some(reply), None) => carried::measure(rt, reply.as_str())?,
-        ("look_ups", None, None) => look_ups::measure(rt)?,
+        ("look_ups", None, None) => {
+            cached::measure(rt)?;
+            look_ups::measure(rt)?;
+        }
         _ => return Ok(None),
     }
     Ok(Some(()))

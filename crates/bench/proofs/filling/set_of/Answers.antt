@@ -2,7 +2,7 @@ use Rattle.std.proofs.Common.{ℕ, List, [], ◌∷◌, arith}
 use Rattle.std.specs.List.{AllByRecursion}
 use Rattle.message_reading.specs.Data.{IsShaped}
 use Rattle.message_reading.specs.Shapes.{shape_of}
-use Rattle.bench.proofs.look_ups.set_of.Goals as goal
+use Rattle.bench.proofs.filling.set_of.Goals as goal
 
 -- an address has no shape of its own
 free : (rows : List (List ℕ)) → AllByRecursion (IsShaped 1) rows

@@ -1,0 +1,234 @@
+//! What a cached answer costs, from the octets of a question to the octets of its answer.
+
+use crate::filling::{MANY, ROUNDS, full_cache, held_of, numbered, slots_of};
+use answer_builder::{AskedRef, Transport, put_answer};
+use anyhow::Result;
+use dns_message::{MessageRef, QuestionRef};
+use dns_name::Name;
+use lru::LruCache;
+use negative_cache::{Found, find_by_key};
+use record_cache::{Cache, Held};
+use std::alloc::Global;
+use std::hash::RandomState;
+use std::num::NonZeroUsize;
+use std::time::Instant;
+use suffix_routes::{Config, RouteId};
+use trust_rank::{Slot, pieces};
+
+/// The moment of all look-ups.
+const NOW: u64 = 1000;
+
+/// So many calls are timed together.
+const CALLS: usize = 65_536;
+
+/// So many routes, each name asked here on the first.
+fn routes(alloc: Global, count: usize) -> Result<Config> {
+    let mut text = format!(in alloc;
+        "version = 1\n[[route]]\nsuffix = \".\"\nservers = [\"192.0.2.1:53\"]\n"
+    )?;
+    for number in 1..count {
+        let more = format!(in alloc;
+            "[[route]]\nsuffix = \"branch{number}.example\"\nservers = [\"192.0.2.1:53\"]\n"
+        )?;
+        text.push_str(more.as_str())?;
+    }
+    Ok(Config::read(alloc, alloc, text.as_str())?)
+}
+
+/// The octets of a question for the addresses of a name.
+fn question_of(alloc: Global, name: &Name) -> Result<Vec<u8>> {
+    let mut octets = Vec::from_slice(alloc, b"\x12\x34\x01\x00\x00\x01\x00\x00\x00\x00\x00\x00")?;
+    octets.extend_from_slice(name.octets())?;
+    octets.extend_from_slice(b"\x00\x00\x01\x00\x01")?;
+    Ok(octets)
+}
+
+/// Writes the answer to a question from the cache, and promotes what it used; whether there is one.
+fn answer(
+    alloc: Global,
+    cache: &mut Cache<RandomState>,
+    config: &Config,
+    octets: &[u8],
+    text: &mut Vec<u8>,
+) -> Result<bool> {
+    let view = MessageRef::view(octets)?;
+    let header = view.header();
+    let question = view.question(alloc)?;
+    let key = view.key();
+    let slot = match find_by_key(cache, &key, view.class(), view.kind(), NOW, config) {
+        Found::Rows(held) | Found::Denied(held) if held.accepted <= NOW => {
+            let asked = AskedRef {
+                id: header.id,
+                opcode: 0,
+                rd: header.rd,
+                question: Some(QuestionRef::of(&question)),
+            };
+            put_answer(alloc, text, asked, &[held], NOW, Transport::Udp)?;
+            held.piece.slot
+        }
+        _ => return Ok(false),
+    };
+    cache.promote(&slot);
+    Ok(true)
+}
+
+/// How often so many questions are asked in a round.
+fn times_of(questions: usize) -> usize {
+    CALLS / questions.max(1)
+}
+
+/// Nanoseconds a call, of so many times so many calls since a moment.
+fn each(rt: &HostRuntime, started: &Instant, times: usize, questions: usize) -> Result<u128> {
+    let calls = (times as u128).saturating_mul(questions as u128).max(1);
+    Ok(started.elapsed(rt)?.as_nanos() / calls)
+}
+
+/// How many answers a round gives to the questions, and the least time of one, in nanoseconds.
+fn time_of(
+    rt: &HostRuntime,
+    cache: &mut Cache<RandomState>,
+    config: &Config,
+    questions: &[Vec<u8>],
+) -> Result<(usize, u128)> {
+    let alloc = rt.alloc();
+    let mut text = Vec::with_capacity(alloc, 512)?;
+    let times = times_of(questions.len());
+    let mut least = u128::MAX;
+    let mut answers = 0usize;
+    for _ in 0..ROUNDS {
+        answers = 0;
+        let started = Instant::now(rt)?;
+        for _ in 0..times {
+            for octets in questions {
+                if answer(alloc, cache, config, octets, &mut text)? {
+                    answers = answers.saturating_add(1);
+                }
+            }
+        }
+        least = least.min(each(rt, &started, times, questions.len())?);
+    }
+    Ok((answers, least))
+}
+
+/// The least time of a bare `peek` and `promote` of each slot, in nanoseconds.
+fn time_of_bare<V>(
+    rt: &HostRuntime,
+    map: &mut LruCache<Slot, V, RandomState>,
+    slots: &[Slot],
+) -> Result<u128> {
+    let times = times_of(slots.len());
+    let mut least = u128::MAX;
+    for _ in 0..ROUNDS {
+        let started = Instant::now(rt)?;
+        for _ in 0..times {
+            for slot in slots {
+                if map.peek(slot).is_some() {
+                    map.promote(slot);
+                }
+            }
+        }
+        least = least.min(each(rt, &started, times, slots.len())?);
+    }
+    Ok(least)
+}
+
+/// The slot of an entry.
+fn slot_in(held: &Held) -> Slot {
+    held.piece.slot
+}
+
+/// Prints what a bare `lru` of the cache's types costs.
+fn measure_bare(rt: &HostRuntime, room: NonZeroUsize, slots: &[Slot]) -> Result<()> {
+    let alloc = rt.alloc();
+    let mut map = LruCache::with_hasher(alloc, room, RandomState::new(rt)?)?;
+    for (number, _) in slots.iter().enumerate() {
+        let held = held_of(alloc, number)?;
+        let slot = slot_in(&held);
+        let _ = map.push(slot, held);
+    }
+    let took = time_of_bare(rt, &mut map, slots)?;
+    println!(rt; "{} entries, lru of the types: {took} ns", slots.len())?;
+    Ok(())
+}
+
+/// Prints what a bare `lru` of numbers costs.
+fn measure_numbers(rt: &HostRuntime, room: NonZeroUsize, slots: &[Slot]) -> Result<()> {
+    let alloc = rt.alloc();
+    let mut map = LruCache::with_hasher(alloc, room, RandomState::new(rt)?)?;
+    for slot in slots {
+        map.push(*slot, 0u64)?;
+    }
+    let took = time_of_bare(rt, &mut map, slots)?;
+    println!(rt; "{} entries, lru of numbers: {took} ns", slots.len())?;
+    Ok(())
+}
+
+/// Prints what a cached answer to each of so many names costs, neighbours far apart.
+fn measure_hits(rt: &HostRuntime, count: usize) -> Result<()> {
+    let alloc = rt.alloc();
+    let config = routes(alloc, 1)?;
+    let mut cache = full_cache(rt, count)?;
+    let mut questions = Vec::new(alloc);
+    for number in 0..count {
+        let far = number.wrapping_mul(40_503) % count.max(1);
+        questions.push(question_of(alloc, &numbered(alloc, far)?)?)?;
+    }
+    let (answers, took) = time_of(rt, &mut cache, &config, &questions)?;
+    println!(rt; "{count} entries: {answers} answers, {took} ns")?;
+    Ok(())
+}
+
+/// Prints what answers below a name error cost beside a set, with so many routes.
+fn measure_denials(rt: &HostRuntime, count: usize) -> Result<()> {
+    let alloc = rt.alloc();
+    let config = routes(alloc, count)?;
+    let mut cache = full_cache(rt, 1000)?;
+    offer_name_error(alloc, &mut cache, &config)?;
+    for name in [
+        "host7.some-example.com",
+        "gone.example.net",
+        "a.gone.example.net",
+        "b.a.gone.example.net",
+        "c.b.a.gone.example.net",
+        "d.c.b.a.gone.example.net",
+    ] {
+        let mut questions = Vec::new(alloc);
+        questions.push(question_of(alloc, &Name::from_text(alloc, name)?)?)?;
+        let (answers, took) = time_of(rt, &mut cache, &config, &questions)?;
+        println!(rt; "{count} routes: {name}: {answers} answers, {took} ns")?;
+    }
+    Ok(())
+}
+
+/// A reply that `gone.example.net` is not there, with the SOA of `example.net`.
+const GONE: &[u8] =
+    b"\x12\x34\x85\x83\x00\x01\x00\x00\x00\x01\x00\x00\x04gone\x07example\x03net\x00\x00\x01\x00\x01\xc0\x11\x00\x06\x00\x01\x00\x00\x0e\x10\x00\x27\x03ns1\xc0\x11\x0ahostmaster\xc0\x11\x00\x00\x00\x01\x00\x00\x0e\x10\x00\x00\x0e\x10\x00\x00\x0e\x10\x00\x00\x0e\x10";
+
+/// Offers the name error of that reply.
+fn offer_name_error(alloc: Global, cache: &mut Cache<RandomState>, config: &Config) -> Result<()> {
+    let view = MessageRef::view(GONE)?;
+    let question = view.question(alloc)?;
+    let message = view.read_whole(alloc)?;
+    let walk = pieces(alloc, &message, &question, RouteId { place: 0 }, config)?;
+    for piece in walk.pieces.into_vec() {
+        let _ = cache.offer(piece, 0);
+    }
+    Ok(())
+}
+
+/// Prints what cached answers cost.
+pub fn measure(rt: &HostRuntime) -> Result<()> {
+    for count in [10, 1000, 10_000, MANY] {
+        let slots = slots_of(rt.alloc(), count)?;
+        let Some(room) = NonZeroUsize::new(MANY) else {
+            return Ok(());
+        };
+        measure_bare(rt, room, &slots)?;
+        measure_numbers(rt, room, &slots)?;
+        measure_hits(rt, count)?;
+    }
+    for count in [1, 8, 64] {
+        measure_denials(rt, count)?;
+    }
+    Ok(())
+}
