@@ -1,5 +1,11 @@
 //! The connections of clients.
 
+ghost use Rattle.std.specs.Prelude.{◌≡◌, ◌&&◌, ◌++◌, ◌-◌, ℕ, List, length, nat_le};
+ghost use Rattle.std.specs.BTreeMap.{btree_map_len};
+ghost use Rattle.tcp_frames.specs.Frames.{frames_of, unfinished_of};
+ghost use Rattle.socket_wire.specs.Counting.{Stands};
+ghost use Rattle.socket_wire.specs.Waiting.{Hears, IsNew, is_idle, is_late};
+
 use crate::framing::Within;
 use crate::unsent::Unsent;
 use mio::net::TcpStream;
@@ -46,7 +52,9 @@ pub(crate) struct ClientStream<A: Allocator> {
 }
 
 impl<A: Allocator + Copy> ClientStream<A> {
-    fn new(alloc: A, stream: TcpStream, now: u64) -> ClientStream<A> {
+    fn new(alloc: A, stream: TcpStream, now: u64) -> ClientStream<A>
+        ensures { IsNew now result }
+    {
         ClientStream {
             stream,
             unsent: Unsent::new(alloc),
@@ -59,26 +67,30 @@ impl<A: Allocator + Copy> ClientStream<A> {
     }
 
     /// It waits for nothing.
-    fn is_idle(&self) -> bool {
+    fn is_idle(&self) -> bool
+        ensures { result ≡ is_idle self.now.unanswered self.now.unsent }
+    {
         self.unanswered == 0 && self.unsent.is_empty()
     }
 
     /// It sends nothing more and waits for nothing.
-    fn is_done(&self) -> bool {
+    fn is_done(&self) -> bool
+        ensures { result ≡ (self.now.ended && is_idle self.now.unanswered self.now.unsent) }
+    {
         self.ended && self.is_idle()
     }
 
     /// It has been silent for too long. One that waits for replies may be for `deadline` milliseconds more, in which
     /// they come.
-    fn is_late(&self, now: u64, deadline: u64) -> bool {
+    fn is_late(&self, now: u64, deadline: u64) -> bool
+        ensures { result ≡ is_late self.now.unanswered self.now.unsent self.now.took self.now.active now deadline }
+    {
         if !self.unsent.is_empty() {
             return now.saturating_sub(self.took) >= PATIENCE;
         }
         let silent = now.saturating_sub(self.active);
-        match self.unanswered {
-            0 => silent >= PATIENCE,
-            _ => silent.saturating_sub(PATIENCE) >= deadline,
-        }
+        let allowed = if self.unanswered == 0 { 0 } else { deadline };
+        silent >= PATIENCE && silent - PATIENCE >= allowed
     }
 
     /// Has it take what it takes of the replies. `Err` where it takes none any more.
@@ -96,6 +108,26 @@ impl<A: Allocator + Copy> ClientStream<A> {
         }
     }
 
+    /// Counts the messages that end in a piece of its stream.
+    fn heard(&mut self, piece: &[u8], now: u64)
+        ensures stands { (rest : List ℕ) → Stands self.old.within rest → Stands self.new.within (unfinished_of (rest ++ piece.now)) }
+        ensures hears { (rest : List ℕ) → Stands self.old.within rest → Hears (length (frames_of (rest ++ piece.now))) now self.old self.new }
+    {
+        let messages = self.within.count(piece);
+        self.unanswered = self.unanswered.saturating_add(messages);
+        if messages > 0 {
+            self.active = now;
+        }
+    }
+
+    /// Notes that one message more has its reply.
+    fn replied(&mut self, now: u64)
+        ensures { self.new ≡ record self.old { unanswered = self.old.unanswered - 1; active = now } }
+    {
+        self.unanswered = self.unanswered.saturating_sub(1);
+        self.active = now;
+    }
+
     /// Reads what it has sent into the buffer.
     fn read(&mut self, buffer: &mut [u8], now: u64) -> io::Result<Heard> {
         if self.ended {
@@ -107,11 +139,7 @@ impl<A: Allocator + Copy> ClientStream<A> {
                 Ok(Heard::Nothing)
             }
             Ok(count) => {
-                let messages = self.within.count(&buffer[..count]);
-                if messages > 0 {
-                    self.active = now;
-                    self.unanswered = self.unanswered.saturating_add(messages);
-                }
+                self.heard(&buffer[..count], now);
                 Ok(Heard::Octets(count))
             }
             Err(error) if error.kind() == ErrorKind::WouldBlock => Ok(Heard::Nothing),
@@ -147,8 +175,7 @@ impl<A: Allocator + Copy> ClientStream<A> {
         if was_empty {
             self.took = now;
         }
-        self.unanswered = self.unanswered.saturating_sub(1);
-        self.active = now;
+        self.replied(now);
         self.send(now)?;
         Ok(!self.is_done())
     }
@@ -169,11 +196,15 @@ impl<A: Allocator + Copy> Clients<A> {
     }
 
     /// No further one may be opened.
-    pub fn is_full(&self) -> bool {
+    pub fn is_full(&self) -> bool
+        ensures { result ≡ nat_le 1024 (btree_map_len self.now.open) }
+    {
         self.open.len() >= MOST
     }
 
-    pub fn len(&self) -> usize {
+    pub fn len(&self) -> usize
+        ensures { result ≡ btree_map_len self.now.open }
+    {
         self.open.len()
     }
 

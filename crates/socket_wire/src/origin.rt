@@ -1,6 +1,8 @@
 //! The sockets of a wire by their tokens.
 
-ghost use Rattle.std.specs.Prelude.{◌≡◌, ◌<◌, ◌^◌};
+ghost use Rattle.std.specs.Prelude.{◌≡◌, ◌+◌, ◌*◌, ◌%◌, ◌<◌, ◌^◌, Some};
+ghost use Rattle.socket_wire.specs.declared.origin.Origin.{Origin};
+ghost use Rattle.socket_wire.specs.Tokens.{HasToken, token_of};
 
 use mio::Token;
 
@@ -25,13 +27,16 @@ pub(crate) enum Origin {
 /// The number of a socket of this kind, below 8.
 fn numbered(kind: usize, number: u64) -> usize
     requires { kind < 8 }
+    ensures { result ≡ number % 2 ^ 61 * 8 + kind }
 {
     (number % NUMBERS) as usize * 8 + kind
 }
 
 impl Origin {
     /// The token by which readiness of the socket is told. A connection past 2^61 shares that of an earlier one.
-    pub fn token(self) -> Token {
+    pub fn token(self) -> Token
+        ensures { result.0 ≡ token_of self }
+    {
         Token(match self {
             Origin::Datagrams => numbered(0, 0),
             Origin::Connections => numbered(1, 0),
@@ -42,7 +47,9 @@ impl Origin {
     }
 
     /// The socket that has the token.
-    pub fn of(token: Token) -> Option<Origin> {
+    pub fn of(token: Token) -> Option<Origin>
+        ensures { (origin : Origin) → HasToken origin → token_of origin ≡ token.0 → result ≡ Some origin }
+    {
         let number = (token.0 / 8) as u64;
         match token.0 % 8 {
             0 => Some(Origin::Datagrams),
