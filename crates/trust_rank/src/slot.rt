@@ -1,9 +1,10 @@
 //! What a piece tells of.
 
 use dns_name::NameKey;
+use std::hash::{Hash, Hasher};
 
 /// What a piece tells of: a name and class with a type, or with none for the denial of a whole name.
-#[derive(Clone, Copy, PartialEq, Eq, Hash)]
+#[derive(Clone, Copy, PartialEq, Eq)]
 pub struct Slot {
     /// The name, letter case aside (RFC 4343).
     pub key: NameKey,
@@ -11,4 +12,24 @@ pub struct Slot {
     pub class: u16,
     /// The type; `None` for a name error.
     pub kind: Option<u16>,
+}
+
+// Class and type are hashed as one number, since one write of four octets costs less than three writes.
+impl Hash for Slot {
+    ghost use Rattle.std.specs.Prelude.{take, ◌∷◌, ◌+◌, ◌*◌};
+    ghost use Rattle.std.specs.Hash as fed;
+    ghost use Rattle.std.specs.Option.{unwrap_or};
+    ghost use Rattle.std.specs.Cmp.Rules.{hashing};
+    ghost use Rattle.std.proofs.Common.{rules};
+    ghost use Rattle.dns_name.specs.Key.{key_octets, key_len};
+
+    ghost hash_input = { λ s. take (key_len s.key) (key_octets s.key) ∷ fed.u32 (65536 * s.class + unwrap_or s.kind 0) };
+
+    ghost respects_eq = { Prim.search (hashing, rules) };
+
+    fn hash<H: Hasher>(&self, state: &mut H) {
+        self.key.hash(state);
+        let kind = self.kind.unwrap_or(0);
+        state.write_u32(65_536 * u32::from(self.class) + u32::from(kind));
+    }
 }
