@@ -1,6 +1,6 @@
 //! Numbers of connections.
 
-ghost use Rattle.std.specs.Prelude.{◌≡◌, ◌+◌, IfSome, IfNone};
+ghost use Rattle.std.specs.Prelude.{◌≡◌, ◌+◌, ◌^◌, IfSome, IfNone};
 
 /// Gives each number once, in order.
 #[derive(Drop)]
@@ -20,7 +20,7 @@ impl Numbers {
     /// A number that was never given before, since each is the one behind the last; `None` where none is left.
     pub fn give(&mut self) -> Option<u64>
         ensures next { IfSome result (λ number. (number ≡ self.old.next) × (self.new.next ≡ number + 1)) }
-        ensures none { IfNone result (self.new.next ≡ self.old.next) }
+        ensures none { IfNone result ((self.old.next + 1 ≡ 2 ^ 64) × (self.new.next ≡ self.old.next)) }
     {
         let number = self.next;
         self.next = number.checked_add(1)?;

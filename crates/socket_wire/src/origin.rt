@@ -1,6 +1,6 @@
 //! The sockets of a wire by their tokens.
 
-ghost use Rattle.std.specs.Prelude.{◌≡◌, ◌+◌, ◌*◌, ◌%◌, ◌<◌, ◌^◌, Some};
+ghost use Rattle.std.specs.Prelude.{◌≡◌, ◌+◌, ◌*◌, ◌%◌, ◌<◌, ◌^◌, None, Some};
 ghost use Rattle.socket_wire.specs.declared.origin.Origin.{Origin};
 ghost use Rattle.socket_wire.specs.Tokens.{HasToken, token_of};
 
@@ -48,7 +48,8 @@ impl Origin {
 
     /// The socket that has the token.
     pub fn of(token: Token) -> Option<Origin>
-        ensures { (origin : Origin) → HasToken origin → token_of origin ≡ token.0 → result ≡ Some origin }
+        ensures some { (origin : Origin) → HasToken origin → token_of origin ≡ token.0 → result ≡ Some origin }
+        ensures none { 4 < token.0 % 8 → result ≡ None }
     {
         let number = (token.0 / 8) as u64;
         match token.0 % 8 {
