@@ -36,7 +36,7 @@ pub(crate) struct ClientStream<A: Allocator> {
     unsent: Unsent<A>,
     within: Within,
     /// How many whole messages have no reply.
-    unanswered: u32,
+    unanswered: usize,
     /// It sends nothing more.
     ended: bool,
     /// The last moment at which it sent a whole message or got a reply.

@@ -1,5 +1,13 @@
-use Rattle.std.proofs.Common.{length}
+use Rattle.std.proofs.Common.{ℕ, ◌+◌, ◌≤◌, List, length}
+use Rattle.socket_wire.specs.Counting.{Stands}
+use Rattle.socket_wire.proofs.Counting.{GoesOn}
 use Rattle.socket_wire.proofs.framing.Within.count.Given as goal
+
+abbrev pub invariant-loop-rest : goal.invariant-loop-rest
+invariant-loop-rest l = record {
+  fits : l.ended + length l.rest ≤ length l.piece;
+  counts : (rest : List ℕ) → Stands l.fn.self rest → GoesOn rest l.piece l.rest l.ended l.self;
+}
 
 abbrev pub decreases-loop-rest : goal.decreases-loop-rest
 decreases-loop-rest l = length l.rest
