@@ -1,7 +1,9 @@
 //! Turns over a wire that refuses nothing.
 
-use crate::worked::{QUESTION, answers, asks, closes, forwarder, piece, question, reply, wire};
-use network_model::{ScriptWire, Served, Wire, serve};
+use crate::worked::{
+    QUESTION, answers, asks, closes, counted, forwarder, piece, question, reply, wire,
+};
+use network_model::{ScriptWire, Wire, serve};
 use refusing_allocator::Refusing;
 use std::alloc::{AllocError, Global};
 use std::test::Fail;
@@ -12,15 +14,7 @@ fn a_question_is_asked_and_answered(rt: HostRuntime) -> Result<(), Fail> {
     let mut forwarder = forwarder(&heap)?;
     let mut wire = wire(&heap, question(&heap)?, reply(&heap)?, &[])?;
     let served = serve(&heap, &mut wire, &mut forwarder, 3)?;
-    assert_eq!(rt;
-        served,
-        Served {
-            turns: 3,
-            lost: 0,
-            refused_puts: 0,
-            refused_arrivals: 0
-        }
-    );
+    assert_eq!(rt; served, counted(3, 0));
     assert_eq!(rt; wire.faults(), 0);
     match wire.puts() {
         [first, second, third] => {
@@ -37,15 +31,7 @@ fn without_turns_nothing_arrives(rt: HostRuntime) -> Result<(), Fail> {
     let mut forwarder = forwarder(&heap)?;
     let mut wire = ScriptWire::new(&heap, Vec::new(&heap), Vec::new(&heap));
     let served = serve(&heap, &mut wire, &mut forwarder, 2)?;
-    assert_eq!(rt;
-        served,
-        Served {
-            turns: 2,
-            lost: 0,
-            refused_puts: 0,
-            refused_arrivals: 0
-        }
-    );
+    assert_eq!(rt; served, counted(2, 0));
     assert!(rt; wire.puts().is_empty());
     assert_eq!(rt; wire.moment(), 0);
     assert_eq!(rt; wire.words(), [0; 8]);

@@ -1,9 +1,11 @@
 //! A worked question with its query, reply and answer, and the wires that carry them.
 
+ghost use Rattle.std.specs.Prelude.{◌<◌, ◌≤◌, length};
+
 use dns_name::Name;
 use forwarder_core::Forwarder;
 use lru::DefaultHasher;
-use network_model::{Arrival, ScriptTurn, ScriptWire};
+use network_model::{Arrival, ScriptTurn, ScriptWire, Served};
 use plain_list::PlainList;
 use std::alloc::{AllocError, Allocator};
 use step_values::{Action, Client, Why};
@@ -16,6 +18,12 @@ pub(crate) const CLIENT: Peer = Peer {
 
 pub(crate) const SERVER: Peer = Peer {
     ip: [192, 0, 2, 1],
+    port: 53,
+};
+
+/// The second server of a group.
+pub(crate) const SECOND: Peer = Peer {
+    ip: [192, 0, 2, 2],
     port: 53,
 };
 
@@ -40,15 +48,27 @@ pub(crate) const REPLY: &[u8] =
 pub(crate) const ANSWER: &[u8] =
     b"\x12\x34\x81\x80\x00\x01\x00\x01\x00\x00\x00\x00\x01a\x07example\x00\x00\x01\x00\x01\xc0\x0c\x00\x01\x00\x01\x00\x00\x01\x2c\x00\x04\xc6\x33\x64\x05";
 
+/// What the client gets where every try failed.
+pub(crate) const FAILED: [u8; 27] =
+    *b"\x12\x34\x81\x82\x00\x01\x00\x00\x00\x00\x00\x00\x01a\x07example\x00\x00\x01\x00\x01";
+
 /// A forwarder with one route, for every name, with one server.
 pub(crate) fn forwarder<A: Allocator + Copy>(
     alloc: A,
 ) -> Result<Forwarder<DefaultHasher, A>, AllocError> {
-    let mut servers = PlainList::new(alloc);
-    servers.push(SERVER)?;
+    forwarder_to(alloc, &[SERVER])
+}
+
+/// A forwarder with one route, for every name, with these servers.
+pub(crate) fn forwarder_to<A: Allocator + Copy>(
+    alloc: A,
+    servers: &[Peer],
+) -> Result<Forwarder<DefaultHasher, A>, AllocError>
+    requires { (0 < length servers.now) × (length servers.now ≤ 8) }
+{
     let route = Route {
         suffix: Name::root(alloc),
-        servers,
+        servers: PlainList::copied(alloc, servers)?,
     };
     let mut routes = PlainList::new(alloc);
     routes.push(route)?;
@@ -70,9 +90,17 @@ pub(crate) fn question<A: Allocator + Copy>(alloc: A) -> Result<Arrival<A>, Allo
 
 /// The server's reply comes at the port of the query.
 pub(crate) fn reply<A: Allocator + Copy>(alloc: A) -> Result<Arrival<A>, AllocError> {
+    reply_from(alloc, SERVER)
+}
+
+/// The same from this server.
+pub(crate) fn reply_from<A: Allocator + Copy>(
+    alloc: A,
+    from: Peer,
+) -> Result<Arrival<A>, AllocError> {
     Ok(Arrival::ServerDatagram {
         port: 1032,
-        from: SERVER,
+        from,
         bytes: PlainList::copied(alloc, REPLY)?,
     })
 }
@@ -112,6 +140,11 @@ pub(crate) fn wire<A: Allocator + Copy>(
 
 /// The query goes to the server from its port, and was or wasn't refused.
 pub(crate) fn asks<A: Allocator>(put: &(Action<A>, bool), taken: bool) -> bool {
+    asks_at(put, SERVER, taken)
+}
+
+/// The query goes to this server.
+pub(crate) fn asks_at<A: Allocator>(put: &(Action<A>, bool), at: Peer, taken: bool) -> bool {
     match put {
         (
             Action::AskUdp {
@@ -121,7 +154,7 @@ pub(crate) fn asks<A: Allocator>(put: &(Action<A>, bool), taken: bool) -> bool {
             },
             sent,
         ) => *port == 1032
-            && *server == SERVER
+            && *server == at
             && bytes.as_slice() == QUERY.as_slice()
             && *sent == taken,
         _ => false,
@@ -130,21 +163,46 @@ pub(crate) fn asks<A: Allocator>(put: &(Action<A>, bool), taken: bool) -> bool {
 
 /// The port of the query is given up.
 pub(crate) fn closes<A: Allocator>(put: &(Action<A>, bool)) -> bool {
+    gives_up(put, true)
+}
+
+/// The port of the query is given up, or would have been.
+pub(crate) fn gives_up<A: Allocator>(put: &(Action<A>, bool), taken: bool) -> bool {
     match put {
-        (Action::CloseUdp { port }, sent) => *port == 1032 && *sent,
+        (Action::CloseUdp { port }, sent) => *port == 1032 && *sent == taken,
         _ => false,
     }
 }
 
 /// The client gets its answer, or would have.
 pub(crate) fn answers<A: Allocator>(put: &(Action<A>, bool), taken: bool) -> bool {
+    replies(put, ANSWER, Why::Answered, taken)
+}
+
+/// The client would have got that every try failed: SERVFAIL, with its question.
+pub(crate) fn fails<A: Allocator>(put: &(Action<A>, bool)) -> bool {
+    replies(put, &FAILED, Why::Exhausted, false)
+}
+
+/// The client gets this reply, or would have.
+fn replies<A: Allocator>(put: &(Action<A>, bool), text: &[u8], reason: Why, taken: bool) -> bool {
     match put {
         (Action::Reply { client, bytes, why }, sent) => {
             *client == Client::Udp(CLIENT)
-                && bytes.as_slice() == ANSWER
-                && *why == Why::Answered
+                && bytes.as_slice() == text
+                && *why == reason
                 && *sent == taken
         }
         _ => false,
+    }
+}
+
+/// So many turns, in which so many puts were refused and nothing was lost.
+pub(crate) fn counted(turns: u64, refused_puts: u64) -> Served {
+    Served {
+        turns,
+        lost: 0,
+        refused_puts,
+        refused_arrivals: 0,
     }
 }
