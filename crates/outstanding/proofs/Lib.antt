@@ -1,5 +1,9 @@
-pub mod Places
 pub mod Listed
 pub mod Dues
 pub mod Retries
+pub mod Searches
+pub mod KeyEdits
+pub mod AsksUnder
+pub mod SameOrders
+pub mod Indexed
 pub mod CallerLemmas

@@ -1,5 +1,5 @@
 -- What holds of listed asks after one more, or one less.
-use Rattle.std.proofs.Common.{◌≡◌, ℕ, ◌<◌, ◌≤◌, List, [], ◌∷◌, ◌++◌, length, Bool, true, false, cond, refl, sym, ap, ◌∙◌, subst, arith, length-append, Some, None}
+use Rattle.std.proofs.Common.{◌≡◌, ℕ, ◌<◌, ◌≤◌, List, [], ◌∷◌, ◌++◌, length, Bool, true, false, cond, refl, sym, ap, subst, arith, length-append, Some, None}
 use Rattle.std.specs.Prelude.{not, filter}
 use Rattle.std.specs.List.{find, AllByRecursion}
 use Rattle.std.proofs.lemmas.Bool.{eqb-true, eq-eqb, false≢true}
@@ -19,16 +19,6 @@ pub same_path-refl : (a : Path) → same_path a a ≡ true
 same_path-refl (Udp a) = eq-eqb a a refl
 same_path-refl (Tcp a) = eq-eqb a a refl
 
--- b is another path than a, so than the one that a is
-pub same_path-shift : (a b path : Path) → same_path a path ≡ true → same_path a b ≡ false → same_path b path ≡ false
-same_path-shift a b path here other = by (same_path b path) refl
-  where
-    by : (v : Bool) → same_path b path ≡ v → v ≡ false
-    by true e =
-        let one : a ≡ b = same_path-true a path here ∙ sym (same_path-true b path e) in
-        absurd (false≢true (sym other ∙ ap (same_path a) (sym one) ∙ same_path-refl a))
-    by false e = refl
-
 -- ---- one more
 
 all_put : {X : Type 0} (P : X → Type 0) (xs : List X) (y : X) → AllByRecursion P xs → P y → AllByRecursion P (xs ++ y ∷ [])
@@ -39,7 +29,7 @@ in_turn_put : (asks : List Ask) (b : Ask) → AreInTurn asks → AllByRecursion 
 in_turn_put [] b in_turn all = (tt, tt)
 in_turn_put (a ∷ asks) b in_turn all = (all_put (Follows a) asks b in_turn.0 all.0, in_turn_put asks b in_turn.1 all.1)
 
-missed : {X : Type 0} (p : X → Bool) (x : X) (xs : List X) → find p (x ∷ xs) ≡ None → (p x ≡ false) × (find p xs ≡ None)
+pub missed : {X : Type 0} (p : X → Bool) (x : X) (xs : List X) → find p (x ∷ xs) ≡ None → (p x ≡ false) × (find p xs ≡ None)
 missed {X} p x xs none = by (p x) none
   where
     by : (b : Bool) → cond b (Some x) (find p xs) ≡ None → (b ≡ false) × (find p xs ≡ None)
@@ -60,14 +50,6 @@ put capacity asks ask in_turn in_time may room = record {
   in_turn = in_turn_put asks ask in_turn (followed asks ask may.path may.question may.later);
   in_time = all_put IsInTime asks ask in_time may.in_time;
 }
-
--- put, or not for want of memory
-pub put_or_not : (r : Bool) (capacity : ℕ) (asks after : List Ask) (ask : Ask) → after ≡ cond r (asks ++ ask ∷ []) asks
-    → AreListed (record { capacity = capacity; asks = asks }) → MayBegin ask asks → length asks < capacity
-    → AreListed (record { capacity = capacity; asks = after })
-put_or_not true capacity asks after ask is listed may room =
-    subst (λ (xs : List Ask). AreListed (record { capacity = capacity; asks = xs })) (sym is) (put capacity asks ask listed.in_turn listed.in_time may room)
-put_or_not false capacity asks after ask is listed may room = subst (λ (xs : List Ask). AreListed (record { capacity = capacity; asks = xs })) (sym is) listed
 
 -- ---- one less
 
@@ -111,3 +93,13 @@ replaced path capacity asks after ask is long listed may =
     let size : length after ≡ length (without_path path asks ++ ask ∷ []) = ap length is in
     subst (λ (xs : List Ask). AreListed (record { capacity = capacity; asks = xs })) (sym is)
     (put capacity (without_path path asks) ask rest.in_turn rest.in_time may (omega (arith, long, size, listed.few, length-append (without_path path asks) (ask ∷ []))))
+
+-- where none is, nothing is left out
+pub none_left_out : (path : Path) (asks : List Ask) → find (λ (a : Ask). same_path a.path path) asks ≡ None → asks ≡ without_path path asks
+none_left_out path [] none = refl
+none_left_out path (a ∷ asks) none = by (same_path a.path path) none (none_left_out path asks)
+  where
+    by : (b : Bool) → cond b (Some a) (find (λ (x : Ask). same_path x.path path) asks) ≡ None
+        → (find (λ (x : Ask). same_path x.path path) asks ≡ None → asks ≡ without_path path asks) → a ∷ asks ≡ cond (not b) (a ∷ without_path path asks) (without_path path asks)
+    by true e rest = absurd (none-some a (sym e))
+    by false e rest = ap (λ xs. a ∷ xs) (rest e)

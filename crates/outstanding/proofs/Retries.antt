@@ -1,6 +1,6 @@
 -- One question has one ask, so the next ask for it may begin where that one ended. And a port that is drawn is free.
-use Rattle.std.proofs.Common.{◌≡◌, ℕ, ◌%◌, ◌≤◌, inl, inr, List, [], ◌∷◌, Bool, true, false, cond, refl, sym, ◌∙◌, subst, Option, Some, None}
-use Rattle.std.specs.Prelude.{not, filter, ◌||◌, IfSome}
+use Rattle.std.proofs.Common.{◌≡◌, ℕ, ◌%◌, ◌≤◌, inl, inr, List, [], ◌∷◌, Bool, true, false, cond, refl, sym, ap, ◌∙◌, subst, Option, Some, None, is_some, Bor}
+use Rattle.std.specs.Prelude.{not, filter, ◌||◌, IfSome, MatchOption}
 use Rattle.std.specs.List.{find, list_any, AllByRecursion}
 use Rattle.std.proofs.lemmas.Bool.{eqb-true, false≢true, cond-false, or_cases, not-true}
 use Rattle.std.proofs.lemmas.Option.{none-some, same_Some}
@@ -142,3 +142,16 @@ drawn (word ∷ words) asks freed = by (is_free (port_of word) asks freed) refl 
 
 pub drawn_free : (words : List ℕ) (asks : List Ask) (freed : Option ℕ) (r : Option (ℕ × ℕ)) → r ≡ udp_draw words asks freed → IfSome r (λ (draw : ℕ × ℕ). on_path (Udp draw.1) (without_port freed asks) ≡ None)
 drawn_free words asks freed r is = subst (λ (d : Option (ℕ × ℕ)). IfSome d (λ (draw : ℕ × ℕ). on_path (Udp draw.1) (without_port freed asks) ≡ None)) (sym is) (drawn words asks freed)
+
+any_found : {X : Type 0} (p : X → Bool) (xs : List X) → list_any p xs ≡ is_some (find p xs)
+any_found p [] = refl
+any_found {X} p (x ∷ xs) = by (p x) (any_found p xs)
+  where
+    by : (b : Bool) → list_any p xs ≡ is_some (find p xs) → (b || list_any p xs) ≡ is_some (cond b (Some x) (find p xs))
+    by true rest = refl
+    by false rest = rest
+
+-- a look-up tells whether a port is used
+pub used_is : (port : ℕ) (asks : List Ask) (r : Option (Bor Ask)) → MatchOption r (on_path (Udp port) asks ≡ None) (λ (ask : Bor Ask). on_path (Udp port) asks ≡ Some ask.now) → is_some r ≡ is_used port asks
+used_is port asks None e = sym (any_found (λ (a : Ask). same_path a.path (Udp port)) asks ∙ ap is_some e)
+used_is port asks (Some a) e = sym (any_found (λ (a : Ask). same_path a.path (Udp port)) asks ∙ ap is_some e)

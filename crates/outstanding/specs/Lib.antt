@@ -3,3 +3,5 @@ pub mod Lists
 pub mod Due
 pub mod Draws
 pub mod Laws
+pub mod Orders
+pub mod Tables

@@ -9,7 +9,7 @@ use std::marker::Model;
 use suffix_routes::{Peer, RouteId};
 
 /// The way that an ask goes and its reply comes.
-#[derive(Clone, Copy, Debug, PartialEq, Eq)]
+#[derive(Clone, Copy, Debug, PartialEq, Eq, PartialOrd, Ord)]
 pub enum Path {
     /// By UDP, from this port of ours.
     Udp(u16),

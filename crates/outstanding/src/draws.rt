@@ -4,7 +4,7 @@ ghost use Rattle.std.specs.Prelude.{◌≡◌, None, IfSome};
 ghost use Rattle.outstanding.specs.Draws.{is_freed, is_used, port_of, udp_draw, without_port};
 ghost use Rattle.outstanding.specs.Lists.{on_path};
 
-use crate::ask::{Ask, Path};
+use crate::ask::Path;
 use crate::inquiries::Inquiries;
 use std::alloc::Allocator;
 
@@ -20,20 +20,20 @@ pub fn draw<A: Allocator>(
     ensures drawn { result ≡ udp_draw words inquiries.now.asks freed }
     ensures free { IfSome result (λ draw. on_path (Path.Udp draw.1) (without_port freed inquiries.now.asks) ≡ None) }
 {
-    draw_among(words, inquiries.asks(), freed)
+    draw_among(words, inquiries, freed)
 }
 
-/// Identifier and port of the first word whose port has none of these asks, or is freed.
+/// Identifier and port of the first word whose port has no listed ask, or is freed.
 fn draw_among<A: Allocator>(
     words: [u32; 8],
-    asks: &[Ask<A>],
+    inquiries: &Inquiries<A>,
     freed: Option<u16>,
 ) -> Option<(u16, u16)>
-    ensures { result ≡ udp_draw words asks.now freed }
+    ensures { result ≡ udp_draw words inquiries.now.asks freed }
 {
     for word in words {
         let port = port_from(word);
-        if is_freed(port, freed) || !is_used(port, asks) {
+        if is_freed(port, freed) || !is_used(port, inquiries) {
             return Some(((word % 65536) as u16, port));
         }
     }
@@ -58,8 +58,8 @@ fn is_freed(port: u16, freed: Option<u16>) -> bool
 }
 
 /// An ask is listed on the port.
-fn is_used<A: Allocator>(port: u16, asks: &[Ask<A>]) -> bool
-    ensures { result ≡ is_used port asks.now }
+fn is_used<A: Allocator>(port: u16, inquiries: &Inquiries<A>) -> bool
+    ensures { result ≡ is_used port inquiries.now.asks }
 {
-    asks.iter().any(|ask| ask.path.is_same(Path::Udp(port)))
+    inquiries.by_path(Path::Udp(port)).is_some()
 }

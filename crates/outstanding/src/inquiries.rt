@@ -1,12 +1,11 @@
 //! The list of asks that are under way.
 
-ghost use Rattle.std.specs.Prelude.{◌≡◌, ◌<◌, ◌≤◌, ◌+◌, ◌↔◌, ◌^◌, ◌∷◌, ◌++◌, [], length, Some, None, if◌then◌else◌, is_ok, position, vec_capacity, vec_len, slice_get, IfErr, IsSome, MatchOption, OnErr, OnOk, OnSome};
-ghost use Rattle.std.specs.List.{AllByRecursion};
-ghost use Rattle.outstanding.specs.Due.{next_due};
-ghost use Rattle.outstanding.specs.Lists.{AreInTurn, AreListed, IsInTime, MayBegin, of_question, on_path, same_path, without_path};
-ghost use Rattle.dns_message.specs.Questions.{same_question};
+ghost use Rattle.std.specs.Prelude.{◌≡◌, ◌<◌, ◌≤◌, ◌↔◌, ◌^◌, ◌∷◌, ◌++◌, [], length, Some, None, slice_get, IfErr, IsSome, MatchOption, OnErr, OnOk};
+ghost use Rattle.outstanding.specs.Due.{due_of, next_due};
+ghost use Rattle.outstanding.specs.Lists.{AreListed, IsInTime, MayBegin, of_question, on_path, without_path};
 
 use crate::ask::{Ask, Path};
+use crate::table::Table;
 use dns_message::Question;
 use std::alloc::{Allocator, Global};
 use std::marker::Model;
@@ -28,28 +27,31 @@ pub enum Refusal {
 #[derive(Drop)]
 pub struct Inquiries<A: Allocator = Global> {
     capacity: usize,
-    asks: Vec<Ask<A>, A>,
+    table: Table<A>,
 }
 
 impl<A: Allocator> Model for Inquiries<A> {
     ghost use Rattle.outstanding.specs.Lists.{AreListed};
+    ghost use Rattle.outstanding.specs.Tables.{asks_of, IsIndexed};
     ghost use Rattle.outstanding.specs.Values.{Inquiries};
 
     ghost Value = { Inquiries };
 
-    ghost view = { λ i. record { capacity = i.capacity; asks = i.asks.items } };
+    ghost view = { λ i. record { capacity = i.capacity; asks = asks_of i.table } };
 
-    ghost invariant = { λ i. AreListed (record { capacity = i.capacity; asks = i.asks.items }) };
+    ghost invariant = { λ i. IsIndexed i.table × AreListed (record { capacity = i.capacity; asks = asks_of i.table }) };
 }
 
 impl<A: Allocator> Inquiries<A> {
     /// No asks, with room for `capacity` of them. It takes no memory; what `begin` takes later comes from `alloc`.
     pub fn new(alloc: A, capacity: usize) -> Inquiries<A>
+    where
+        A: Copy,
         ensures { result ≡ record { capacity = capacity; asks = [] } }
     {
         Inquiries {
             capacity,
-            asks: Vec::new(alloc),
+            table: Table::new(alloc),
         }
     }
 
@@ -66,10 +68,14 @@ impl<A: Allocator> Inquiries<A> {
         ensures back { IfErr result (λ refused. refused.0 ≡ ask) }
         ensures full { IfErr result (λ refused. (refused.1 ≡ Refusal.Full) ↔ (length self.old.asks ≡ self.old.capacity)) }
     {
-        if self.asks.len() >= self.capacity {
+        if self.table.len() >= self.capacity {
             return Err((ask, Refusal::Full));
         }
-        put_last(&mut self.asks, ask)
+        if self.table.reserve().is_err() {
+            return Err((ask, Refusal::Memory));
+        }
+        self.table.put(ask);
+        Ok(())
     }
 
     /// Ends the ask on a path, and lists another one behind all others: it gets the room of the one that ended, so this is
@@ -83,7 +89,11 @@ impl<A: Allocator> Inquiries<A> {
         ensures ended { on_path path self.old.asks ≡ Some result }
         ensures list { self.new ≡ record self.old { asks = without_path path self.old.asks ++ ask ∷ [] } }
     {
-        put_in_place(&mut self.asks, path, ask)
+        let Some(ended) = self.table.take(path) else {
+            unreachable!();
+        };
+        self.table.put(ask);
+        ended
     }
 
     /// Ends the ask on a path: it is taken out, and the others stay in order. `None` exactly where no ask is listed on
@@ -92,7 +102,7 @@ impl<A: Allocator> Inquiries<A> {
         ensures ended { result ≡ on_path path self.old.asks }
         ensures list { self.new ≡ record self.old { asks = without_path path self.old.asks } }
     {
-        take_out(&mut self.asks, path)
+        self.table.take(path)
     }
 
     /// The ask on a path. `None` exactly where no ask is listed there. It takes no memory. `listed` says again what holds of
@@ -101,7 +111,7 @@ impl<A: Allocator> Inquiries<A> {
         ensures found { MatchOption result (on_path path self.now.asks ≡ None) (λ ask. on_path path self.now.asks ≡ Some ask.now) }
         ensures listed { AreListed self.now }
     {
-        find_on(path, &self.asks)
+        self.table.on_path(path)
     }
 
     /// The ask with an equal question: the same name, letter case aside, the same type and class. `None` exactly where
@@ -110,7 +120,7 @@ impl<A: Allocator> Inquiries<A> {
         ensures found { MatchOption result (of_question question.now self.now.asks ≡ None) (λ ask. of_question question.now self.now.asks ≡ Some ask.now) }
         ensures listed { AreListed self.now }
     {
-        find_of(question, &self.asks)
+        self.table.of_question(question)
     }
 
     /// The least moment at which an ask is due, which is `ask_ms` milliseconds after it was asked, and the path of that
@@ -119,7 +129,8 @@ impl<A: Allocator> Inquiries<A> {
         requires { ask_ms ≤ 2 ^ 62 }
         ensures { result ≡ next_due ask_ms self.now.asks }
     {
-        due_first(&self.asks, ask_ms)
+        let oldest = self.table.oldest()?;
+        Some(due_of(oldest, ask_ms))
     }
 
     /// The ask that was asked first, which is due first. `None` exactly where no ask is listed. It takes no memory.
@@ -127,14 +138,14 @@ impl<A: Allocator> Inquiries<A> {
         ensures first { MatchOption result (self.now.asks ≡ []) (λ ask. slice_get self.now.asks 0 ≡ Some ask.now) }
         ensures listed { AreListed self.now }
     {
-        self.asks.first()
+        self.table.oldest()
     }
 
     /// Ends all asks. It takes no memory.
     pub fn clear(&mut self)
         ensures { self.new ≡ record self.old { asks = [] } }
     {
-        self.asks.clear();
+        self.table.clear();
     }
 
     /// How many asks are listed. It takes no memory.
@@ -142,94 +153,15 @@ impl<A: Allocator> Inquiries<A> {
         ensures count { result ≡ length self.now.asks }
         ensures listed { AreListed self.now }
     {
-        self.asks.len()
-    }
-
-    /// The listed asks, in order.
-    pub(crate) fn asks(&self) -> &[Ask<A>]
-        ensures { result.now ≡ self.now.asks }
-    {
-        &self.asks
+        self.table.len()
     }
 }
 
-/// The ask on a path.
-#[tactic(auto, using(crate::proofs::Places::nowhere, crate::proofs::Places::somewhere))]
-fn find_on<A: Allocator>(path: Path, asks: &[Ask<A>]) -> Option<&Ask<A>>
-    ensures { MatchOption result (on_path path asks.now ≡ None) (λ ask. on_path path asks.now ≡ Some ask.now) }
-{
-    let place = place_on(path, asks)?;
-    Some(&asks[place])
-}
-
-/// The ask with an equal question.
-#[tactic(auto, using(crate::proofs::Places::nowhere, crate::proofs::Places::somewhere))]
-fn find_of<'a, A: Allocator>(question: &Question<A>, asks: &'a [Ask<A>]) -> Option<&'a Ask<A>>
-    ensures { MatchOption result (of_question question.now asks.now ≡ None) (λ ask. of_question question.now asks.now ≡ Some ask.now) }
-{
-    let place = place_of(question, asks)?;
-    Some(&asks[place])
-}
-
-/// The place of the ask on a path, from 0.
-fn place_on<A: Allocator>(path: Path, asks: &[Ask<A>]) -> Option<usize>
-    ensures { result ≡ position (λ a. same_path a.path path) asks.now }
-{
-    asks.iter().position(|ask| ask.path.is_same(path))
-}
-
-/// The place of the ask with an equal question, from 0.
-fn place_of<A: Allocator>(question: &Question<A>, asks: &[Ask<A>]) -> Option<usize>
-    ensures { result ≡ position (λ a. same_question a.question question.now) asks.now }
-{
-    asks.iter().position(|ask| ask.question.is_same(question))
-}
-
-/// Puts an ask last. It comes back with `Memory` where a growth was refused, and then nothing has changed.
-fn put_last<A: Allocator>(asks: &mut Vec<Ask<A>, A>, ask: Ask<A>) -> Result<(), (Ask<A>, Refusal)>
-    ensures list { asks.new.items ≡ (if is_ok result then asks.old.items ++ ask ∷ [] else asks.old.items) }
-    ensures refused { IfErr result (λ refused. (refused.0 ≡ ask) × (refused.1 ≡ Refusal.Memory)) }
-{
-    match asks.push(ask) {
-        Ok(()) => Ok(()),
-        Err(refused) => Err((refused.value, Refusal::Memory)),
-    }
-}
-
-/// Takes the ask on a path out.
-fn take_out<A: Allocator>(asks: &mut Vec<Ask<A>, A>, path: Path) -> Option<Ask<A>>
-    requires { AreInTurn asks.old.items }
-    ensures ended { result ≡ on_path path asks.old.items }
-    ensures list { asks.new.items ≡ without_path path asks.old.items }
-    ensures room { OnSome result (vec_len asks.new < vec_capacity asks.new) }
-    ensures len { OnSome result (length asks.new.items + 1 ≡ length asks.old.items) }
-{
-    let place = place_on(path, asks)?;
-    Some(asks.remove(place))
-}
-
-/// Takes the ask on a path out, and puts another one last, into its room.
-fn put_in_place<A: Allocator>(asks: &mut Vec<Ask<A>, A>, path: Path, ask: Ask<A>) -> Ask<A>
-    requires in_turn { AreInTurn asks.old.items }
-    requires listed { IsSome (on_path path asks.old.items) }
-    ensures ended { on_path path asks.old.items ≡ Some result }
-    ensures list { asks.new.items ≡ without_path path asks.old.items ++ ask ∷ [] }
-    ensures len { length asks.new.items ≡ length asks.old.items }
-{
-    let Some(ended) = take_out(asks, path) else {
-        unreachable!();
-    };
-    asks.push_reserved(ask);
-    ended
-}
-
-/// When the first ask is due, and its path.
-fn due_first<A: Allocator>(asks: &[Ask<A>], ask_ms: u64) -> Option<(u64, Path)>
+/// When an ask is due, and its path.
+fn due_of<A: Allocator>(ask: &Ask<A>, ask_ms: u64) -> (u64, Path)
     requires short { ask_ms ≤ 2 ^ 62 }
-    requires in_turn { AreInTurn asks.now }
-    requires in_time { AllByRecursion IsInTime asks.now }
-    ensures { result ≡ next_due ask_ms asks.now }
+    requires in_time { IsInTime ask.now }
+    ensures { result ≡ due_of ask_ms ask.now }
 {
-    let oldest = asks.first()?;
-    Some((oldest.asked + ask_ms, oldest.path))
+    (ask.asked + ask_ms, ask.path)
 }

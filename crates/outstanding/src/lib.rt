@@ -5,7 +5,9 @@
 mod ask;
 mod draws;
 mod inquiries;
+mod keyed;
 mod laws;
+mod table;
 
 pub use ask::{Ask, Path};
 pub use draws::draw;

@@ -1,10 +1,7 @@
-use Rattle.std.proofs.Common.{List, ap, ◌∙◌}
-use Rattle.outstanding.specs.Values.{Ask}
-use Rattle.outstanding.specs.Draws.{udp_draw}
 use Rattle.outstanding.proofs.Retries.{drawn_free}
 use Rattle.outstanding.proofs.draws.draw.Goals as goal
 
 pub returns-clause-free : goal.returns-clause-free
 returns-clause-free g c =
     drawn_free c.args.words c.args.inquiries.now.asks c.args.freed c.draw_among.result
-    (c.draw_among.ensures ∙ ap (λ (asks : List Ask). udp_draw c.args.words asks c.args.freed) c.asks.ensures)
+    c.draw_among.ensures

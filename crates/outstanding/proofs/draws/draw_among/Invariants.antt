@@ -4,4 +4,4 @@ use Rattle.outstanding.proofs.draws.draw_among.Given as goal
 
 -- what the words that are left draw is what all of them draw
 abbrev pub invariant-loop-word : goal.invariant-loop-word
-invariant-loop-word g l = udp_draw (drop l.word-index l.word-items) l.asks l.freed ≡ udp_draw l.fn.words l.asks l.freed
+invariant-loop-word g l = udp_draw (drop l.word-index l.word-items) l.inquiries.asks l.freed ≡ udp_draw l.fn.words l.inquiries.asks l.freed

@@ -1,10 +1,13 @@
 use Rattle.std.proofs.Common.{List, sym, subst}
 use Rattle.outstanding.specs.Values.{Ask}
 use Rattle.outstanding.specs.Lists.{AreListed}
+use Rattle.outstanding.specs.Tables.{asks_of}
 use Rattle.outstanding.proofs.Listed.{left}
 use Rattle.outstanding.proofs.inquiries.Inquiries.end.Goals as goal
 
 pub invariant_of-self : goal.invariant_of-self
-invariant_of-self g c =
-    subst (λ (xs : List Ask). AreListed (record { capacity = c.self.inside.capacity; asks = xs })) (sym c.take_out.ensures.list)
-    (left c.args.path c.self.inside.capacity c.self.inside.asks.items c.self.invariant)
+invariant_of-self g c = (
+  c.take.ensures.indexed,
+  subst (λ (xs : List Ask). AreListed (record { capacity = c.self.inside.capacity; asks = xs })) (sym c.take.ensures.list)
+      (left c.args.path c.self.inside.capacity (asks_of c.self.inside.table) c.self.invariant.1),
+)

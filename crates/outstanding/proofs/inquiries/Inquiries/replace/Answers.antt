@@ -1,10 +1,17 @@
-use Rattle.std.proofs.Common.{sym, subst}
-use Rattle.outstanding.specs.Values.{Inquiries}
+use Rattle.std.proofs.Common.{List, ◌≡◌, ◌++◌, ◌∷◌, [], length, length-append, sym, ap, ◌∙◌, subst, arith}
+use Rattle.outstanding.specs.Values.{Ask, Inquiries}
 use Rattle.outstanding.specs.Lists.{without_path, MayBegin}
+use Rattle.outstanding.specs.Tables.{asks_of}
 use Rattle.outstanding.proofs.Listed.{replaced}
 use Rattle.outstanding.proofs.inquiries.Inquiries.replace.Goals as goal
 
 pub invariant_of-self : goal.invariant_of-self
 invariant_of-self g c =
-    replaced c.args.path c.self.inside.capacity c.self.inside.asks.items c.put_in_place.new.asks.items c.args.ask c.put_in_place.ensures.list c.put_in_place.ensures.len
-    c.self.invariant (subst (λ (inquiries : Inquiries). MayBegin c.args.ask (without_path c.args.path inquiries.asks)) (sym c.self.view_is) c.requires.begins)
+    let old : List Ask = asks_of c.self.inside.table in
+    let list : asks_of c.put.new.self ≡ without_path c.args.path old ++ c.args.ask ∷ [] = c.put.ensures.list ∙ ap (λ (xs : List Ask). xs ++ c.args.ask ∷ []) c.take.ensures.list in
+    let len : length (asks_of c.put.new.self) ≡ length old =
+    omega (arith, ap length {x = asks_of c.put.new.self} c.put.ensures.list, length-append (asks_of c.take.new.self) (c.args.ask ∷ []), c.in-Some.ensures.len) in (
+      c.put.ensures.indexed,
+      replaced c.args.path c.self.inside.capacity old (asks_of c.put.new.self) c.args.ask list len c.self.invariant.1
+          (subst (λ (inquiries : Inquiries). MayBegin c.args.ask (without_path c.args.path inquiries.asks)) (sym c.self.view_is) c.requires.begins),
+    )

@@ -1,0 +1,199 @@
+-- What is found of indexed asks, and what one ask more or less leaves.
+use Rattle.std.proofs.Common.{◌≡◌, ℕ, zero, suc, ◌+◌, ◌==◌, ◌<◌, List, [], ◌∷◌, ◌++◌, length, get_or, Bool, true, false, cond, not, Option, Some, None, is_eq, Ordering, refl, sym, ap, ◌∙◌, subst, subst₂, arith}
+use Rattle.std.specs.Prelude.{slice_index, filter, position, nat_lt}
+use Rattle.std.specs.List.{find, insert, remove, position_or_len}
+use Rattle.std.specs.Cmp.{IsTotalOrder}
+use Rattle.std.proofs.lemmas.Option.{none-some, slice_get_past}
+use Rattle.std.proofs.lemmas.List.{get_or_default}
+use Rattle.std.proofs.lemmas.Bool.{cond-true, eq-eqb, eqb-true, ltb-false}
+use Rattle.std.proofs.lemmas.Cmp.{tied_itself}
+use Rattle.std.proofs.lemmas.List.Edits.{insert_end, length-remove}
+use Rattle.std.proofs.lemmas.List.Folds.{find_at}
+use Rattle.std.proofs.lemmas.List.Quantifiers.{position-Some}
+use Rattle.slab.specs.Slab.{Slab, get, Updates}
+use Rattle.dns_message.specs.Values.{Question}
+use Rattle.dns_message.specs.Questions.{same_question}
+use Rattle.outstanding.specs.declared.ask.Path.{Path}
+use Rattle.outstanding.specs.declared.keyed.QuestionKey.{QuestionKey}
+use Rattle.outstanding.specs.Values.{Ask}
+use Rattle.outstanding.specs.Lists.{on_path, of_question, without_path, same_path}
+use Rattle.outstanding.specs.Orders.{path_cmp, key_cmp, question_key}
+use Rattle.outstanding.specs.Tables.{Covers, Rises, IsAt, IsGap, AreIndexed, asks_under, to_path, to_question}
+use Rattle.outstanding.proofs.Listed.{missed}
+use Rattle.outstanding.proofs.Searches.{value_of, is_some_of, one_at, none_at}
+use Rattle.outstanding.proofs.KeyEdits.{same_value, covers_put, rises_put, same_left, covers_left, rises_left, no_keys, rises_none}
+use Rattle.outstanding.proofs.AsksUnder.{same_under, put_under, length_under, found, unfound, without}
+use Rattle.outstanding.proofs.SameOrders.{path_total, key_total, equal_from, same_path_is, same_question_is}
+
+-- a test that holds just of what is sought
+module _ {K : Type 0} (R : K → K → Ordering) (total : IsTotalOrder R) (read : Ask → K) (x : K) (p : Ask → Bool) (tests : (a : Ask) → p a ≡ is_eq (R (read a) x))
+    (s : Slab Ask) (keys turns : List ℕ) (covers : Covers s keys) (rises : Rises R read s keys) (in_turn : Covers s turns) where
+  module _ (i : ℕ) (at : IsAt (λ a. R (read a) x) s keys i) (a : Ask) (here : get s (slice_index keys i) ≡ Some a) where
+    passes : p a ≡ true
+    passes = tests a ∙ ap is_eq (at.equal a here)
+
+    only : (j : ℕ) (b : Ask) → get s j ≡ Some b → p b ≡ true → j ≡ slice_index keys i
+    only j b e passed = one_at R total read s keys covers rises x i at j b e (equal_from (R (read b) x) (sym (tests b) ∙ passed))
+
+    pub found_in : find p (asks_under s turns) ≡ Some a
+    found_in =
+        let v = in_turn.complete (slice_index keys i) (is_some_of (get s (slice_index keys i)) a here) in
+        found p s (slice_index keys i) a here passes only turns v.0 v.1 v.2
+
+    pub without_in : (t : ℕ) → t < length turns → slice_index turns t ≡ slice_index keys i → asks_under s (remove turns t) ≡ filter (λ b. not (p b)) (asks_under s turns)
+    without_in t within is = without p s (slice_index keys i) a here passes only turns t within is in_turn.apart
+
+  pub absent_in : (i : ℕ) → IsGap (λ a. R (read a) x) s keys i → find p (asks_under s turns) ≡ None
+  absent_in i gap = unfound p s turns (λ key b e passed. none_at (λ a. R (read a) x) s keys covers i gap key b e (equal_from (R (read b) x) (sym (tests b) ∙ passed)))
+
+-- ---- by path and by question
+
+module _ (s : Slab Ask) (by_path by_question in_turn : List ℕ) (indexed : AreIndexed s by_path by_question in_turn) where
+  pub path_found : (path : Path) (i : ℕ) → IsAt (to_path path) s by_path i → (a : Ask) → get s (slice_index by_path i) ≡ Some a → on_path path (asks_under s in_turn) ≡ Some a
+  path_found path = found_in path_cmp path_total (λ a. a.path) path (λ a. same_path a.path path) (λ a. same_path_is a.path path) s by_path in_turn indexed.paths indexed.paths_rise indexed.turns
+
+  pub path_absent : (path : Path) (i : ℕ) → IsGap (to_path path) s by_path i → on_path path (asks_under s in_turn) ≡ None
+  path_absent path = absent_in path_cmp path_total (λ a. a.path) path (λ a. same_path a.path path) (λ a. same_path_is a.path path) s by_path in_turn indexed.paths indexed.paths_rise indexed.turns
+
+  pub question_found : (q : Question) (i : ℕ) → IsAt (to_question (question_key q)) s by_question i → (a : Ask) → get s (slice_index by_question i) ≡ Some a → of_question q (asks_under s in_turn) ≡ Some a
+  question_found q = found_in key_cmp key_total (λ a. question_key a.question) (question_key q) (λ a. same_question a.question q) (λ a. same_question_is a.question q) s by_question in_turn indexed.questions indexed.questions_rise indexed.turns
+
+  pub question_absent : (q : Question) (i : ℕ) → IsGap (to_question (question_key q)) s by_question i → of_question q (asks_under s in_turn) ≡ None
+  question_absent q = absent_in key_cmp key_total (λ a. question_key a.question) (question_key q) (λ a. same_question a.question q) (λ a. same_question_is a.question q) s by_question in_turn indexed.questions indexed.questions_rise indexed.turns
+
+-- the key that was read at a place
+pub read_at : (keys : List ℕ) (i key : ℕ) → i < length keys → key ≡ get_or keys i key → slice_index keys i ≡ key
+read_at keys i key within read = sym (read ∙ get_or_default keys i key 0 within)
+
+-- ---- none
+
+pub none_indexed : (s : Slab Ask) (by_path by_question in_turn : List ℕ) → s.slots ≡ [] → by_path ≡ [] → by_question ≡ [] → in_turn ≡ [] → AreIndexed s by_path by_question in_turn
+none_indexed s by_path by_question in_turn slots paths questions turns =
+    let none : (key : ℕ) → get s key ≡ None = λ key. ap (λ (xs : List (Option Ask)). get_or xs key None) slots in
+    let covers : (keys : List ℕ) → keys ≡ [] → Covers s keys = λ keys empty. subst (Covers s) (sym empty) (no_keys s none) in
+    record {
+      paths = covers by_path paths;
+      paths_rise = subst (Rises path_cmp (λ a. a.path) s) (sym paths) (rises_none path_cmp (λ a. a.path) s);
+      questions = covers by_question questions;
+      questions_rise = subst (Rises key_cmp (λ a. question_key a.question) s) (sym questions) (rises_none key_cmp (λ a. question_key a.question) s);
+      turns = covers in_turn turns;
+    }
+
+-- ---- one more
+
+module _ (s s' : Slab Ask) (by_path by_question in_turn : List ℕ) (indexed : AreIndexed s by_path by_question in_turn) (key : ℕ) (a : Ask) (was : get s key ≡ None) (updates : Updates s s' key (Some a)) where
+  pub put_indexed : (i j : ℕ) → IsGap (to_path a.path) s by_path i → IsGap (to_question (question_key a.question)) s by_question j
+      → AreIndexed s' (insert by_path i key) (insert by_question j key) (in_turn ++ key ∷ [])
+  put_indexed i j path question = record {
+    paths = covers_put by_path i key path.in_range s s' (Some a) indexed.paths was updates refl;
+    paths_rise = rises_put path_cmp path_total (λ a. a.path) s s' by_path i key a indexed.paths indexed.paths_rise was updates path;
+    questions = covers_put by_question j key question.in_range s s' (Some a) indexed.questions was updates refl;
+    questions_rise = rises_put key_cmp key_total (λ a. question_key a.question) s s' by_question j key a indexed.questions indexed.questions_rise was updates question;
+    turns = subst (Covers s') (insert_end in_turn key) (covers_put in_turn (length in_turn) key (omega arith) s s' (Some a) indexed.turns was updates refl);
+  }
+
+  pub put_asks : asks_under s' (in_turn ++ key ∷ []) ≡ asks_under s in_turn ++ a ∷ []
+  put_asks = put_under s s' in_turn key a (same_under s s' in_turn (same_value in_turn (length in_turn) key (omega arith) s s' (Some a) indexed.turns was updates)) updates.changed
+
+-- ---- one less
+
+-- no place, no element
+nowhere : {X : Type 0} (p : X → Bool) (xs : List X) → position p xs ≡ None → find p xs ≡ None
+nowhere {X} p xs none = find_at p xs ∙ slice_get_past xs (position_or_len p xs) (ltb-false (position_or_len p xs) (length xs) (by (nat_lt (position_or_len p xs) (length xs)) none))
+  where
+    by : (b : Bool) → cond b (Some (position_or_len p xs)) None ≡ None → b ≡ false
+    by true e = absurd (none-some (position_or_len p xs) (sym e))
+    by false e = refl
+
+-- the key of an ask stands in the order of asking
+stands : (keys : List ℕ) (key i : ℕ) → i < length keys → slice_index keys i ≡ key → find (λ k. k == key) keys ≡ None → ⊥
+stands [] key i within is none = omega arith
+stands (k ∷ keys) key zero within is none = none-some k (sym (sym (cond-true (k == key) (Some k) (find (λ k. k == key) keys) (eq-eqb k key is)) ∙ none))
+stands (k ∷ keys) key (suc i) within is none = stands keys key i (omega arith) is (missed (λ k. k == key) k keys none).1
+
+-- the places of an ask's key
+pub record Placed (s : Slab Ask) (by_path by_question in_turn : List ℕ) (path : Path) (key i j t : ℕ) (a : Ask) : Type 0 where
+  pub here : get s key ≡ Some a
+  pub at_path : IsAt (to_path path) s by_path i
+  pub path_is : slice_index by_path i ≡ key
+  pub at_question : IsAt (to_question (question_key a.question)) s by_question j
+  pub turn : position (λ k. k == key) in_turn ≡ Some t
+
+module _ (s : Slab Ask) (by_path by_question in_turn : List ℕ) (indexed : AreIndexed s by_path by_question in_turn) where
+  pub has_question : (key : ℕ) (a : Ask) → get s key ≡ Some a → (j : ℕ) → IsGap (to_question (question_key a.question)) s by_question j → ⊥
+  has_question key a here j gap = none_at (to_question (question_key a.question)) s by_question indexed.questions j gap key a here (tied_itself key_total (question_key a.question))
+
+  pub has_turn : (key : ℕ) (a : Ask) → get s key ≡ Some a → position (λ k. k == key) in_turn ≡ None → ⊥
+  has_turn key a here none =
+      let v = indexed.turns.complete key (is_some_of (get s key) a here) in
+      stands in_turn key v.0 v.1 v.2 (nowhere (λ k. k == key) in_turn none)
+
+  module _ (path : Path) (key i j t : ℕ) (a : Ask) (placed : Placed s by_path by_question in_turn path key i j t a) where
+    first : get s (slice_index by_path i) ≡ Some a
+    first = ap (get s) placed.path_is ∙ placed.here
+
+    question_is : slice_index by_question j ≡ key
+    question_is = sym (one_at key_cmp key_total (λ a. question_key a.question) s by_question indexed.questions indexed.questions_rise (question_key a.question) j placed.at_question key a placed.here (tied_itself key_total (question_key a.question)))
+
+    turn_in : t < length in_turn
+    turn_in = (position-Some (λ k. k == key) in_turn t 0 placed.turn).0
+
+    turn_is : slice_index in_turn t ≡ key
+    turn_is = eqb-true (slice_index in_turn t) key (position-Some (λ k. k == key) in_turn t 0 placed.turn).1
+
+    pub take_ended : on_path path (asks_under s in_turn) ≡ Some a
+    take_ended = path_found s by_path by_question in_turn indexed path i placed.at_path a first
+
+    module _ (s' : Slab Ask) (updates : Updates s s' key None) where
+      pub take_indexed : AreIndexed s' (remove by_path i) (remove by_question j) (remove in_turn t)
+      take_indexed = record {
+        paths = covers_left by_path i key placed.at_path.in_range placed.path_is s s' indexed.paths updates;
+        paths_rise = rises_left by_path i key placed.at_path.in_range placed.path_is s s' indexed.paths updates path_cmp (λ a. a.path) indexed.paths_rise;
+        questions = covers_left by_question j key placed.at_question.in_range question_is s s' indexed.questions updates;
+        questions_rise = rises_left by_question j key placed.at_question.in_range question_is s s' indexed.questions updates key_cmp (λ a. question_key a.question) indexed.questions_rise;
+        turns = covers_left in_turn t key turn_in turn_is s s' indexed.turns updates;
+      }
+
+      pub take_asks : asks_under s' (remove in_turn t) ≡ without_path path (asks_under s in_turn)
+      take_asks =
+          same_under s s' (remove in_turn t) (same_left in_turn t key turn_in turn_is s s' indexed.turns updates)
+          ∙ without_in path_cmp path_total (λ a. a.path) path (λ a. same_path a.path path) (λ a. same_path_is a.path path) s by_path in_turn indexed.paths indexed.paths_rise indexed.turns
+          i placed.at_path a first t turn_in (turn_is ∙ sym placed.path_is)
+
+      pub take_len : length (asks_under s' (remove in_turn t)) + 1 ≡ length (asks_under s in_turn)
+      take_len = omega (arith, length_under s' (remove in_turn t) take_indexed.turns.present, length_under s in_turn indexed.turns.present, length-remove in_turn t turn_in)
+
+-- ---- as lists of keys are told
+
+-- a key that was put behind all others
+pub put_last : (keys : List ℕ) (last key : ℕ) (after : List ℕ) → last ≡ length keys → after ≡ insert keys last key → after ≡ keys ++ key ∷ []
+put_last keys last key after end is = is ∙ ap (λ (i : ℕ). insert keys i key) end ∙ insert_end keys key
+
+pub indexed_same : (s : Slab Ask) (p q t p' q' t' : List ℕ) → p' ≡ p → q' ≡ q → t' ≡ t → AreIndexed s p q t → AreIndexed s p' q' t'
+indexed_same s p q t p' q' t' paths questions turns indexed =
+    subst (λ (ks : List ℕ). AreIndexed s ks q' t') (sym paths) (subst (λ (ks : List ℕ). AreIndexed s p ks t') (sym questions) (subst (λ (ks : List ℕ). AreIndexed s p q ks) (sym turns) indexed))
+
+-- what is sought, and where, in other words
+pub at_same : (path path' : Path) (s : Slab Ask) (keys keys' : List ℕ) (i : ℕ) → path ≡ path' → keys ≡ keys' → IsAt (to_path path) s keys i → IsAt (to_path path') s keys' i
+at_same path path' s keys keys' i p k = subst₂ (λ (p : Path) (ks : List ℕ). IsAt (to_path p) s ks i) p k
+
+pub gap_same : (path path' : Path) (s : Slab Ask) (keys keys' : List ℕ) (i : ℕ) → path ≡ path' → keys ≡ keys' → IsGap (to_path path) s keys i → IsGap (to_path path') s keys' i
+gap_same path path' s keys keys' i p k = subst₂ (λ (p : Path) (ks : List ℕ). IsGap (to_path p) s ks i) p k
+
+pub at_same_question : (key key' : QuestionKey) (s : Slab Ask) (keys keys' : List ℕ) (i : ℕ) → key ≡ key' → keys ≡ keys' → IsAt (to_question key) s keys i → IsAt (to_question key') s keys' i
+at_same_question key key' s keys keys' i p k = subst₂ (λ (p : QuestionKey) (ks : List ℕ). IsAt (to_question p) s ks i) p k
+
+pub gap_same_question : (key key' : QuestionKey) (s : Slab Ask) (keys keys' : List ℕ) (i : ℕ) → key ≡ key' → keys ≡ keys' → IsGap (to_question key) s keys i → IsGap (to_question key') s keys' i
+gap_same_question key key' s keys keys' i p k = subst₂ (λ (p : QuestionKey) (ks : List ℕ). IsGap (to_question p) s ks i) p k
+
+-- what is sought is listed
+module _ (s : Slab Ask) (by_path by_question in_turn : List ℕ) (indexed : AreIndexed s by_path by_question in_turn) where
+  pub path_listed : (path : Path) (i : ℕ) → IsAt (to_path path) s by_path i → on_path path (asks_under s in_turn) ≡ None → ⊥
+  path_listed path i at none =
+      let a = value_of (get s (slice_index by_path i)) (indexed.paths.present i at.in_range) in
+      none-some a.0 (sym none ∙ path_found s by_path by_question in_turn indexed path i at a.0 a.1)
+
+  pub question_listed : (q : Question) (i : ℕ) → IsAt (to_question (question_key q)) s by_question i → of_question q (asks_under s in_turn) ≡ None → ⊥
+  question_listed q i at none =
+      let a = value_of (get s (slice_index by_question i)) (indexed.questions.present i at.in_range) in
+      none-some a.0 (sym none ∙ question_found s by_path by_question in_turn indexed q i at a.0 a.1)

@@ -1,0 +1,96 @@
+-- The orders by which paths and questions are searched: equal exactly where they are the same.
+use Rattle.std.proofs.Common.{◌≡◌, ℕ, ◌+◌, ◌-◌, Bool, true, false, ◌&&◌, ◌==◌, List, [], ◌∷◌, length, replicate, is_eq, nat_cmp, Ordering, Less, Equal, Greater, refl, sym, ap, ◌∙◌, ap₂, arith, length-append}
+use Rattle.std.specs.Bool.{Decides}
+use Rattle.std.specs.Ordering.{ordering_then}
+use Rattle.std.specs.Cmp.{IsTotalOrder}
+use Rattle.std.specs.Cmp.Lexicographic.{slice_cmp, bytes_decides}
+use Rattle.std.proofs.lemmas.Bool.{and_parts, eqb-true, false≢true}
+use Rattle.std.proofs.lemmas.Bool.Decides.{nat_tests, same_from_decides}
+use Rattle.std.proofs.lemmas.Cmp.{tied_itself}
+use Rattle.std.proofs.lemmas.Map.Text.{is_eq-slice_cmp}
+use Rattle.std.proofs.lemmas.List.{take_at}
+use Rattle.dns_name.specs.Key.{key_octets, key_len, padded}
+use Rattle.dns_name.specs.Labels.{octets_of, size_of, labels_of, lowered, same}
+use Rattle.dns_name.specs.contracts.key.NameKeyOrd.TheImpl as name_ord
+use Rattle.dns_name.specs.contracts.key.NameKeyOrd.TheImpl.Laws as name_laws
+use Rattle.dns_name.proofs.CallerLemmas.{labels_of_octets, same_decides}
+use Rattle.dns_message.specs.Values.{Question}
+use Rattle.dns_message.specs.Questions.{same_question}
+use Rattle.outstanding.specs.declared.ask.Path.{Path}
+use Rattle.outstanding.specs.declared.ask.Path.TheVariants.{Udp, Tcp}
+use Rattle.outstanding.specs.contracts.ask.PathOrd.TheImpl.Laws as path_laws
+use Rattle.outstanding.specs.contracts.keyed.QuestionKeyOrd.TheImpl.Laws as key_laws
+use Rattle.outstanding.specs.Orders.{path_cmp, key_cmp, question_key}
+use Rattle.outstanding.specs.Lists.{same_path}
+
+pub path_total : IsTotalOrder path_cmp
+path_total = path_laws.total-law
+
+pub key_total : IsTotalOrder key_cmp
+key_total = key_laws.total-law
+
+pub equal_from : (o : Ordering) → is_eq o ≡ true → o ≡ Equal
+equal_from Less e = absurd (false≢true e)
+equal_from Equal e = refl
+equal_from Greater e = absurd (false≢true e)
+
+-- ---- paths
+
+numbers : (a b : ℕ) → (a == b) ≡ is_eq (nat_cmp a b)
+numbers a b = grind (arith, nat_tests)
+
+pub same_path_is : (a b : Path) → same_path a b ≡ is_eq (path_cmp a b)
+same_path_is (Udp a) (Udp b) = numbers a b
+same_path_is (Tcp a) (Tcp b) = numbers a b
+same_path_is (Udp a) (Tcp b) = refl
+same_path_is (Tcp a) (Udp b) = refl
+
+-- ---- questions
+
+both_equal : (x y : Ordering) → is_eq (ordering_then x y) ≡ is_eq x && is_eq y
+both_equal Less y = refl
+both_equal Equal y = refl
+both_equal Greater y = refl
+
+size_is : (name : List (List ℕ)) → size_of name ≡ length (octets_of name) + 1
+size_is [] = refl
+size_is (label ∷ name) = omega (arith, size_is name, length-append label (octets_of name))
+
+-- the octets and the size of a name are those of no other
+one_name : (a b : List (List ℕ)) → padded (octets_of a) ≡ padded (octets_of b) → size_of a ≡ size_of b → a ≡ b
+one_name a b o s =
+    let n : length (octets_of a) ≡ length (octets_of b) = omega (arith, s, size_is a, size_is b) in
+    let left = take_at (octets_of a) (replicate (255 - length (octets_of a)) 0) (length (octets_of a)) refl in
+    let right = take_at (octets_of b) (replicate (255 - length (octets_of b)) 0) (length (octets_of a)) (sym n) in
+    let equal : octets_of a ≡ octets_of b = cc (left, right, o) in
+    cc (labels_of_octets a, labels_of_octets b, ap labels_of equal)
+
+abbrev name_cmp : List (List ℕ) → List (List ℕ) → Ordering
+name_cmp = (name_ord.ghosts).cmp
+
+names_decide : (a b : List (List ℕ)) → Decides (is_eq (name_cmp a b)) (a ≡ b)
+unfolding key_octets key_len
+names_decide a b =
+    let octets = slice_cmp nat_cmp (key_octets a) (key_octets b) in
+    let size = nat_cmp (key_len a) (key_len b) in (
+      λ h.
+          let parts = and_parts (is_eq octets) (is_eq size) (sym (both_equal octets size) ∙ h) in
+          one_name a b
+          ((bytes_decides (key_octets a) (key_octets b)).0 (sym (is_eq-slice_cmp (key_octets a) (key_octets b)) ∙ parts.0))
+          (eqb-true (key_len a) (key_len b) (numbers (key_len a) (key_len b) ∙ parts.1)),
+      λ e. ap is_eq (ap (name_cmp a) (sym e) ∙ tied_itself name_laws.total-law a),
+    )
+
+three : (a b c : Bool) → (a && b && c) ≡ (a && (b && c))
+three true b c = refl
+three false b c = refl
+
+pub same_question_is : (q r : Question) → same_question q r ≡ is_eq (key_cmp (question_key q) (question_key r))
+same_question_is q r =
+    let names : same q.name r.name ≡ is_eq (name_cmp (lowered q.name) (lowered r.name)) =
+    same_from_decides (same q.name r.name) (is_eq (name_cmp (lowered q.name) (lowered r.name))) (same_decides q.name r.name) (names_decide (lowered q.name) (lowered r.name)) in
+    let rest : is_eq (ordering_then (nat_cmp q.kind r.kind) (nat_cmp q.class r.class)) ≡ (q.kind == r.kind) && (q.class == r.class) =
+    both_equal (nat_cmp q.kind r.kind) (nat_cmp q.class r.class) ∙ ap₂ (λ k c. k && c) (sym (numbers q.kind r.kind)) (sym (numbers q.class r.class)) in
+    three (same q.name r.name) (q.kind == r.kind) (q.class == r.class)
+    ∙ ap₂ (λ n k. n && k) names (sym rest)
+    ∙ sym (both_equal (name_cmp (lowered q.name) (lowered r.name)) (ordering_then (nat_cmp q.kind r.kind) (nat_cmp q.class r.class)))

@@ -1,0 +1,93 @@
+-- What a search of the keys of asks finds.
+use Rattle.std.proofs.Common.{◌≡◌, ◌⊎◌, ℕ, ◌<◌, ◌≤◌, List, length, Option, Some, None, IsSome, Result, Ok, Err, IfOk, IfErr, Ordering, Less, Equal, Greater, refl, sym, ap, ◌∙◌, subst, inl, inr, arith}
+use Rattle.std.specs.Prelude.{slice_index}
+use Rattle.std.specs.Ordering.{ordering_index}
+use Rattle.std.specs.Cmp.{IsTotalOrder}
+use Rattle.std.specs.List.Sorted.{IsSearchInRange, IsBinarySearchResult, IsNonDecreasingBy}
+use Rattle.std.proofs.lemmas.Bool.{cases_lt, cases_order, false≢true}
+use Rattle.std.proofs.lemmas.Cmp.{tied_back, alike_right}
+use Rattle.std.proofs.lemmas.List.Sorted.{IsNonDecreasingBy-from_default}
+use Rattle.slab.specs.Slab.{Slab, get}
+use Rattle.outstanding.specs.Values.{Ask}
+use Rattle.outstanding.specs.Tables.{Covers, Rises, compared, IsAt, IsGap}
+
+-- the value of an option that has one
+pub value_of : {X : Type 0} (o : Option X) → IsSome o → (x : X) × (o ≡ Some x)
+value_of None some = absurd (false≢true some)
+value_of (Some x) some = (x, refl)
+
+pub is_some_of : {X : Type 0} (o : Option X) (x : X) → o ≡ Some x → IsSome o
+is_some_of o x e = subst (λ o. IsSome o) (sym e) refl
+
+index_le : (o : Ordering) → ordering_index o ≤ 2
+index_le Less = omega arith
+index_le Equal = omega arith
+index_le Greater = omega arith
+
+-- the lower of two comes no later in a comparison with a third
+index_rises : {K : Type 0} {R : K → K → Ordering} → IsTotalOrder R → (x y z : K) → R x y ≡ Less → ordering_index (R x z) ≤ ordering_index (R y z)
+index_rises {K} {R} total x y z less = by (R y z) refl
+  where
+    by : (o : Ordering) → R y z ≡ o → ordering_index (R x z) ≤ ordering_index o
+    by Less e = rw (total.trans x y z less e) (omega arith)
+    by Equal e = rw (sym (alike_right total y z x e) ∙ less) (omega arith)
+    by Greater e = index_le (R x z)
+
+module _ {K : Type 0} (R : K → K → Ordering) (total : IsTotalOrder R) (read : Ask → K) (s : Slab Ask) (keys : List ℕ) (covers : Covers s keys) (rises : Rises R read s keys) (x : K) where
+  abbrev pub to : Ask → Ordering
+  to a = R (read a) x
+
+  comparisons_rise : IsNonDecreasingBy (λ key. ordering_index (compared to (get s key))) keys
+  comparisons_rise = IsNonDecreasingBy-from_default (λ key. ordering_index (compared to (get s key))) keys 0 (λ i j le within. by i j le within (cases_lt i j))
+    where
+      by : (i j : ℕ) → i ≤ j → j < length keys → (i < j) ⊎ (j ≤ i) → ordering_index (compared to (get s (slice_index keys i))) ≤ ordering_index (compared to (get s (slice_index keys j)))
+      by i j le within (inl less) =
+          let a = value_of (get s (slice_index keys i)) (covers.present i (omega arith)) in
+          let b = value_of (get s (slice_index keys j)) (covers.present j within) in
+          rw (a.1, b.1) (index_rises total (read a.0) (read b.0) x (rises i j a.0 b.0 less within a.1 b.1))
+      by i j le within (inr more) =
+          let same : i ≡ j = omega arith in
+          rw same (omega arith)
+
+  -- a binary search ends at the ask that is sought, or where it would go
+  pub searched : (r : Result ℕ ℕ) → IsSearchInRange r (length keys) → IsBinarySearchResult (λ key. compared to (get s key)) keys r → IfOk r (IsAt to s keys) × IfErr r (IsGap to s keys)
+  searched (Ok i) in_range equal = (
+    record { in_range = in_range; equal = λ a e. ap (compared to) (sym e) ∙ equal 0 },
+    tt,
+  )
+  searched (Err i) in_range parted = (
+    tt,
+    record {
+      in_range = in_range;
+      before = λ j a lt e. ap (compared to) (sym e) ∙ (parted comparisons_rise).0 j 0 (omega arith) lt;
+      behind = λ j a le lt e. ap (compared to) (sym e) ∙ (parted comparisons_rise).1 j 0 le lt;
+    },
+  )
+
+  two_equal : (a b : Ask) → to a ≡ Equal → to b ≡ Equal → R (read a) (read b) ≡ Less → ⊥
+  two_equal a b here there less =
+      let same : R (read a) (read b) ≡ R x (read b) = total.congr (read a) x (read b) here in
+      let back : R x (read b) ≡ Equal = tied_back total (read b) x there in
+      cc
+
+  -- no other ask is what is sought
+  pub one_at : (i : ℕ) → IsAt to s keys i → (key : ℕ) (b : Ask) → get s key ≡ Some b → to b ≡ Equal → key ≡ slice_index keys i
+  one_at i found key b e equal =
+      let v = covers.complete key (is_some_of _ b e) in
+      let a = value_of (get s (slice_index keys i)) (covers.present i found.in_range) in
+      let there : get s (slice_index keys v.0) ≡ Some b = ap (get s) v.2 ∙ e in
+      elim (cases_order v.0 i) [
+        | inl same ↦ sym v.2 ∙ ap (slice_index keys) same
+        | inr (inl less) ↦ absurd (two_equal b a.0 equal (found.equal a.0 a.1) (rises v.0 i b a.0 less found.in_range there a.1))
+        | inr (inr more) ↦ absurd (two_equal a.0 b (found.equal a.0 a.1) equal (rises i v.0 a.0 b more v.1 a.1 there))
+      ]
+
+-- none is what is sought
+pub none_at : (f : Ask → Ordering) (s : Slab Ask) (keys : List ℕ) → Covers s keys → (i : ℕ) → IsGap f s keys i → (key : ℕ) (b : Ask) → get s key ≡ Some b → f b ≡ Equal → ⊥
+none_at f s keys covers i gap key b e equal =
+    let v = covers.complete key (is_some_of _ b e) in
+    let there : get s (slice_index keys v.0) ≡ Some b = ap (get s) v.2 ∙ e in
+    elim (cases_lt v.0 i) [
+      | inl less ↦ let low : f b ≡ Less = gap.before v.0 b less there in cc
+      | inr more ↦ let high : f b ≡ Greater = gap.behind v.0 b more v.1 there in cc
+    ]

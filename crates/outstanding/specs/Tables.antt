@@ -1,0 +1,71 @@
+-- Asks under the keys of a slab, and lists of those keys: one in the order of asking, two that are searched.
+use Rattle.std.specs.Prelude.{◌≡◌, ◌≢◌, ℕ, ◌<◌, ◌≤◌, List, length, Option, Some, None, IsSome, slice_index, vec_len, vec_capacity}
+use Rattle.std.specs.List.{filter_map}
+use Rattle.std.specs.declared.cmp.Ordering.{Ordering}
+use Rattle.std.specs.declared.cmp.Ordering.TheVariants.{Less, Equal, Greater}
+use Rattle.slab.specs.Slab.{Slab, get, HasRoomFor}
+use Rattle.outstanding.specs.declared.ask.Path.{Path}
+use Rattle.outstanding.specs.declared.keyed.QuestionKey.{QuestionKey}
+use Rattle.outstanding.specs.declared.table.Table.{Table}
+use Rattle.outstanding.specs.Orders.{path_cmp, key_cmp, question_key}
+use Rattle.outstanding.specs.Values.{Ask}
+
+-- the asks under these keys
+abbrev pub asks_under : Slab Ask → List ℕ → List Ask
+asks_under s keys = filter_map (λ key. get s key) keys
+
+-- the keys are those under which an ask stands, each once
+pub record Covers (s : Slab Ask) (keys : List ℕ) : Type 0 where
+  pub present : (i : ℕ) → i < length keys → IsSome (get s (slice_index keys i))
+  pub complete : (key : ℕ) → IsSome (get s key) → (i : ℕ) × (i < length keys) × (slice_index keys i ≡ key)
+  pub apart : (i j : ℕ) → i < j → j < length keys → slice_index keys i ≢ slice_index keys j
+
+-- the asks under these keys rise in an order, by what is read of them
+abbrev pub Rises : {K : Type 0} → (K → K → Ordering) → (Ask → K) → Slab Ask → List ℕ → Type 0
+Rises R read s keys =
+    (i j : ℕ) (a b : Ask) → i < j → j < length keys → get s (slice_index keys i) ≡ Some a → get s (slice_index keys j) ≡ Some b
+    → R (read a) (read b) ≡ Less
+
+-- how the ask under a key compares to what is sought; a key without an ask comes first
+abbrev pub compared : (Ask → Ordering) → Option Ask → Ordering
+compared f None = Less
+compared f (Some a) = f a
+
+-- the ask under the key at place i is what is sought
+pub record IsAt (f : Ask → Ordering) (s : Slab Ask) (keys : List ℕ) (i : ℕ) : Type 0 where
+  pub in_range : i < length keys
+  pub equal : (a : Ask) → get s (slice_index keys i) ≡ Some a → f a ≡ Equal
+
+-- what is sought would go to place i: those before come before it, and the others behind
+pub record IsGap (f : Ask → Ordering) (s : Slab Ask) (keys : List ℕ) (i : ℕ) : Type 0 where
+  pub in_range : i ≤ length keys
+  pub before : (j : ℕ) (a : Ask) → j < i → get s (slice_index keys j) ≡ Some a → f a ≡ Less
+  pub behind : (j : ℕ) (a : Ask) → i ≤ j → j < length keys → get s (slice_index keys j) ≡ Some a → f a ≡ Greater
+
+abbrev pub to_path : Path → Ask → Ordering
+to_path path a = path_cmp a.path path
+
+abbrev pub to_question : QuestionKey → Ask → Ordering
+to_question key a = key_cmp (question_key a.question) key
+
+-- the asks of a table, in the order of asking
+abbrev pub asks_of : {A : Type 0} → Table A → List Ask
+asks_of t = asks_under t.asks t.in_turn.items
+
+-- the three lists of keys cover the asks, and two of them rise
+pub record AreIndexed (s : Slab Ask) (by_path by_question in_turn : List ℕ) : Type 0 where
+  pub paths : Covers s by_path
+  pub paths_rise : Rises path_cmp (λ a. a.path) s by_path
+  pub questions : Covers s by_question
+  pub questions_rise : Rises key_cmp (λ a. question_key a.question) s by_question
+  pub turns : Covers s in_turn
+
+abbrev pub IsIndexed : {A : Type 0} → Table A → Type 0
+IsIndexed t = AreIndexed t.asks t.by_path.items t.by_question.items t.in_turn.items
+
+-- one more ask takes no memory
+pub record HasRoom {A : Type 0} (t : Table A) : Type 0 where
+  pub asks : HasRoomFor t.asks 1
+  pub by_path : vec_len t.by_path < vec_capacity t.by_path
+  pub by_question : vec_len t.by_question < vec_capacity t.by_question
+  pub in_turn : vec_len t.in_turn < vec_capacity t.in_turn

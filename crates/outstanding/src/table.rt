@@ -1,0 +1,232 @@
+//! The asks under keys, with indexes of the keys.
+
+ghost use Rattle.std.specs.Prelude.{◌≡◌, ◌<◌, ◌≤◌, ◌+◌, ◌==◌, ◌∷◌, ◌++◌, [], length, Some, None, IfOk, IfErr, OnOk, OnSome, MatchOption, position, vec_len, vec_capacity, slice_get};
+ghost use Rattle.std.specs.List.{insert, remove};
+ghost use Rattle.slab.specs.Slab.{get};
+ghost use Rattle.outstanding.specs.Lists.{of_question, on_path, without_path};
+ghost use Rattle.outstanding.specs.Tables.{asks_of, compared, Covers, HasRoom, IsAt, IsGap, IsIndexed, Rises, to_path, to_question};
+ghost use Rattle.outstanding.specs.Orders.{key_cmp, path_cmp, question_key};
+
+use crate::ask::{Ask, Path};
+use crate::keyed::{Keyed, QuestionKey};
+use dns_message::Question;
+use slab::Slab;
+use std::alloc::{AllocError, Allocator};
+use std::cmp::Ordering;
+
+/// The asks, each under a key that the slab picks, and the keys in the order of the paths, of the questions, and of
+/// asking.
+#[derive(Drop)]
+pub(crate) struct Table<A: Allocator> {
+    asks: Slab<Keyed<A>, A>,
+    by_path: Vec<usize, A>,
+    by_question: Vec<usize, A>,
+    in_turn: Vec<usize, A>,
+}
+
+impl<A: Allocator> Table<A> {
+    /// No asks. It takes no memory.
+    pub(crate) fn new(alloc: A) -> Table<A>
+    where
+        A: Copy,
+        ensures indexed { IsIndexed result }
+        ensures empty { asks_of result ≡ [] }
+    {
+        Table {
+            asks: Slab::new(alloc),
+            by_path: Vec::new(alloc),
+            by_question: Vec::new(alloc),
+            in_turn: Vec::new(alloc),
+        }
+    }
+
+    /// How many asks there are.
+    pub(crate) fn len(&self) -> usize
+        requires { IsIndexed self.now }
+        ensures { result ≡ length (asks_of self.now) }
+    {
+        self.in_turn.len()
+    }
+
+    /// The ask that was asked first.
+    pub(crate) fn oldest(&self) -> Option<&Ask<A>>
+        requires { IsIndexed self.now }
+        ensures { MatchOption result (asks_of self.now ≡ []) (λ ask. slice_get (asks_of self.now) 0 ≡ Some ask.now) }
+    {
+        let key = *self.in_turn.first()?;
+        Some(self.asks[key].ask())
+    }
+
+    /// The ask on a path.
+    pub(crate) fn on_path(&self, path: Path) -> Option<&Ask<A>>
+        requires { IsIndexed self.now }
+        ensures { MatchOption result (on_path path (asks_of self.now) ≡ None) (λ ask. on_path path (asks_of self.now) ≡ Some ask.now) }
+    {
+        match place_on(&self.asks, &self.by_path, path) {
+            Ok(place) => Some(self.asks[self.by_path[place]].ask()),
+            Err(_) => None,
+        }
+    }
+
+    /// The ask with an equal question.
+    pub(crate) fn of_question(&self, question: &Question<A>) -> Option<&Ask<A>>
+        requires { IsIndexed self.now }
+        ensures { MatchOption result (of_question question.now (asks_of self.now) ≡ None) (λ ask. of_question question.now (asks_of self.now) ≡ Some ask.now) }
+    {
+        match place_of(&self.asks, &self.by_question, &QuestionKey::of(question)) {
+            Ok(place) => Some(self.asks[self.by_question[place]].ask()),
+            Err(_) => None,
+        }
+    }
+
+    /// Makes room for one more ask. `Err` where memory ran out.
+    pub(crate) fn reserve(&mut self) -> Result<(), AllocError>
+        requires { IsIndexed self.old }
+        ensures indexed { IsIndexed self.new }
+        ensures list { asks_of self.new ≡ asks_of self.old }
+        ensures room { OnOk result (HasRoom self.new) }
+    {
+        self.asks.reserve(1)?;
+        self.by_path.reserve(1)?;
+        self.by_question.reserve(1)?;
+        self.in_turn.reserve(1)
+    }
+
+    /// Puts an ask last, whose path and question no other has, where there is room.
+    pub(crate) fn put(&mut self, ask: Ask<A>)
+        requires indexed { IsIndexed self.old }
+        requires room { HasRoom self.old }
+        requires path { on_path ask.path (asks_of self.old) ≡ None }
+        requires question { of_question ask.question (asks_of self.old) ≡ None }
+        ensures indexed { IsIndexed self.new }
+        ensures list { asks_of self.new ≡ asks_of self.old ++ ask ∷ [] }
+    {
+        let keyed = Keyed::new(ask);
+        let Err(path) = place_on(&self.asks, &self.by_path, keyed.ask().path) else {
+            unreachable!();
+        };
+        let Err(question) = place_of(&self.asks, &self.by_question, keyed.key()) else {
+            unreachable!();
+        };
+        let last = self.in_turn.len();
+        let key = self.asks.insert_reserved(keyed);
+        put_key(&mut self.by_path, path, key);
+        put_key(&mut self.by_question, question, key);
+        put_key(&mut self.in_turn, last, key);
+    }
+
+    /// Takes the ask on a path out, which leaves room for another one.
+    pub(crate) fn take(&mut self, path: Path) -> Option<Ask<A>>
+        requires { IsIndexed self.old }
+        ensures indexed { IsIndexed self.new }
+        ensures ended { result ≡ on_path path (asks_of self.old) }
+        ensures list { asks_of self.new ≡ without_path path (asks_of self.old) }
+        ensures len { OnSome result (length (asks_of self.new) + 1 ≡ length (asks_of self.old)) }
+        ensures room { OnSome result (HasRoom self.new) }
+    {
+        let Ok(place) = place_on(&self.asks, &self.by_path, path) else {
+            return None;
+        };
+        let key = self.by_path[place];
+        let Ok(question) = place_of(&self.asks, &self.by_question, self.asks[key].key()) else {
+            unreachable!();
+        };
+        let Some(turn) = place_in_turn(&self.in_turn, key) else {
+            unreachable!();
+        };
+        take_key(&mut self.by_path, place);
+        take_key(&mut self.by_question, question);
+        take_key(&mut self.in_turn, turn);
+        Some(self.asks.remove(key).into_ask())
+    }
+
+    /// Takes all asks out. It takes no memory.
+    pub(crate) fn clear(&mut self)
+        ensures indexed { IsIndexed self.new }
+        ensures list { asks_of self.new ≡ [] }
+    {
+        self.asks.clear();
+        self.by_path.clear();
+        self.by_question.clear();
+        self.in_turn.clear();
+    }
+}
+
+/// Where the key of the ask on a path stands among keys in the order of the paths, or where it would go.
+fn place_on<A: Allocator>(
+    asks: &Slab<Keyed<A>, A>,
+    keys: &[usize],
+    path: Path,
+) -> Result<usize, usize>
+    requires covered { Covers asks.now keys.now }
+    requires rises { Rises path_cmp (λ a. a.path) asks.now keys.now }
+    ensures found { IfOk result (IsAt (to_path path) asks.now keys.now) }
+    ensures absent { IfErr result (IsGap (to_path path) asks.now keys.now) }
+{
+    keys.binary_search_by(|key| compare_path(asks, *key, path))
+}
+
+/// How the path of the ask under a key compares to another; a key without an ask comes first.
+fn compare_path<A: Allocator>(asks: &Slab<Keyed<A>, A>, key: usize, path: Path) -> Ordering
+    ensures { result ≡ compared (to_path path) (get asks.now key) }
+{
+    match asks.get(key) {
+        Some(keyed) => keyed.cmp_path(path),
+        None => Ordering::Less,
+    }
+}
+
+/// Where the key of the ask with a question stands among keys in the order of the questions, or where it would go.
+fn place_of<A: Allocator>(
+    asks: &Slab<Keyed<A>, A>,
+    keys: &[usize],
+    question: &QuestionKey,
+) -> Result<usize, usize>
+    requires covered { Covers asks.now keys.now }
+    requires rises { Rises key_cmp (λ a. question_key a.question) asks.now keys.now }
+    ensures found { IfOk result (IsAt (to_question question.now) asks.now keys.now) }
+    ensures absent { IfErr result (IsGap (to_question question.now) asks.now keys.now) }
+{
+    keys.binary_search_by(|key| compare_question(asks, *key, question))
+}
+
+/// How the question of the ask under a key compares to another; a key without an ask comes first.
+fn compare_question<A: Allocator>(
+    asks: &Slab<Keyed<A>, A>,
+    key: usize,
+    question: &QuestionKey,
+) -> Ordering
+    ensures { result ≡ compared (to_question question.now) (get asks.now key) }
+{
+    match asks.get(key) {
+        Some(keyed) => keyed.cmp_question(question),
+        None => Ordering::Less,
+    }
+}
+
+/// Where a key stands.
+fn place_in_turn(keys: &[usize], key: usize) -> Option<usize>
+    ensures { result ≡ position (λ k. k == key) keys.now }
+{
+    keys.iter().position(|k| *k == key)
+}
+
+/// Puts a key at a place, where there is room.
+fn put_key<A: Allocator>(keys: &mut Vec<usize, A>, place: usize, key: usize)
+    requires place { place ≤ vec_len keys.old }
+    requires room { vec_len keys.old < vec_capacity keys.old }
+    ensures { keys.new.items ≡ insert keys.old.items place key }
+{
+    let Ok(()) = keys.insert(place, key) else {
+        unreachable!();
+    };
+}
+
+/// Takes the key at a place out, which leaves room for another one.
+fn take_key<A: Allocator>(keys: &mut Vec<usize, A>, place: usize)
+    requires { place < vec_len keys.old }
+    ensures items { keys.new.items ≡ remove keys.old.items place }
+    ensures room { vec_len keys.new < vec_capacity keys.new }
+{
+    keys.remove(place);
+}
