@@ -1,6 +1,7 @@
 //! Asks under way: what random words draw, and the memory that the list takes.
 
-ghost use Rattle.std.specs.Prelude.{◌≡◌, IfOk};
+ghost use Rattle.std.specs.Prelude.{◌≡◌, IfOk, OnOk};
+ghost use Rattle.outstanding.specs.Lists.{MayBegin};
 
 use dns_message::Question;
 use dns_name::{Name, NameFault};
@@ -38,8 +39,27 @@ fn ask_for<'a>(
     })
 }
 
-/// `begin` alone takes memory: it is refused one growth and granted the next, and the one that is allowed then stays
-/// unspent over all other calls, and over a `begin` into room that there is.
+/// Lists an ask where only so many growths are granted. It is refused, and the ask comes back.
+fn refused<'a>(
+    heap: &'a Refusing<Global>,
+    growths: u64,
+    inquiries: &mut Inquiries<&'a Refusing<Global>>,
+    ask: Ask<&'a Refusing<Global>>,
+) -> Result<Ask<&'a Refusing<Global>>, Fail>
+    requires { MayBegin ask inquiries.old.asks }
+    ensures same { OnOk result (inquiries.new ≡ inquiries.old) }
+    ensures back { IfOk result (λ back. back ≡ ask) }
+{
+    heap.allow(growths);
+    match inquiries.begin(ask) {
+        Err((back, Refusal::Memory)) => Ok(back),
+        _ => Err(Fail::from("a refused growth")),
+    }
+}
+
+/// `begin` alone takes memory: each of its four growths is refused in turn, what was granted before stays, and then all
+/// are there. One more that is allowed then stays unspent over all other calls, and over a `begin` into room that there
+/// is.
 #[test]
 fn only_begin_takes_memory(rt: HostRuntime) -> Result<(), Fail> {
     let heap = Refusing::new(rt.alloc());
@@ -47,10 +67,10 @@ fn only_begin_takes_memory(rt: HostRuntime) -> Result<(), Fail> {
     let second = ask_for(&heap, "A.EXAMPLE", Path::Tcp(0), 2500)?;
     heap.allow(0);
     let mut inquiries = Inquiries::new(&heap, 1);
-    let Err((first, refusal)) = inquiries.begin(first) else {
-        return Err(Fail::from("a refused growth"));
-    };
-    assert_eq!(rt; refusal, Refusal::Memory);
+    let first = refused(&heap, 0, &mut inquiries, first)?;
+    let first = refused(&heap, 1, &mut inquiries, first)?;
+    let first = refused(&heap, 1, &mut inquiries, first)?;
+    let first = refused(&heap, 1, &mut inquiries, first)?;
     heap.allow(1);
     assert!(rt; inquiries.begin(first).is_ok());
     heap.allow(1);
