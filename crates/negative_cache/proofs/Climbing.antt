@@ -1,7 +1,9 @@
 -- From a name to the names above it.
 use Rattle.std.proofs.Common.{◌≡◌, ℕ, ◌+◌, ◌<◌, true, false, List, [], ◌∷◌, length, Option, None, Some, refl, ap, sym, subst, ◌∙◌, arith}
-use Rattle.std.specs.Option.{option_or}
-use Rattle.dns_name.specs.Labels.{lowered}
+use Rattle.std.specs.Option.{option_or, option_eq}
+use Rattle.std.specs.Prelude.{nat_eq}
+use Rattle.dns_name.specs.Labels.{lowered, IsUnder}
+use Rattle.dns_name.proofs.CallerLemmas.{under_itself, under_transitive, longer_is_under}
 use Rattle.suffix_routes.specs.Values.{Route}
 use Rattle.suffix_routes.specs.Routes.{route_of}
 use Rattle.record_cache.specs.Values.{Held}
@@ -9,7 +11,7 @@ use Rattle.record_cache.specs.Ageing.{is_alive}
 use Rattle.record_cache.specs.Entries.{entry_of, has_name_error}
 use Rattle.record_cache.proofs.CallerLemmas.{entry_has_slot}
 use Rattle.negative_cache.specs.BySlot.{slots_of, only, is_on, name_error_of, name_error_on, climbed, above}
-use Rattle.negative_cache.proofs.Options.{only_some, only_true, option_decides}
+use Rattle.negative_cache.proofs.Options.{only_some, only_true, only_false, option_decides}
 use Rattle.negative_cache.proofs.Denying.{error_slot}
 use Rattle.negative_cache.proofs.Depths.{no_name_error}
 
@@ -62,7 +64,28 @@ pub own_is_none : (routes : List Route) (moment class : ℕ) (entries : List Hel
 own_is_none routes moment class entries key none =
     climbed_higher (name_error_on routes (route_of routes key) moment (slots_of entries) class) key (ap (only (is_on routes (route_of routes key))) none)
 
+-- the name of the entry has the name's route
+pub on_is : (routes : List Route) (route : Option ℕ) (moment class : ℕ) (entries : List Held) (key : List (List ℕ)) (h : Held) → name_error_of moment (slots_of entries) class key ≡ Some h
+    → is_on routes route h ≡ option_eq nat_eq (route_of routes key) route
+on_is routes route moment class entries key h found =
+    ap (λ s. option_eq nat_eq (route_of routes s.key) route) (sym (error_key moment class entries key h found))
+
+pub on_route : (routes : List Route) (route : Option ℕ) (moment class : ℕ) (entries : List Held) (key : List (List ℕ)) (h : Held) → Some h ≡ name_error_of moment (slots_of entries) class key
+    → option_eq nat_eq (route_of routes key) route ≡ true → Some h ≡ name_error_on routes route moment (slots_of entries) class key
+on_route routes route moment class entries key h found on =
+    sym (ap (only (is_on routes route)) (sym found) ∙ only_true (is_on routes route) h (on_is routes route moment class entries key h (sym found) ∙ on))
+
+pub off_route : (routes : List Route) (route : Option ℕ) (moment class : ℕ) (entries : List Held) (key : List (List ℕ)) (h : Held) → Some h ≡ name_error_of moment (slots_of entries) class key
+    → option_eq nat_eq (route_of routes key) route ≡ false → None ≡ name_error_on routes route moment (slots_of entries) class key
+off_route routes route moment class entries key h found off =
+    sym (ap (only (is_on routes route)) (sym found) ∙ only_false (is_on routes route) h (on_is routes route moment class entries key h (sym found) ∙ off))
+
 -- ---- one name higher
+
+-- a name is under the name one label higher too
+pub under_higher : (key rest higher : List (List ℕ)) (label : List ℕ) → rest ≡ label ∷ higher → IsUnder key rest → IsUnder key higher
+under_higher key rest higher label is under =
+    under_transitive key rest higher under (subst (λ (n : List (List ℕ)). IsUnder n higher) (sym is) (longer_is_under label higher higher (under_itself higher)))
 
 -- the labels behind the first one are in lower case too
 pub lower_higher : (rest higher : List (List ℕ)) (label : List ℕ) → rest ≡ label ∷ higher → lowered rest ≡ rest → lowered higher ≡ higher

@@ -34,3 +34,9 @@ option_decides None None = (λ h. refl, λ h. refl)
 option_decides None (Some b) = (λ h. cc, λ h. cc)
 option_decides (Some a) None = (λ h. cc, λ h. cc)
 option_decides (Some a) (Some b) = (λ h. ap Some ((Decides-eqb a b).0 h), λ h. let e : a ≡ b = cc in (Decides-eqb a b).1 e)
+
+pub option_differs : (a b : Option ℕ) → (a ≡ b → ⊥) → option_eq nat_eq a b ≡ false
+option_differs a b differ = (elim (option_eq nat_eq a b) as (λ t. option_eq nat_eq a b ≡ t → t ≡ false) [
+  | true ↦ λ is. absurd (differ ((option_decides a b).0 is))
+  | false ↦ λ is. refl
+]) refl

@@ -1,14 +1,14 @@
 //! Name errors of a name and of the names above it.
 
-ghost use Rattle.std.specs.Prelude.{◌≡◌, ◌<◌, ℕ, length, false, nat_eq};
+ghost use Rattle.std.specs.Prelude.{◌≡◌, ◌<◌, ◌+◌, ◌↔◌, ℕ, IsTrue, length, false, nat_eq};
 ghost use Rattle.std.specs.Option.{option_copied, option_eq};
-ghost use Rattle.dns_name.specs.Labels.{labels_of, lowered, IsLaidOut};
+ghost use Rattle.dns_name.specs.Labels.{labels_of, lowered, size_of, IsLaidOut, IsUnder};
 ghost use Rattle.suffix_routes.specs.Routes.{route_of};
 ghost use Rattle.record_cache.specs.Entries.{has_name_error};
 ghost use Rattle.negative_cache.specs.BySlot.{above, name_error_of, name_error_on, nearest_error, slots_of};
 
 use crate::living::living_entry;
-use dns_name::{NameKey, split_label};
+use dns_name::{Name, NameKey, split_label};
 use record_cache::{Cache, Held};
 use std::alloc::Allocator;
 use std::hash::BuildHasher;
@@ -30,8 +30,8 @@ pub(crate) fn has_name_error_below<H: BuildHasher + Drop, A: Allocator + Copy>(
     false
 }
 
-/// The nearest living name error of the name or of one above it whose own name has the route of the name. A route is looked
-/// up only where a living one of a name above is met.
+/// The nearest living name error of the name or of one above it whose own name has the route of the name. Routes are looked
+/// at only where a living one of a name above is met.
 pub(crate) fn nearest_name_error<'a, H: BuildHasher + Drop, A: Allocator + Copy>(
     cache: &'a Cache<H, A>,
     key: &NameKey,
@@ -50,23 +50,26 @@ pub(crate) fn nearest_name_error<'a, H: BuildHasher + Drop, A: Allocator + Copy>
     if let Some(held) = name_error_of(cache, octets, depth, class, moment) {
         return Some(held);
     }
-    nearest_above(cache, key, class, moment, config)
+    nearest_above(cache, key, depth, class, moment, config)
 }
 
-/// The nearest living name error of the names above a name whose own name has the route of the name.
+/// The nearest living name error of the names above a name, which has so many labels, whose own name has the route of the
+/// name.
 fn nearest_above<'a, H: BuildHasher + Drop, A: Allocator + Copy>(
     cache: &'a Cache<H, A>,
     key: &NameKey,
+    labels: usize,
     class: u16,
     moment: u64,
     config: &Config<A>,
 ) -> Option<&'a Held<A>>
+    requires { labels ≡ length key.now }
     ensures { option_copied result
         ≡ above (name_error_on config.now.routes (route_of config.now.routes key.now) moment
         (slots_of cache.now.entries) class) key.now }
 {
     let mut rest = key.octets();
-    let mut depth = key.labels().count();
+    let mut depth = labels;
     while let Some((_, higher)) = split_label(rest) {
         rest = higher;
         depth -= 1;
@@ -78,7 +81,7 @@ fn nearest_above<'a, H: BuildHasher + Drop, A: Allocator + Copy>(
 }
 
 /// The living name error of the name that these octets are, which has so many labels, where that name has the route of the
-/// name that is asked for.
+/// name that is asked for, which is below it.
 fn name_error_on<'a, H: BuildHasher + Drop, A: Allocator + Copy>(
     cache: &'a Cache<H, A>,
     octets: &[u8],
@@ -91,23 +94,44 @@ fn name_error_on<'a, H: BuildHasher + Drop, A: Allocator + Copy>(
     requires laid { IsLaidOut octets.now }
     requires lower { lowered (labels_of octets.now) ≡ labels_of octets.now }
     requires depth { depth ≡ length (labels_of octets.now) }
+    requires under { IsUnder asked.now (labels_of octets.now) }
     ensures { option_copied result
         ≡ name_error_on config.now.routes (route_of config.now.routes asked.now) moment
         (slots_of cache.now.entries) class (labels_of octets.now) }
 {
     let held = name_error_of(cache, octets, depth, class, moment)?;
-    if has_route_of(config, &held.piece.slot.key, asked) {
+    if has_route_of(config, octets, asked) {
         Some(held)
     } else {
         None
     }
 }
 
-/// Whether the names with these keys have one route, or both none.
-fn has_route_of<A: Allocator>(config: &Config<A>, key: &NameKey, other: &NameKey) -> bool
-    ensures { result ≡ option_eq nat_eq (route_of config.now.routes key.now) (route_of config.now.routes other.now) }
+/// Whether the name that these octets are has the route of the name that is asked for, or both have none. The latter is
+/// below the former, so they have one route exactly where it is under no suffix with more octets than the former.
+fn has_route_of<A: Allocator>(config: &Config<A>, octets: &[u8], asked: &NameKey) -> bool
+    requires laid { IsLaidOut octets.now }
+    requires under { IsUnder asked.now (labels_of octets.now) }
+    ensures { result
+        ≡ option_eq nat_eq (route_of config.now.routes (labels_of octets.now))
+        (route_of config.now.routes asked.now) }
 {
-    config.route_of_key(key) == config.route_of_key(other)
+    let routes = config.routes();
+    for route in routes {
+        let suffix = &route.suffix;
+        if is_under_longer(asked, suffix, octets.len()) {
+            return false;
+        }
+    }
+    true
+}
+
+/// Whether a name is under a suffix with more octets than these, the zero octet at its end left out. Most suffixes are told
+/// by their length alone.
+fn is_under_longer<A: Allocator>(key: &NameKey, suffix: &Name<A>, size: usize) -> bool
+    ensures { IsTrue result ↔ (IsUnder key.now suffix.now × (size + 1 < size_of suffix.now)) }
+{
+    suffix.octets().len() > size && key.is_under(suffix)
 }
 
 /// The living name error of the name that these octets are, which has so many labels.

@@ -38,7 +38,7 @@ pub fn find<'a, H: BuildHasher + Drop, A: Allocator + Copy>(
     find_by_key(cache, &name.key(), class, kind, moment, config)
 }
 
-/// What `find` gives for each name that has this key. A route is looked up only where a living name error of a name above
+/// What `find` gives for each name that has this key. Routes are looked at only where a living name error of a name above
 /// it is met. It takes no memory.
 pub fn find_by_key<'a, H: BuildHasher + Drop, A: Allocator + Copy>(
     cache: &'a Cache<H, A>,

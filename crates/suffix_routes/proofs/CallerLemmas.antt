@@ -1,9 +1,9 @@
 -- What the proofs of crates above cite of routes.
-use Rattle.std.proofs.Common.{◌≡◌, ℕ, ◌<◌, List, length, Some}
+use Rattle.std.proofs.Common.{◌≡◌, ℕ, ◌<◌, ◌≤◌, List, length, Some}
 use Rattle.std.specs.Prelude.{slice_get}
 use Rattle.std.specs.List.{AllByRecursion}
-use Rattle.dns_name.specs.Labels.{IsSame, lowered}
-use Rattle.suffix_routes.specs.Values.{Route, IsRoute}
+use Rattle.dns_name.specs.Labels.{IsSame, IsUnder, lowered, size_of}
+use Rattle.suffix_routes.specs.Values.{Route, IsRoute, AllDiffer}
 use Rattle.suffix_routes.specs.Routes.{IsRouteOf, route_of}
 use Rattle.suffix_routes.proofs.RouteLaws as routes
 
@@ -26,3 +26,14 @@ route_found_within = routes.route_of-within
 -- each of the routes is a route, so the one at a place is
 pub route_at_place_is_route : (routes : List Route) (place : ℕ) (route : Route) → AllByRecursion IsRoute routes → slice_get routes place ≡ Some route → IsRoute route
 route_at_place_is_route = routes.route_holds
+
+-- a name has the route of a name above it where no suffix of it has more octets than that one, and else another
+pub routes_above_same : (routes : List Route) (name above : List (List ℕ)) → AllDiffer routes → IsUnder name above
+    → ((k : ℕ) (other : Route) → slice_get routes k ≡ Some other → IsUnder name other.suffix → size_of other.suffix ≤ size_of above)
+    → route_of routes above ≡ route_of routes name
+routes_above_same = routes.route_of-above
+
+pub routes_above_differ : (routes : List Route) (name above : List (List ℕ)) (k : ℕ) (other : Route) → IsUnder name above
+    → slice_get routes k ≡ Some other → IsUnder name other.suffix → size_of above < size_of other.suffix
+    → route_of routes above ≡ route_of routes name → ⊥
+routes_above_differ = routes.route_of-longer

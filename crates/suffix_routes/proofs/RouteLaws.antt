@@ -7,7 +7,7 @@ use Rattle.std.specs.List.{AllByRecursion, position_or_len}
 use Rattle.std.proofs.lemmas.Option.{slice_get_within}
 use Rattle.std.proofs.lemmas.Bool.{cases_Bool, cases_lt, lt-ltb, le-ltb}
 use Rattle.dns_name.specs.Labels.{IsUnder, IsSame, lowered, same, size_of}
-use Rattle.dns_name.proofs.CallerLemmas.{same_as_many_labels, same_decides, lowered_again, ends_where_under, under_respects_same, suffixes_same, under_itself, more_labels_more_octets, size_at_least_one, longer_is_under}
+use Rattle.dns_name.proofs.CallerLemmas.{same_as_many_labels, same_decides, lowered_again, ends_where_under, under_respects_same, suffixes_same, under_itself, under_transitive, suffix_under_suffix, more_labels_more_octets, same_as_many_octets, size_at_least_one, longer_is_under}
 use Rattle.suffix_routes.specs.Values.{Route, IsRoute, HasNoSuffix, AllDiffer}
 use Rattle.suffix_routes.specs.Routes.{IsRouteOf, IsAnswer, route_at, place_or, route_of}
 
@@ -278,3 +278,53 @@ pub route_holds : (routes : List Route) (place : ℕ) (r : Route) → AllByRecur
 route_holds [] place r each there = absurd (let no : None ≡ Some r = there in cc)
 route_holds (x ∷ xs) zero r each there = let one : x ≡ r = cc in subst IsRoute one each.0
 route_holds (x ∷ xs) (suc k) r each there = route_holds xs k r each.1 there
+
+-- ---- a name and one above it
+
+-- the name above is under each suffix of the name that has no more octets
+above_is_under : (name above s : Name) → IsUnder name above → IsUnder name s → size_of s ≤ size_of above → IsUnder above s
+above_is_under name above s under mine le = suffix_under_suffix name above s under mine (no_longer name s above mine under le)
+
+answer_of_above : (routes : List Route) (name above : Name) (answer : Option ℕ) → IsUnder name above
+    → ((k : ℕ) (other : Route) → slice_get routes k ≡ Some other → IsUnder name other.suffix → size_of other.suffix ≤ size_of above)
+    → IsAnswer routes above answer → IsAnswer routes name answer
+answer_of_above routes name above None under short answer = λ k other there mine.
+    answer k other there (above_is_under name above other.suffix under mine (short k other there mine))
+answer_of_above routes name above (Some place) under short answer = record {
+  route = answer.route;
+  there = answer.there;
+  under = under_transitive name above answer.route.suffix under answer.under;
+  most = λ k other there mine. answer.most k other there (above_is_under name above other.suffix under mine (short k other there mine));
+}
+
+-- where no suffix of a name has more octets than a name above it, the two have one route
+pub route_of-above : (routes : List Route) (name above : Name) → AllDiffer routes → IsUnder name above
+    → ((k : ℕ) (other : Route) → slice_get routes k ≡ Some other → IsUnder name other.suffix → size_of other.suffix ≤ size_of above)
+    → route_of routes above ≡ route_of routes name
+route_of-above routes name above differ under short =
+    computed routes name (route_of routes above) differ (answer_of_above routes name above (route_of routes above) under short (route_of-is routes above))
+
+-- of two suffixes of a name the one that has no more labels has no more octets
+no_larger : (name s t : Name) → IsUnder name s → IsUnder name t → length s ≤ length t → size_of s ≤ size_of t
+no_larger name s t us ut le =
+    elim (cases_lt (length s) (length t)) [
+      | inl lt ↦ omega (arith, more_labels_more_octets name t s ut us lt)
+      | inr ge ↦ omega (arith, same_as_many_octets s t (suffixes_same name s t us ut (omega (arith, le, ge))))
+    ]
+
+no_answer_of_both : (routes : List Route) (name above : Name) (answer : Option ℕ) (k : ℕ) (other : Route) → IsUnder name above
+    → slice_get routes k ≡ Some other → IsUnder name other.suffix → size_of above < size_of other.suffix
+    → IsAnswer routes above answer → IsAnswer routes name answer → ⊥
+no_answer_of_both routes name above None k other under there mine long higher lower = lower k other there mine
+no_answer_of_both routes name above (Some place) k other under there mine long higher lower =
+    let one : lower.route ≡ higher.route = here routes place higher.route lower.route place refl higher.there lower.there in
+    let few = subst (λ (r : Route). length other.suffix ≤ length r.suffix) one (lower.most k other there mine) in
+    let short = (ends_where_under above higher.route.suffix higher.under).fewer in
+    omega (arith, long, no_larger name other.suffix above mine under (omega (arith, few, short)))
+
+-- where one has, they have not
+pub route_of-longer : (routes : List Route) (name above : Name) (k : ℕ) (other : Route) → IsUnder name above
+    → slice_get routes k ≡ Some other → IsUnder name other.suffix → size_of above < size_of other.suffix
+    → route_of routes above ≡ route_of routes name → ⊥
+route_of-longer routes name above k other under there mine long one =
+    no_answer_of_both routes name above (route_of routes above) k other under there mine long (route_of-is routes above) (subst (λ (answer : Option ℕ). IsAnswer routes name answer) (sym one) (route_of-is routes name))

@@ -1,5 +1,5 @@
 use Rattle.std.proofs.Common.{◌≡◌, length}
-use Rattle.dns_name.specs.Labels.{labels_of, lowered, IsLaidOut}
+use Rattle.dns_name.specs.Labels.{labels_of, lowered, IsLaidOut, IsUnder}
 use Rattle.suffix_routes.specs.Routes.{route_of}
 use Rattle.negative_cache.specs.BySlot.{slots_of, above, name_error_on}
 use Rattle.negative_cache.proofs.errors.nearest_above.Given as goal
@@ -9,6 +9,7 @@ invariant-loop-higher g l = record {
   laid : IsLaidOut l.rest;
   lower : lowered (labels_of l.rest) ≡ labels_of l.rest;
   depth : l.depth ≡ length (labels_of l.rest);
+  under : IsUnder l.key (labels_of l.rest);
   left : above (name_error_on l.config.routes (route_of l.config.routes l.key) l.moment (slots_of l.cache.entries) l.class) (labels_of l.rest)
       ≡ above (name_error_on l.config.routes (route_of l.config.routes l.key) l.moment (slots_of l.cache.entries) l.class) l.key;
 }
