@@ -1,6 +1,6 @@
 //! What a cached answer costs, from the octets of a question to the octets of its answer.
 
-use crate::filling::{MANY, ROUNDS, full_cache, held_of, numbered, slots_of};
+use crate::filling::{MANY, ROUNDS, addresses, full_cache, held_of, numbered, slots_of};
 use answer_builder::{AskedRef, Transport, put_answer};
 use anyhow::Result;
 use dns_message::{MessageRef, QuestionRef};
@@ -178,7 +178,23 @@ fn measure_hits(rt: &HostRuntime, count: usize) -> Result<()> {
     Ok(())
 }
 
-/// Prints what answers below a name error cost beside a set, with so many routes.
+/// Prints what the answer to one name costs, time and again.
+fn measure_name(
+    rt: &HostRuntime,
+    cache: &mut Cache<RandomState>,
+    config: &Config,
+    routes: usize,
+    name: &str,
+) -> Result<()> {
+    let alloc = rt.alloc();
+    let mut questions = Vec::new(alloc);
+    questions.push(question_of(alloc, &Name::from_text(alloc, name)?)?)?;
+    let (answers, took) = time_of(rt, cache, config, &questions)?;
+    println!(rt; "{routes} routes: {name}: {answers} answers, {took} ns")?;
+    Ok(())
+}
+
+/// Prints what answers at and below a name error cost beside sets of names with as many labels, with so many routes.
 fn measure_denials(rt: &HostRuntime, count: usize) -> Result<()> {
     let alloc = rt.alloc();
     let config = routes(alloc, count)?;
@@ -186,16 +202,22 @@ fn measure_denials(rt: &HostRuntime, count: usize) -> Result<()> {
     offer_name_error(alloc, &mut cache, &config)?;
     for name in [
         "host7.some-example.com",
+        "a.host7.some-example.com",
+        "b.a.host7.some-example.com",
+        "c.b.a.host7.some-example.com",
+        "d.c.b.a.host7.some-example.com",
+    ] {
+        let _ = cache.offer(addresses(alloc, Name::from_text(alloc, name)?)?, 0);
+        measure_name(rt, &mut cache, &config, count, name)?;
+    }
+    for name in [
         "gone.example.net",
         "a.gone.example.net",
         "b.a.gone.example.net",
         "c.b.a.gone.example.net",
         "d.c.b.a.gone.example.net",
     ] {
-        let mut questions = Vec::new(alloc);
-        questions.push(question_of(alloc, &Name::from_text(alloc, name)?)?)?;
-        let (answers, took) = time_of(rt, &mut cache, &config, &questions)?;
-        println!(rt; "{count} routes: {name}: {answers} answers, {took} ns")?;
+        measure_name(rt, &mut cache, &config, count, name)?;
     }
     Ok(())
 }
