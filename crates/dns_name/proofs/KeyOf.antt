@@ -55,6 +55,13 @@ lower_more octets i lt le =
     let front : length (map to_ascii_lowercase (take i octets)) ≡ i = omega (arith, length-map (take i octets) to_ascii_lowercase, length-take i octets) in
     rw (one, take_more octets i 0 lt, map-append) (set_at (map to_ascii_lowercase (take i octets)) 0 (replicate (255 - (i + 1)) 0) (to_ascii_lowercase (get_or octets i 0)) i front ∙ sym (append_assoc (map to_ascii_lowercase (take i octets)) (to_ascii_lowercase (get_or octets i 0) ∷ []) (replicate (255 - (i + 1)) 0)))
 
+-- octets in lower case are equal where they are with zeros behind them
+pub padded_same : (a b : List ℕ) → length a ≡ length b → padded (map to_ascii_lowercase a) ≡ padded (map to_ascii_lowercase b) → map to_ascii_lowercase a ≡ map to_ascii_lowercase b
+padded_same a b size same =
+    let long : length (map to_ascii_lowercase a) ≡ length (map to_ascii_lowercase b) = omega (arith, size, length-map a to_ascii_lowercase, length-map b to_ascii_lowercase) in
+    let front : (c : List ℕ) → take (length c) (padded c) ≡ c = λ c. take_at c (replicate (255 - length c) 0) (length c) refl in
+    sym (front (map to_ascii_lowercase a)) ∙ ap (take (length (map to_ascii_lowercase a))) same ∙ ap (λ (n : ℕ). take n (padded (map to_ascii_lowercase b))) long ∙ front (map to_ascii_lowercase b)
+
 -- a key's labels are in lower case
 pub key_lower : (octets : List ℕ) (len : ℕ) → IsKey octets len → lowered (labels_of (take (len - 1) octets)) ≡ labels_of (take (len - 1) octets)
 key_lower octets len key =

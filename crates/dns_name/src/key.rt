@@ -112,6 +112,22 @@ fn lower_with_zeros(octets: &[u8]) -> [u8; 255]
     all
 }
 
+/// So many octets are compared one by one, up to the first that differs.
+const FEW: usize = 32;
+
+/// Equal octets, at most 255, ASCII letter case aside (RFC 1035 2.3.3). More than a few are turned to lower case before any
+/// are compared: with no branch at each octet, many are taken at once.
+#[tactic(auto, using(crate::proofs::KeyOf::padded_same))]
+pub(crate) fn is_same_text(a: &[u8], b: &[u8]) -> bool
+    requires { length a.now ≤ 255 }
+    ensures { IsTrue result ↔ (map to_ascii_lowercase a.now ≡ map to_ascii_lowercase b.now) }
+{
+    if a.len() <= FEW {
+        return a.eq_ignore_ascii_case(b);
+    }
+    a.len() == b.len() && lower_with_zeros(a) == lower_with_zeros(b)
+}
+
 /// The key of a name that has these octets.
 #[tactic(auto, using(crate::proofs::LabelLaws::laid_short))]
 pub(crate) fn key_of(name: &[u8]) -> NameKey

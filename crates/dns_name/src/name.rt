@@ -5,7 +5,7 @@ ghost use Rattle.dns_name.specs.Labels.{IsLabel, IsName, IsSame, IsUnder, size_o
 ghost use Rattle.dns_name.specs.Faults.{Gives, first_fault, label_fault, named, pushed};
 
 use crate::fault::NameFault;
-use crate::key::{NameKey, key_of};
+use crate::key::{NameKey, is_same_text, key_of};
 use crate::labels::{Labels, labels_in, split_label};
 use std::alloc::{AllocError, Allocator, Global};
 use std::marker::Model;
@@ -69,10 +69,11 @@ impl<A: Allocator> Name<A> {
     }
 
     /// Whether the names have equal labels, ASCII letter case aside (RFC 1035 2.3.3). It takes no memory.
+    #[tactic(auto, using(crate::proofs::LabelLaws::laid_short))]
     pub fn same(&self, other: &Name<A>) -> bool
         ensures { IsTrue result ↔ IsSame self.now other.now }
     {
-        self.octets.eq_ignore_ascii_case(&other.octets)
+        is_same_text(&self.octets, &other.octets)
     }
 }
 

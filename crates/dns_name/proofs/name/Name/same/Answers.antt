@@ -4,6 +4,6 @@ use Rattle.dns_name.proofs.name.Name.same.Goals as goal
 pub returns : goal.returns
 returns g c =
     rw (← c.self.view_is, ← c.other.view_is) (
-      λ yes. same_octets _ _ c.self.invariant c.other.invariant (rw (c.deref.ensures.value, c.deref-2.ensures.value) at (c.eq_ignore_ascii_case.ensures.test.0 yes)),
-      λ same. c.eq_ignore_ascii_case.ensures.test.1 (rw (c.deref.ensures.value, c.deref-2.ensures.value) (octets_same _ _ c.self.invariant c.other.invariant same)),
+      λ yes. same_octets _ _ c.self.invariant c.other.invariant (rw (c.deref.ensures.value, c.deref-2.ensures.value) at (c.is_same_text.ensures.0 yes)),
+      λ same. c.is_same_text.ensures.1 (rw (c.deref.ensures.value, c.deref-2.ensures.value) (octets_same _ _ c.self.invariant c.other.invariant same)),
     )
