@@ -1,18 +1,34 @@
 -- The name servers of the authority section, as one loop gathers them.
-use Rattle.std.proofs.Common.{◌≡◌, ℕ, true, false, List, [], ◌∷◌, ◌++◌, length, sym, ap, ◌∙◌, append_assoc}
-use Rattle.std.specs.Prelude.{◌||◌}
+use Rattle.std.proofs.Common.{◌≡◌, ℕ, Bool, true, false, List, [], ◌∷◌, ◌++◌, length, refl, sym, ap, ◌∙◌, append_assoc}
+use Rattle.std.specs.Prelude.{◌&&◌, ◌||◌}
 use Rattle.std.specs.List.{list_any}
 use Rattle.std.proofs.lemmas.Bool.{cond-true, cond-false}
 use Rattle.std.proofs.lemmas.List.{append-nil}
 use Rattle.std.proofs.lemmas.List.Folds.{list_any-append}
 use Rattle.dns_message.specs.Values.{Record}
 use Rattle.trust_rank.specs.Values.{Piece, Reply}
-use Rattle.trust_rank.specs.Walks.{has_owner, begins_set, servers_with, servers_at, servers_from}
+use Rattle.trust_rank.specs.Walks.{has_owner, is_server_for, begins_set, servers_with, servers_at, servers_from}
 use Rattle.trust_rank.proofs.PieceLaws.{empty}
 
 -- an owner among the ones or the others is among both
 pub among_both : (name : List (List ℕ)) (ps qs : List Piece) → list_any (has_owner name) (ps ++ qs) ≡ (list_any (has_owner name) ps || list_any (has_owner name) qs)
 among_both name ps qs = list_any-append (has_owner name) ps qs
+
+and_no : (x : Bool) → (x && false) ≡ false
+and_no true = refl
+and_no false = refl
+
+and_yes : (x : Bool) → (x && true) ≡ x
+and_yes true = refl
+and_yes false = refl
+
+-- a record whose owner has a piece begins no set
+pub begins_none : (r : Reply) (carried : List Piece) (s : Record) → list_any (has_owner s.owner) carried ≡ true → begins_set r carried s ≡ false
+begins_none r carried s there = rw there (and_no (is_server_for r s))
+
+-- another begins one where it fits
+pub begins_one : (r : Reply) (carried : List Piece) (s : Record) → list_any (has_owner s.owner) carried ≡ false → begins_set r carried s ≡ is_server_for r s
+begins_one r carried s none = rw none (and_yes (is_server_for r s))
 
 -- a record that begins no set puts none
 pub none_put : (r : Reply) (carried sets : List Piece) (first : Record) (others : List Record) → begins_set r carried first ≡ false → sets ≡ sets ++ servers_at r carried first others

@@ -45,7 +45,9 @@ fn has_piece<A: Allocator>(pieces: &[Piece<A>], sets: &[Piece<A>], name: &Name<A
     is_among(pieces, name) || is_among(sets, name)
 }
 
-/// An NS record that fits, and whose owner has no piece yet.
+/// An NS record that fits, and whose owner has no piece yet. That is asked first: of many records of one owner the route of
+/// the first alone is looked for.
+#[tactic(auto, using(crate::proofs::ServerLaws::begins_none, crate::proofs::ServerLaws::begins_one))]
 fn begins_set<A: Allocator + Copy>(
     reply: &Reply<'_, A>,
     pieces: &[Piece<A>],
@@ -54,7 +56,10 @@ fn begins_set<A: Allocator + Copy>(
 ) -> bool
     ensures { result ≡ begins_set reply.now (pieces.now ++ sets.now) record.now }
 {
-    is_server_for(reply, record) && !has_piece(pieces, sets, &record.owner)
+    if has_piece(pieces, sets, &record.owner) {
+        return false;
+    }
+    is_server_for(reply, record)
 }
 
 /// The NS set that begins with this record.
