@@ -7,10 +7,6 @@ use Rattle.message_names.specs.Reading.{behind}
 use Rattle.message_names.specs.Names.{with_label, NameIs}
 use Rattle.message_names.specs.Runs.{with_front}
 
-pub front_more : (front : List (List ℕ)) (l : List ℕ) (r : Result (List (List ℕ) × ℕ) Fault) → with_front front (with_label l r) ≡ with_front (front ++ l ∷ []) r
-front_more front l (Ok n) = ap (λ (ls : List (List ℕ)). Ok (ls, n.1)) (sym (append_assoc front (l ∷ []) n.0))
-front_more front l (Err fault) = refl
-
 pub front_run : (front ls : List (List ℕ)) (r : Result (List (List ℕ) × ℕ) Fault) → with_front front (with_front ls r) ≡ with_front (front ++ ls) r
 front_run front ls (Ok n) = ap (λ (all : List (List ℕ)). Ok (all, n.1)) (sym (append_assoc front ls n.0))
 front_run front ls (Err fault) = refl

@@ -2,16 +2,16 @@
 #![tactic(auto)]
 
 mod fault;
+mod labels;
 mod names;
 mod numbers;
-mod runs;
 mod shortcuts;
 mod sizes;
 mod walk;
 
 pub use fault::Fault;
+pub use labels::put_labels;
 pub use names::{key_at, read_name, readable_name_end, skip_name, skip_same_name};
 pub use numbers::{number16, number32};
-pub use runs::{Run, next_run};
 pub use shortcuts::{PLACES, SMALL};
 pub use walk::{Bound, Walk, part};

@@ -7,7 +7,7 @@ ghost use Rattle.message_names.specs.Sizes.{AreSizes};
 ghost use Rattle.message_names.specs.Names.{name_at, name_within, NameIs, keyed};
 
 use crate::fault::Fault;
-use crate::runs::{Run, next_run};
+use crate::labels::put_labels;
 use crate::sizes::size_of_name;
 use crate::walk::{Bound, Next, Step, Walk, next_label, step_at};
 use dns_name::{Name, NameKey};
@@ -28,19 +28,9 @@ pub fn read_name<A: Allocator>(
     ensures known { AreShortcuts bytes.now ends.new }
 {
     let mut octets = [0u8; 255];
-    let mut walk = Walk::new(bytes, Bound::whole(bytes), offset);
-    loop {
-        match next_run(bytes, ends, walk)? {
-            Run::End(end) => {
-                let name = Name::from_octets(alloc, &octets[..walk.used])?;
-                return Ok((name, end));
-            }
-            Run::Labels(labels, after) => {
-                octets[walk.used..after.used].copy_from_slice(labels);
-                walk = after;
-            }
-        }
-    }
+    let (used, end) = put_labels(&mut octets, bytes, ends, Bound::whole(bytes), offset)?;
+    let name = Name::from_octets(alloc, &octets[..used])?;
+    Ok((name, end))
 }
 
 /// The place behind the name at a place, in a run that must end before a bound. The octets of the names that pointers
@@ -122,14 +112,6 @@ pub fn key_at(bytes: &[u8], offset: usize) -> Result<NameKey, Fault>
     ensures { result ≡ keyed (name_at bytes.now offset) }
 {
     let mut octets = [0u8; 255];
-    let mut walk = Walk::new(bytes, Bound::whole(bytes), offset);
-    loop {
-        match next_run(bytes, &mut [], walk)? {
-            Run::End(_) => return Ok(NameKey::from_octets(&octets[..walk.used])),
-            Run::Labels(labels, after) => {
-                octets[walk.used..after.used].copy_from_slice(labels);
-                walk = after;
-            }
-        }
-    }
+    let (used, _) = put_labels(&mut octets, bytes, &mut [], Bound::whole(bytes), offset)?;
+    Ok(NameKey::from_octets(&octets[..used]))
 }

@@ -1,14 +1,13 @@
 -- The parts of a record's data, one after another.
-use Rattle.std.proofs.Common.{◌≡◌, ℕ, ◌+◌, ◌<◌, ◌≤◌, List, [], ◌∷◌, ◌++◌, length, drop, get_or, Result, Ok, Err, refl, sym, ap, ◌∙◌, append_assoc, arith}
-use Rattle.std.proofs.lemmas.List.{drop_more, drop_all, append-nil}
+use Rattle.std.proofs.Common.{◌≡◌, ℕ, ◌+◌, ◌<◌, ◌≤◌, List, [], ◌++◌, length, take, drop, get_or, set, Result, Ok, Err, refl, sym, ap, ◌∙◌, append_assoc, arith}
+use Rattle.std.proofs.lemmas.List.{drop_more, drop_all, append-nil, take_more_set}
 use Rattle.first_fault.proofs.CallerLemmas.{fault_of_part}
 use Rattle.message_names.specs.declared.fault.Fault.{Fault}
 use Rattle.message_names.specs.declared.fault.Fault.TheVariants.{Rdata}
 use Rattle.message_reading.specs.declared.shape.Part.{Part}
 use Rattle.message_names.specs.Reading.{◌>>=◌, wants_memory, Fails, behind}
-use Rattle.dns_name.specs.Labels.{octets_of, labels_of, IsLaidOut}
-use Rattle.dns_name.proofs.CallerLemmas.{octets_joined}
-use Rattle.message_names.specs.Runs.{with_front}
+use Rattle.dns_name.specs.Labels.{octets_of, labels_of}
+use Rattle.message_names.specs.Runs.{Begins}
 use Rattle.message_reading.specs.Data.{written_out, prefixed, part_at, parts_at}
 
 -- ---- parts that are read
@@ -21,12 +20,14 @@ pub prefixed_none : (r : Result (List ℕ × ℕ) Fault) → prefixed [] r ≡ r
 prefixed_none (Ok x) = refl
 prefixed_none (Err fault) = refl
 
--- labels of a name in data, and what comes behind them
-pub written_run : (front octets : List ℕ) (r : Result (List (List ℕ) × ℕ) Fault) → IsLaidOut octets → prefixed front (written_out (with_front (labels_of octets) r)) ≡ prefixed (front ++ octets) (written_out r)
-written_run front octets (Ok n) laid =
-    let text : octets_of (labels_of octets ++ n.0) ≡ octets ++ octets_of n.0 = octets_joined (labels_of octets) n.0 ∙ ap (λ (o : List ℕ). o ++ octets_of n.0) laid.whole in
-    rw text (ap (λ (o : List ℕ). Ok (o, n.1)) (ap (λ (o : List ℕ). front ++ o) (append_assoc octets (octets_of n.0) (0 ∷ [])) ∙ sym (append_assoc front octets (octets_of n.0 ++ 0 ∷ []))))
-written_run front octets (Err fault) laid = refl
+-- the labels of a name in data, and the zero octet behind them
+pub written_name : (front octets : List ℕ) (count end : ℕ) (read : Result (List (List ℕ) × ℕ) Fault) → count < length octets → Begins octets count end read → prefixed front (written_out read) ≡ Ok (front ++ take (count + 1) (set octets count 0), end)
+written_name front octets count end read inside b =
+    let text : octets_of (labels_of (take count octets)) ≡ take count octets = b.laid.whole in
+    rw (b.labels, take_more_set octets count 0 inside, text) refl
+
+pub written_fault : (front : List ℕ) (read : Result (List (List ℕ) × ℕ) Fault) (fault : Fault) → read ≡ Err fault → prefixed front (written_out read) ≡ Err fault
+written_fault front read fault is = rw is refl
 
 more_by : (front new : List ℕ) (after : ℕ) (r : Result (List ℕ × ℕ) Fault) (rest : ℕ → Result (List ℕ × ℕ) Fault) → prefixed front r ≡ Ok (new, after) → prefixed front (r >>= λ first. prefixed first.0 (rest first.1)) ≡ prefixed new (rest after)
 more_by front new after (Ok x) rest is =

@@ -9,7 +9,7 @@ ghost use Rattle.message_reading.specs.Data.{octets_within, written_out, prefixe
 
 use crate::shape::{Part, shape_of};
 use dns_name::Name;
-use message_names::{Bound, Fault, Run, Walk, next_run, part, skip_name};
+use message_names::{Bound, Fault, part, put_labels, skip_name};
 use std::alloc::{AllocError, Allocator};
 
 /// The place behind so many octets of the data.
@@ -25,7 +25,7 @@ fn skip_octets(bytes: &[u8], stop: usize, offset: usize, count: usize) -> Result
 }
 
 /// Writes a name of the data out in full behind the octets, and gives the place behind it.
-#[tactic(auto, using(crate::proofs::DataLaws::written_run))]
+#[tactic(auto, using(crate::proofs::DataLaws::written_name, crate::proofs::DataLaws::written_fault))]
 fn expand_name<A: Allocator>(
     octets: &mut Vec<u8, A>,
     bytes: &[u8],
@@ -38,19 +38,11 @@ fn expand_name<A: Allocator>(
     ensures exact { Gives (λ e. (octets.new.items, e)) result (prefixed octets.old.items (written_out (name_within bytes.now (inside stop) offset))) }
     ensures known { AreShortcuts bytes.now ends.new }
 {
-    let mut walk = Walk::new(bytes, Bound::data(stop), offset);
-    loop {
-        match next_run(bytes, ends, walk)? {
-            Run::End(end) => {
-                octets.push(0)?;
-                return Ok(end);
-            }
-            Run::Labels(labels, after) => {
-                octets.extend_from_slice(labels)?;
-                walk = after;
-            }
-        }
-    }
+    let mut name = [0u8; 255];
+    let (used, end) = put_labels(&mut name, bytes, ends, Bound::data(stop), offset)?;
+    name[used] = 0;
+    octets.extend_from_slice(&name[..used + 1])?;
+    Ok(end)
 }
 
 /// Puts some octets of the data behind the octets, and gives the place behind them.

@@ -1,0 +1,54 @@
+//! The labels of a name, put one behind another.
+
+ghost use Rattle.std.specs.Prelude.{◌≤◌, length};
+ghost use Rattle.message_names.specs.Shortcuts.{AreShortcuts};
+ghost use Rattle.message_names.specs.Names.{name_within};
+ghost use Rattle.message_names.specs.Runs.{ArePut};
+
+use crate::fault::Fault;
+use crate::shortcuts::resolve;
+use crate::walk::{Bound, Step, Walk, part, step_at};
+
+/// Puts the labels of the name at a place, whose run must end before a bound, to the front of `octets`, each behind its
+/// length and without the zero octet at their end. Gives how many octets they take, at most 254, and the place behind the
+/// name. Where pointers lead is remembered in `ends`, which may be empty. It takes no memory.
+///
+/// `Err` is the first fault of the name from its front.
+pub fn put_labels(
+    octets: &mut [u8; 255],
+    bytes: &[u8],
+    ends: &mut [u16],
+    bound: Bound,
+    offset: usize,
+) -> Result<(usize, usize), Fault>
+    requires inside { bound.stop ≤ length bytes.now }
+    requires known { AreShortcuts bytes.now ends.old }
+    ensures exact { ArePut octets.new result (name_within bytes.now bound offset) }
+    ensures known { AreShortcuts bytes.now ends.new }
+{
+    let mut walk = Walk::new(bytes, bound, offset);
+    loop {
+        match step_at(bytes, walk)? {
+            Step::End => return Ok((walk.used, walk.end.unwrap_or(walk.offset + 1))),
+            Step::Label(len) => {
+                let used = walk.used + len + 1;
+                octets[walk.used..used].copy_from_slice(part(bytes, walk.offset, len + 1));
+                walk = Walk {
+                    offset: walk.offset + 1 + len,
+                    used,
+                    ..walk
+                };
+            }
+            Step::Pointer(target) => {
+                let start = resolve(bytes, ends, target);
+                walk = Walk {
+                    offset: start,
+                    run: start,
+                    used: walk.used,
+                    bound: Bound::whole(bytes),
+                    end: Some(walk.end.unwrap_or(walk.offset + 2)),
+                };
+            }
+        }
+    }
+}
