@@ -1,6 +1,6 @@
 -- What was decided is what the row has.
 use Rattle.std.proofs.Common.{◌≡◌, ℕ, ◌+◌, List, [], ◌∷◌, ◌++◌, Bool, true, false, cond, refl, sym, ap, ◌∙◌, subst, Option, Some, None, arith}
-use Rattle.std.specs.Prelude.{filter, map, not, drop, nat_lt, Ok, IsSome}
+use Rattle.std.specs.Prelude.{filter, map, not, drop, nat_lt, Ok, IsSome, Box}
 use Rattle.std.specs.List.{cons_option, AllByRecursion}
 use Rattle.std.proofs.lemmas.Bool.{cond-true, cond-false}
 use Rattle.dns_message.specs.Values.{Question}
@@ -65,10 +65,10 @@ by_change : {A : Type 0} (n : ℕ) (rooms : List Bool) (s : State) (actions : Li
     }
     ≡ offering_step n rooms ps (record { actions = actions; unkept = 0; state = changed n (using used s) change })
 by_change n rooms s actions used ps Nothing = refl
-by_change n rooms s actions used ps (Join x) = refl
-by_change n rooms s actions used ps (Open x a) = refl
+by_change n rooms s actions used ps (Join b) = refl
+by_change n rooms s actions used ps (Open b) = refl
 by_change n rooms s actions used ps (Close path preferred) = refl
-by_change n rooms s actions used ps (AskAgain path a) = refl
+by_change n rooms s actions used ps (AskAgain path b) = refl
 by_change n rooms s actions used ps (Expire closed) = refl
 
 pub carried_out : {A : Type 0} (n : ℕ) (rooms : List Bool) (s : State) (d : Next A) (mid after : State) (unkept : ℕ) → mid ≡ changed n s d.change
@@ -166,9 +166,11 @@ again_is n path s a next on after is = λ i. record { actions = closes a.path �
     after_is : after ≡ (closing_step n a (λ x. waits x) (Some next) s).state
     after_is = is ∙ (λ i. record { cache = s.cache; asks = without_path (sym path_is i) s.asks ++ next ∷ []; waiting = sym (all_wait s.waiting) i; preferred = s.preferred; moment = n; tcp_asks = s.tcp_asks + Rattle.step_rules.specs.Steps.tcp_count (Some next) })
 
-pub again_row : (A : Type 0) (n : ℕ) (path : Path) (s : State) (a next : Ask) (actions : List Action) → ask_on path s.asks ≡ Some a → actions ≡ closes a.path ∷ asks next ∷ []
-    → record { actions = actions; unkept = 0; state = changed {A = A} n s (AskAgain path next) } ≡ closing_step n a (λ x. waits x) (Some next) s
-again_row A n path s a next actions on told = (λ i. record { actions = told i; unkept = 0; state = changed {A = A} n s (AskAgain path next) }) ∙ again_is n path s a next on (changed {A = A} n s (AskAgain path next)) refl
+pub again_row : (A : Type 0) (n : ℕ) (path : Path) (s : State) (a next : Ask) (boxed : Box Ask A) (actions : List Action) → ask_on path s.asks ≡ Some a → boxed.value ≡ next → actions ≡ closes a.path ∷ asks next ∷ []
+    → record { actions = actions; unkept = 0; state = changed {A = A} n s (AskAgain path boxed) } ≡ closing_step n a (λ x. waits x) (Some next) s
+again_row A n path s a next boxed actions on is told =
+    (λ i. record { actions = told i; unkept = 0; state = changed {A = A} n s (AskAgain path boxed) })
+    ∙ again_is n path s a next on (changed {A = A} n s (AskAgain path boxed)) (λ i. record s { asks = without_path path s.asks ++ is i ∷ []; moment = n; tcp_asks = s.tcp_asks + Rattle.step_rules.specs.Steps.tcp_count (Some (is i)) })
 
 -- ---- a question that waits, and one that waits no more
 
@@ -213,7 +215,7 @@ row_is {A} c s s' now n words e d next o moment octets decided is out =
       more = done.more;
     }
 
-pub quiet_at : {A : Type 0} (d : Option (Next A)) (next : Next A) → d ≡ Some next → IsDecidedQuietly {A = A} (Ok d) → next.change ≡ Nothing
+pub quiet_at : {A : Type 0} (d : Option (Next A)) (next : Next A) → d ≡ Some next → IsDecidedQuietly {A = A} (Ok d) → (next.used ≡ []) × (next.change ≡ Nothing)
 quiet_at {A} d next is quiet = subst (λ (r : Option (Next A)). IsDecidedQuietly {A = A} (Ok r)) is quiet
 
 -- ---- a delivery

@@ -49,10 +49,10 @@ closing_path (Some path) = closes path ∷ []
 
 abbrev pub changed : {A : Type 0} → ℕ → State → Change A → State
 changed n s Nothing = record s { moment = n }
-changed n s (Join x) = record s { waiting = s.waiting ++ x ∷ []; moment = n }
-changed n s (Open x a) = record s { asks = s.asks ++ a ∷ []; waiting = s.waiting ++ x ∷ []; moment = n; tcp_asks = s.tcp_asks + tcp_count_of a.path }
+changed n s (Join b) = record s { waiting = s.waiting ++ b.value ∷ []; moment = n }
+changed n s (Open b) = record s { asks = s.asks ++ b.value.ask ∷ []; waiting = s.waiting ++ b.value.waiting ∷ []; moment = n; tcp_asks = s.tcp_asks + tcp_count_of b.value.ask.path }
 changed n s (Close path preferred) = record s { asks = without_path path s.asks; waiting = left_waiting (ask_on path s.asks) s.waiting; preferred = with_preferred preferred s.preferred; moment = n }
-changed n s (AskAgain path a) = record s { asks = without_path path s.asks ++ a ∷ []; moment = n; tcp_asks = s.tcp_asks + tcp_count_of a.path }
+changed n s (AskAgain path b) = record s { asks = without_path path s.asks ++ b.value ∷ []; moment = n; tcp_asks = s.tcp_asks + tcp_count_of b.value.path }
 changed n s (Expire closed) = record s { asks = without_closed closed s.asks; waiting = drop 1 s.waiting; moment = n }
 
 -- an ask that may be listed behind these
@@ -74,10 +74,10 @@ IsServed c (Some p) = p.server < length (Rattle.step_rules.specs.Attempts.server
 
 abbrev pub FitsChange : {A : Type 0} → Config → ℕ → State → Change A → Type 0
 FitsChange c n s Nothing = Unit {0}
-FitsChange c n s (Join x) = CanWait c n s x
-FitsChange c n s (Open x a) = CanWait c n s x × CanFollow c n s s.asks a
+FitsChange c n s (Join b) = CanWait c n s b.value
+FitsChange c n s (Open b) = CanWait c n s b.value.waiting × CanFollow c n s s.asks b.value.ask
 FitsChange c n s (Close path preferred) = IsServed c preferred
-FitsChange c n s (AskAgain path a) = Rattle.std.specs.Prelude.IsSome (ask_on path s.asks) × CanFollow c n s (without_path path s.asks) a
+FitsChange c n s (AskAgain path b) = Rattle.std.specs.Prelude.IsSome (ask_on path s.asks) × CanFollow c n s (without_path path s.asks) b.value
 FitsChange c n s (Expire closed) = Unit {0}
 
 -- what an accepted reply carries, in the order in which it is offered
@@ -102,7 +102,7 @@ next_of n rooms s d =
 
 -- the step takes no memory
 abbrev pub IsQuiet : {A : Type 0} → Result (Next A) AllocError → Type 0
-IsQuiet (Ok next) = next.change ≡ Nothing
+IsQuiet (Ok next) = (next.used ≡ []) × (next.change ≡ Nothing)
 IsQuiet (Err refused) = ⊥
 
 -- what is decided of an event: a restart is told, all else happens as the row has it
@@ -112,7 +112,7 @@ IsDecided c n words s e (Some next) = (rooms : List Bool) → Happens c n words 
 
 abbrev pub IsDecidedQuietly : {A : Type 0} → Result (Option (Next A)) AllocError → Type 0
 IsDecidedQuietly (Ok None) = Unit {0}
-IsDecidedQuietly (Ok (Some next)) = next.change ≡ Nothing
+IsDecidedQuietly (Ok (Some next)) = (next.used ≡ []) × (next.change ≡ Nothing)
 IsDecidedQuietly (Err refused) = ⊥
 
 -- the outcome and the state after are these

@@ -12,6 +12,6 @@ pub use lists::{
     close_inquiry, comes_first, drop_first, end_closed, forget_all, is_any_waiting_for, is_late,
     is_live, is_overdue, list_ask,
 };
-pub use next::{Change, Next, Preferred};
+pub use next::{Change, Next, Opening, Preferred};
 pub use offers::{held_from, offer_all};
 pub use replies::{answers_to, close_path, close_paths, failures, is_waiting_for};

@@ -8,7 +8,7 @@ use outstanding::{Ask, Path};
 use plain_list::PlainList;
 use record_cache::Held;
 use std::alloc::{Allocator, Global};
-use step_look_ups::Slots;
+use step_look_ups::SlotsRef;
 use step_replies::Waiting;
 use step_values::Action;
 use suffix_routes::RouteId;
@@ -20,18 +20,26 @@ pub struct Preferred {
     pub server: usize,
 }
 
-/// What changes beside the moment and the cache.
+/// A question, and the first ask of its inquiry.
+#[derive(Drop)]
+pub struct Opening<A: Allocator = Global> {
+    pub waiting: Waiting<A>,
+    pub ask: Ask<A>,
+}
+
+/// What changes beside the moment and the cache. What it lists stands in a box: most steps list nothing, and hand a change
+/// on that is small.
 #[derive(Drop)]
 pub enum Change<A: Allocator = Global> {
     Nothing,
     /// A question waits for an ask that is listed already.
-    Join(Waiting<A>),
+    Join(Box<Waiting<A>, A>),
     /// A question waits, and the first ask of its inquiry is listed.
-    Open(Waiting<A>, Ask<A>),
+    Open(Box<Opening<A>, A>),
     /// The ask on this path is closed, and those that waited for it wait no more.
     Close(Path, Option<Preferred>),
     /// The ask on this path is closed, and another one for its question is listed.
-    AskAgain(Path, Ask<A>),
+    AskAgain(Path, Box<Ask<A>, A>),
     /// The oldest question waits no more, and the ask on this path, where there is one, is closed.
     Expire(Option<Path>),
 }
@@ -39,17 +47,21 @@ pub enum Change<A: Allocator = Global> {
 /// The actions of a step, and what it changes: the entries of the slots that a look-up used are promoted, and the pieces
 /// that an accepted reply carries are offered to the cache, last.
 #[derive(Drop)]
-pub struct Next<A: Allocator = Global> {
+pub struct Next<'a, A: Allocator = Global> {
     pub actions: PlainList<Action<A>, A>,
-    pub used: Slots<A>,
+    pub used: SlotsRef<'a, A>,
     pub change: Change<A>,
     /// In the order in which they are offered.
     pub carried: Vec<Held<A>, A>,
 }
 
-impl<A: Allocator + Copy> Next<A> {
+impl<'a, A: Allocator + Copy> Next<'a, A> {
     /// These actions and this change, with no look-up and no accepted reply. It takes no memory.
-    pub fn without_cache(alloc: A, actions: PlainList<Action<A>, A>, change: Change<A>) -> Next<A>
+    pub fn without_cache(
+        alloc: A,
+        actions: PlainList<Action<A>, A>,
+        change: Change<A>,
+    ) -> Next<'a, A>
         ensures actions { actions_of result.actions ≡ actions_of actions }
         ensures used { result.used ≡ [] }
         ensures change { result.change ≡ change }
@@ -57,7 +69,7 @@ impl<A: Allocator + Copy> Next<A> {
     {
         Next {
             actions,
-            used: Slots::none(alloc),
+            used: SlotsRef::none(alloc),
             change,
             carried: Vec::new(alloc),
         }

@@ -9,8 +9,8 @@ use Rattle.negative_cache.specs.Finding.{found}
 use Rattle.answer_builder.specs.Building.{lent}
 use Rattle.step_rules.specs.LookingUp as rules
 use Rattle.step_rules.specs.LookingUp.{Looked}
-use Rattle.step_look_ups.specs.declared.looked.Used.{Used}
-use Rattle.step_look_ups.specs.declared.looked.Used.TheVariants.{One, More}
+use Rattle.step_look_ups.specs.declared.used.Used.{Used}
+use Rattle.step_look_ups.specs.declared.used.Used.TheVariants.{One, More}
 use Rattle.step_look_ups.specs.declared.looked.Met.{Met}
 use Rattle.step_look_ups.specs.declared.looked.Met.TheVariants.{Ends, TooLong, Missed}
 

@@ -5,7 +5,8 @@
 mod looked;
 mod looking;
 mod slots;
+mod used;
 
 pub use looked::{Looked, Met};
 pub use looking::look_up;
-pub use slots::{Slots, promote_all};
+pub use slots::{Slots, SlotsRef, promote_all};

@@ -1,14 +1,14 @@
 //! What a look-up along aliases comes to.
 
-ghost use Rattle.std.specs.Prelude.{◌≡◌, IfOk, map};
+ghost use Rattle.std.specs.Prelude.{◌≡◌, map};
 ghost use Rattle.step_look_ups.specs.Seen.{is_ended};
 ghost use Rattle.answer_builder.specs.Building.{lent};
 
-use crate::slots::Slots;
+use crate::slots::SlotsRef;
+use crate::used::Used;
 use record_cache::Held;
-use std::alloc::{AllocError, Allocator, Global};
+use std::alloc::{Allocator, Global};
 use std::marker::Model;
-use std::slice;
 
 /// How a look-up ends.
 #[derive(Clone, Copy, Debug, PartialEq, Eq)]
@@ -19,13 +19,6 @@ pub enum Met {
     TooLong,
     /// At a name of which nothing is known.
     Missed,
-}
-
-/// Entries in order, of which one alone takes no memory.
-#[derive(Drop)]
-pub(crate) enum Used<'a, A: Allocator> {
-    One(&'a Held<A>),
-    More(Vec<&'a Held<A>, A>),
 }
 
 /// The entries that a look-up used, in order, and how it ended: where it came to an end the last of them is that end, and
@@ -63,17 +56,14 @@ impl<'a, A: Allocator + Copy> Looked<'a, A> {
     pub fn used(&self) -> &[&'a Held<A>]
         ensures { lent result.now ≡ self.now.used }
     {
-        match &self.used {
-            Used::One(held) => slice::from_ref(held),
-            Used::More(entries) => entries,
-        }
+        self.used.as_slice()
     }
 
-    /// The slots of the entries that it used, in order. Only where there are more than one does it take memory; `Err` where
-    /// that ran out.
-    pub fn slots(&self, alloc: A) -> Result<Slots<A>, AllocError>
-        ensures { IfOk result (λ slots. slots ≡ map (λ h. h.piece.slot) self.now.used) }
+    /// The slots of the entries that it used, in order.
+    pub fn into_slots(self) -> SlotsRef<'a, A>
+        ensures { result ≡ map (λ h. h.piece.slot) self.entry.used }
     {
-        Slots::of(alloc, self.used())
+        let Looked { used, met: _ } = self;
+        SlotsRef { entries: used }
     }
 }

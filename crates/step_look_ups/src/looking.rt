@@ -10,7 +10,8 @@ ghost use Rattle.trust_rank.specs.Walks.{most_aliases, target_of};
 ghost use Rattle.step_rules.specs.LookingUp.{look_up};
 ghost use Rattle.step_look_ups.specs.Seen.{seen_from, seen_of, IsAlias};
 
-use crate::looked::{Looked, Met, Used};
+use crate::looked::{Looked, Met};
+use crate::used::Used;
 use dns_name::NameKey;
 use message_names::{Bound, skip_name};
 use negative_cache::{Found, find_by_key};
@@ -47,7 +48,7 @@ pub fn look_up<'a, H: BuildHasher + Drop, A: Allocator + Copy>(
         }),
         Found::Alias(held) => follow(alloc, cache, held, class, kind, moment, config),
         Found::Miss => Ok(Looked {
-            used: Used::More(Vec::new(alloc)),
+            used: Used::none(alloc),
             met: Met::Missed,
         }),
     }

@@ -1,14 +1,50 @@
-//! Slots that a look-up used.
+//! Slots that a look-up used: lent by the cache, and on their own.
 
-ghost use Rattle.std.specs.Prelude.{◌≡◌, [], map, IfOk};
+ghost use Rattle.std.specs.Prelude.{◌≡◌, [], map, IfOk, IsOk};
 ghost use Rattle.answer_builder.specs.Building.{lent};
 ghost use Rattle.step_rules.specs.LookingUp.{promoted_all};
 
+use crate::used::Used;
 use record_cache::{Cache, Held};
 use std::alloc::{AllocError, Allocator, Global};
 use std::hash::BuildHasher;
 use std::marker::Model;
 use trust_rank::Slot;
+
+/// The slots of the entries that a look-up used, in order, where they lie.
+#[derive(Drop)]
+pub struct SlotsRef<'a, A: Allocator = Global> {
+    pub(crate) entries: Used<'a, A>,
+}
+
+impl<'a, A: Allocator> Model for SlotsRef<'a, A> {
+    ghost use Rattle.std.specs.Prelude.{List, map};
+    ghost use Rattle.trust_rank.specs.declared.slot.Slot.{Slot};
+    ghost use Rattle.step_look_ups.specs.Seen.{entries_of};
+
+    ghost Value = { List Slot };
+
+    ghost view = { λ s. map (λ h. h.piece.slot) (entries_of s.entries) };
+}
+
+impl<'a, A: Allocator + Copy> SlotsRef<'a, A> {
+    /// No slot; it takes no memory.
+    pub fn none(alloc: A) -> SlotsRef<'a, A>
+        ensures { result ≡ [] }
+    {
+        SlotsRef {
+            entries: Used::none(alloc),
+        }
+    }
+
+    /// A copy that stands on its own. Only where there are more than one does it take memory; `Err` where that ran out.
+    pub fn copied(self, alloc: A) -> Result<Slots<A>, AllocError>
+        ensures slots { IfOk result (λ slots. slots ≡ self.entry) }
+        ensures none { self.entry ≡ [] → IsOk result }
+    {
+        Slots::of(alloc, self.entries.as_slice())
+    }
+}
 
 /// Slots in order, of which the first takes no memory.
 #[derive(Drop)]
@@ -43,8 +79,9 @@ impl<A: Allocator> Slots<A> {
     }
 
     /// The slots of these entries.
-    pub(crate) fn of(alloc: A, entries: &[&Held<A>]) -> Result<Slots<A>, AllocError>
-        ensures { IfOk result (λ slots. slots ≡ map (λ h. h.piece.slot) (lent entries.now)) }
+    fn of(alloc: A, entries: &[&Held<A>]) -> Result<Slots<A>, AllocError>
+        ensures slots { IfOk result (λ slots. slots ≡ map (λ h. h.piece.slot) (lent entries.now)) }
+        ensures none { lent entries.now ≡ [] → IsOk result }
     {
         let Some((first, more)) = entries.split_first() else {
             return Ok(Slots::none(alloc));

@@ -29,7 +29,7 @@ impl<H: BuildHasher + Drop, A: Allocator + Copy> Forwarder<H, A> {
         path: Path,
         ask: &Ask<A>,
         why: Why,
-    ) -> Result<Next<A>, AllocError>
+    ) -> Result<Next<'_, A>, AllocError>
         requires { ask_on path self.now.state.asks ≡ Some ask.now }
         ensures row { IfOk result (λ next. (rooms : List Bool) → next_of moment rooms self.now.state next ≡ closing_step moment ask.now (fails why ask.now.question) None self.now.state) }
         ensures fits { IfOk result (λ next. CanChange self.now.config moment self.now.state next) }
@@ -45,7 +45,7 @@ impl<H: BuildHasher + Drop, A: Allocator + Copy> Forwarder<H, A> {
         path: Path,
         ask: &Ask<A>,
         next: Ask<A>,
-    ) -> Result<Next<A>, AllocError>
+    ) -> Result<Next<'_, A>, AllocError>
         requires on { ask_on path self.now.state.asks ≡ Some ask.now }
         requires follows { CanFollow self.now.config moment self.now.state (without_path path self.now.state.asks) next }
         ensures row { IfOk result (λ n. (rooms : List Bool) → next_of moment rooms self.now.state n ≡ row_of_attempt moment ask.now self.now.state (Some next)) }
@@ -55,6 +55,7 @@ impl<H: BuildHasher + Drop, A: Allocator + Copy> Forwarder<H, A> {
         actions.push(close_path(ask.path))?;
         let action = ask_action(self.alloc, &next)?;
         actions.push(action)?;
+        let next = Box::new(self.alloc, next)?;
         Ok(Next::without_cache(self.alloc, actions, Change::AskAgain(path, next)))
     }
 
@@ -66,7 +67,7 @@ impl<H: BuildHasher + Drop, A: Allocator + Copy> Forwarder<H, A> {
         ask: &Ask<A>,
         server: u8,
         drawn: Option<(u16, Path)>,
-    ) -> Result<Next<A>, AllocError>
+    ) -> Result<Next<'_, A>, AllocError>
         requires on { ask_on path self.now.state.asks ≡ Some ask.now }
         requires tries { ask.now.used < 255 }
         requires follows { (next : AskValue) → ask_by moment ask.now.question ask.now.route server (ask.now.used + 1) (peer_at self.now.config ask.now.route server) drawn ≡ Some next → CanFollow self.now.config moment self.now.state (without_path path self.now.state.asks) next }
@@ -99,7 +100,7 @@ impl<H: BuildHasher + Drop, A: Allocator + Copy> Forwarder<H, A> {
         path: Path,
         ask: &Ask<A>,
         failure: Failure,
-    ) -> Result<Next<A>, AllocError>
+    ) -> Result<Next<'_, A>, AllocError>
         requires on { ask_on path self.now.state.asks ≡ Some ask.now }
         requires later { self.now.state.moment ≤ moment }
         requires in_time { moment ≤ 2 ^ 62 }
@@ -127,7 +128,7 @@ impl<H: BuildHasher + Drop, A: Allocator + Copy> Forwarder<H, A> {
         moment: u64,
         words: [u32; 8],
         path: Path,
-    ) -> Result<Next<A>, AllocError>
+    ) -> Result<Next<'_, A>, AllocError>
         requires later { self.now.state.moment ≤ moment }
         requires in_time { moment ≤ 2 ^ 62 }
         ensures row { IfOk result (λ next. (rooms : List Bool) → next_of moment rooms self.now.state next ≡ row_of_failed_path self.now.config moment words self.now.state (ask_on path self.now.state.asks)) }

@@ -13,14 +13,15 @@ use crate::forwarder::Forwarder;
 use outstanding::{Ask, Path};
 use record_cache::Held;
 use std::alloc::{AllocError, Allocator};
+use plain_list::PlainList;
 use std::hash::BuildHasher;
 use step_changes::{
-    Change, Next, Preferred, close_inquiry, drop_first, end_closed, is_late, is_overdue, list_ask,
-    offer_all,
+    Change, Opening, Preferred, close_inquiry, drop_first, end_closed, is_late, is_overdue,
+    list_ask, offer_all,
 };
 use step_look_ups::{Slots, promote_all};
 use step_replies::Waiting;
-use step_values::Outcome;
+use step_values::{Action, Outcome};
 
 /// One more ask by TCP, where the path is a connection.
 fn count_tcp(count: u64, path: Path) -> u64
@@ -143,14 +144,17 @@ impl<H: BuildHasher + Drop, A: Allocator + Copy> Forwarder<H, A> {
                 self.pass(moment);
                 Ok(())
             }
-            Change::Join(waiting) => self.put_waiting(moment, waiting),
-            Change::Open(waiting, ask) => self.put_ask(moment, waiting, ask),
+            Change::Join(waiting) => self.put_waiting(moment, Box::into_inner(waiting)),
+            Change::Open(opening) => {
+                let Opening { waiting, ask } = Box::into_inner(opening);
+                self.put_ask(moment, waiting, ask)
+            }
             Change::Close(path, preferred) => {
                 self.close(moment, path, preferred);
                 Ok(())
             }
             Change::AskAgain(path, ask) => {
-                self.replace(moment, path, ask);
+                self.replace(moment, path, Box::into_inner(ask));
                 Ok(())
             }
             Change::Expire(closed) => {
@@ -200,23 +204,24 @@ impl<H: BuildHasher + Drop, A: Allocator + Copy> Forwarder<H, A> {
     }
 
     /// Does what was decided. An `Err` changes nothing.
-    pub(crate) fn carry_out(&mut self, moment: u64, next: Next<A>) -> Result<Outcome<A>, AllocError>
+    pub(crate) fn carry_out(
+        &mut self,
+        moment: u64,
+        actions: PlainList<Action<A>, A>,
+        used: &Slots<A>,
+        change: Change<A>,
+        carried: Vec<Held<A>, A>,
+    ) -> Result<Outcome<A>, AllocError>
         requires later { self.old.state.moment ≤ moment }
         requires in_time { moment ≤ 2 ^ 62 }
-        requires fits { CanChange self.old.config moment self.old.state next }
-        ensures ok { IfOk result (λ outcome. (rooms : List Bool) × IsOutcome self.old.config (next_of moment rooms self.old.state next) outcome self.new.state) }
+        requires fits { CanChange self.old.config moment self.old.state (record { actions = actions; used = used.now; change = change; carried = carried }) }
+        ensures ok { IfOk result (λ outcome. (rooms : List Bool) × IsOutcome self.old.config (next_of moment rooms self.old.state (record { actions = actions; used = used.now; change = change; carried = carried })) outcome self.new.state) }
         ensures config { self.new.config ≡ self.old.config }
-        ensures quiet { next.change ≡ Change.Nothing → IsOk result }
+        ensures quiet { change ≡ Change.Nothing → IsOk result }
         ensures err { OnErr result (self.new ≡ self.old) }
     {
-        let Next {
-            actions,
-            used,
-            change,
-            carried,
-        } = next;
         self.apply(moment, change)?;
-        let unkept = self.keep(&used, carried);
+        let unkept = self.keep(used, carried);
         let more = self.is_due();
         Ok(Outcome {
             actions,

@@ -25,25 +25,25 @@ use outstanding::{Ask, draw};
 use plain_list::PlainList;
 use std::alloc::{AllocError, Allocator};
 use std::hash::BuildHasher;
-use step_changes::{Change, Next, Try, by_udp, new_ask};
-use step_look_ups::{Looked, Slots, look_up};
+use step_changes::{Change, Next, Opening, Try, by_udp, new_ask};
+use step_look_ups::{Looked, SlotsRef, look_up};
 use step_replies::{Request, Waiting, answer, ask as ask_action, failure, refusal};
 use step_values::{Action, Client, Why};
 use suffix_routes::RouteId;
 
 impl<H: BuildHasher + Drop, A: Allocator + Copy> Forwarder<H, A> {
     /// Nothing is done.
-    pub(crate) fn nothing(&self) -> Next<A>
+    pub(crate) fn nothing(&self) -> Next<'_, A>
         ensures row { (n : ℕ) → (rooms : List Bool) → next_of n rooms self.now.state result ≡ idle_step n self.now.state }
-        ensures quiet { result.change ≡ Change.Nothing }
+        ensures quiet { (result.used ≡ []) × (result.change ≡ Change.Nothing) }
         ensures fits { (n : ℕ) → CanChange self.now.config n self.now.state result }
     {
         Next::without_cache(self.alloc, PlainList::new(self.alloc), Change::Nothing)
     }
 
     /// One reply, and the promotion of what a look-up used.
-    fn reply(&self, action: Action<A>, used: Slots<A>) -> Result<Next<A>, AllocError>
-        ensures row { IfOk result (λ next. (n : ℕ) → (rooms : List Bool) → next_of n rooms self.now.state next ≡ reply_step n (action_of action) (using used self.now.state)) }
+    fn reply<'a>(&'a self, action: Action<A>, used: SlotsRef<'a, A>) -> Result<Next<'a, A>, AllocError>
+        ensures row { IfOk result (λ next. (n : ℕ) → (rooms : List Bool) → next_of n rooms self.now.state next ≡ reply_step n (action_of action) (using used.entry self.now.state)) }
         ensures fits { IfOk result (λ next. (n : ℕ) → CanChange self.now.config n self.now.state next) }
     {
         let mut actions = PlainList::new(self.alloc);
@@ -57,8 +57,8 @@ impl<H: BuildHasher + Drop, A: Allocator + Copy> Forwarder<H, A> {
     }
 
     /// The question fails at once.
-    fn refuse(&self, request: &Request<'_>, why: Why, used: Slots<A>) -> Result<Next<A>, AllocError>
-        ensures row { IfOk result (λ next. (n : ℕ) → (rooms : List Bool) → next_of n rooms self.now.state next ≡ reply_step n (gives_up why request.now) (using used self.now.state)) }
+    fn refuse<'a>(&'a self, request: &Request<'_>, why: Why, used: SlotsRef<'a, A>) -> Result<Next<'a, A>, AllocError>
+        ensures row { IfOk result (λ next. (n : ℕ) → (rooms : List Bool) → next_of n rooms self.now.state next ≡ reply_step n (gives_up why request.now) (using used.entry self.now.state)) }
         ensures fits { IfOk result (λ next. (n : ℕ) → CanChange self.now.config n self.now.state next) }
     {
         let action = failure(self.alloc, request, why)?;
@@ -66,41 +66,48 @@ impl<H: BuildHasher + Drop, A: Allocator + Copy> Forwarder<H, A> {
     }
 
     /// The question waits, and its ask goes out.
-    fn open(
-        &self,
+    fn open<'a>(
+        &'a self,
         moment: u64,
         waiting: Waiting<A>,
         ask: Ask<A>,
-        used: Slots<A>,
-    ) -> Result<Next<A>, AllocError>
+        used: SlotsRef<'a, A>,
+    ) -> Result<Next<'a, A>, AllocError>
         requires waits { CanWait self.now.config moment self.now.state waiting }
         requires follows { CanFollow self.now.config moment self.now.state self.now.state.asks ask }
-        ensures row { IfOk result (λ next. (rooms : List Bool) → next_of moment rooms self.now.state next ≡ row_of_opening moment waiting (using used self.now.state) (Some ask)) }
+        ensures row { IfOk result (λ next. (rooms : List Bool) → next_of moment rooms self.now.state next ≡ row_of_opening moment waiting (using used.entry self.now.state) (Some ask)) }
         ensures fits { IfOk result (λ next. CanChange self.now.config moment self.now.state next) }
     {
         let mut actions = PlainList::new(self.alloc);
         let action = ask_action(self.alloc, &ask)?;
         actions.push(action)?;
+        let opening = Box::new(self.alloc, Opening { waiting, ask })?;
         Ok(Next {
             actions,
             used,
-            change: Change::Open(waiting, ask),
+            change: Change::Open(opening),
             carried: Vec::new(self.alloc),
         })
     }
 
     /// The question waits for the ask that is listed already.
-    fn join(&self, moment: u64, waiting: Waiting<A>, used: Slots<A>) -> Next<A>
+    fn join<'a>(
+        &'a self,
+        moment: u64,
+        waiting: Waiting<A>,
+        used: SlotsRef<'a, A>,
+    ) -> Result<Next<'a, A>, AllocError>
         requires { CanWait self.now.config moment self.now.state waiting }
-        ensures row { (rooms : List Bool) → next_of moment rooms self.now.state result ≡ taking_step moment waiting None (using used self.now.state) }
-        ensures fits { CanChange self.now.config moment self.now.state result }
+        ensures row { IfOk result (λ next. (rooms : List Bool) → next_of moment rooms self.now.state next ≡ taking_step moment waiting None (using used.entry self.now.state)) }
+        ensures fits { IfOk result (λ next. CanChange self.now.config moment self.now.state next) }
     {
-        Next {
+        let joined = Box::new(self.alloc, waiting)?;
+        Ok(Next {
             actions: PlainList::new(self.alloc),
             used,
-            change: Change::Join(waiting),
+            change: Change::Join(joined),
             carried: Vec::new(self.alloc),
-        }
+        })
     }
 
     /// The first ask for a question: by UDP, to the server that its route prefers.
@@ -132,21 +139,21 @@ impl<H: BuildHasher + Drop, A: Allocator + Copy> Forwarder<H, A> {
     }
 
     /// A question of which no ask is listed.
-    fn ask_anew(
-        &self,
+    fn ask_anew<'a>(
+        &'a self,
         moment: u64,
         words: [u32; 8],
         waiting: Waiting<A>,
         route: RouteId,
-        used: Slots<A>,
-    ) -> Result<Next<A>, AllocError>
+        used: SlotsRef<'a, A>,
+    ) -> Result<Next<'a, A>, AllocError>
         requires new { of_question waiting.wanted self.now.state.asks ≡ None }
         requires on { route_of self.now.config waiting.wanted.name ≡ Some route }
         requires later { self.now.state.moment ≤ moment }
         requires in_time { moment ≤ 2 ^ 62 }
         requires taken { waiting.taken ≡ moment }
         requires room { length self.now.state.waiting < self.now.config.limits.questions }
-        ensures row { IfOk result (λ next. (rooms : List Bool) → next_of moment rooms self.now.state next ≡ row_of_new_inquiry self.now.config moment words waiting (using used self.now.state)) }
+        ensures row { IfOk result (λ next. (rooms : List Bool) → next_of moment rooms self.now.state next ≡ row_of_new_inquiry self.now.config moment words waiting (using used.entry self.now.state)) }
         ensures fits { IfOk result (λ next. CanChange self.now.config moment self.now.state next) }
     {
         if self.asks_under_way() >= self.config.limits.inquiries {
@@ -159,42 +166,42 @@ impl<H: BuildHasher + Drop, A: Allocator + Copy> Forwarder<H, A> {
     }
 
     /// A question for which there is room: where its ask is listed already, none goes out.
-    fn admit(
-        &self,
+    fn admit<'a>(
+        &'a self,
         moment: u64,
         words: [u32; 8],
         waiting: Waiting<A>,
         route: RouteId,
-        used: Slots<A>,
-    ) -> Result<Next<A>, AllocError>
+        used: SlotsRef<'a, A>,
+    ) -> Result<Next<'a, A>, AllocError>
         requires on { route_of self.now.config waiting.wanted.name ≡ Some route }
         requires later { self.now.state.moment ≤ moment }
         requires in_time { moment ≤ 2 ^ 62 }
         requires taken { waiting.taken ≡ moment }
         requires room { length self.now.state.waiting < self.now.config.limits.questions }
-        ensures row { IfOk result (λ next. (rooms : List Bool) → next_of moment rooms self.now.state next ≡ row_of_inquiry self.now.config moment words waiting (using used self.now.state) (of_question waiting.wanted self.now.state.asks)) }
+        ensures row { IfOk result (λ next. (rooms : List Bool) → next_of moment rooms self.now.state next ≡ row_of_inquiry self.now.config moment words waiting (using used.entry self.now.state) (of_question waiting.wanted self.now.state.asks)) }
         ensures fits { IfOk result (λ next. CanChange self.now.config moment self.now.state next) }
     {
         match self.inquiries.by_question(&waiting.question) {
-            Some(_) => Ok(self.join(moment, waiting, used)),
+            Some(_) => self.join(moment, waiting, used),
             None => self.ask_anew(moment, words, waiting, route, used),
         }
     }
 
     /// A question that has a route, and to which the cache has no answer.
-    fn wait(
-        &self,
+    fn wait<'a>(
+        &'a self,
         moment: u64,
         words: [u32; 8],
         request: &Request<'_>,
         route: RouteId,
-        used: Slots<A>,
-    ) -> Result<Next<A>, AllocError>
+        used: SlotsRef<'a, A>,
+    ) -> Result<Next<'a, A>, AllocError>
         requires on { route_of self.now.config request.now.wanted.name ≡ Some route }
         requires later { self.now.state.moment ≤ moment }
         requires in_time { moment ≤ 2 ^ 62 }
         requires taken { request.now.taken ≡ moment }
-        ensures row { IfOk result (λ next. (rooms : List Bool) → next_of moment rooms self.now.state next ≡ row_of_waiting self.now.config moment words request.now (using used self.now.state)) }
+        ensures row { IfOk result (λ next. (rooms : List Bool) → next_of moment rooms self.now.state next ≡ row_of_waiting self.now.config moment words request.now (using used.entry self.now.state)) }
         ensures fits { IfOk result (λ next. CanChange self.now.config moment self.now.state next) }
     {
         if self.waiting.len() >= self.config.limits.questions {
@@ -205,35 +212,34 @@ impl<H: BuildHasher + Drop, A: Allocator + Copy> Forwarder<H, A> {
     }
 
     /// A question to which the cache has the answer.
-    fn hit(
-        &self,
+    fn hit<'a>(
+        &'a self,
         moment: u64,
         request: &Request<'_>,
-        looked: &Looked<'_, A>,
-    ) -> Result<Next<A>, AllocError>
-        requires ended { is_ended looked.now.met ≡ true }
-        requires earlier { AllByRecursion (IsEarlier moment) looked.now.used }
-        requires found { looked.now ≡ seen_of (look_up self.now.config.routes moment self.now.state.cache.entries most_aliases [] request.now.wanted) }
+        looked: Looked<'a, A>,
+    ) -> Result<Next<'a, A>, AllocError>
+        requires ended { is_ended looked.met ≡ true }
+        requires earlier { AllByRecursion (IsEarlier moment) looked.used }
+        requires found { looked ≡ seen_of (look_up self.now.config.routes moment self.now.state.cache.entries most_aliases [] request.now.wanted) }
         ensures row { (words : List ℕ) → IfOk result (λ next. (rooms : List Bool) → next_of moment rooms self.now.state next ≡ row_of_look_up self.now.config moment words request.now self.now.state (asked_look_up self.now.config.routes moment self.now.state.cache.entries request.now.wanted)) }
         ensures fits { IfOk result (λ next. CanChange self.now.config moment self.now.state next) }
     {
-        let used = looked.slots(self.alloc)?;
         let action = answer(self.alloc, request, looked.used(), moment)?;
-        self.reply(action, used)
+        self.reply(action, looked.into_slots())
     }
 
     /// A question to which the cache has no answer, where a look-up used these entries.
-    fn miss(
-        &self,
+    fn miss<'a>(
+        &'a self,
         moment: u64,
         words: [u32; 8],
         request: &Request<'_>,
-        used: Slots<A>,
-    ) -> Result<Next<A>, AllocError>
+        used: SlotsRef<'a, A>,
+    ) -> Result<Next<'a, A>, AllocError>
         requires later { self.now.state.moment ≤ moment }
         requires in_time { moment ≤ 2 ^ 62 }
         requires taken { request.now.taken ≡ moment }
-        ensures row { IfOk result (λ next. (rooms : List Bool) → next_of moment rooms self.now.state next ≡ row_of_look_up self.now.config moment words request.now self.now.state (record { held = []; wanted = request.now.wanted; met = missed; used = used })) }
+        ensures row { IfOk result (λ next. (rooms : List Bool) → next_of moment rooms self.now.state next ≡ row_of_look_up self.now.config moment words request.now self.now.state (record { held = []; wanted = request.now.wanted; met = missed; used = used.entry })) }
         ensures fits { IfOk result (λ next. CanChange self.now.config moment self.now.state next) }
     {
         match route_for(&self.config, &request.question) {
@@ -248,7 +254,7 @@ impl<H: BuildHasher + Drop, A: Allocator + Copy> Forwarder<H, A> {
         moment: u64,
         words: [u32; 8],
         request: &Request<'_>,
-    ) -> Result<Next<A>, AllocError>
+    ) -> Result<Next<'_, A>, AllocError>
         requires later { self.now.state.moment ≤ moment }
         requires in_time { moment ≤ 2 ^ 62 }
         requires taken { request.now.taken ≡ moment }
@@ -266,10 +272,9 @@ impl<H: BuildHasher + Drop, A: Allocator + Copy> Forwarder<H, A> {
             &self.config,
         )?;
         if looked.is_ended() {
-            return self.hit(moment, request, &looked);
+            return self.hit(moment, request, looked);
         }
-        let used = looked.slots(self.alloc)?;
-        self.miss(moment, words, request, used)
+        self.miss(moment, words, request, looked.into_slots())
     }
 
     /// A question that was read.
@@ -278,7 +283,7 @@ impl<H: BuildHasher + Drop, A: Allocator + Copy> Forwarder<H, A> {
         moment: u64,
         words: [u32; 8],
         request: &Request<'_>,
-    ) -> Result<Next<A>, AllocError>
+    ) -> Result<Next<'_, A>, AllocError>
         requires later { self.now.state.moment ≤ moment }
         requires in_time { moment ≤ 2 ^ 62 }
         requires taken { request.now.taken ≡ moment }
@@ -286,7 +291,7 @@ impl<H: BuildHasher + Drop, A: Allocator + Copy> Forwarder<H, A> {
         ensures fits { IfOk result (λ next. CanChange self.now.config moment self.now.state next) }
     {
         if is_not_served(&request.question) {
-            return self.refuse(request, Why::NotServed, Slots::none(self.alloc));
+            return self.refuse(request, Why::NotServed, SlotsRef::none(self.alloc));
         }
         self.look(moment, words, request)
     }
@@ -297,13 +302,13 @@ impl<H: BuildHasher + Drop, A: Allocator + Copy> Forwarder<H, A> {
         client: Client,
         header: &Header,
         why: Why,
-    ) -> Result<Next<A>, AllocError>
+    ) -> Result<Next<'_, A>, AllocError>
         requires { header.now.opcode < 16 }
         ensures row { IfOk result (λ next. (n : ℕ) → (rooms : List Bool) → next_of n rooms self.now.state next ≡ reply_step n (failed client (asked_in header.now None) why) self.now.state) }
         ensures fits { IfOk result (λ next. (n : ℕ) → CanChange self.now.config n self.now.state next) }
     {
         let action = refusal(self.alloc, client, header, why)?;
-        self.reply(action, Slots::none(self.alloc))
+        self.reply(action, SlotsRef::none(self.alloc))
     }
 
     /// A message with one question. Its name is read into memory only where it has a pointer.
@@ -314,7 +319,7 @@ impl<H: BuildHasher + Drop, A: Allocator + Copy> Forwarder<H, A> {
         client: Client,
         header: Header,
         message: &MessageRef<'_>,
-    ) -> Result<Next<A>, AllocError>
+    ) -> Result<Next<'_, A>, AllocError>
         requires opcode { header.opcode < 16 }
         requires later { self.now.state.moment ≤ moment }
         requires in_time { moment ≤ 2 ^ 62 }
@@ -349,7 +354,7 @@ impl<H: BuildHasher + Drop, A: Allocator + Copy> Forwarder<H, A> {
         words: [u32; 8],
         client: Client,
         bytes: &[u8],
-    ) -> Result<Next<A>, AllocError>
+    ) -> Result<Next<'_, A>, AllocError>
         requires later { self.now.state.moment ≤ moment }
         requires in_time { moment ≤ 2 ^ 62 }
         ensures row { IfOk result (λ next. (rooms : List Bool) → next_of moment rooms self.now.state next ≡ row_of_request self.now.config moment words client bytes.now self.now.state) }

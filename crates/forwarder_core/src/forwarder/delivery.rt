@@ -19,7 +19,7 @@ use retry_failover::Failure;
 use std::alloc::{AllocError, Allocator};
 use std::hash::BuildHasher;
 use step_changes::{Change, Next, Preferred, answers_to, held_from, is_live};
-use step_look_ups::Slots;
+use step_look_ups::SlotsRef;
 use suffix_routes::Peer;
 use trust_rank::{End, Walk, pieces};
 
@@ -45,7 +45,7 @@ impl<H: BuildHasher + Drop, A: Allocator + Copy> Forwarder<H, A> {
         path: Path,
         ask: &Ask<A>,
         walk: Walk<A>,
-    ) -> Result<Next<A>, AllocError>
+    ) -> Result<Next<'_, A>, AllocError>
         requires on { ask_on path self.now.state.asks ≡ Some ask.now }
         requires later { self.now.state.moment ≤ moment }
         requires in_time { moment ≤ 2 ^ 62 }
@@ -68,7 +68,7 @@ impl<H: BuildHasher + Drop, A: Allocator + Copy> Forwarder<H, A> {
         };
         Ok(Next {
             actions,
-            used: Slots::none(self.alloc),
+            used: SlotsRef::none(self.alloc),
             change: Change::Close(path, Some(preferred)),
             carried: held,
         })
@@ -82,7 +82,7 @@ impl<H: BuildHasher + Drop, A: Allocator + Copy> Forwarder<H, A> {
         path: Path,
         ask: &Ask<A>,
         message: &Message<A>,
-    ) -> Result<Next<A>, AllocError>
+    ) -> Result<Next<'_, A>, AllocError>
         requires on { ask_on path self.now.state.asks ≡ Some ask.now }
         requires later { self.now.state.moment ≤ moment }
         requires in_time { moment ≤ 2 ^ 62 }
@@ -105,7 +105,7 @@ impl<H: BuildHasher + Drop, A: Allocator + Copy> Forwarder<H, A> {
         path: Path,
         ask: &Ask<A>,
         bytes: &[u8],
-    ) -> Result<Next<A>, AllocError>
+    ) -> Result<Next<'_, A>, AllocError>
         requires on { ask_on path self.now.state.asks ≡ Some ask.now }
         requires later { self.now.state.moment ≤ moment }
         requires in_time { moment ≤ 2 ^ 62 }
@@ -132,7 +132,7 @@ impl<H: BuildHasher + Drop, A: Allocator + Copy> Forwarder<H, A> {
         ask: &Ask<A>,
         bytes: &[u8],
         verdict: Verdict,
-    ) -> Result<Next<A>, AllocError>
+    ) -> Result<Next<'_, A>, AllocError>
         requires on { ask_on path self.now.state.asks ≡ Some ask.now }
         requires later { self.now.state.moment ≤ moment }
         requires in_time { moment ≤ 2 ^ 62 }
@@ -158,7 +158,7 @@ impl<H: BuildHasher + Drop, A: Allocator + Copy> Forwarder<H, A> {
         path: Path,
         from: Peer,
         bytes: &[u8],
-    ) -> Result<Next<A>, AllocError>
+    ) -> Result<Next<'_, A>, AllocError>
         requires later { self.now.state.moment ≤ moment }
         requires in_time { moment ≤ 2 ^ 62 }
         ensures row { IfOk result (λ next. (rooms : List Bool) → next_of moment rooms self.now.state next ≡ row_of_delivery self.now.config moment words rooms from bytes.now self.now.state (ask_on path self.now.state.asks)) }

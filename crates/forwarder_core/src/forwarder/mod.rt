@@ -110,7 +110,7 @@ impl<H: BuildHasher + Drop, A: Allocator + Copy> Forwarder<H, A> {
         moment: u64,
         words: [u32; 8],
         event: &Event<A>,
-    ) -> Result<Option<Next<A>>, AllocError>
+    ) -> Result<Option<Next<'_, A>>, AllocError>
         requires later { self.now.state.moment ≤ moment }
         requires in_time { moment ≤ 2 ^ 62 }
         ensures row { IfOk result (λ next. IsDecided self.now.config moment words self.now.state (event_of event.now) next) }
@@ -161,7 +161,13 @@ impl<H: BuildHasher + Drop, A: Allocator + Copy> Forwarder<H, A> {
         ensures err { OnErr result (self.new ≡ self.old) }
     {
         let moment = self.effective(now);
-        let Some(next) = self.decide(moment, words, event)? else {
+        let Some(Next {
+            actions,
+            used,
+            change,
+            carried,
+        }) = self.decide(moment, words, event)?
+        else {
             self.restart();
             return Ok(Outcome {
                 actions: PlainList::new(self.alloc),
@@ -169,7 +175,8 @@ impl<H: BuildHasher + Drop, A: Allocator + Copy> Forwarder<H, A> {
                 more: false,
             });
         };
-        self.carry_out(moment, next)
+        let used = used.copied(self.alloc)?;
+        self.carry_out(moment, actions, &used, change, carried)
     }
 
     /// A forwarder that remembers nothing. `Err` where memory ran out.

@@ -37,7 +37,7 @@ impl<H: BuildHasher + Drop, A: Allocator + Copy> Forwarder<H, A> {
         moment: u64,
         oldest: &Waiting<A>,
         others: &[Waiting<A>],
-    ) -> Result<Next<A>, AllocError>
+    ) -> Result<Next<'_, A>, AllocError>
         requires { self.now.state.waiting ≡ oldest.now ∷ others.now }
         ensures row { IfOk result (λ next. (rooms : List Bool) → next_of moment rooms self.now.state next ≡ expiry_step moment oldest.now others.now (left_alone oldest.now.wanted others.now self.now.state.asks) self.now.state) }
         ensures fits { IfOk result (λ next. CanChange self.now.config moment self.now.state next) }
@@ -56,7 +56,7 @@ impl<H: BuildHasher + Drop, A: Allocator + Copy> Forwarder<H, A> {
         words: [u32; 8],
         oldest: &Waiting<A>,
         others: &[Waiting<A>],
-    ) -> Result<Next<A>, AllocError>
+    ) -> Result<Next<'_, A>, AllocError>
         requires { self.now.state.waiting ≡ oldest.now ∷ others.now }
         ensures row { IfOk result (λ next. (rooms : List Bool) → next_of moment rooms self.now.state next ≡ row_of_item self.now.config moment words self.now.state (question oldest.now others.now)) }
         ensures early { is_due_at self.now.config moment self.now.state ≡ false → IsQuiet result }
@@ -75,7 +75,7 @@ impl<H: BuildHasher + Drop, A: Allocator + Copy> Forwarder<H, A> {
         moment: u64,
         words: [u32; 8],
         oldest: &Ask<A>,
-    ) -> Result<Next<A>, AllocError>
+    ) -> Result<Next<'_, A>, AllocError>
         requires first { slice_get self.now.state.asks 0 ≡ Some oldest.now }
         requires later { self.now.state.moment ≤ moment }
         requires in_time { moment ≤ 2 ^ 62 }
@@ -90,7 +90,7 @@ impl<H: BuildHasher + Drop, A: Allocator + Copy> Forwarder<H, A> {
     }
 
     /// Time has passed.
-    pub(crate) fn on_tick(&self, moment: u64, words: [u32; 8]) -> Result<Next<A>, AllocError>
+    pub(crate) fn on_tick(&self, moment: u64, words: [u32; 8]) -> Result<Next<'_, A>, AllocError>
         requires later { self.now.state.moment ≤ moment }
         requires in_time { moment ≤ 2 ^ 62 }
         ensures row { IfOk result (λ next. (rooms : List Bool) → next_of moment rooms self.now.state next ≡ row_of_tick self.now.config moment words self.now.state) }

@@ -16,11 +16,11 @@ ask_anew-requires-clause-new g c =
     ∙ ap (λ (r : Running). of_question c.waiting.inside.question r.state.asks) (sym c.self.view_is) ∙ c.in-None.ensures.found
 
 pub returns-in-Some-clause-row : goal.returns-in-Some-clause-row
-returns-in-Some-clause-row g c = λ rooms.
-    joined_row c.args.self.now.config c.args.moment c.args.words c.args.waiting (using c.args.used c.args.self.now.state) (of_question c.args.waiting.wanted c.args.self.now.state.asks) _ (next_of c.args.moment rooms c.args.self.now.state c.join.result)
+returns-in-Some-clause-row g c = IfOk-weaker c.join.result _ _ (λ next told rooms.
+    joined_row c.args.self.now.config c.args.moment c.args.words c.args.waiting (using c.args.used c.args.self.now.state) (of_question c.args.waiting.wanted c.args.self.now.state.asks) _ (next_of c.args.moment rooms c.args.self.now.state next)
     (ap (λ (x : Waiting). of_question x.wanted c.args.self.now.state.asks) (sym c.waiting.view_is)
     ∙ ap (λ (r : Running). of_question c.waiting.inside.question r.state.asks) (sym c.self.view_is) ∙ c.in-Some.ensures.found)
-    (c.join.ensures.row rooms)
+    (told rooms)) c.join.ensures.row
 
 pub returns-in-None-clause-row : goal.returns-in-None-clause-row
 returns-in-None-clause-row g c = IfOk-weaker c.ask_anew.result _ _ (λ next told rooms.

@@ -12,11 +12,11 @@ use Rattle.forwarder_core.proofs.forwarder.Forwarder.ask_anew.Goals as goal
 pub returns-then-asks_under_way-self-clause-fits : goal.returns-then-asks_under_way-self-clause-fits
 returns-then-asks_under_way-self-clause-fits g c = fits_at c.refuse.result c.args.self.now.config c.args.self.now.state c.refuse.ensures.fits c.args.moment
 
-pub returns-in-None-clause-fits : goal.returns-in-None-clause-fits
-returns-in-None-clause-fits g c = fits_at c.refuse-in-None.result c.args.self.now.config c.args.self.now.state c.refuse-in-None.ensures.fits c.args.moment
+pub returns-clause-fits : goal.returns-clause-fits
+returns-clause-fits g c = fits_at c.refuse-in-None.result c.args.self.now.config c.args.self.now.state c.refuse-in-None.ensures.fits c.args.moment
 
-pub returns-in-None-clause-row : goal.returns-in-None-clause-row
-returns-in-None-clause-row g c = IfOk-weaker c.refuse-in-None.result _ _ (λ next told rooms.
+pub returns-clause-row : goal.returns-clause-row
+returns-clause-row g c = IfOk-weaker c.refuse-in-None.result _ _ (λ next told rooms.
     opened_row c.args.self.now.config c.args.moment c.args.words c.args.waiting c.args.self.now.state c.args.used c.args.route c.waiting.inside.question None (next_of c.args.moment rooms c.args.self.now.state next)
     (let count = c.asks_under_way.ensures.count in let limit : c.self-inside.inside.0.1.0.limits.inquiries ≡ c.args.self.now.config.limits.inquiries = (λ i. (c.self-inside.view_is i).config.limits.inquiries) ∙ ap (λ (r : Running). r.config.limits.inquiries) c.self.view_is in let test = c.if-asks_under_way-self.false in omega (arith, count, test, limit))
     c.requires.on (ap (λ (x : Waiting). x.wanted) c.waiting.view_is) (sym c.in-None.is ∙ c.in_ok-ask.ensures) (told c.args.moment rooms)) (rw c.request-in-None.ensures at c.refuse-in-None.ensures.row)

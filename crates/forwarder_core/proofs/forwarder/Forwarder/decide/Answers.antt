@@ -1,8 +1,10 @@
-use Rattle.std.proofs.Common.{◌∙◌, List, ℕ, ap, sym, subst}
+use Rattle.std.proofs.Common.{◌≡◌, ◌∙◌, List, ℕ, false, ap, sym, subst}
+use Rattle.reply_match.specs.declared.Verdict.TheVariants.{Stranger}
+use Rattle.step_history.specs.History.{is_taken}
 use Rattle.outstanding.specs.Lists.{on_path as ask_on}
 use Rattle.step_values.specs.declared.event.Event.{Event as OwnedEvent}
 use Rattle.step_values.specs.Values.{event_of}
-use Rattle.step_rules.specs.Row.{Happens, TakesNoMemory, row_of_request, row_of_delivery}
+use Rattle.step_rules.specs.Row.{Happens, TakesNoMemory, row_of_request, row_of_delivery, verdict_on}
 use Rattle.step_changes.specs.Next.{next_of}
 use Rattle.forwarder_core.proofs.forwarder.Forwarder.decide.Goals as goal
 
@@ -32,3 +34,19 @@ returns-in_ok-next-in-Tick-clause-row g c = λ rooms.
 pub returns-in_ok-next-in-Tick-clause-no_memory : goal.returns-in_ok-next-in-Tick-clause-no_memory
 returns-in_ok-next-in-Tick-clause-no_memory g c = λ quiet.
     c.in_ok-next-in-Tick.ensures.early (subst (λ (e : OwnedEvent g.row.A.Denot). TakesNoMemory c.args.self.now.config c.args.moment c.args.self.now.state (event_of e)) c.in-Tick.is quiet)
+
+pub returns-in_ok-next-in-PathFailed-clause-no_memory : goal.returns-in_ok-next-in-PathFailed-clause-no_memory
+returns-in_ok-next-in-PathFailed-clause-no_memory g c = λ quiet.
+    c.in_ok-next-in-PathFailed.ensures.unlisted (subst (λ (e : OwnedEvent g.row.A.Denot). TakesNoMemory c.args.self.now.config c.args.moment c.args.self.now.state (event_of e)) c.in-PathFailed.is quiet)
+
+pub returns-in_ok-next-in-Client-clause-no_memory : goal.returns-in_ok-next-in-Client-clause-no_memory
+returns-in_ok-next-in-Client-clause-no_memory g c = λ quiet.
+    c.in_ok-next-in-Client.ensures.dropped
+    (subst (λ (octets : List ℕ). is_taken octets ≡ false) (sym c.as_slice.ensures)
+    (subst (λ (e : OwnedEvent g.row.A.Denot). TakesNoMemory c.args.self.now.config c.args.moment c.args.self.now.state (event_of e)) c.in-Client.is quiet))
+
+pub returns-in_ok-next-in-Delivery-clause-no_memory : goal.returns-in_ok-next-in-Delivery-clause-no_memory
+returns-in_ok-next-in-Delivery-clause-no_memory g c = λ quiet.
+    c.in_ok-next-in-Delivery.ensures.unmatched
+    (subst (λ (octets : List ℕ). verdict_on c.args.self.now.config c.args.moment c.in-Delivery.from octets (ask_on c.in-Delivery.path c.args.self.now.state.asks) ≡ Stranger) (sym c.as_slice-in-Delivery.ensures)
+    (subst (λ (e : OwnedEvent g.row.A.Denot). TakesNoMemory c.args.self.now.config c.args.moment c.args.self.now.state (event_of e)) c.in-Delivery.is quiet))

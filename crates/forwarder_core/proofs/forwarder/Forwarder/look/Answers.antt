@@ -44,4 +44,4 @@ returns-clause-row g c = IfOk-weaker c.miss.result _ _ (λ next told rooms.
     (subst (λ (q : Question). c.in_ok-looked.looked ≡ seen_of (look_up c.self.inside.config.routes c.args.moment c.self.inside.cache.entries most_aliases [] q))
     ((λ i. record { name = c.request.inside.question.name; kind = c.kind.ensures i; class = c.class.ensures i }) ∙ ap (λ (x : Waiting). x.wanted) c.request.view_is)
     (c.in_ok-looked.ensures.exact c.request.inside.question.name (sym c.key.ensures))))
-    c.in_ok-used.used (next_of c.args.moment rooms c.args.self.now.state next) (sym c.is_ended.ensures ∙ c.if-is_ended.false) c.in_ok-used.ensures (told rooms)) c.miss.ensures.row
+    _ (next_of c.args.moment rooms c.args.self.now.state next) (sym c.is_ended.ensures ∙ c.if-is_ended.false) c.into_slots.ensures (told rooms)) c.miss.ensures.row
