@@ -48,7 +48,7 @@ fn refused<'a>(
 ) -> Result<Ask<&'a Refusing<Global>>, Fail>
     requires { MayBegin ask inquiries.old.asks }
     ensures same { OnOk result (inquiries.new ≡ inquiries.old) }
-    ensures back { IfOk result (λ back. back ≡ ask) }
+    ensures back { IfOk result (λ back. back ≡ ask.entry) }
 {
     heap.allow(growths);
     match inquiries.begin(ask) {
