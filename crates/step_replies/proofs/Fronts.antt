@@ -6,11 +6,12 @@ use Rattle.dns_message.specs.Values.{Question, Message}
 use Rattle.dns_message.specs.Writing.{◌▹◌, written, bit}
 use Rattle.trust_rank.specs.Values.{Body, rows, no_data, denied}
 use Rattle.record_cache.specs.Values.{Held}
-use Rattle.answer_builder.specs.declared.asked.Transport.TheVariants.{Tcp}
+use Rattle.answer_builder.specs.declared.asked.Transport.{Transport}
+use Rattle.answer_builder.specs.declared.asked.Transport.TheVariants.{Udp, Tcp}
 use Rattle.answer_builder.specs.declared.fault.Fault.TheVariants.{TooLarge}
 use Rattle.answer_builder.specs.Values.{Asked, Sections}
-use Rattle.answer_builder.specs.Answers.{rcode_of, last_of, sections_of, full_answer}
-use Rattle.answer_builder.specs.Transports.{over_tcp, answer_of}
+use Rattle.answer_builder.specs.Answers.{rcode_of, last_of, sections_of, answer_message, full_answer, cut_answer, bare}
+use Rattle.answer_builder.specs.Transports.{sent_over, answer_of}
 use Rattle.step_replies.specs.Spelling.{ok_text, with_front}
 
 -- ---- the first octets
@@ -20,31 +21,40 @@ pub long_enough : (m : Message) → 12 ≤ length (written m)
 unfolding written ◌▹◌
 long_enough m = omega arith
 
--- QR, opcode, AA, TC and RD
-high_flags : (opcode : ℕ) (rd : Bool) (rcode : ℕ) → opcode < 16 → rcode < 16
-    → 128 + opcode * 8 + bit rd 1 ≡ (32768 + opcode * 2048 + 0 + 0 + bit rd 256 + 128 + 0 + rcode) / 256 % 256
-high_flags opcode true rcode small code = omega (arith, small, code)
-high_flags opcode false rcode small code = omega (arith, small, code)
+-- QR, opcode, AA, TC and RD: TC stays as it was
+high_flags : (opcode other : ℕ) (rd other_rd cut : Bool) (rcode : ℕ) → opcode < 16 → rcode < 16
+    → 128 + opcode * 8 + (32768 + other * 2048 + 0 + bit cut 512 + bit other_rd 256 + 128 + 0 + rcode) / 256 % 256 / 2 % 2 * 2 + bit rd 1
+    ≡ (32768 + opcode * 2048 + 0 + bit cut 512 + bit rd 256 + 128 + 0 + rcode) / 256 % 256
+high_flags opcode other true true true rcode small code = omega (arith, small, code)
+high_flags opcode other true true false rcode small code = omega (arith, small, code)
+high_flags opcode other true false true rcode small code = omega (arith, small, code)
+high_flags opcode other true false false rcode small code = omega (arith, small, code)
+high_flags opcode other false true true rcode small code = omega (arith, small, code)
+high_flags opcode other false true false rcode small code = omega (arith, small, code)
+high_flags opcode other false false true rcode small code = omega (arith, small, code)
+high_flags opcode other false false false rcode small code = omega (arith, small, code)
 
 -- RA, Z and RCODE
-low_flags : (opcode : ℕ) (rd : Bool) (other : ℕ) (other_rd : Bool) (rcode : ℕ)
-    → (32768 + opcode * 2048 + 0 + 0 + bit rd 256 + 128 + 0 + rcode) % 256 ≡ (32768 + other * 2048 + 0 + 0 + bit other_rd 256 + 128 + 0 + rcode) % 256
-low_flags opcode rd other other_rd rcode = sym (low opcode rd) ∙ low other other_rd
+low_flags : (opcode : ℕ) (rd : Bool) (other : ℕ) (other_rd : Bool) (cut : Bool) (rcode : ℕ)
+    → (32768 + opcode * 2048 + 0 + bit cut 512 + bit rd 256 + 128 + 0 + rcode) % 256 ≡ (32768 + other * 2048 + 0 + bit cut 512 + bit other_rd 256 + 128 + 0 + rcode) % 256
+low_flags opcode rd other other_rd cut rcode = sym (low opcode rd cut) ∙ low other other_rd cut
   where
-    low : (opcode : ℕ) (rd : Bool) → (128 + rcode) % 256 ≡ (32768 + opcode * 2048 + 0 + 0 + bit rd 256 + 128 + 0 + rcode) % 256
-    low opcode true = omega arith
-    low opcode false = omega arith
+    low : (opcode : ℕ) (rd cut : Bool) → (128 + rcode) % 256 ≡ (32768 + opcode * 2048 + 0 + bit cut 512 + bit rd 256 + 128 + 0 + rcode) % 256
+    low opcode true true = omega arith
+    low opcode true false = omega arith
+    low opcode false true = omega arith
+    low opcode false false = omega arith
 
 four : (a b c d e f : ℕ) (rest : List ℕ) → c ≡ d → e ≡ f → a ∷ b ∷ c ∷ e ∷ rest ≡ a ∷ b ∷ d ∷ f ∷ rest
 four a b c d e f rest third fourth = cc
 
 -- the answer to a request is that to any other with its question, under its own front
-fronted : (a b : Asked) (s : Sections) → a.opcode < 16 → s.rcode < 16 → with_front a (written (full_answer (record b { question = a.question }) s)) ≡ written (full_answer a s)
+fronted : (a b : Asked) (cut : Bool) (s : Sections) → a.opcode < 16 → s.rcode < 16 → with_front a (written (answer_message (record b { question = a.question }) cut s)) ≡ written (answer_message a cut s)
 unfolding written ◌▹◌
-fronted a b s small code = four _ _ _ _ _ _ _ (high_flags a.opcode a.rd s.rcode small code) (low_flags b.opcode b.rd a.opcode a.rd s.rcode)
+fronted a b cut s small code = four _ _ _ _ _ _ _ (high_flags a.opcode b.opcode a.rd b.rd cut s.rcode small code) (low_flags b.opcode b.rd a.opcode a.rd cut s.rcode)
 
-under_own_front : (a b : Asked) (s : Sections) → a.opcode < 16 → s.rcode < 16 → b.question ≡ a.question → with_front a (written (full_answer b s)) ≡ written (full_answer a s)
-under_own_front a b s small code same = ap (λ (q : Option Question). with_front a (written (full_answer (record b { question = q }) s))) same ∙ fronted a b s small code
+under_own_front : (a b : Asked) (cut : Bool) (s : Sections) → a.opcode < 16 → s.rcode < 16 → b.question ≡ a.question → with_front a (written (answer_message b cut s)) ≡ written (answer_message a cut s)
+under_own_front a b cut s small code same = ap (λ (q : Option Question). with_front a (written (answer_message (record b { question = q }) cut s))) same ∙ fronted a b cut s small code
 
 -- it is as long
 as_long : (a : Asked) (text : List ℕ) → 3 ≤ length text → length (with_front a text) ≡ length text
@@ -61,34 +71,51 @@ small_rcode : (moment : ℕ) (chain : List Held) → (sections_of moment chain).
 small_rcode moment [] = omega arith
 small_rcode moment (h ∷ chain) = small_code (last_of h chain).piece.body
 
-mapped : (f : List ℕ → List ℕ) (whole : Bool) (text : List ℕ) → option_map f (ok_text (cond whole (Ok text) (Err TooLarge))) ≡ ok_text (cond whole (Ok (f text)) (Err TooLarge))
-mapped f true text = refl
-mapped f false text = refl
+-- what is sent of texts that are those of another request under a front is what is sent of its own
+sent_fronted : (f : List ℕ → List ℕ) (full other cut other_cut : List ℕ) (t : Transport) → f other ≡ full → f other_cut ≡ cut → length other ≡ length full
+    → option_map f (ok_text (sent_over t other other_cut)) ≡ ok_text (sent_over t full cut)
+sent_fronted f full other cut other_cut Udp is cut_is long = ap Some (chosen (nat_le (length other) 512) ∙ (λ i. cond (nat_le (long i) 512) (is i) (cut_is i)))
+  where
+    chosen : (whole : Bool) → f (cond whole other other_cut) ≡ cond whole (f other) (f other_cut)
+    chosen true = refl
+    chosen false = refl
+sent_fronted f full other cut other_cut Tcp is cut_is long = mapped (nat_le (length other) 65535) ∙ (λ i. ok_text (cond (nat_le (long i) 65535) (Ok (is i)) (Err TooLarge)))
+  where
+    mapped : (whole : Bool) → option_map f (ok_text (cond whole (Ok other) (Err TooLarge))) ≡ ok_text (cond whole (Ok (f other)) (Err TooLarge))
+    mapped true = refl
+    mapped false = refl
 
--- what is sent over TCP to a request is what is sent to any other with its question, under its own front
-pub sent_alike : (a b : Asked) (chain : List Held) (moment : ℕ) → a.opcode < 16 → b.question ≡ a.question
-    → option_map (with_front a) (ok_text (answer_of b chain moment Tcp)) ≡ ok_text (answer_of a chain moment Tcp)
-sent_alike a b chain moment small same =
+-- what is sent to a request is what is sent to any other with its question, under its own front
+pub sent_alike : (a b : Asked) (chain : List Held) (moment : ℕ) (t : Transport) → a.opcode < 16 → b.question ≡ a.question
+    → option_map (with_front a) (ok_text (answer_of b chain moment t)) ≡ ok_text (answer_of a chain moment t)
+sent_alike a b chain moment t small same =
     let s : Sections = sections_of moment chain in
-    let other : List ℕ = written (full_answer b s) in
-    let is = under_own_front a b s small (small_rcode moment chain) same in
+    let full = under_own_front a b false s small (small_rcode moment chain) same in
+    let cut = under_own_front a b true (bare s.rcode) small (small_rcode moment chain) same in
     let enough = long_enough (full_answer b s) in
-    let long : length other ≡ length (written (full_answer a s)) = sym (as_long a other (omega (arith, enough))) ∙ ap (λ (text : List ℕ). length text) is in
-    mapped (with_front a) (nat_le (length other) 65535) other
-    ∙ (λ i. ok_text (cond (nat_le (long i) 65535) (Ok (is i)) (Err TooLarge)))
+    let long = sym (as_long a (written (full_answer b s)) (omega (arith, enough))) ∙ ap (λ (text : List ℕ). length text) full in
+    sent_fronted (with_front a) (written (full_answer a s)) (written (full_answer b s)) (written (cut_answer a s)) (written (cut_answer b s)) t full cut long
 
 -- ---- a text that has a front
 
-given : (whole : Bool) (full text : List ℕ) → Some text ≡ ok_text (cond whole (Ok full) (Err TooLarge)) → text ≡ full
-given true full text e = cc
-given false full text e = absurd (cc)
+-- what is sent is one of two texts
+one_of : (t : Transport) (full cut text : List ℕ) → 12 ≤ length full → 12 ≤ length cut → Some text ≡ ok_text (sent_over t full cut) → 12 ≤ length text
+one_of Udp full cut text long cut_long e = udp (nat_le (length full) 512) e
+  where
+    udp : (whole : Bool) → Some text ≡ Some (cond whole full cut) → 12 ≤ length text
+    udp true is = let same : text ≡ full = cc in rw same long
+    udp false is = let same : text ≡ cut = cc in rw same cut_long
+one_of Tcp full cut text long cut_long e = tcp (nat_le (length full) 65535) e
+  where
+    tcp : (whole : Bool) → Some text ≡ ok_text (cond whole (Ok full) (Err TooLarge)) → 12 ≤ length text
+    tcp true is = let same : text ≡ full = cc in rw same long
+    tcp false is = absurd (cc)
 
 -- a text that is an answer under another front has the octets of a front
-pub has_front : (a : Asked) (text : Option (List ℕ)) (m : Message) → option_map (with_front a) text ≡ ok_text (over_tcp (written m)) → IfSome text (λ t. 3 ≤ length t)
-has_front a None m e = tt
-has_front a (Some text) m e =
-    let is = given (nat_le (length (written m)) 65535) (written m) (with_front a text) e in
-    let as_many : length (with_front a text) ≡ length (written m) = ap (λ (t : List ℕ). length t) is in
-    let enough = long_enough m in
+pub has_front : (chain : List Held) (n : ℕ) (t : Transport) (a : Asked) (text : Option (List ℕ)) → option_map (with_front a) text ≡ ok_text (answer_of a chain n t) → IfSome text (λ t. 3 ≤ length t)
+has_front chain n t a None e = tt
+has_front chain n t a (Some text) e =
+    let s : Sections = sections_of n chain in
+    let long = one_of t (written (full_answer a s)) (written (cut_answer a s)) (with_front a text) (long_enough (full_answer a s)) (long_enough (cut_answer a s)) e in
     let rest = length-drop 3 text in
-    omega (arith, as_many, enough, rest)
+    omega (arith, long, rest)

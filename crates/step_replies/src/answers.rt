@@ -1,5 +1,5 @@
-//! Answers from borrowed pieces. A text over TCP is written once for questions that are spelled alike, since the answers to
-//! them differ in identifier, opcode and RD alone (RFC 1035 4.1.1); over UDP none is written past 512 octets.
+//! Answers from borrowed pieces. From the second reply on a text is written once for questions that are spelled alike and
+//! came over one transport, since the answers to them differ in identifier, opcode and RD alone (RFC 1035 4.1.1).
 
 ghost use Rattle.std.specs.Prelude.{◌≡◌, ◌<◌, ◌≤◌, IfOk, MatchOption, Some, None, length, option_map};
 ghost use Rattle.std.specs.List.{AllByRecursion, find};
@@ -7,7 +7,6 @@ ghost use Rattle.std.specs.Option.{IfSome};
 ghost use Rattle.answer_builder.specs.Answers.{IsEarlier};
 ghost use Rattle.answer_builder.specs.Building.{lent};
 ghost use Rattle.answer_builder.specs.Transports.{answer_of};
-ghost use Rattle.answer_builder.specs.declared.asked.Transport.TheVariants as transport;
 ghost use Rattle.step_values.specs.Values.{action_of};
 ghost use Rattle.step_rules.specs.Steps.{sends, transport_of};
 ghost use Rattle.step_replies.specs.Spelling.{are_alike, front_of, is_for, IsSpelled, ok_text, same_spelling, sends_text, with_front};
@@ -90,10 +89,11 @@ pub fn answer<A: Allocator + Copy>(
     reply(alloc, request, text)
 }
 
-/// The text over TCP for a question as it is spelled; `None` where it is too large.
+/// The text for a question as it is spelled; `None` where it is too large.
 #[derive(Drop)]
 pub(crate) struct Spelled<'a, A: Allocator = Global> {
     question: &'a Question<A>,
+    transport: Transport,
     text: Option<Octets<A>>,
 }
 
@@ -111,28 +111,34 @@ fn is_alike<A: Allocator>(a: &Question<A>, b: &Question<A>) -> bool
     is_same_spelling(&a.name, &b.name) && a.kind == b.kind && a.class == b.class
 }
 
-/// The text for this question, if it was written.
+/// The text for this question over this transport, if it was written.
 fn find_spelled<'a, 'b, A: Allocator>(
     texts: &'b [Spelled<'a, A>],
     question: &Question<A>,
+    transport: Transport,
 ) -> Option<&'b Spelled<'a, A>>
-    ensures { MatchOption result (find (is_for question.now) texts.now ≡ None) (λ s. find (is_for question.now) texts.now ≡ Some s.now) }
+    ensures { MatchOption result (find (is_for transport question.now) texts.now ≡ None) (λ s. find (is_for transport question.now) texts.now ≡ Some s.now) }
 {
     for spelled in texts {
-        if is_alike(spelled.question, question) {
+        if spelled.transport == transport && is_alike(spelled.question, question) {
             return Some(spelled);
         }
     }
     None
 }
 
-/// The first three octets of the answer to a request: identifier, QR, opcode and RD; AA and TC are clear.
-fn front_of(asked: &AskedRef<'_>) -> [u8; 3]
+/// The first three octets of the answer to a request: identifier, QR, opcode and RD, and the TC of these flags; AA is clear.
+fn front_of(asked: &AskedRef<'_>, flags: u8) -> [u8; 3]
     requires { asked.now.opcode < 16 }
-    ensures { result ≡ front_of asked.now }
+    ensures { result ≡ front_of asked.now flags }
 {
     let [high, low] = asked.id.to_be_bytes();
-    [high, low, 128 + 8 * asked.opcode + u8::from(asked.rd)]
+    let cut = flags / 2 % 2;
+    [
+        high,
+        low,
+        128 + 8 * asked.opcode + 2 * cut + u8::from(asked.rd),
+    ]
 }
 
 /// The octets of an answer under the front of another one.
@@ -146,7 +152,7 @@ fn under_front<A: Allocator + Copy>(
     ensures { IfOk result (λ own. own ≡ with_front asked.now text.now) }
 {
     let mut octets = Vec::with_capacity(alloc, text.len())?;
-    octets.extend_from_slice(&front_of(asked))?;
+    octets.extend_from_slice(&front_of(asked, text[2]))?;
     octets.extend_from_slice(&text[3..])?;
     Ok(Octets::from_vec(octets))
 }
@@ -158,7 +164,9 @@ pub struct Answers<'a, A: Allocator = Global> {
     chain: &'a [&'a Held<A>],
     /// In milliseconds.
     moment: u64,
-    /// The texts over TCP.
+    /// A reply was given. Mostly it is the only one, so its text is not kept.
+    has_replied: bool,
+    /// The texts of further replies.
     spelled: PlainList<Spelled<'a, A>, A>,
 }
 
@@ -185,28 +193,28 @@ impl<'a, A: Allocator + Copy> Answers<'a, A> {
             alloc,
             chain,
             moment,
+            has_replied: false,
             spelled: PlainList::new(alloc),
         }
     }
 
-    /// The text over TCP for a question that is spelled like one before, or that is written now.
-    fn over_tcp(&mut self, waiting: &'a Waiting<A>) -> Result<Option<Octets<A>>, AllocError>
+    /// The text for a question that is spelled like one before, or that is written now and kept.
+    fn text_for(
+        &mut self,
+        waiting: &'a Waiting<A>,
+        transport: Transport,
+    ) -> Result<Option<Octets<A>>, AllocError>
         ensures same { self.new ≡ self.old }
-        ensures text { IfOk result (λ text. text ≡ ok_text (answer_of waiting.now.asked self.old.chain self.old.moment transport.Tcp)) }
+        ensures text { IfOk result (λ text. text ≡ ok_text (answer_of waiting.now.asked self.old.chain self.old.moment transport)) }
     {
         let request = waiting.request();
-        if let Some(spelled) = find_spelled(self.spelled.as_slice(), &waiting.question) {
+        if let Some(spelled) = find_spelled(self.spelled.as_slice(), &waiting.question, transport) {
             return repeated(self.alloc, &request, spelled);
         }
-        let text = text_from(
-            self.alloc,
-            &request,
-            self.chain,
-            self.moment,
-            Transport::Tcp,
-        )?;
+        let text = text_from(self.alloc, &request, self.chain, self.moment, transport)?;
         let spelled = Spelled {
             question: &waiting.question,
+            transport,
             text,
         };
         let own = repeated(self.alloc, &request, &spelled)?;
@@ -219,13 +227,13 @@ impl<'a, A: Allocator + Copy> Answers<'a, A> {
         ensures same { self.new ≡ self.old }
         ensures reply { IfOk result (λ action. action_of action ≡ sends waiting.now (answer_of waiting.now.asked self.old.chain self.old.moment (transport_of waiting.now.client))) }
     {
-        match waiting.client {
-            Client::Udp(_) => answer(self.alloc, &waiting.request(), self.chain, self.moment),
-            Client::Tcp(_) => {
-                let text = self.over_tcp(waiting)?;
-                reply(self.alloc, &waiting.request(), text)
-            }
+        let request = waiting.request();
+        if !self.has_replied {
+            self.has_replied = true;
+            return answer(self.alloc, &request, self.chain, self.moment);
         }
+        let text = self.text_for(waiting, transport_of(waiting.client))?;
+        reply(self.alloc, &request, text)
     }
 }
 
