@@ -1,6 +1,6 @@
 -- Runs of labels that begin with a pointer, and what they come to.
-use Rattle.std.specs.Prelude.{◌≡◌, ℕ, ◌-◌, ◌<◌, ◌≤◌, List, slice_index}
-use Rattle.message_names.specs.Names.{ending, walk_in, steps_left, whole}
+use Rattle.std.specs.Prelude.{◌≡◌, ℕ, ◌+◌, ◌-◌, ◌<◌, ◌≤◌, List, length, slice_index}
+use Rattle.message_names.specs.Names.{target, ending, walk_in, steps_left, whole}
 
 -- behind a pointer, a run that begins at o reads as one that begins at e
 abbrev pub SameRun : List ℕ → ℕ → ℕ → Type 0
@@ -9,6 +9,12 @@ SameRun bytes o e = (used end : ℕ) → used ≤ 254 → ending end (walk_in (s
 pub record IsShortcut (bytes : List ℕ) (o e : ℕ) : Type 0 where
   pub back : e < o
   pub same : SameRun bytes o e
+
+-- At a place a pointer stands that leads back, so that a run may begin with it.
+pub record LeadsBack (bytes : List ℕ) (o : ℕ) : Type 0 where
+  pub inside : o + 2 ≤ length bytes
+  pub pointer : 192 ≤ slice_index bytes o
+  pub back : target bytes o < o
 
 -- a number above 0 is one more than a place where the run reads the same
 abbrev pub AreShortcuts : List ℕ → List ℕ → Type 0

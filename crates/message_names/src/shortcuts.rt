@@ -4,8 +4,8 @@
 //! comes to by pointers alone, or 0 where that is not known. With it, many names behind one long chain of pointers
 //! don't walk it anew; without, as an empty slice, each does.
 
-ghost use Rattle.std.specs.Prelude.{◌≤◌, ◌<◌, IfSome};
-ghost use Rattle.message_names.specs.Shortcuts.{SameRun, IsShortcut, AreShortcuts};
+ghost use Rattle.std.specs.Prelude.{◌≤◌, ◌<◌, IfSome, IfNone};
+ghost use Rattle.message_names.specs.Shortcuts.{SameRun, IsShortcut, AreShortcuts, LeadsBack};
 
 /// A message of at most so many octets is read without remembering where its pointers lead.
 pub const SMALL: usize = 1024;
@@ -16,7 +16,8 @@ pub const PLACES: usize = 16384;
 /// Where the pointer at a place leads, if one stands there that a run may begin with.
 #[tactic(auto, using(crate::proofs::ShortcutLaws::shortcut_behind))]
 fn pointer_at(bytes: &[u8], place: usize) -> Option<usize>
-    ensures { IfSome result (λ target. IsShortcut bytes.now place target) }
+    ensures leads { IfSome result (λ target. IsShortcut bytes.now place target) }
+    ensures none { IfNone result (LeadsBack bytes.now place → ⊥) }
 {
     if place >= bytes.len() || bytes.len() - place < 2 || bytes[place] < 192 {
         return None;
@@ -28,7 +29,8 @@ fn pointer_at(bytes: &[u8], place: usize) -> Option<usize>
 /// A place before this one where a run reads as one that begins here: what is remembered, else the pointer's target.
 fn next_place(bytes: &[u8], ends: &[u16], place: usize) -> Option<usize>
     requires { AreShortcuts bytes.now ends.now }
-    ensures { IfSome result (λ next. IsShortcut bytes.now place next) }
+    ensures leads { IfSome result (λ next. IsShortcut bytes.now place next) }
+    ensures none { IfNone result (LeadsBack bytes.now place → ⊥) }
 {
     if place < ends.len() && ends[place] > 0 {
         return Some(ends[place] as usize - 1);
@@ -41,6 +43,7 @@ fn end_of(bytes: &[u8], ends: &[u16], start: usize) -> usize
     requires { AreShortcuts bytes.now ends.now }
     ensures leads { SameRun bytes.now start result }
     ensures back { result ≤ start }
+    ensures ends { LeadsBack bytes.now result → ⊥ }
 {
     let mut place = start;
     while let Some(next) = next_place(bytes, ends, place) {
@@ -71,6 +74,7 @@ pub fn resolve(bytes: &[u8], ends: &mut [u16], start: usize) -> usize
     requires { AreShortcuts bytes.now ends.old }
     ensures leads { SameRun bytes.now start result }
     ensures back { result ≤ start }
+    ensures ends { LeadsBack bytes.now result → ⊥ }
     ensures known { AreShortcuts bytes.now ends.new }
 {
     let end = end_of(bytes, ends, start);
