@@ -1,8 +1,11 @@
--- What a wire in memory stores.
-use Rattle.std.specs.Prelude.{ℕ, Bool, List, Option, Some, None, if◌then◌else◌}
+-- A wire in memory: what it stores, and its script.
+use Rattle.std.specs.Prelude.{◌≡◌, ℕ, ◌+◌, ◌-◌, ◌^◌, ◌==◌, min, Bool, List, [], ◌∷◌, Option, Some, None, if◌then◌else◌, drop}
+use Rattle.std.specs.List.{list_any}
 use Rattle.step_values.specs.declared.action.Action.{Action as OwnedAction}
 use Rattle.step_values.specs.Values.{action_of}
-use Rattle.network_model.specs.Wire.{Arrival, Put, Told}
+use Rattle.network_model.specs.declared.script_wire.ScriptTurn.{ScriptTurn}
+use Rattle.network_model.specs.Wire.{Arrival, Put, Told, arrival_of}
+use Rattle.network_model.specs.Wire.Arrival.{nothing}
 
 abbrev pub put_of : {A : Type 0} → OwnedAction A × Bool → Put
 put_of p = record { action = action_of p.0; sent = p.1 }
@@ -10,3 +13,62 @@ put_of p = record { action = action_of p.0; sent = p.1 }
 -- what is told, unless memory ran out before
 abbrev pub stored : Bool → List (Option Arrival) → List Put → List ℕ → List (List ℕ) → Option Told
 stored tells arrivals puts moments words = if tells then Some (record { arrivals = arrivals; puts = puts; moments = moments; words = words }) else None
+
+-- ---- its script
+
+-- a turn: what arrives in it, and the moment and the words of each of its steps
+pub record Turn : Type 0 where
+  pub arrival : Arrival
+  pub moment : ℕ
+  pub words : List ℕ
+
+abbrev pub turn_of : {A : Type 0} → ScriptTurn A → Turn
+turn_of turn = record { arrival = arrival_of turn.arrival; moment = turn.moment; words = turn.words }
+
+-- A wire in memory: what it tells, and how many faults it counted; the turns that have not begun; the moment and the words
+-- of the turn that began last, before the first one of that one; the numbers of the calls of `arrival` and `put` that it
+-- refuses, and how many such calls there were.
+pub record Script : Type 0 where
+  pub told : Option Told
+  pub faults : ℕ
+  pub to_come : List Turn
+  pub moment : ℕ
+  pub words : List ℕ
+  pub refuse : List ℕ
+  pub calls : ℕ
+
+-- where nothing is given, nothing arrives at the moment 0, and all words are 0
+abbrev pub no_turn : Turn
+no_turn = record { arrival = nothing; moment = 0; words = 0 ∷ 0 ∷ 0 ∷ 0 ∷ 0 ∷ 0 ∷ 0 ∷ 0 ∷ [] }
+
+-- the turn in which a wire stands before the first of its turns begins
+abbrev pub standing : List Turn → Turn
+standing [] = no_turn
+standing (turn ∷ later) = turn
+
+-- the turn that begins next; behind the last one nothing arrives, and the moment and the words stay
+abbrev pub next_of : Script → List Turn → Turn
+next_of script [] = record { arrival = nothing; moment = script.moment; words = script.words }
+next_of script (turn ∷ later) = turn
+
+abbrev pub next_turn : Script → Turn
+next_turn script = next_of script script.to_come
+
+-- the script once its next turn has begun
+abbrev pub begun : Script → Script
+begun script = record script { to_come = drop 1 script.to_come; moment = (next_turn script).moment; words = (next_turn script).words }
+
+-- whether the next call of `arrival` or `put` is refused
+abbrev pub refuses : Script → Bool
+refuses script = list_any (λ number. number == script.calls) script.refuse
+
+-- the script behind one such call more, and behind one fault more
+abbrev pub calls_once : Script → Script
+calls_once script = record script { calls = min (script.calls + 1) (2 ^ 64 - 1) }
+
+abbrev pub faults_once : Script → Script
+faults_once script = record script { faults = script.faults + 1 }
+
+-- A script as it is to be, in all but what it tells.
+abbrev pub AllButTold : Script → Script → Type 0
+AllButTold wanted script = script ≡ record wanted { told = script.told }

@@ -1,15 +1,15 @@
 //! A wire in memory, whose arrivals and refusals the caller chooses.
 
-ghost use Rattle.std.specs.Prelude.{◌≡◌, ◌==◌, ◌+◌, ◌-◌, ◌^◌, min, None, Some, false, OnOk, OnErr, IfSome, map};
-ghost use Rattle.std.specs.List.{list_any};
+ghost use Rattle.std.specs.Prelude.{◌≡◌, ◌+◌, ◌-◌, ◌<◌, ◌^◌, None, Some, false, true, OnOk, OnErr, IfSome, is_ok, map};
 ghost use Rattle.step_values.specs.Values.{action_of};
 ghost use Rattle.network_model.specs.Wire.{silence, TellsMore, arrival_of, given, arrived, was_put, moment_was, words_were};
-ghost use Rattle.network_model.specs.Scripts.{put_of};
+ghost use Rattle.network_model.specs.Wire.Arrival.{nothing};
+ghost use Rattle.network_model.specs.Scripts.{put_of, turn_of, next_turn, begun, calls_once, faults_once, refuses, standing, AllButTold};
 
 use crate::wire::{Arrival, Wire, WireFault};
 use std::alloc::{AllocError, Allocator, Global};
+use std::collections::VecDeque;
 use std::marker::Model;
-use std::mem;
 use step_values::Action;
 
 /// What a turn of a `ScriptWire` gives.
@@ -170,25 +170,15 @@ impl<A: Allocator + Copy> Stored<A> {
     }
 }
 
-/// The arrival of the next turn, which begins.
-fn next_arrival<A: Allocator>(turns: &mut Vec<ScriptTurn<A>, A>, begun: &mut usize) -> Arrival<A> {
-    match turns.get_mut(*begun) {
-        Some(turn) => {
-            *begun = begun.saturating_add(1);
-            mem::replace(&mut turn.arrival, Arrival::Nothing)
-        }
-        None => Arrival::Nothing,
-    }
-}
-
-/// Counts a call of `arrival` or `put`, and tells whether it is to be refused.
-fn is_refused(calls: &mut u64, refuse: &[u64]) -> bool
-    ensures refused { result ≡ list_any (λ number. number == calls.old) refuse.now }
-    ensures counts { calls.new ≡ min (calls.old + 1) (2 ^ 64 - 1) }
+/// The moment and the words of a wire of these turns before the first one begins.
+#[tactic(auto, using(crate::proofs::Storing::standing_some, crate::proofs::Storing::standing_none))]
+fn stands_at<A: Allocator>(turns: &[ScriptTurn<A>]) -> (u64, [u32; 8])
+    ensures { (result.0 ≡ (standing (map turn_of turns.now)).moment) × (result.1 ≡ (standing (map turn_of turns.now)).words) }
 {
-    let number = *calls;
-    *calls = number.saturating_add(1);
-    refuse.contains(&number)
+    match turns.first() {
+        Some(turn) => (turn.moment, turn.words),
+        None => (0, [0; 8]),
+    }
 }
 
 /// A wire in memory. Its turns are given beforehand: the arrival of a turn comes at its call of `arrival`, and the
@@ -196,9 +186,12 @@ fn is_refused(calls: &mut u64, refuse: &[u64]) -> bool
 /// and words go on. The caller chooses which calls it refuses. It stores what it gave and took.
 #[derive(Drop)]
 pub struct ScriptWire<A: Allocator = Global> {
-    turns: Vec<ScriptTurn<A>, A>,
-    /// How many turns have begun.
-    begun: usize,
+    /// The turns that have not begun.
+    to_come: VecDeque<ScriptTurn<A>, A>,
+    /// The moment of the turn that began last; before the first one, of that one.
+    moment: u64,
+    /// The words of the same turn.
+    words: [u32; 8],
     /// The numbers of the calls of `arrival` and `put` that are refused, counted together from 0.
     refuse: Vec<u64, A>,
     /// How many such calls there were.
@@ -207,18 +200,30 @@ pub struct ScriptWire<A: Allocator = Global> {
     stored: Stored<A>,
 }
 
+impl<A: Allocator> Model for ScriptWire<A> {
+    ghost use Rattle.std.specs.Prelude.{map};
+    ghost use Rattle.network_model.specs.Scripts.{Script, turn_of};
+
+    ghost Value = { Script };
+
+    ghost view = { λ w. record { told = w.stored; faults = w.faults; to_come = map turn_of w.to_come.items; moment = w.moment; words = w.words; refuse = w.refuse.items; calls = w.calls } };
+}
+
 impl<A: Allocator + Copy> ScriptWire<A> {
     /// A wire that gives these turns, and refuses the calls of `arrival` and `put` with these numbers, counted together
     /// from 0. It takes no memory.
     pub fn new(alloc: A, turns: Vec<ScriptTurn<A>, A>, refuse: Vec<u64, A>) -> ScriptWire<A>
-        ensures told { result.stored ≡ Some silence }
+        ensures told { result.told ≡ Some silence }
         ensures faults { result.faults ≡ 0 }
-        ensures script { (result.turns ≡ turns) × (result.begun ≡ 0) }
-        ensures refuses { (result.refuse ≡ refuse) × (result.calls ≡ 0) }
+        ensures script { result.to_come ≡ map turn_of turns.items }
+        ensures stands { (result.moment ≡ (standing result.to_come).moment) × (result.words ≡ (standing result.to_come).words) }
+        ensures refuses { (result.refuse ≡ refuse.items) × (result.calls ≡ 0) }
     {
+        let (moment, words) = stands_at(turns.as_slice());
         ScriptWire {
-            turns,
-            begun: 0,
+            to_come: VecDeque::from_vec(turns),
+            moment,
+            words,
             refuse,
             calls: 0,
             faults: 0,
@@ -228,29 +233,55 @@ impl<A: Allocator + Copy> ScriptWire<A> {
 
     /// The actions that were put, in order, each with true where its put was not refused. It takes no memory.
     pub fn puts(&self) -> &[(Action<A>, bool)]
-        ensures { IfSome self.now.stored (λ told. map put_of result.now ≡ told.puts) }
+        ensures { IfSome self.now.told (λ told. map put_of result.now ≡ told.puts) }
     {
         self.stored.puts()
     }
 
-    /// The turn that began last; before the first one, that one.
-    fn turn(&self) -> Option<&ScriptTurn<A>> {
-        self.turns.get(self.begun.saturating_sub(1))
+    /// Begins the next turn, and gives what arrives in it.
+    fn begin(&mut self) -> Arrival<A>
+        ensures arrival { arrival_of result ≡ (next_turn self.old).arrival }
+        ensures begun { self.new ≡ begun self.old }
+    {
+        match self.to_come.pop_front() {
+            Some(turn) => {
+                self.moment = turn.moment;
+                self.words = turn.words;
+                turn.arrival
+            }
+            None => Arrival::Nothing,
+        }
+    }
+
+    /// Counts a call of `arrival` or `put`, and tells whether it is to be refused.
+    fn is_refused(&mut self) -> bool
+        ensures refused { result ≡ refuses self.old }
+        ensures counts { self.new ≡ calls_once self.old }
+    {
+        let number = self.calls;
+        self.calls = number.saturating_add(1);
+        self.refuse.contains(&number)
     }
 }
 
 impl<A: Allocator + Copy> Wire<A> for ScriptWire<A> {
-    ghost told = { λ w. w.stored };
+    ghost told = { λ w. w.told };
 
     ghost fault_count = { λ w. w.faults };
 
-    fn arrival(&mut self) -> Result<Arrival<A>, WireFault> {
+    fn arrival(&mut self) -> Result<Arrival<A>, WireFault>
+        ensures tells { TellsMore self.old.told (arrived (given result)) self.new.told }
+        ensures faults { OnErr result (self.old.faults < self.new.faults) }
+        ensures last { self.old.faults ≡ 2 ^ 64 - 1 → (given result ≡ Some nothing) × AllButTold self.old self.new }
+        ensures gives { self.old.faults < 2 ^ 64 - 1 → OnOk result ((given result ≡ Some (next_turn self.old).arrival) × (refuses self.old ≡ false) × AllButTold (calls_once (begun self.old)) self.new) }
+        ensures refuses { OnErr result (AllButTold (faults_once (calls_once (begun self.old))) self.new × (refuses self.old ≡ false → self.new.told ≡ None)) }
+    {
         if self.faults == u64::MAX {
             let _ = self.stored.keep_arrival(&Arrival::Nothing);
             return Ok(Arrival::Nothing);
         }
-        let arrival = next_arrival(&mut self.turns, &mut self.begun);
-        if is_refused(&mut self.calls, self.refuse.as_slice()) {
+        let arrival = self.begin();
+        if self.is_refused() {
             self.faults += 1;
             self.stored.keep_refusal();
             return Err(WireFault);
@@ -264,12 +295,18 @@ impl<A: Allocator + Copy> Wire<A> for ScriptWire<A> {
         }
     }
 
-    fn put(&mut self, action: &Action<A>) -> Result<(), WireFault> {
+    fn put(&mut self, action: &Action<A>) -> Result<(), WireFault>
+        ensures tells { TellsMore self.old.told (was_put (action_of action.now) (is_ok result)) self.new.told }
+        ensures faults { OnErr result (self.old.faults < self.new.faults) }
+        ensures last { self.old.faults ≡ 2 ^ 64 - 1 → (is_ok result ≡ true) × AllButTold self.old self.new }
+        ensures takes { self.old.faults < 2 ^ 64 - 1 → OnOk result ((refuses self.old ≡ false) × AllButTold (calls_once self.old) self.new) }
+        ensures refuses { OnErr result (AllButTold (faults_once (calls_once self.old)) self.new × (refuses self.old ≡ false → self.new.told ≡ None)) }
+    {
         if self.faults == u64::MAX {
             let _ = self.stored.keep_put(action, true);
             return Ok(());
         }
-        if is_refused(&mut self.calls, self.refuse.as_slice()) {
+        if self.is_refused() {
             self.faults += 1;
             let _ = self.stored.keep_put(action, false);
             return Err(WireFault);
@@ -283,22 +320,20 @@ impl<A: Allocator + Copy> Wire<A> for ScriptWire<A> {
         }
     }
 
-    fn moment(&mut self) -> u64 {
-        let moment = match self.turn() {
-            Some(turn) => turn.moment,
-            None => 0,
-        };
-        self.stored.keep_moment(moment);
-        moment
+    fn moment(&mut self) -> u64
+        ensures tells { TellsMore self.old.told (moment_was result) self.new.told }
+        ensures of_the_turn { (result ≡ self.old.moment) × AllButTold self.old self.new }
+    {
+        self.stored.keep_moment(self.moment);
+        self.moment
     }
 
-    fn words(&mut self) -> [u32; 8] {
-        let words = match self.turn() {
-            Some(turn) => turn.words,
-            None => [0; 8],
-        };
-        self.stored.keep_words(words);
-        words
+    fn words(&mut self) -> [u32; 8]
+        ensures tells { TellsMore self.old.told (words_were result) self.new.told }
+        ensures of_the_turn { (result ≡ self.old.words) × AllButTold self.old self.new }
+    {
+        self.stored.keep_words(self.words);
+        self.words
     }
 
     fn faults(&self) -> u64 {
