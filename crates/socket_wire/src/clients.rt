@@ -1,9 +1,13 @@
 //! The connections of clients.
 
-ghost use Rattle.std.specs.Prelude.{◌≡◌, ◌&&◌, ◌++◌, ◌-◌, ℕ, List, length, nat_le};
-ghost use Rattle.std.specs.BTreeMap.{btree_map_len};
+ghost use Rattle.std.specs.Prelude.{◌≡◌, ◌&&◌, ◌++◌, ◌-◌, ℕ, List, [], length, nat_le, is_some, OnOk, OnErr};
+ghost use Rattle.std.specs.Option.{option_copied_mut};
+ghost use Rattle.std.specs.Ordering.{nat_cmp};
+ghost use Rattle.std.specs.Map.{remove_entry};
+ghost use Rattle.std.specs.BTreeMap.{btree_map_len, get, is_at};
 ghost use Rattle.tcp_frames.specs.Frames.{frames_of, unfinished_of};
 ghost use Rattle.socket_wire.specs.Counting.{Stands};
+ghost use Rattle.socket_wire.specs.Listed.{Admits, first_from, first_idle};
 ghost use Rattle.socket_wire.specs.Waiting.{Hears, IsNew, is_idle, is_late};
 
 use crate::framing::Within;
@@ -189,7 +193,9 @@ pub(crate) struct Clients<A: Allocator> {
 
 impl<A: Allocator + Copy> Clients<A> {
     /// None; it takes no memory.
-    pub fn new(alloc: A) -> Clients<A> {
+    pub fn new(alloc: A) -> Clients<A>
+        ensures { result.open.entries ≡ [] }
+    {
         Clients {
             open: BTreeMap::new(alloc),
         }
@@ -208,30 +214,41 @@ impl<A: Allocator + Copy> Clients<A> {
         self.open.len()
     }
 
-    /// Lists a connection under its number. `Err` where memory ran out.
+    /// Lists a connection under its number. `Err` where memory ran out, and then nothing has changed.
     pub fn admit(
         &mut self,
         alloc: A,
         conn: u64,
         stream: TcpStream,
         now: u64,
-    ) -> Result<(), AllocError> {
+    ) -> Result<(), AllocError>
+        ensures ok { OnOk result (Admits conn now self.old.open.entries self.new.open.entries) }
+        ensures err { OnErr result (self.new.open.entries ≡ self.old.open.entries) }
+    {
         self.open
             .insert(conn, ClientStream::new(alloc, stream, now))?;
         Ok(())
     }
 
-    pub fn get_mut(&mut self, conn: u64) -> Option<&mut ClientStream<A>> {
+    /// The one with this number.
+    pub fn get_mut(&mut self, conn: u64) -> Option<&mut ClientStream<A>>
+        ensures { option_copied_mut result ≡ get nat_cmp self.old.open conn }
+    {
         self.open.get_mut(&conn)
     }
 
     /// Closes it; false where it isn't open.
-    pub fn close(&mut self, conn: u64) -> bool {
+    pub fn close(&mut self, conn: u64) -> bool
+        ensures open { result ≡ is_some (get nat_cmp self.old.open conn) }
+        ensures rest { self.new.open.entries ≡ remove_entry (is_at (nat_cmp conn)) self.old.open.entries }
+    {
         self.open.remove(&conn).is_some()
     }
 
     /// The oldest that waits for nothing.
-    pub fn oldest_idle(&self) -> Option<u64> {
+    pub fn oldest_idle(&self) -> Option<u64>
+        ensures { result ≡ first_idle self.now.open.entries }
+    {
         for (conn, client) in &self.open {
             if client.is_idle() {
                 return Some(*conn);
@@ -241,7 +258,9 @@ impl<A: Allocator + Copy> Clients<A> {
     }
 
     /// The first from this number on, and whether it has been silent for too long.
-    pub fn from(&self, conn: u64, now: u64, deadline: u64) -> Option<(u64, bool)> {
+    pub fn from(&self, conn: u64, now: u64, deadline: u64) -> Option<(u64, bool)>
+        ensures { result ≡ first_from conn now deadline self.now.open.entries }
+    {
         let (number, client) = self.open.range(conn..).next()?;
         Some((*number, client.is_late(now, deadline)))
     }

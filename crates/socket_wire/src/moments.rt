@@ -1,6 +1,6 @@
 //! Moments that never fall.
 
-ghost use Rattle.std.specs.Prelude.{◌≡◌, ◌≤◌};
+ghost use Rattle.std.specs.Prelude.{◌≡◌, ◌≤◌, IfOk};
 
 use std::io;
 use std::rt::Clock;
@@ -16,8 +16,10 @@ pub(crate) struct Moments<'a, R: Clock> {
 }
 
 impl<'a, R: Clock> Moments<'a, R> {
-    /// `Err` where the clock fails.
-    pub fn new(rt: &'a R) -> io::Result<Moments<'a, R>> {
+    /// None was told yet. `Err` where the clock fails.
+    pub fn new(rt: &'a R) -> io::Result<Moments<'a, R>>
+        ensures { IfOk result (λ moments. moments.last ≡ 0) }
+    {
         Ok(Moments {
             rt,
             started: Instant::now(rt)?,

@@ -1,5 +1,11 @@
 //! What may be ready, and which of it is tried next.
 
+ghost use Rattle.std.specs.Prelude.{◌≡◌, [], Some, None, IsTrue, false, unwrap_or, ◌↔◌};
+ghost use Rattle.std.specs.BTreeSet.{btree_set_len};
+ghost use Rattle.socket_wire.specs.declared.origin.Origin.{Origin};
+ghost use Rattle.socket_wire.specs.Rounds.{Dropped, Noted, next_token};
+ghost use Rattle.socket_wire.specs.Tokens.{HasToken, token_of};
+
 use crate::origin::Origin;
 use mio::event::Source;
 use mio::{Events, Interest, Poll, Token};
@@ -22,15 +28,21 @@ struct Round<A: Allocator> {
 
 impl<A: Allocator> Round<A> {
     /// Nothing; it takes no memory.
-    fn new(alloc: A) -> Round<A> {
+    fn new(alloc: A) -> Round<A>
+        ensures { (result.tokens.keys ≡ []) × (result.last ≡ 0) }
+    {
         Round {
             tokens: BTreeSet::new(alloc),
             last: 0,
         }
     }
 
-    /// The next one after that which was tried last.
-    fn next(&mut self) -> Option<Origin> {
+    /// The next one behind that which was tried last; behind the last of them the first.
+    fn next(&mut self) -> Option<Origin>
+        ensures tried { self.new ≡ record self.old { last = unwrap_or (next_token self.old.last self.old.tokens.keys) self.old.last } }
+        ensures next { (origin : Origin) → HasToken origin → next_token self.old.last self.old.tokens.keys ≡ Some (token_of origin) → result ≡ Some origin }
+        ensures none { next_token self.old.last self.old.tokens.keys ≡ None → result ≡ None }
+    {
         let after = self.last.saturating_add(1);
         let next = match self.tokens.range(after..).next() {
             Some(token) => *token,
@@ -54,7 +66,9 @@ struct Ready<A: Allocator> {
 
 impl<A: Allocator + Copy> Ready<A> {
     /// Where memory ran out it isn't noted.
-    fn add(&mut self, origin: Origin) {
+    fn add(&mut self, origin: Origin)
+        ensures { Noted origin self.old self.new }
+    {
         let Token(number) = origin.token();
         match origin {
             Origin::Datagrams => self.datagrams = true,
@@ -67,7 +81,9 @@ impl<A: Allocator + Copy> Ready<A> {
         }
     }
 
-    fn remove(&mut self, origin: Origin) {
+    fn remove(&mut self, origin: Origin)
+        ensures { Dropped origin self.old self.new }
+    {
         let Token(number) = origin.token();
         match origin {
             Origin::Datagrams => self.datagrams = false,
@@ -131,24 +147,34 @@ impl<A: Allocator + Copy> Readiness<A> {
     }
 
     /// The socket may be ready. Where memory ran out it isn't noted; then it is tried when its turn comes.
-    pub fn add(&mut self, origin: Origin) {
+    pub fn add(&mut self, origin: Origin)
+        ensures noted { Noted origin self.old.ready self.new.ready }
+        ensures rest { self.new ≡ record self.old { ready = self.new.ready } }
+    {
         self.ready.add(origin);
     }
 
     /// The socket said that it would block.
-    pub fn remove(&mut self, origin: Origin) {
+    pub fn remove(&mut self, origin: Origin)
+        ensures dropped { Dropped origin self.old.ready self.new.ready }
+        ensures rest { self.new ≡ record self.old { ready = self.new.ready } }
+    {
         self.ready.remove(origin);
     }
 
     /// Nothing may be ready.
-    pub fn is_empty(&self) -> bool {
+    pub fn is_empty(&self) -> bool
+        ensures { IsTrue result ↔ (self.now.ready.datagrams ≡ false) × (btree_set_len self.now.ready.streams.tokens ≡ 0) × (btree_set_len self.now.ready.servers.tokens ≡ 0) }
+    {
         !self.ready.datagrams
             && self.ready.streams.tokens.is_empty()
             && self.ready.servers.tokens.is_empty()
     }
 
     /// No socket of an ask may be ready.
-    pub fn has_no_server(&self) -> bool {
+    pub fn has_no_server(&self) -> bool
+        ensures { IsTrue result ↔ (btree_set_len self.now.ready.servers.tokens ≡ 0) }
+    {
         self.ready.servers.tokens.is_empty()
     }
 

@@ -1,5 +1,7 @@
 //! The wire.
 
+ghost use Rattle.std.specs.Prelude.{◌≡◌, IfOk};
+
 use crate::moments::Moments;
 use crate::sockets::Sockets;
 use network_model::{Arrival, Wire, WireFault};
@@ -8,6 +10,7 @@ use rand_core::SeedableRng;
 use rand_core::utils::NextWord;
 use std::alloc::{Allocator, Global};
 use std::io;
+use std::marker::Model;
 use std::net::Net;
 use std::random::RandomSource;
 use std::rt::Clock;
@@ -15,7 +18,7 @@ use step_values::Action;
 use suffix_routes::Peer;
 
 /// A wire over sockets. It listens at one address by UDP and TCP, asks from a socket of its own for each ask, and waits
-/// for none of them.
+/// for none of them. Contracts see how many faults it counted.
 #[derive(Drop)]
 pub struct MioWire<'a, R: Net + Clock, A: Allocator = Global> {
     sockets: Sockets<'a, R, A>,
@@ -24,10 +27,20 @@ pub struct MioWire<'a, R: Net + Clock, A: Allocator = Global> {
     faults: u64,
 }
 
+impl<'a, R: Net + Clock, A: Allocator> Model for MioWire<'a, R, A> {
+    ghost use Rattle.std.specs.Prelude.{ℕ};
+
+    ghost Value = { ℕ };
+
+    ghost view = { λ w. w.faults };
+}
+
 impl<'a, R: Net + Clock + RandomSource, A: Allocator + Copy> MioWire<'a, R, A> {
-    /// A wire that listens at this address. A client on a connection waits for its reply for at most `deadline`
-    /// milliseconds. `Err` where the system refuses, or memory ran out.
-    pub fn new(rt: &'a R, alloc: A, listen: Peer, deadline: u64) -> io::Result<MioWire<'a, R, A>> {
+    /// A wire that listens at this address, and counted no fault. A client on a connection waits for its reply for at
+    /// most `deadline` milliseconds. `Err` where the system refuses, or memory ran out.
+    pub fn new(rt: &'a R, alloc: A, listen: Peer, deadline: u64) -> io::Result<MioWire<'a, R, A>>
+        ensures { IfOk result (λ faults. faults ≡ 0) }
+    {
         let mut seed = [0u8; 32];
         rt.fill_bytes(&mut seed)?;
         Ok(MioWire {
@@ -44,7 +57,7 @@ impl<R: Net + Clock, A: Allocator + Copy> Wire<A> for MioWire<'_, R, A> {
 
     ghost told = { λ _. None };
 
-    ghost fault_count = { λ w. w.faults };
+    ghost fault_count = { λ faults. faults };
 
     fn arrival(&mut self) -> Result<Arrival<A>, WireFault> {
         if self.faults == u64::MAX {
