@@ -11,10 +11,10 @@ use thiserror::Error;
 pub enum Fault {
     /// Over TCP, the answer has more octets than the two octets of a length can say: more than 65,535 (RFC 1035 4.2.2).
     #[error("an answer of over 65,535 octets")]
-    TooLarge = 1,
+    TooLarge,
     /// Memory ran out.
     #[error("memory ran out")]
-    Memory = 2,
+    Memory,
 }
 
 impl From<AllocError> for Fault {

@@ -16,10 +16,10 @@ use thiserror::Error;
 pub enum Refusal {
     /// As many asks are listed as there may be.
     #[error("as many asks are listed as there may be")]
-    Full = 1,
+    Full,
     /// Memory ran out.
     #[error("memory ran out")]
-    Memory = 2,
+    Memory,
 }
 
 /// The listed asks, in the order in which they were asked, at most `capacity` of them. Each stands for an inquiry: no two

@@ -11,10 +11,10 @@ use thiserror::Error;
 pub enum FrameFault {
     /// Memory ran out.
     #[error("memory ran out")]
-    Memory = 1,
+    Memory,
     /// The message has more octets than the two octets of a length can say: more than 65,535 (RFC 1035 4.2.2).
     #[error("a message of over 65,535 octets")]
-    TooLong = 2,
+    TooLong,
 }
 
 impl From<AllocError> for FrameFault {
