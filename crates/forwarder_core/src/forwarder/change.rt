@@ -11,9 +11,9 @@ ghost use Rattle.step_changes.specs.Next.{tcp_count_of, left_waiting, with_prefe
 
 use crate::forwarder::Forwarder;
 use outstanding::{Ask, Path};
+use plain_list::PlainList;
 use record_cache::Held;
 use std::alloc::{AllocError, Allocator};
-use plain_list::PlainList;
 use std::hash::BuildHasher;
 use step_changes::{
     Change, Opening, Preferred, close_inquiry, drop_first, end_closed, is_late, is_overdue,

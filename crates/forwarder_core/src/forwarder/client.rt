@@ -42,7 +42,11 @@ impl<H: BuildHasher + Drop, A: Allocator + Copy> Forwarder<H, A> {
     }
 
     /// One reply, and the promotion of what a look-up used.
-    fn reply<'a>(&'a self, action: Action<A>, used: SlotsRef<'a, A>) -> Result<Next<'a, A>, AllocError>
+    fn reply<'a>(
+        &'a self,
+        action: Action<A>,
+        used: SlotsRef<'a, A>,
+    ) -> Result<Next<'a, A>, AllocError>
         ensures row { IfOk result (λ next. (n : ℕ) → (rooms : List Bool) → next_of n rooms self.now.state next ≡ reply_step n (action_of action) (using used.entry self.now.state)) }
         ensures fits { IfOk result (λ next. (n : ℕ) → CanChange self.now.config n self.now.state next) }
     {
@@ -57,7 +61,12 @@ impl<H: BuildHasher + Drop, A: Allocator + Copy> Forwarder<H, A> {
     }
 
     /// The question fails at once.
-    fn refuse<'a>(&'a self, request: &Request<'_>, why: Why, used: SlotsRef<'a, A>) -> Result<Next<'a, A>, AllocError>
+    fn refuse<'a>(
+        &'a self,
+        request: &Request<'_>,
+        why: Why,
+        used: SlotsRef<'a, A>,
+    ) -> Result<Next<'a, A>, AllocError>
         ensures row { IfOk result (λ next. (n : ℕ) → (rooms : List Bool) → next_of n rooms self.now.state next ≡ reply_step n (gives_up why request.now) (using used.entry self.now.state)) }
         ensures fits { IfOk result (λ next. (n : ℕ) → CanChange self.now.config n self.now.state next) }
     {

@@ -161,12 +161,14 @@ impl<H: BuildHasher + Drop, A: Allocator + Copy> Forwarder<H, A> {
         ensures err { OnErr result (self.new ≡ self.old) }
     {
         let moment = self.effective(now);
-        let Some(Next {
-            actions,
-            used,
-            change,
-            carried,
-        }) = self.decide(moment, words, event)?
+        let Some(
+            Next {
+                actions,
+                used,
+                change,
+                carried,
+            },
+        ) = self.decide(moment, words, event)?
         else {
             self.restart();
             return Ok(Outcome {

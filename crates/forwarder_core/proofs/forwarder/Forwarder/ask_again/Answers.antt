@@ -17,8 +17,7 @@ returns-clause-row g c = λ rooms.
 
 pub returns-clause-fits : goal.returns-clause-fits
 returns-clause-fits g c =
-    fits_plain c.args.self.now.config c.args.moment c.args.self.now.state c.without_cache.result (AskAgain c.args.path c.in_ok-next.next) c.without_cache.ensures.change
-    (
+    fits_plain c.args.self.now.config c.args.moment c.args.self.now.state c.without_cache.result (AskAgain c.args.path c.in_ok-next.next) c.without_cache.ensures.change (
       listed_some c.args.path c.args.self.now.state.asks c.args.ask.now c.requires.on,
       subst (λ (a : Ask). CanFollow c.args.self.now.config c.args.moment c.args.self.now.state (without_path c.args.path c.args.self.now.state.asks) a) (sym c.in_ok-next.ensures.ok) c.requires.follows,
     ) c.without_cache.ensures.carried
