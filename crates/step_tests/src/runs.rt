@@ -68,7 +68,7 @@ fn a_run_over_a_list(rt: HostRuntime) -> Result<(), Fail> {
     }
     // The configuration takes 2 growths and a new forwarder 7, all but one for its cache; a step takes one more for each
     // of its two copies, and the first for the list. With the last growth refused, the set is not kept.
-    assert_eq!(rt; (refused, unkept), (2 + 7 + (6 + 3) + (14 + 2), 1));
+    assert_eq!(rt; (refused, unkept), (2 + 7 + (10 + 3) + (14 + 2), 1));
     Ok(())
 }
 
