@@ -423,6 +423,6 @@ fn each_refused_growth_is_want_of_memory(rt: HostRuntime) -> Result<(), Fail> {
         }
         refused = count + 1;
     }
-    assert_eq!(rt; refused, 12, "growths in all");
+    assert_eq!(rt; refused, 11, "growths in all");
     Ok(())
 }
