@@ -4,3 +4,4 @@ pub mod ReadLaws
 pub mod ReadRoutes
 pub mod PeerLaws
 pub mod CallerLemmas
+mod PositionLaws

@@ -2,6 +2,7 @@ pub mod Values
 pub mod Routes
 pub mod Peers
 pub mod Places
+pub mod Positions
 pub mod Excerpts
 pub mod ExcerptLaws
 pub mod Kinds

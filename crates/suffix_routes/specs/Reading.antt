@@ -1,5 +1,5 @@
 -- The configuration that a table of TOML holds, else the first fault in order.
-use Rattle.std.specs.Prelude.{◌≡◌, ℕ, ◌≤◌, ℤ, pos, int_le, unsigned_abs, Bool, true, false, not, ◌==◌, nat_lt, ◌&&◌, if◌then◌else◌, List, [], ◌∷◌, ◌++◌, length, codes, option_map, Option, Some, None, Result, Ok, Err}
+use Rattle.std.specs.Prelude.{◌≡◌, ℕ, ◌≤◌, ℤ, pos, int_le, unsigned_abs, Bool, true, false, not, ◌==◌, nat_lt, ◌&&◌, if◌then◌else◌, List, [], ◌∷◌, ◌++◌, length, take, codes, option_map, Option, Some, None, Result, Ok, Err}
 use Rattle.std.specs.Ordering.{int_eq}
 use Rattle.std.specs.List.{find}
 use Rattle.first_fault.specs.Reading as reading
@@ -18,6 +18,7 @@ use Rattle.suffix_routes.specs.declared.fault.ConfigFault.{ConfigFault}
 use Rattle.suffix_routes.specs.declared.fault.ConfigFault.TheVariants.{Toml, Version, MissingKey, WrongKind, BadName, BadPeer, Range, TooManyServers, TwiceSuffix, TooManyRoutes, NoServers, UnknownKey, Memory}
 use Rattle.suffix_routes.specs.Values.{Route, Config, default_limits}
 use Rattle.suffix_routes.specs.Places.{limit_key, lowest, highest, default_of, knows}
+use Rattle.suffix_routes.specs.Positions.{position_of}
 use Rattle.suffix_routes.specs.Peers.{peer_of}
 use Rattle.suffix_routes.specs.Excerpts.{excerpt}
 use Rattle.suffix_routes.specs.Kinds.{kind_of}
@@ -229,9 +230,9 @@ config_in ms =
     routes_in ms >>= λ routes.
     Ok (record { listen = listen; limits = limits; routes = routes })
 
--- the fault of a text that is no TOML, which tells an octet of it or its end
+-- the fault of a text that is no TOML, which tells the position of an octet of it or of its end
 abbrev pub IsNoToml : List ℕ → Result Config ConfigFault → Type 0
-IsNoToml text (Err (Toml at)) = at ≤ length text
+IsNoToml text (Err (Toml position)) = (at : ℕ) × (at ≤ length text) × (position ≡ position_of (take at text))
 IsNoToml text (Err Memory) = Unit {0}
 IsNoToml text _ = ⊥
 

@@ -7,6 +7,7 @@ ghost use Rattle.suffix_routes.specs.declared.fault.ConfigFault.TheVariants.{Mem
 use crate::excerpt::Excerpt;
 use crate::kind::Kind;
 use crate::place::{Limit, Place};
+use crate::position::Position;
 use dns_name::NameFault;
 use std::alloc::AllocError;
 use thiserror::Error;
@@ -15,9 +16,9 @@ use thiserror::Error;
 /// shown with routes and servers counted from 1.
 #[derive(Clone, Copy, Debug, PartialEq, Eq, Error)]
 pub enum ConfigFault {
-    /// The text is no TOML; the octet at which its reader stopped.
-    #[error("the text is no TOML: see octet {0}")]
-    Toml(usize),
+    /// The text is no TOML; where its reader stopped.
+    #[error("the text is no TOML: see {0}")]
+    Toml(Position),
     /// `version` is this number.
     #[error("`version` is {0}, and has to be 1")]
     Version(i64),

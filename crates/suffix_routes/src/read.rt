@@ -1,7 +1,9 @@
 //! A configuration, read from text.
 
-ghost use Rattle.std.specs.Prelude.{◌≡◌, IfOk};
+ghost use Rattle.std.specs.Prelude.{◌≡◌, ◌≤◌, IfOk, length, take};
+ghost use Rattle.suffix_routes.specs.Positions.{position_of};
 ghost use Rattle.suffix_routes.specs.Values.{AreLimits};
+ghost use Rattle.suffix_routes.specs.declared.fault.ConfigFault.TheVariants.{Toml};
 ghost use Rattle.toml.specs.View.{table_view};
 ghost use Rattle.suffix_routes.specs.Reading.{Gives, IsReadIn, version_in, listen_in, limits_in, all_limits_in, config_in};
 
@@ -10,6 +12,7 @@ use crate::fault::ConfigFault;
 use crate::limits::Limits;
 use crate::peer::Peer;
 use crate::place::{Limit, Place};
+use crate::position::Position;
 use crate::read_route::read_routes;
 use crate::table::{check_keys, integer_at, limit_at, peer_at, require, table_at, value_of};
 use std::alloc::{Allocator, Global};
@@ -32,7 +35,7 @@ impl<A: Allocator + Copy> Config<A> {
         match toml::table_from_str(heap, text) {
             Ok(table) => Config::from_table(alloc, &table),
             Err(error) => match error.span() {
-                Some(span) => Err(ConfigFault::Toml(span.start)),
+                Some(span) => Err(not_toml(text, span.start)),
                 None => Err(ConfigFault::Memory),
             },
         }
@@ -54,6 +57,14 @@ impl<A: Allocator + Copy> Config<A> {
             routes,
         })
     }
+}
+
+/// A text whose reader stopped at this octet.
+fn not_toml(text: &str, at: usize) -> ConfigFault
+    requires { at ≤ length text.now }
+    ensures { result ≡ Toml (position_of (take at text.now)) }
+{
+    ConfigFault::Toml(Position::behind(&text.as_bytes()[..at]))
 }
 
 /// The version has to be 1.
