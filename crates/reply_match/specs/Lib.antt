@@ -1,4 +1,5 @@
 pub mod Peers
 pub mod Questions
 pub mod Verdicts
+pub mod Judged
 pub mod Laws

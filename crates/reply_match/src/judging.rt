@@ -5,37 +5,39 @@ ghost use Rattle.dns_message.specs.Header.{header_in};
 ghost use Rattle.dns_message.specs.Messages.{message_of};
 ghost use Rattle.reply_match.specs.Peers.{same_peer};
 ghost use Rattle.dns_message.specs.Questions.{one_question};
+ghost use Rattle.reply_match.specs.Judged.{IsViewOf, verdict_of};
 ghost use Rattle.reply_match.specs.Questions.{asks_this};
 ghost use Rattle.reply_match.specs.Verdicts.{is_reply, judge, judged_whole};
 
-use crate::verdict::Verdict;
+use crate::verdict::Judged;
 use dns_message::{Header, MessageRef, Question};
 use outstanding::Ask;
 use std::alloc::Allocator;
 use suffix_routes::Peer;
 
 /// What octets that came from a peer are to an ask, the first that holds of the verdicts in their order; an RCODE of
-/// neither 0 nor 3 is told before a message that cannot be read whole. It takes no memory. Whether the ask is still
-/// under way is not looked at.
-pub fn judge<A: Allocator>(ask: &Ask<A>, from: Peer, bytes: &[u8]) -> Verdict
-    ensures { result ≡ judge ask.now from bytes.now }
+/// neither 0 nor 3 is told before a message that cannot be read whole. A whole one comes with its view. It takes no
+/// memory. Whether the ask is still under way is not looked at.
+pub fn judge<'a, A: Allocator>(ask: &Ask<A>, from: Peer, bytes: &'a [u8]) -> Judged<'a>
+    ensures verdict { verdict_of result ≡ judge ask.now from bytes.now }
+    ensures view { IsViewOf bytes.now result }
 {
     let Some(header) = reply_header(ask, from, bytes) else {
-        return Verdict::Stranger;
+        return Judged::Stranger;
     };
     let Ok(message) = MessageRef::view(bytes) else {
-        return Verdict::Stranger;
+        return Judged::Stranger;
     };
     if !asks_only(bytes, &header, &message, &ask.question) {
-        return Verdict::Stranger;
+        return Judged::Stranger;
     }
     if header.tc {
-        return Verdict::Truncated;
+        return Judged::Truncated;
     }
     if header.rcode != 0 && header.rcode != 3 {
-        return Verdict::Failed(header.rcode);
+        return Judged::Failed(header.rcode);
     }
-    whole_verdict(&message)
+    whole_verdict(message)
 }
 
 /// The header of a reply to a standard query that has the ask's identifier and comes from its server. What is none is
@@ -75,12 +77,13 @@ fn asks_only<A: Allocator>(
 }
 
 /// What a message is that is neither truncated nor a failure.
-fn whole_verdict(message: &MessageRef<'_>) -> Verdict
-    ensures { result ≡ judged_whole (message_of message.now) }
+fn whole_verdict(message: MessageRef<'_>) -> Judged<'_>
+    ensures verdict { verdict_of result ≡ judged_whole (message_of message.entry) }
+    ensures view { IsViewOf message.entry result }
 {
     if message.is_whole() {
-        Verdict::Whole
+        Judged::Whole(message)
     } else {
-        Verdict::Malformed
+        Judged::Malformed
     }
 }

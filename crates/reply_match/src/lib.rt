@@ -7,4 +7,4 @@ mod verdict;
 
 pub use judging::judge;
 pub use laws::{strangers_do_not_match, whole_is_read};
-pub use verdict::Verdict;
+pub use verdict::{Judged, Verdict};

@@ -1,5 +1,10 @@
 //! What octets are to an ask.
 
+ghost use Rattle.std.specs.Prelude.{◌≡◌};
+ghost use Rattle.reply_match.specs.Judged.{verdict_of};
+
+use dns_message::MessageRef;
+
 /// What octets are to an ask, the first that holds.
 #[derive(Clone, Copy, Debug, PartialEq, Eq)]
 pub enum Verdict {
@@ -15,4 +20,34 @@ pub enum Verdict {
     Malformed,
     /// Header, counted questions and counted records can be read.
     Whole,
+}
+
+/// The verdict on octets, and of a whole message its view, which was made to judge it.
+#[derive(Drop)]
+pub enum Judged<'a> {
+    /// As [`Verdict::Stranger`].
+    Stranger,
+    /// As [`Verdict::Truncated`].
+    Truncated,
+    /// As [`Verdict::Failed`].
+    Failed(u8),
+    /// As [`Verdict::Malformed`].
+    Malformed,
+    /// As [`Verdict::Whole`]; the octets, viewed.
+    Whole(MessageRef<'a>),
+}
+
+impl Judged<'_> {
+    /// The verdict alone. It takes no memory.
+    pub fn verdict(&self) -> Verdict
+        ensures { result ≡ verdict_of self.now }
+    {
+        match self {
+            Judged::Stranger => Verdict::Stranger,
+            Judged::Truncated => Verdict::Truncated,
+            Judged::Failed(rcode) => Verdict::Failed(*rcode),
+            Judged::Malformed => Verdict::Malformed,
+            Judged::Whole(_) => Verdict::Whole,
+        }
+    }
 }
