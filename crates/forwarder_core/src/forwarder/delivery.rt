@@ -1,10 +1,12 @@
 //! What a message on a path to a server calls for.
 
-ghost use Rattle.std.specs.Prelude.{◌≡◌, ◌^◌, ◌≤◌, ℕ, false, Bool, List, IfOk, IsOk, Some};
-ghost use Rattle.dns_message.specs.Messages.{first_question, message_of};
+ghost use Rattle.std.specs.Prelude.{◌≡◌, ◌^◌, ◌≤◌, ℕ, false, Bool, List, IfOk, Some};
+ghost use Rattle.dns_message.specs.Messages.{message_of};
 ghost use Rattle.dns_message.specs.Reading.{wants_memory};
 ghost use Rattle.trust_rank.specs.Values.{end_of};
 ghost use Rattle.trust_rank.specs.Walks.{walk_of};
+ghost use Rattle.reply_match.specs.Judged.{IsViewOf, verdict_of};
+ghost use Rattle.reply_match.specs.declared.verdict.Verdict.TheVariants as Verdict;
 ghost use Rattle.step_history.specs.History.{counts_as_lame};
 ghost use Rattle.step_rules.specs.Row.{row_of_verdict, row_of_delivery, row_of_acceptance, row_of_walk, row_of_message, verdict_on};
 ghost use Rattle.outstanding.specs.Lists.{on_path as ask_on};
@@ -14,7 +16,7 @@ ghost use Rattle.forwarder_core.specs.Walked.{IsRead, IsWalkFor};
 use crate::forwarder::Forwarder;
 use dns_message::{Fault, Message, MessageRef};
 use outstanding::{Ask, Path};
-use reply_match::{Verdict, judge};
+use reply_match::{Judged, judge};
 use retry_failover::Failure;
 use std::alloc::{AllocError, Allocator};
 use std::hash::BuildHasher;
@@ -97,25 +99,21 @@ impl<H: BuildHasher + Drop, A: Allocator + Copy> Forwarder<H, A> {
         self.accept(moment, path, ask, walk)
     }
 
-    /// Octets that match the ask, and are a whole message.
+    /// A whole message that matches the ask.
     fn on_whole(
         &self,
         moment: u64,
         words: [u32; 8],
         path: Path,
         ask: &Ask<A>,
-        bytes: &[u8],
+        view: &MessageRef<'_>,
     ) -> Result<Next<'_, A>, AllocError>
         requires on { ask_on path self.now.state.asks ≡ Some ask.now }
         requires later { self.now.state.moment ≤ moment }
         requires in_time { moment ≤ 2 ^ 62 }
-        requires viewed { IsOk (first_question bytes.now) }
-        ensures row { IfOk result (λ next. (rooms : List Bool) → next_of moment rooms self.now.state next ≡ row_of_message self.now.config moment words rooms ask.now self.now.state (message_of bytes.now)) }
+        ensures row { IfOk result (λ next. (rooms : List Bool) → next_of moment rooms self.now.state next ≡ row_of_message self.now.config moment words rooms ask.now self.now.state (message_of view.now)) }
         ensures fits { IfOk result (λ next. CanChange self.now.config moment self.now.state next) }
     {
-        let Ok(view) = MessageRef::view(bytes) else {
-            unreachable!();
-        };
         match view.read_whole(self.alloc) {
             Ok(message) => self.on_message(moment, words, path, ask, &message),
             Err(fault) if wants_memory(fault) => Err(AllocError),
@@ -130,23 +128,21 @@ impl<H: BuildHasher + Drop, A: Allocator + Copy> Forwarder<H, A> {
         words: [u32; 8],
         path: Path,
         ask: &Ask<A>,
-        bytes: &[u8],
-        verdict: Verdict,
+        judged: Judged<'_>,
     ) -> Result<Next<'_, A>, AllocError>
         requires on { ask_on path self.now.state.asks ≡ Some ask.now }
         requires later { self.now.state.moment ≤ moment }
         requires in_time { moment ≤ 2 ^ 62 }
-        requires viewed { verdict ≡ Verdict.Whole → IsOk (first_question bytes.now) }
-        ensures row { IfOk result (λ next. (rooms : List Bool) → next_of moment rooms self.now.state next ≡ row_of_verdict self.now.config moment words rooms ask.now bytes.now self.now.state verdict) }
-        ensures unmatched { verdict ≡ Verdict.Stranger → IsQuiet result }
+        ensures row { (octets : List ℕ) → IsViewOf octets judged → IfOk result (λ next. (rooms : List Bool) → next_of moment rooms self.now.state next ≡ row_of_verdict self.now.config moment words rooms ask.now octets self.now.state (verdict_of judged)) }
+        ensures unmatched { verdict_of judged ≡ Verdict.Stranger → IsQuiet result }
         ensures fits { IfOk result (λ next. CanChange self.now.config moment self.now.state next) }
     {
-        match verdict {
-            Verdict::Stranger => Ok(self.nothing()),
-            Verdict::Truncated => self.fail(moment, words, path, ask, Failure::Truncated),
-            Verdict::Failed(_) => self.fail(moment, words, path, ask, Failure::Rcode),
-            Verdict::Malformed => self.fail(moment, words, path, ask, Failure::Malformed),
-            Verdict::Whole => self.on_whole(moment, words, path, ask, bytes),
+        match judged {
+            Judged::Stranger => Ok(self.nothing()),
+            Judged::Truncated => self.fail(moment, words, path, ask, Failure::Truncated),
+            Judged::Failed(_) => self.fail(moment, words, path, ask, Failure::Rcode),
+            Judged::Malformed => self.fail(moment, words, path, ask, Failure::Malformed),
+            Judged::Whole(view) => self.on_whole(moment, words, path, ask, &view),
         }
     }
 
@@ -171,7 +167,7 @@ impl<H: BuildHasher + Drop, A: Allocator + Copy> Forwarder<H, A> {
         if !is_live(&self.config, moment, ask) {
             return Ok(self.nothing());
         }
-        let verdict = judge(ask, from, bytes);
-        self.on_verdict(moment, words, path, ask, bytes, verdict)
+        let judged = judge(ask, from, bytes);
+        self.on_verdict(moment, words, path, ask, judged)
     }
 }

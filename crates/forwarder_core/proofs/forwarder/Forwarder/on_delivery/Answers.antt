@@ -35,13 +35,13 @@ returns-clause-row g c =
     (λ next e. λ rooms. judged_is c.args.self.now.config c.args.moment c.args.words rooms c.args.from c.args.bytes.now c.args.self.now.state _ c.in-Some.ask.now _
     (sym (ap (ask_on c.args.path) (ap (λ (r : Running). r.state.asks) c.self.view_is)) ∙ c.in-Some.ensures.found)
     (ap (λ (r : Running). nat_lt c.args.moment (c.in-Some.ask.now.asked + r.config.limits.ask_ms)) (sym c.self.view_is) ∙ sym c.is_live.ensures ∙ c.if-not-is_live.false)
-    (e rooms ∙ ap (row_of_verdict c.args.self.now.config c.args.moment c.args.words rooms c.in-Some.ask.now c.args.bytes.now c.args.self.now.state) c.judge-verdict.ensures))
-    c.on_verdict.ensures.row
+    (e rooms ∙ ap (row_of_verdict c.args.self.now.config c.args.moment c.args.words rooms c.in-Some.ask.now c.args.bytes.now c.args.self.now.state) c.judge-judged.ensures.verdict))
+    (c.on_verdict.ensures.row c.args.bytes.now c.judge-judged.ensures.view)
 
 pub returns-clause-unmatched : goal.returns-clause-unmatched
 returns-clause-unmatched g c stranger =
     c.on_verdict.ensures.unmatched
-    (c.judge-verdict.ensures
+    (c.judge-judged.ensures.verdict
     ∙ sym (verdict_is c.args.self.now.config c.args.moment c.args.from c.args.bytes.now _ c.in-Some.ask.now
     (sym (ap (ask_on c.args.path) (ap (λ (r : Running). r.state.asks) c.self.view_is)) ∙ c.in-Some.ensures.found)
     (ap (λ (r : Running). nat_lt c.args.moment (c.in-Some.ask.now.asked + r.config.limits.ask_ms)) (sym c.self.view_is) ∙ sym c.is_live.ensures ∙ c.if-not-is_live.false))

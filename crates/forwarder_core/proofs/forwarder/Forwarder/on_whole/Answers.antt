@@ -8,9 +8,9 @@ use Rattle.forwarder_core.proofs.forwarder.Forwarder.on_whole.Goals as goal
 
 pub on_message-requires-clause-read : goal.on_message-requires-clause-read
 on_message-requires-clause-read g c =
-    let octets : AreOctets c.args.bytes.now = λ k d below. let same = get_or_default_zero c.args.bytes.now k d below in let fits = c.type_inv.bytes k in omega (arith, same, fits) in
-    let read : message_of c.args.bytes.now ≡ Ok c.in-Ok-read_whole.message = ap message_of (sym c.in-Ok.ensures.same) ∙ c.in-Ok-read_whole.ensures.exact in
+    let octets : AreOctets c.args.view.now = λ k d below. let same = get_or_default_zero c.args.view.now k d below in let fits = c.type_inv.view k in omega (arith, same, fits) in
+    let read : message_of c.args.view.now ≡ Ok c.in-Ok.message = c.in-Ok.ensures.exact in
     record {
-      shapes = c.in-Ok-read_whole.ensures.shaped;
-      few = authority_counted c.args.bytes.now c.in-Ok-read_whole.message octets read;
+      shapes = c.in-Ok.ensures.shaped;
+      few = authority_counted c.args.view.now c.in-Ok.message octets read;
     }
