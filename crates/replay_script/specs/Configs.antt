@@ -1,16 +1,17 @@
 -- What reading a configuration tells of the octets that were read.
-use Rattle.std.specs.Prelude.{◌≡◌, ℕ, List, Option, IfSome, Err, IsUtf8, ◌⊎◌}
+use Rattle.std.specs.Prelude.{◌≡◌, ℕ, List, take, Option, IfSome, Err, IsUtf8, ◌⊎◌}
 use Rattle.std.specs.Str.Lossy.{utf8_valid_len}
+use Rattle.suffix_routes.specs.Positions.{position_of}
 use Rattle.suffix_routes.specs.Reading.{IsReadIn}
 use Rattle.suffix_routes.specs.declared.fault.ConfigFault.{ConfigFault}
 use Rattle.suffix_routes.specs.declared.fault.ConfigFault.TheVariants.{Toml}
 use Rattle.replay_script.specs.declared.fault.ReplayFault.{ReplayFault}
 use Rattle.replay_script.specs.declared.fault.ReplayFault.TheVariants.{Config, Line, Memory, Device}
 
--- octets that are refused for a fault: the first fault of their text, or the octet at which they are no text any more
+-- octets that are refused for a fault: the first fault of their text, or the position behind all that is text
 abbrev pub IsRefused : List ℕ → ConfigFault → Type 0
 IsRefused octets fault =
-    (IsUtf8 octets × IsReadIn octets (Err fault)) ⊎ ((¬ IsUtf8 octets) × (fault ≡ Toml (utf8_valid_len octets)))
+    (IsUtf8 octets × IsReadIn octets (Err fault)) ⊎ ((¬ IsUtf8 octets) × (fault ≡ Toml (position_of (take (utf8_valid_len octets) octets))))
 
 -- why octets give no configuration
 abbrev pub IsFaultOf : List ℕ → ReplayFault → Type 0

@@ -2,3 +2,4 @@ pub mod Words
 pub mod Reasons
 pub mod Faults
 pub mod Configs
+pub mod Lines

@@ -1,6 +1,10 @@
 //! Event lines of a script, read as moments and events.
 
-ghost use Rattle.std.specs.Prelude.{◌≡◌, ◌≤◌, IfOk};
+ghost use Rattle.std.specs.Prelude.{◌≡◌, ◌≤◌, Ok, IfErr, IfOk};
+ghost use Rattle.std.specs.List.{list_all};
+ghost use Rattle.std.specs.Char.{is_ascii_digit};
+ghost use Rattle.step_values.specs.Values.{event_of};
+ghost use Rattle.replay_script.specs.Lines.{Gives, Shows, IsLineFault, cut, is_numeral, number_in, port_in, peer_in, octets_in, path_in, client_in, client_event_in, reply_event_in, failed_event_in, event_in, happening_in, moment_and_event_in, line_in};
 ghost use Rattle.replay_script.specs.declared.events.Refusal.TheVariants.{Memory};
 ghost use Rattle.replay_script.specs.Words.{words_of};
 
@@ -60,6 +64,8 @@ pub(crate) fn words(line: u32) -> [u32; 8]
 pub fn handed_by<A: Allocator>(alloc: A, number: u32, line: &[u8]) -> Result<Handed<A>, ReplayFault>
     requires { number ≤ MOST_LINES }
     ensures words { IfOk result (λ handed. handed.words ≡ words_of number) }
+    ensures read { IfOk result (λ handed. line_in line.now ≡ Ok (handed.now, handed.event)) }
+    ensures refused { IfErr result (IsLineFault number line.now) }
 {
     match timed_event(alloc, line) {
         Ok(timed) => Ok(Handed {
@@ -75,20 +81,43 @@ pub fn handed_by<A: Allocator>(alloc: A, number: u32, line: &[u8]) -> Result<Han
 /// The event of a line: `MOMENT client udp PEER OCTETS`, `MOMENT client tcp NUMBER OCTETS`,
 /// `MOMENT reply udp PORT PEER OCTETS`, `MOMENT reply tcp NUMBER PEER OCTETS`, `MOMENT failed udp PORT`,
 /// `MOMENT failed tcp NUMBER`, `MOMENT tick` or `MOMENT restart`.
-pub(crate) fn timed_event<A: Allocator>(alloc: A, line: &[u8]) -> Result<TimedEvent<A>, Refusal> {
-    let line = str::from_utf8(line).map_err(|_| Refusal::Form)?;
-    let (moment, rest) = cut(line)?;
+#[tactic(auto, unfolding(crate::specs::Lines::line_in))]
+pub(crate) fn timed_event<A: Allocator>(alloc: A, line: &[u8]) -> Result<TimedEvent<A>, Refusal>
+    ensures { Gives (λ timed. (timed.moment, event_of timed.event)) result (line_in line.now) }
+{
+    match str::from_utf8(line) {
+        Ok(text) => moment_and_event(alloc, text),
+        Err(_) => Err(Refusal::Form),
+    }
+}
+
+#[tactic(auto, unfolding(crate::specs::Lines::moment_and_event_in))]
+fn moment_and_event<A: Allocator>(alloc: A, text: &str) -> Result<TimedEvent<A>, Refusal>
+    ensures { Gives (λ timed. (timed.moment, event_of timed.event)) result (moment_and_event_in text.now) }
+{
+    let (moment, rest) = cut(text)?;
     let moment = number(moment, 20)?;
-    let event = match rest {
-        "tick" => Event::Tick,
-        "restart" => Event::Restart,
-        _ => event_of_kind(alloc, rest)?,
-    };
+    let event = happening(alloc, rest)?;
     Ok(TimedEvent { moment, event })
 }
 
+/// What happens, a kind alone or a kind with more.
+#[tactic(auto, unfolding(crate::specs::Lines::happening_in))]
+fn happening<A: Allocator>(alloc: A, text: &str) -> Result<Event<A>, Refusal>
+    ensures { Gives event_of result (happening_in text.now) }
+{
+    match text {
+        "tick" => Ok(Event::Tick),
+        "restart" => Ok(Event::Restart),
+        _ => event_of_kind(alloc, text),
+    }
+}
+
 /// An event that has more than a kind.
-fn event_of_kind<A: Allocator>(alloc: A, text: &str) -> Result<Event<A>, Refusal> {
+#[tactic(auto, unfolding(crate::specs::Lines::event_in))]
+fn event_of_kind<A: Allocator>(alloc: A, text: &str) -> Result<Event<A>, Refusal>
+    ensures { Gives event_of result (event_in text.now) }
+{
     let (kind, rest) = cut(text)?;
     match kind {
         "client" => client_event(alloc, rest),
@@ -99,23 +128,28 @@ fn event_of_kind<A: Allocator>(alloc: A, text: &str) -> Result<Event<A>, Refusal
 }
 
 /// The first field, and what stands behind the space after it.
-fn cut(text: &str) -> Result<(&str, &str), Refusal> {
+#[tactic(auto, unfolding(crate::specs::Lines::cut))]
+fn cut(text: &str) -> Result<(&str, &str), Refusal>
+    ensures { Shows (λ parts. (parts.0.now, parts.1.now)) result (cut text.now) }
+{
     text.split_once(' ').ok_or(Refusal::Form)
 }
 
-fn client_event<A: Allocator>(alloc: A, text: &str) -> Result<Event<A>, Refusal> {
+#[tactic(auto, unfolding(crate::specs::Lines::client_event_in))]
+fn client_event<A: Allocator>(alloc: A, text: &str) -> Result<Event<A>, Refusal>
+    ensures { Gives event_of result (client_event_in text.now) }
+{
     let (transport, rest) = cut(text)?;
     let (from, digits) = cut(rest)?;
-    let client = match transport {
-        "udp" => Client::Udp(peer(from)?),
-        "tcp" => Client::Tcp(number(from, 20)?),
-        _ => return Err(Refusal::Form),
-    };
+    let client = client(transport, from)?;
     let bytes = octets(alloc, digits)?;
     Ok(Event::Client { client, bytes })
 }
 
-fn reply_event<A: Allocator>(alloc: A, text: &str) -> Result<Event<A>, Refusal> {
+#[tactic(auto, unfolding(crate::specs::Lines::reply_event_in))]
+fn reply_event<A: Allocator>(alloc: A, text: &str) -> Result<Event<A>, Refusal>
+    ensures { Gives event_of result (reply_event_in text.now) }
+{
     let (transport, rest) = cut(text)?;
     let (at, rest) = cut(rest)?;
     let (from, digits) = cut(rest)?;
@@ -125,14 +159,32 @@ fn reply_event<A: Allocator>(alloc: A, text: &str) -> Result<Event<A>, Refusal> 
     Ok(Event::Delivery { path, from, bytes })
 }
 
-fn failed_event<A: Allocator>(text: &str) -> Result<Event<A>, Refusal> {
+#[tactic(auto, unfolding(crate::specs::Lines::failed_event_in))]
+fn failed_event<A: Allocator>(text: &str) -> Result<Event<A>, Refusal>
+    ensures { Shows event_of result (failed_event_in text.now) }
+{
     let (transport, at) = cut(text)?;
     let path = path(transport, at)?;
     Ok(Event::PathFailed { path })
 }
 
+/// Who asks: a peer by UDP, or the number of a connection.
+#[tactic(auto, unfolding(crate::specs::Lines::client_in))]
+fn client(transport: &str, from: &str) -> Result<Client, Refusal>
+    ensures { result ≡ client_in transport.now from.now }
+{
+    match transport {
+        "udp" => Ok(Client::Udp(peer(from)?)),
+        "tcp" => Ok(Client::Tcp(number(from, 20)?)),
+        _ => Err(Refusal::Form),
+    }
+}
+
 /// The path to a server: a port of UDP, or the number of a connection.
-fn path(transport: &str, at: &str) -> Result<Path, Refusal> {
+#[tactic(auto, unfolding(crate::specs::Lines::path_in))]
+fn path(transport: &str, at: &str) -> Result<Path, Refusal>
+    ensures { result ≡ path_in transport.now at.now }
+{
     match transport {
         "udp" => Ok(Path::Udp(port(at)?)),
         "tcp" => Ok(Path::Tcp(number(at, 20)?)),
@@ -141,24 +193,52 @@ fn path(transport: &str, at: &str) -> Result<Path, Refusal> {
 }
 
 /// A decimal number of 1 to `most` digits that fits 64 bits.
-fn number(text: &str, most: usize) -> Result<u64, Refusal> {
-    let fits = !text.is_empty() && text.len() <= most;
-    if !fits || !text.bytes().all(|octet| octet.is_ascii_digit()) {
+#[tactic(auto, unfolding(crate::specs::Lines::number_in))]
+fn number(text: &str, most: usize) -> Result<u64, Refusal>
+    ensures { result ≡ number_in most text.now }
+{
+    if !is_numeral(text, most) {
         return Err(Refusal::Form);
     }
-    text.parse::<u64>().map_err(|_| Refusal::Form)
+    match text.parse::<u64>() {
+        Ok(number) => Ok(number),
+        Err(_) => Err(Refusal::Form),
+    }
 }
 
-fn port(text: &str) -> Result<u16, Refusal> {
+/// The text has 1 to `most` digits, and nothing else.
+fn is_numeral(text: &str, most: usize) -> bool
+    ensures { result ≡ is_numeral most text.now }
+{
+    !text.is_empty() && text.len() <= most && has_digits(text)
+}
+
+fn has_digits(text: &str) -> bool
+    ensures { result ≡ list_all is_ascii_digit text.now }
+{
+    text.as_bytes().iter().all(|octet| octet.is_ascii_digit())
+}
+
+/// A number that fits 16 bits.
+#[tactic(auto, unfolding(crate::specs::Lines::port_in))]
+fn port(text: &str) -> Result<u16, Refusal>
+    ensures { result ≡ port_in text.now }
+{
     u16::try_from(number(text, 5)?).map_err(|_| Refusal::Form)
 }
 
-fn peer(text: &str) -> Result<Peer, Refusal> {
+#[tactic(auto, unfolding(crate::specs::Lines::peer_in))]
+fn peer(text: &str) -> Result<Peer, Refusal>
+    ensures { result ≡ peer_in text.now }
+{
     Peer::from_text(text).ok_or(Refusal::Form)
 }
 
 /// Octets in hexadecimal digits of either case; `-` is none, and empty text is refused.
-fn octets<A: Allocator>(alloc: A, text: &str) -> Result<Octets<A>, Refusal> {
+#[tactic(auto, unfolding(crate::specs::Lines::octets_in))]
+fn octets<A: Allocator>(alloc: A, text: &str) -> Result<Octets<A>, Refusal>
+    ensures { Gives (λ octets. octets) result (octets_in text.now) }
+{
     match text {
         "" => Err(Refusal::Form),
         "-" => Ok(PlainList::new(alloc)),

@@ -7,7 +7,7 @@ ghost use Rattle.replay_script.specs.Configs.{IsOfReading, IsFaultOf, IsFaultIn}
 use crate::fault::ReplayFault;
 use std::alloc::{Allocator, Global};
 use std::io::Read;
-use suffix_routes::{Config, ConfigFault};
+use suffix_routes::{Config, ConfigFault, Position};
 
 /// How many octets a file or standard input may have.
 pub(crate) const LARGEST: usize = 16_777_216;
@@ -56,7 +56,10 @@ pub(crate) fn config_in<A: Allocator + Copy>(
 {
     let text = match str::from_utf8(octets) {
         Ok(text) => text,
-        Err(error) => return Err(ReplayFault::Config(ConfigFault::Toml(error.valid_up_to()))),
+        Err(error) => {
+            let position = Position::behind(&octets[..error.valid_up_to()]);
+            return Err(ReplayFault::Config(ConfigFault::Toml(position)));
+        }
     };
     let config = Config::read(heap, alloc, text)?;
     Ok(config)
