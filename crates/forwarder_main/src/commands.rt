@@ -1,79 +1,61 @@
 //! The commands.
 
+use crate::arguments::{LONGEST, are, argument, text};
 use crate::fault::Fault;
+use crate::files::Opened;
 use crate::serving::serve_config;
 use replay_script::{ReplayFault, read_config, replay_run};
+use std::io;
 use std::io::{BufWriter, Write};
 use std::net::Net;
 use std::random::RandomSource;
-use std::rt::{Clock, Env, Files};
-use std::{env, fs, io};
+use std::rt::{Clock, Env};
 use suffix_routes::Config;
 
-/// Does what the arguments say.
+/// How many digits a number of turns may have.
+const MOST_DIGITS: usize = 20;
+
+/// Does what the arguments say. All of them but the names of files are text.
 pub fn run<R>(rt: &R) -> Result<(), Fault>
 where
-    R: Env + Files + Input + Print + AllocGlobal + Net + Clock + RandomSource,
+    R: Env + Input + Print + AllocGlobal + Net + Clock + RandomSource,
 {
-    let mut args = match env::args(rt) {
-        // An argument is no UTF-8.
-        Err(error) if error.kind() == io::ErrorKind::InvalidData => return Err(Fault::Usage),
-        args => args?,
-    };
-    let _program = args.next();
-    let Some(command) = args.next() else {
-        return Err(Fault::Usage);
-    };
-    match command.as_str() {
-        "check" => {
-            let (Some(path), None) = (args.next(), args.next()) else {
-                return Err(Fault::Usage);
-            };
-            let routes = explained(rt, check(rt, path.as_str()))?;
+    let mut room = [0u8; LONGEST];
+    match text(rt, 1, &mut room) {
+        Some("check") if are(rt, 2) => {
+            let routes = named_config(rt)?.routes().len();
             println!(rt; "ok {routes}")?;
             Ok(())
         }
-        "serve" => {
-            let (Some(path), Some(turns), None) = (args.next(), args.next(), args.next()) else {
-                return Err(Fault::Usage);
-            };
-            let Some(turns) = turns_in(turns.as_str()) else {
-                return Err(Fault::Usage);
-            };
-            serve(rt, path.as_str(), turns)
-        }
-        "replay" => {
-            if args.next().is_some() {
-                return Err(Fault::Usage);
-            }
-            replay(rt)
-        }
+        Some("serve") if are(rt, 3) => serve(rt),
+        Some("replay") if are(rt, 1) => replay(rt),
         _ => Err(Fault::Usage),
     }
 }
 
-/// The number that 1 to 20 decimal digits write, where 64 bits have it.
-fn turns_in(text: &str) -> Option<u64> {
-    if text.len() > 20 || !text.bytes().all(|octet| octet.is_ascii_digit()) {
+/// The number that decimal digits write, where 64 bits have it.
+fn turns_in(digits: &str) -> Option<u64> {
+    if !digits.bytes().all(|octet| octet.is_ascii_digit()) {
         return None;
     }
-    text.parse().ok()
+    digits.parse().ok()
 }
 
-/// The configuration in a file. `Device` where the file can't be read or passes 16,777,216 octets, `Config` where the
-/// configuration is refused, `Memory` where memory ran out.
-fn load<R: Files + AllocGlobal>(rt: &R, path: &str) -> Result<Config, ReplayFault> {
-    let mut file = fs::open(rt, path)?;
+/// The configuration in the file with this name. `Device` where the file can't be read or passes 16,777,216 octets,
+/// `Config` where the configuration is refused, `Memory` where memory ran out.
+pub fn load<R: AllocGlobal>(rt: &R, name: &[u8]) -> Result<Config, ReplayFault> {
+    let mut file = Opened::open(name)?;
     read_config(rt.alloc(), rt.alloc(), &mut file)
 }
 
-/// How many routes the configuration in a file has, or as [`load`].
-pub fn check<R: Files + AllocGlobal>(rt: &R, path: &str) -> Result<usize, ReplayFault> {
-    Ok(load(rt, path)?.routes().len())
-}
-
-/// What was loaded. Where the configuration is refused, prints what it has to say in place of what it says.
-fn explained<R: Print, T>(rt: &R, loaded: Result<T, ReplayFault>) -> Result<T, ReplayFault> {
+/// The configuration in the file that the second argument names, as [`load`]; a name that is too long for a file is one
+/// that can't be read. Where the configuration is refused, prints what it has to say in place of what it says.
+fn named_config<R: Env + Print + AllocGlobal>(rt: &R) -> Result<Config, ReplayFault> {
+    let mut room = [0u8; LONGEST];
+    let Ok(name) = argument(rt, 2, &mut room) else {
+        return Err(ReplayFault::Device);
+    };
+    let loaded = load(rt, name);
     if let Err(ReplayFault::Config(fault)) = &loaded {
         // Where standard output fails too, the status tells the refusal.
         let _ = println!(rt; "{fault}");
@@ -81,13 +63,17 @@ fn explained<R: Print, T>(rt: &R, loaded: Result<T, ReplayFault>) -> Result<T, R
     loaded
 }
 
-/// Serves so many turns by the configuration in a file, and prints what was counted.
-fn serve<R>(rt: &R, path: &str, turns: u64) -> Result<(), Fault>
+/// Serves as many turns as the third argument says by the configuration that the second one names, and prints what was
+/// counted.
+fn serve<R>(rt: &R) -> Result<(), Fault>
 where
-    R: Files + Print + AllocGlobal + Net + Clock + RandomSource,
+    R: Env + Print + AllocGlobal + Net + Clock + RandomSource,
 {
-    let config = explained(rt, load(rt, path))?;
-    let served = serve_config(rt, rt.alloc(), config, turns)?;
+    let mut room = [0u8; MOST_DIGITS];
+    let Some(turns) = text(rt, 3, &mut room).and_then(turns_in) else {
+        return Err(Fault::Usage);
+    };
+    let served = serve_config(rt, rt.alloc(), named_config(rt)?, turns)?;
     println!(rt; "turns {} lost {}", served.turns, served.lost)?;
     Ok(())
 }

@@ -2,8 +2,10 @@
 //! events of a script and prints each action, and `forwarder serve FILE TURNS` serves clients over sockets.
 #![tactic(auto)]
 
+mod arguments;
 mod commands;
 mod fault;
+mod files;
 mod serving;
 #[cfg(test)]
 mod tests;

@@ -1,14 +1,17 @@
 //! What no script can say: readers, writers and files that fail, refused growths, statuses and texts.
 
-use crate::commands::check;
+use crate::arguments::{LONGEST, are, argument, text};
+use crate::commands::load;
 use crate::fault::Fault;
 use crate::serving::serve_config;
 use refusing_allocator::Refusing;
 use replay_script::{ReplayFault, read_config, replay_run};
+use std::env::FillError;
 use std::io::{ErrorKind, Read};
+use std::rt::Env;
 use std::test::Fail;
 use std::{fs, io};
-use suffix_routes::ConfigFault;
+use suffix_routes::{ConfigFault, Position};
 
 const CONFIG: &[u8] = b"version = 1
 [[route]]
@@ -66,14 +69,63 @@ fn writers_that_fail(rt: HostRuntime) {
     assert_eq!(rt; ended, Err(ReplayFault::Device));
 }
 
+/// How many routes the file with this name has.
+fn routes_in(rt: &HostRuntime, name: &[u8]) -> Result<usize, ReplayFault> {
+    Ok(load(rt, name)?.routes().len())
+}
+
+/// A name that is no UTF-8 is one like any other.
 #[test]
-fn files_are_checked(rt: HostRuntime) -> Result<(), Fail> {
+fn files_are_loaded(rt: HostRuntime) -> Result<(), Fail> {
     fs::write(&rt, "one_route", CONFIG)?;
-    assert_eq!(rt; check(&rt, "one_route"), Ok(1));
-    for path in [".", "/no/such/file", "/dev/zero"] {
-        assert_eq!(rt; check(&rt, path), Err(ReplayFault::Device), "{path}");
+    assert_eq!(rt; routes_in(&rt, b"one_route"), Ok(1));
+    assert_eq!(rt; os::link(b"one_route", b"\xe4\xff"), 0);
+    assert_eq!(rt; routes_in(&rt, b"\xe4\xff"), Ok(1));
+    assert_eq!(rt; os::unlink(b"\xe4\xff"), 0);
+    assert_eq!(rt; routes_in(&rt, b"\xe4\xff"), Err(ReplayFault::Device));
+    for name in [".", "/no/such/file", "/dev/zero", ""] {
+        assert_eq!(rt; routes_in(&rt, name.as_bytes()), Err(ReplayFault::Device), "{name}");
     }
     Ok(())
+}
+
+/// Arguments behind the program's own name, which is none here.
+struct Arguments<'a>(&'a [&'a [u8]]);
+
+impl Env for Arguments<'_> {
+    fn arg(&self, i: usize, buf: &mut [u8]) -> Result<usize, FillError> {
+        let octets = self.0.get(i).ok_or(FillError::NotPresent)?;
+        let room = buf.get_mut(..octets.len()).ok_or(FillError::TooLong)?;
+        room.copy_from_slice(octets);
+        Ok(octets.len())
+    }
+
+    fn var(&self, _name: &str, _buf: &mut [u8]) -> Result<usize, FillError> {
+        Err(FillError::NotPresent)
+    }
+
+    fn var_at(&self, _i: usize, _buf: &mut [u8]) -> Result<usize, FillError> {
+        Err(FillError::NotPresent)
+    }
+}
+
+#[test]
+fn arguments_are_octets(rt: HostRuntime) {
+    let long = [b'a'; LONGEST + 1];
+    let words = [b"".as_slice(), b"check", b"\xe4\xff", b"", &long[1..], &long];
+    let given = Arguments(&words);
+    let mut room = [0u8; LONGEST];
+    for (place, word) in words.iter().enumerate().take(5) {
+        assert_eq!(rt; argument(&given, place, &mut room), Ok(*word), "{place}");
+    }
+    assert_eq!(rt; argument(&given, 5, &mut room), Err(FillError::TooLong));
+    assert_eq!(rt; argument(&given, 6, &mut room), Err(FillError::NotPresent));
+    assert_eq!(rt; text(&given, 1, &mut room), Some("check"));
+    assert_eq!(rt; text(&given, 2, &mut room), None);
+    assert_eq!(rt; text(&given, 6, &mut room), None);
+    for count in 0..8usize {
+        assert_eq!(rt; are(&given, count), count == 5, "{count}");
+    }
 }
 
 #[test]
@@ -121,7 +173,7 @@ fn a_service_that_finds_no_memory(rt: HostRuntime) {
 #[test]
 fn statuses_and_texts(rt: HostRuntime) -> Result<(), Fail> {
     let usage = "usage: forwarder check FILE, replay, or serve FILE TURNS";
-    let refused = ReplayFault::Config(ConfigFault::Toml(3));
+    let refused = ReplayFault::Config(ConfigFault::Toml(Position { line: 1, column: 4 }));
     for (fault, status, text) in [
         (Fault::Usage, 1, usage),
         (Fault::from(refused), 2, "fault 1"),

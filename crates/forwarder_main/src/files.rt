@@ -1,0 +1,38 @@
+//! Files, opened by the octets of their names.
+
+use os::FromRawFd;
+use std::io;
+use std::io::{ErrorKind, Read};
+use std::os::fd::{AsRawFd, OwnedFd};
+
+/// A file that is read. Its name is octets, which need not be text.
+#[derive(Drop)]
+pub struct Opened {
+    descriptor: OwnedFd,
+}
+
+impl Opened {
+    /// Opens the file with this name for reading.
+    pub fn open(name: &[u8]) -> io::Result<Opened> {
+        let number = os::open_read(name);
+        if number < 0 {
+            return Err(io::Error::from_raw_os_error(os::errno()));
+        }
+        // The descriptor was opened here, and nothing else closes it.
+        let descriptor = unsafe { OwnedFd::from_raw_fd(number) };
+        Ok(Opened { descriptor })
+    }
+}
+
+impl Read for Opened {
+    fn read(&mut self, buffer: &mut [u8]) -> io::Result<usize> {
+        let count = libc::read(self.descriptor.as_raw_fd(), buffer);
+        if count < 0 {
+            return Err(io::Error::from_raw_os_error(os::errno()));
+        }
+        match usize::try_from(count) {
+            Ok(count) if count <= buffer.len() => Ok(count),
+            _ => Err(io::Error::from(ErrorKind::InvalidData)),
+        }
+    }
+}
