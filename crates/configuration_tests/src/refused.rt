@@ -174,27 +174,32 @@ fn numbers_of_faults_of_a_route(rt: HostRuntime) -> Result<(), Fail> {
     Ok(())
 }
 
-/// The octet at which the reader of TOML stopped: behind the last one where more is wanted, else that of what can't stand
-/// there, and of a key that is there already.
+/// Where the reader of TOML stopped: behind the end where more is wanted, else at what can't stand there, and at a key that
+/// is there already. A column counts characters.
 #[test]
 fn where_a_text_is_no_toml(rt: HostRuntime) -> Result<(), Fail> {
     let heap = rt.alloc();
     for (head, rest, wanted) in [
-        ("version =", "", "the text is no TOML: see octet 9"),
+        ("version =", "", "the text is no TOML: see line 1, column 10"),
         (
             "version = 1",
             "\nversion = 1",
-            "the text is no TOML: see octet 12",
+            "the text is no TOML: see line 2, column 1",
         ),
         (
             "version = 1",
             "\n\u{e4} = 1",
-            "the text is no TOML: see octet 12",
+            "the text is no TOML: see line 2, column 1",
         ),
         (
             "version = 1",
             "\n[limits\ntries = 1",
-            "the text is no TOML: see octet 19",
+            "the text is no TOML: see line 2, column 8",
+        ),
+        (
+            "# \u{e4}\r\nversion = 1\n\n",
+            "listen = \"\u{e4}\u{20ac}\" 1",
+            "the text is no TOML: see line 4, column 15",
         ),
     ] {
         let text = joined(heap, head, rest)?;
@@ -224,7 +229,11 @@ fn deep_arrays_are_no_toml(rt: HostRuntime) -> Result<(), Fail> {
 fn what_is_said_of_the_document(rt: HostRuntime) -> Result<(), Fail> {
     let heap = rt.alloc();
     for (head, rest, wanted) in [
-        ("version =", "", "the text is no TOML: see octet 9"),
+        (
+            "version =",
+            "",
+            "the text is no TOML: see line 1, column 10",
+        ),
         ("", "", "`version` is missing, and has to be the integer 1"),
         (
             "version = \"1\"",
