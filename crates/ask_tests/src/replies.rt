@@ -58,7 +58,11 @@ fn one_octet_decides(rt: HostRuntime) -> Result<(), Fail> {
         if let Some(changed) = bytes.get_mut(place) {
             *changed = octet;
         }
-        assert_eq!(rt; judge(&ask, SERVER, &bytes), verdict, "{octet} at {place}");
+        assert_eq!(rt;
+            judge(&ask, SERVER, &bytes).verdict(),
+            verdict,
+            "{octet} at {place}"
+        );
     }
     Ok(())
 }
@@ -71,7 +75,7 @@ fn another_server_is_a_stranger(rt: HostRuntime) -> Result<(), Fail> {
             ip: [192, 0, 2, last],
             port,
         };
-        assert_eq!(rt; judge(&ask, from, &REPLY), Verdict::Stranger);
+        assert_eq!(rt; judge(&ask, from, &REPLY).verdict(), Verdict::Stranger);
     }
     Ok(())
 }
@@ -86,7 +90,7 @@ fn beginnings_of_the_reply(rt: HostRuntime) -> Result<(), Fail> {
             _ => Verdict::Whole,
         };
         assert_eq!(rt;
-            judge(&ask, SERVER, &REPLY[..octets]),
+            judge(&ask, SERVER, &REPLY[..octets]).verdict(),
             wanted,
             "{octets} octets"
         );
@@ -100,8 +104,8 @@ fn octets_behind_the_reply(rt: HostRuntime) -> Result<(), Fail> {
     let ask = ask(heap)?;
     let mut bytes = Vec::from_slice(heap, &REPLY)?;
     bytes.resize(65_535, 0)?;
-    assert_eq!(rt; judge(&ask, SERVER, &bytes), Verdict::Whole);
+    assert_eq!(rt; judge(&ask, SERVER, &bytes).verdict(), Verdict::Whole);
     bytes.push(0)?;
-    assert_eq!(rt; judge(&ask, SERVER, &bytes), Verdict::Stranger);
+    assert_eq!(rt; judge(&ask, SERVER, &bytes).verdict(), Verdict::Stranger);
     Ok(())
 }

@@ -180,7 +180,11 @@ fn numbers_of_faults_of_a_route(rt: HostRuntime) -> Result<(), Fail> {
 fn where_a_text_is_no_toml(rt: HostRuntime) -> Result<(), Fail> {
     let heap = rt.alloc();
     for (head, rest, wanted) in [
-        ("version =", "", "the text is no TOML: see line 1, column 10"),
+        (
+            "version =",
+            "",
+            "the text is no TOML: see line 1, column 10",
+        ),
         (
             "version = 1",
             "\nversion = 1",

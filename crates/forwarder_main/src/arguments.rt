@@ -9,7 +9,11 @@ pub const LONGEST: usize = 4095;
 
 /// The argument at this place, in the room that is given; the program's own name is at 0. `TooLong` where it has more
 /// octets than the room.
-pub fn argument<'a, R: Env>(rt: &R, place: usize, room: &'a mut [u8]) -> Result<&'a [u8], FillError> {
+pub fn argument<'a, R: Env>(
+    rt: &R,
+    place: usize,
+    room: &'a mut [u8],
+) -> Result<&'a [u8], FillError> {
     let count = rt.arg(place, room)?;
     Ok(&room[..count])
 }

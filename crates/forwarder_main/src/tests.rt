@@ -84,7 +84,11 @@ fn files_are_loaded(rt: HostRuntime) -> Result<(), Fail> {
     assert_eq!(rt; os::unlink(b"\xe4\xff"), 0);
     assert_eq!(rt; routes_in(&rt, b"\xe4\xff"), Err(ReplayFault::Device));
     for name in [".", "/no/such/file", "/dev/zero", ""] {
-        assert_eq!(rt; routes_in(&rt, name.as_bytes()), Err(ReplayFault::Device), "{name}");
+        assert_eq!(rt;
+            routes_in(&rt, name.as_bytes()),
+            Err(ReplayFault::Device),
+            "{name}"
+        );
     }
     Ok(())
 }
@@ -112,7 +116,14 @@ impl Env for Arguments<'_> {
 #[test]
 fn arguments_are_octets(rt: HostRuntime) {
     let long = [b'a'; LONGEST + 1];
-    let words = [b"".as_slice(), b"check", b"\xe4\xff", b"", &long[1..], &long];
+    let words = [
+        b"".as_slice(),
+        b"check",
+        b"\xe4\xff",
+        b"",
+        &long[1..],
+        &long,
+    ];
     let given = Arguments(&words);
     let mut room = [0u8; LONGEST];
     for (place, word) in words.iter().enumerate().take(5) {

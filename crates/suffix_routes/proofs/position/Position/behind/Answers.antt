@@ -12,30 +12,30 @@ loop-octet-preserved c =
     let i = c.loop-octet.octet-index in
     let before = c.loop-octet.invariant in
     elim c.if-octet-eq10.branch [
-      then-octet-eq10 w ↦
-        let lines = count_by_more_yes is_line_feed octets i 0 c.loop-octet-test.true (ap is_line_feed w.if-octet-eq10.true) in
-        let columns = ap (count_by begins_character) (line_begins i octets c.loop-octet-test.true w.if-octet-eq10.true) in (
-          omega (arith, lines, before, w.line-is),
-          omega (arith, columns, w.column-is),
-          omega (arith, before, w.line-is),
-          omega (arith, w.column-is),
-        )
-    | else-octet-eq10+then-begins_character w ↦
-        let none = no_line_feed (get_or octets i 0) w.if-octet-eq10.false in
-        let lines = count_by_more_no is_line_feed octets i 0 c.loop-octet-test.true none in
-        let columns = column_begins i octets c.loop-octet-test.true none (sym w.begins_character.ensures ∙ w.if-begins_character.true) in (
-          omega (arith, lines, before, w.line-is),
-          omega (arith, columns, before, w.column-is),
-          omega (arith, before, w.line-is),
-          omega (arith, before, w.column-is),
-        )
-    | else-octet-eq10+else-begins_character w ↦
-        let none = no_line_feed (get_or octets i 0) w.if-octet-eq10.false in
-        let lines = count_by_more_no is_line_feed octets i 0 c.loop-octet-test.true none in
-        let columns = column_goes_on i octets c.loop-octet-test.true none (sym w.begins_character.ensures ∙ w.if-begins_character.false) in (
-          omega (arith, lines, before, w.line-is),
-          omega (arith, columns, before, w.column-is),
-          omega (arith, before, w.line-is),
-          omega (arith, before, w.column-is),
-        )
+      | then-octet-eq10 w ↦
+          let lines = count_by_more_yes is_line_feed octets i 0 c.loop-octet-test.true (ap is_line_feed w.if-octet-eq10.true) in
+          let columns = ap (count_by begins_character) (line_begins i octets c.loop-octet-test.true w.if-octet-eq10.true) in (
+            omega (arith, lines, before, w.line-is),
+            omega (arith, columns, w.column-is),
+            omega (arith, before, w.line-is),
+            omega (arith, w.column-is),
+          )
+      | else-octet-eq10+then-begins_character w ↦
+          let none = no_line_feed (get_or octets i 0) w.if-octet-eq10.false in
+          let lines = count_by_more_no is_line_feed octets i 0 c.loop-octet-test.true none in
+          let columns = column_begins i octets c.loop-octet-test.true none (sym w.begins_character.ensures ∙ w.if-begins_character.true) in (
+            omega (arith, lines, before, w.line-is),
+            omega (arith, columns, before, w.column-is),
+            omega (arith, before, w.line-is),
+            omega (arith, before, w.column-is),
+          )
+      | else-octet-eq10+else-begins_character w ↦
+          let none = no_line_feed (get_or octets i 0) w.if-octet-eq10.false in
+          let lines = count_by_more_no is_line_feed octets i 0 c.loop-octet-test.true none in
+          let columns = column_goes_on i octets c.loop-octet-test.true none (sym w.begins_character.ensures ∙ w.if-begins_character.false) in (
+            omega (arith, lines, before, w.line-is),
+            omega (arith, columns, before, w.column-is),
+            omega (arith, before, w.line-is),
+            omega (arith, before, w.column-is),
+          )
     ]
