@@ -1,5 +1,6 @@
 -- What the proofs of crates above cite of asks that are under way.
-use Rattle.std.proofs.Common.{◌≡◌, ℕ, ◌<◌, List, [], ◌∷◌, ◌++◌, length, true, Some, None}
+use Rattle.std.proofs.Common.{◌≡◌, ℕ, ◌<◌, List, [], ◌∷◌, ◌++◌, length, true, is_eq, Some, None}
+use Rattle.std.specs.Cmp.{IsTotalOrder}
 use Rattle.std.specs.List.{AllByRecursion}
 use Rattle.dns_message.specs.Values.{Question}
 use Rattle.dns_message.specs.Questions.{same_question}
@@ -7,7 +8,9 @@ use Rattle.outstanding.specs.declared.ask.Path.{Path}
 use Rattle.outstanding.specs.Values.{Ask}
 use Rattle.outstanding.specs.Lists.{same_path, on_path, of_question, without_path, IsInTime, AreInTurn, AreListed, MayBegin}
 use Rattle.outstanding.specs.Laws.{NextMayBegin, EndedIsUnlisted, UnlistedStaysSo}
+use Rattle.outstanding.specs.Orders.{key_cmp, question_key}
 use Rattle.outstanding.proofs.Listed as listed
+use Rattle.outstanding.proofs.SameOrders as orders
 use Rattle.outstanding.proofs.Retries as retries
 
 -- ---- paths
@@ -51,3 +54,12 @@ unlisted_path_stays_so = retries.unlisted_stays
 -- the ask that comes next may be listed
 pub next_may_begin : NextMayBegin
 next_may_begin = retries.next_begins
+
+-- ---- keys of questions
+
+pub question_keys_are_ordered : IsTotalOrder key_cmp
+question_keys_are_ordered = orders.key_total
+
+-- questions are the same where their keys are equal
+pub same_question_by_keys : (q r : Question) → same_question q r ≡ is_eq (key_cmp (question_key q) (question_key r))
+same_question_by_keys = orders.same_question_is

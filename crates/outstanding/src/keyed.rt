@@ -12,7 +12,7 @@ use std::marker::Model;
 
 /// A question for comparing: keys are equal exactly where questions are, letter case aside.
 #[derive(Clone, Copy, PartialEq, Eq, PartialOrd, Ord)]
-pub(crate) struct QuestionKey {
+pub struct QuestionKey {
     name: NameKey,
     kind: u16,
     class: u16,
@@ -20,7 +20,7 @@ pub(crate) struct QuestionKey {
 
 impl QuestionKey {
     /// The key of a question. It takes no memory.
-    pub(crate) fn of<A: Allocator>(question: &Question<A>) -> QuestionKey
+    pub fn of<A: Allocator>(question: &Question<A>) -> QuestionKey
         ensures { result ≡ question_key question.now }
     {
         QuestionKey {

@@ -12,4 +12,5 @@ mod table;
 pub use ask::{Ask, Path};
 pub use draws::draw;
 pub use inquiries::{Inquiries, Refusal};
+pub use keyed::QuestionKey;
 pub use laws::{ended_is_unlisted, next_may_begin, unlisted_stays_so};
