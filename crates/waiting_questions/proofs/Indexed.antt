@@ -1,0 +1,212 @@
+-- What is found of indexed questions, and what one more or less leaves.
+use Rattle.std.proofs.Common.{◌≡◌, ◌≢◌, ℕ, zero, suc, ◌+◌, ◌-◌, ◌<◌, ◌≤◌, List, [], ◌∷◌, ◌++◌, length, take, drop, slice_get, slice_index, slice_index_or, Bool, true, false, cond, not, nat_lt, Option, Some, None, IsSome, refl, sym, ap, ap₂, ◌∙◌, subst, subst₂, arith, get_or-take, get_or-drop, length-take, length-drop, lt-ltb, ◌==◌}
+use Rattle.std.specs.Prelude.{filter}
+use Rattle.std.specs.List.{All, AllByRecursion, AllPairs, Contains, insert, remove, between, list_any, cons_option}
+use Rattle.std.proofs.lemmas.Bool.{cond-true}
+use Rattle.std.proofs.lemmas.Option.{none-some, same_Some}
+use Rattle.std.proofs.lemmas.List.Edits.{insert_end, between_none, length-between, get_or-between}
+use Rattle.std.proofs.lemmas.List.Elements.{All-from_get_or, All-filter, All-cons, All-take, Contains-get_or, filter-append}
+use Rattle.slab.specs.Slab.{Slab, get, Updates}
+use Rattle.dns_message.specs.Values.{Question}
+use Rattle.outstanding.specs.declared.keyed.QuestionKey.{QuestionKey}
+use Rattle.outstanding.specs.Orders.{question_key}
+use Rattle.step_rules.specs.State.{Waiting}
+use Rattle.step_rules.specs.Steps.{waits_for}
+use Rattle.waiting_questions.specs.Indexes.{waiting_under, passes, to_question, IsByQuestion, IsByTaken, AreKeys, AreIndexed, IsRange}
+use Rattle.waiting_questions.proofs.Lists.{filter_alike, filter_filter, filter_insert, filter_remove, filter_fails, any_counts, in_filter, from_filter, others, removed}
+use Rattle.waiting_questions.proofs.Keys.{value_of, ArePresent, length_under, at_under, same_under, filter_under, put_under, remove_under, stay, keys_put, stay_others, keys_left, no_keys}
+use Rattle.waiting_questions.proofs.Ranges.{waits_at, waits_itself, waits_among, passes_between, goes_behind, goes_before, none_behind}
+
+-- what holds of all that waits holds of what waits under each key
+under_all : (P : Waiting → Type 0) (s : Slab Waiting) (keys : List ℕ) → AllByRecursion P (waiting_under s keys) → All (λ key. (a : Waiting) → get s key ≡ Some a → P a) keys
+under_all P s [] all = λ k d less. absurd (omega arith)
+under_all P s (key ∷ keys) all = by (get s key) refl all (under_all P s keys)
+  where
+    by : (o : Option Waiting) → get s key ≡ o → AllByRecursion P (cons_option o (waiting_under s keys)) → (AllByRecursion P (waiting_under s keys) → All (λ j. (a : Waiting) → get s j ≡ Some a → P a) keys)
+        → All (λ j. (a : Waiting) → get s j ≡ Some a → P a) (key ∷ keys)
+    by None e rest under = All-cons (λ j. (a : Waiting) → get s j ≡ Some a → P a) key keys (λ a f. absurd (none-some a (sym e ∙ f))) (under rest)
+    by (Some b) e rest under = All-cons (λ j. (a : Waiting) → get s j ≡ Some a → P a) key keys (λ a f. subst P (same_Some b a (sym e ∙ f)) rest.0) (under rest.1)
+
+-- ---- none
+
+pub none_indexed : (s : Slab Waiting) (by_question in_turn : List ℕ) → by_question ≡ [] → in_turn ≡ [] → AreIndexed s by_question in_turn
+none_indexed s by_question in_turn questions turns =
+    subst₂ (AreIndexed s) (sym questions) (sym turns) (record { questions = no_keys IsByQuestion s; turns = no_keys IsByTaken s; same = λ q. refl })
+
+-- more room changes nothing
+pub room_indexed : (s s' : Slab Waiting) (p t p' t' : List ℕ) → s' ≡ record s { capacity = s'.capacity } → p' ≡ p → t' ≡ t → AreIndexed s p t → AreIndexed s' p' t'
+room_indexed s s' p t p' t' slab questions turns indexed =
+    let roomy : Slab Waiting = record s { capacity = s'.capacity } in
+    let more : AreIndexed roomy p t = record {
+      questions = record { present = indexed.questions.present; apart = indexed.questions.apart; in_order = indexed.questions.in_order };
+      turns = record { present = indexed.turns.present; apart = indexed.turns.apart; in_order = indexed.turns.in_order };
+      same = indexed.same;
+    } in
+    subst (λ (z : Slab Waiting). AreIndexed z p' t') (sym slab) (subst₂ (AreIndexed roomy) (sym questions) (sym turns) more)
+
+module _ (s : Slab Waiting) (by_question in_turn : List ℕ) (indexed : AreIndexed s by_question in_turn) where
+  -- ---- what waits for a question
+
+  module _ (q : Question) (i j : ℕ) (range : IsRange (to_question (question_key q)) s by_question i j) where
+    in_range : filter (waits_at s q) in_turn ≡ between i j by_question
+    in_range = sym (indexed.same q) ∙ passes_between s by_question indexed.questions.present q i j range
+
+    pub those_wait : waiting_under s (between i j by_question) ≡ filter (waits_for q) (waiting_under s in_turn)
+    those_wait = ap (waiting_under s) (sym in_range) ∙ sym (filter_under (waits_for q) s in_turn)
+
+    pub those_present : ArePresent s (between i j by_question)
+    those_present = subst (ArePresent s) in_range (All-filter (waits_at s q) (λ key. IsSome (get s key)) in_turn indexed.turns.present)
+
+    pub how_many : j - i ≡ length (filter (waits_for q) (waiting_under s in_turn))
+    how_many = sym (length-between by_question i j range.high) ∙ sym (length_under s (between i j by_question) those_present) ∙ ap length those_wait
+
+    -- the first of all stands first of those that wait for the same
+    pub first_stands : (x : Waiting) → 0 < length in_turn → get s (slice_index in_turn 0) ≡ Some x → waits_for q x ≡ true → (i < length by_question) × (slice_index by_question i ≡ slice_index in_turn 0)
+    first_stands x some e waits = by in_turn some e in_range
+      where
+        by : (keys : List ℕ) → 0 < length keys → get s (slice_index keys 0) ≡ Some x → filter (waits_at s q) keys ≡ between i j by_question → (i < length by_question) × (slice_index by_question i ≡ slice_index keys 0)
+        by [] some e is = absurd (omega arith)
+        by (key ∷ keys) some e is =
+            let front : key ∷ filter (waits_at s q) keys ≡ between i j by_question =
+                sym (cond-true (waits_at s q key) (key ∷ filter (waits_at s q) keys) (filter (waits_at s q) keys) (ap (passes (waits_for q)) e ∙ waits)) ∙ is in
+            let long : suc (length (filter (waits_at s q) keys)) ≡ j - i = ap length front ∙ length-between by_question i j range.high in
+            let less : i + 0 < j = omega (arith, long) in
+            let here : i + 0 ≡ i = omega arith in (
+              omega (arith, less, range.high),
+              ap (slice_index by_question) (sym here) ∙ sym (get_or-between by_question i j 0 0 less) ∙ sym (ap (λ ks. slice_index ks 0) front),
+            )
+
+  -- a key that stands by question stands in the order of taking
+  pub key_in_turn : (place : ℕ) → place < length by_question → Contains in_turn (slice_index by_question place)
+  key_in_turn place within =
+      let a = value_of (get s (slice_index by_question place)) (indexed.questions.present place 0 within) in
+      let q = a.0.wanted in
+      from_filter (waits_at s q) in_turn (slice_index by_question place)
+      (subst (λ ks. Contains ks (slice_index by_question place)) (indexed.same q)
+      (in_filter (waits_at s q) by_question (slice_index by_question place) (Contains-get_or by_question place 0 within) (ap (passes (waits_for q)) a.1 ∙ waits_itself a.0)))
+
+  -- none waits for the question
+  pub none_wait : (q : Question) (i : ℕ) → IsRange (to_question (question_key q)) s by_question i i → filter (λ x. not (waits_for q x)) (waiting_under s in_turn) ≡ waiting_under s in_turn
+  none_wait q i range = filter_fails (waits_for q) (waiting_under s in_turn) (sym (those_wait q i i range) ∙ ap (waiting_under s) (between_none by_question i))
+
+  -- ---- one more
+
+  module _ (s' : Slab Waiting) (key : ℕ) (x : Waiting) (was : get s key ≡ None) (updates : Updates s s' key (Some x)) where
+    pub put_items : waiting_under s' (in_turn ++ key ∷ []) ≡ waiting_under s in_turn ++ x ∷ []
+    put_items = put_under s s' in_turn key x (same_under s s' in_turn (stay IsByTaken s s' in_turn indexed.turns key x was updates)) updates.changed
+
+    module _ (i j : ℕ) (range : IsRange (to_question (question_key x.wanted)) s by_question i j) (later : AllByRecursion (λ y. y.taken ≤ x.taken) (waiting_under s in_turn)) where
+      put_questions : AreKeys IsByQuestion s' (insert by_question j key)
+      put_questions =
+          keys_put IsByQuestion s s' by_question indexed.questions key x was updates j range.high
+          (All-from_get_or (λ n. (a : Waiting) → get s n ≡ Some a → IsByQuestion a x) (take j by_question) 0 (λ k within a e.
+          let less : k < j = omega (arith, length-take j by_question) in
+          goes_behind s by_question indexed.questions.present x i j range k a less (sym (ap (get s) (get_or-take j by_question k 0 less)) ∙ e)))
+          (All-from_get_or (λ n. (a : Waiting) → get s n ≡ Some a → IsByQuestion x a) (drop j by_question) 0 (λ k within a e.
+          goes_before s by_question indexed.questions.present x i j range (j + k) a (omega arith) (omega (arith, length-drop j by_question)) (sym (ap (get s) (get_or-drop j by_question k 0)) ∙ e)))
+
+      put_turns : AreKeys IsByTaken s' (in_turn ++ key ∷ [])
+      put_turns =
+          subst (AreKeys IsByTaken s') (insert_end in_turn key)
+          (keys_put IsByTaken s s' in_turn indexed.turns key x was updates (length in_turn) (omega arith)
+          (All-take (λ n. (a : Waiting) → get s n ≡ Some a → a.taken ≤ x.taken) (length in_turn) in_turn (under_all (λ y. y.taken ≤ x.taken) s in_turn later))
+          (λ k d within. absurd (omega (arith, length-drop (length in_turn) in_turn))))
+
+      put_same : (q : Question) → filter (waits_at s' q) (insert by_question j key) ≡ filter (waits_at s' q) (in_turn ++ key ∷ [])
+      put_same q =
+          let alike : (keys : List ℕ) → All (λ n. get s' n ≡ get s n) keys → filter (waits_at s' q) keys ≡ filter (waits_at s q) keys =
+              λ keys stays. filter_alike (waits_at s' q) (waits_at s q) keys (λ k d less. ap (passes (waits_for q)) (stays k d less)) in
+          let stays = stay IsByQuestion s s' by_question indexed.questions key x was updates in
+          filter_insert (waits_at s' q) by_question j key range.high (λ waits.
+          All-from_get_or (λ n. waits_at s' q n ≡ false) (drop j by_question) 0 (λ k within.
+          let inside : j + k < length by_question = omega (arith, length-drop j by_question) in
+          ap (waits_at s' q) (get_or-drop j by_question k 0) ∙ ap (passes (waits_for q)) (stays (j + k) 0 inside)
+          ∙ none_behind s by_question indexed.questions.present x i j range q (sym (ap (passes (waits_for q)) updates.changed) ∙ waits) (j + k) (omega arith) inside))
+          ∙ ap (λ ks. ks ++ filter (waits_at s' q) (key ∷ [])) (alike by_question stays ∙ indexed.same q ∙ sym (alike in_turn (stay IsByTaken s s' in_turn indexed.turns key x was updates)))
+          ∙ sym (filter-append (waits_at s' q) in_turn (key ∷ []))
+
+      pub put_indexed : AreIndexed s' (insert by_question j key) (in_turn ++ key ∷ [])
+      put_indexed = record { questions = put_questions; turns = put_turns; same = put_same }
+
+  -- ---- one less
+
+  module _ (s' : Slab Waiting) (key : ℕ) (updates : Updates s s' key None) where
+    left_same : (q : Question) → filter (waits_at s' q) (others key by_question) ≡ filter (waits_at s' q) (others key in_turn)
+    left_same q =
+        let alike : (keys : List ℕ) → All (λ n. get s' n ≡ get s n) keys → filter (waits_at s' q) keys ≡ filter (waits_at s q) keys =
+            λ keys stays. filter_alike (waits_at s' q) (waits_at s q) keys (λ k d less. ap (passes (waits_for q)) (stays k d less)) in
+        alike (others key by_question) (stay_others IsByQuestion s s' by_question indexed.questions key updates)
+        ∙ filter_filter (waits_at s q) (λ n. not (n == key)) by_question
+        ∙ ap (others key) (indexed.same q)
+        ∙ sym (filter_filter (waits_at s q) (λ n. not (n == key)) in_turn)
+        ∙ sym (alike (others key in_turn) (stay_others IsByTaken s s' in_turn indexed.turns key updates))
+
+    left_indexed : AreIndexed s' (others key by_question) (others key in_turn)
+    left_indexed = record {
+      questions = keys_left IsByQuestion s s' by_question indexed.questions key updates;
+      turns = keys_left IsByTaken s s' in_turn indexed.turns key updates;
+      same = left_same;
+    }
+
+    module _ (place turn : ℕ) (p_in : place < length by_question) (t_in : turn < length in_turn) (p_is : slice_index by_question place ≡ key) (t_is : slice_index in_turn turn ≡ key) where
+      pub take_indexed : AreIndexed s' (remove by_question place) (remove in_turn turn)
+      take_indexed = subst₂ (AreIndexed s') (sym (removed by_question place key p_in p_is indexed.questions.apart)) (sym (removed in_turn turn key t_in t_is indexed.turns.apart)) left_indexed
+
+      pub take_items : waiting_under s' (remove in_turn turn) ≡ remove (waiting_under s in_turn) turn
+      take_items =
+          same_under s s' (remove in_turn turn) (subst (λ ks. All (λ n. get s' n ≡ get s n) ks) (sym (removed in_turn turn key t_in t_is indexed.turns.apart)) (stay_others IsByTaken s s' in_turn indexed.turns key updates))
+          ∙ remove_under s in_turn turn indexed.turns.present t_in
+
+  -- one that waits for the question goes: the others are the same
+  pub others_stay : (q : Question) (i p turn : ℕ) → IsRange (to_question (question_key q)) s by_question i (suc p) → i ≤ p → turn < length in_turn → slice_index by_question p ≡ slice_index in_turn turn
+      → filter (λ x. not (waits_for q x)) (remove (waiting_under s in_turn) turn) ≡ filter (λ x. not (waits_for q x)) (waiting_under s in_turn)
+  others_stay q i p turn range le t_in one =
+      let a = value_of (get s (slice_index in_turn turn)) (indexed.turns.present turn 0 t_in) in
+      let waits : waits_for q a.0 ≡ true =
+          sym (ap (passes (waits_for q)) a.1) ∙ ap (waits_at s q) (sym one) ∙ waits_among s by_question indexed.questions.present q i (suc p) range p le (omega arith) in
+      filter_remove (λ x. not (waits_for q x)) (waiting_under s in_turn) turn a.0 (omega (arith, length_under s in_turn indexed.turns.present))
+      (at_under s in_turn turn indexed.turns.present t_in ∙ a.1) (ap not waits)
+
+one_more : (n : ℕ) → nat_lt 0 n ≡ nat_lt 1 (suc n)
+one_more zero = refl
+one_more (suc n) = lt-ltb 0 (suc n) (omega arith) ∙ sym (lt-ltb 1 (suc (suc n)) (omega arith))
+
+-- whether any but the first passes, by how many do
+pub any_but_first : (p : Waiting → Bool) (x : Waiting) (xs : List Waiting) (count : ℕ) → count ≡ length (filter p (x ∷ xs)) → list_any p xs ≡ nat_lt (cond (p x) 1 0) count
+any_but_first p x xs count is = by (p x) is
+  where
+    by : (b : Bool) → count ≡ length (cond b (x ∷ filter p xs) (filter p xs)) → list_any p xs ≡ nat_lt (cond b 1 0) count
+    by true e = any_counts p xs ∙ one_more (length (filter p xs)) ∙ ap (λ n. nat_lt 1 n) (sym e)
+    by false e = any_counts p xs ∙ ap (λ n. nat_lt 0 n) (sym e)
+
+-- ---- as the functions tell it
+
+module _ (s : Slab Waiting) (by_question in_turn : List ℕ) (indexed : AreIndexed s by_question in_turn) where
+  -- the first of all, by the key of its question
+  pub first_stands_at : (x : Waiting) → slice_get (waiting_under s in_turn) 0 ≡ Some x → (key : QuestionKey) → key ≡ question_key x.wanted → (i j : ℕ) → IsRange (to_question key) s by_question i j
+      → (i < length by_question) × (slice_index by_question i ≡ slice_index in_turn 0)
+  first_stands_at x first key is i j range =
+      let some : 0 < length in_turn = by in_turn first in
+      first_stands s by_question in_turn indexed x.wanted i j (subst (λ (k : QuestionKey). IsRange (to_question k) s by_question i j) is range) x some
+      (sym (at_under s in_turn 0 indexed.turns.present some) ∙ first) (waits_itself x)
+    where
+      by : (keys : List ℕ) → slice_get (waiting_under s keys) 0 ≡ Some x → 0 < length keys
+      by [] e = absurd (none-some x e)
+      by (key ∷ keys) e = omega arith
+
+  -- those of a question, by its key
+  pub those_at : (q : Question) (key : QuestionKey) → key ≡ question_key q → (i j : ℕ) → IsRange (to_question key) s by_question i j → (keys : List ℕ) → keys ≡ by_question
+      → ArePresent s (between i j keys) × (waiting_under s (between i j keys) ≡ filter (waits_for q) (waiting_under s in_turn))
+  those_at q key is i j range keys same =
+      let own = subst (λ (k : QuestionKey). IsRange (to_question k) s by_question i j) is range in
+      subst (λ (ks : List ℕ). ArePresent s (between i j ks) × (waiting_under s (between i j ks) ≡ filter (waits_for q) (waiting_under s in_turn))) (sym same)
+      (those_present s by_question in_turn indexed q i j own, those_wait s by_question in_turn indexed q i j own)
+
+  pub any_other : (q : Question) (key : QuestionKey) → key ≡ question_key q → (i j : ℕ) → IsRange (to_question key) s by_question i j → (items : List Waiting) → waiting_under s in_turn ≡ items
+      → (x : Waiting) → slice_get items 0 ≡ Some x → nat_lt (cond (waits_for q x) 1 0) (j - i) ≡ list_any (waits_for q) (drop 1 items)
+  any_other q key is i j range items are x first =
+      by items (how_many s by_question in_turn indexed q i j (subst (λ (k : QuestionKey). IsRange (to_question k) s by_question i j) is range) ∙ ap (λ xs. length (filter (waits_for q) xs)) are) first
+    where
+      by : (xs : List Waiting) → j - i ≡ length (filter (waits_for q) xs) → slice_get xs 0 ≡ Some x → nat_lt (cond (waits_for q x) 1 0) (j - i) ≡ list_any (waits_for q) (drop 1 xs)
+      by [] count e = absurd (none-some x e)
+      by (y ∷ xs) count e = ap (λ z. nat_lt (cond (waits_for q z) 1 0) (j - i)) (sym (same_Some y x e)) ∙ sym (any_but_first (waits_for q) y xs (j - i) count)

@@ -1,0 +1,5 @@
+pub mod Lists
+pub mod Keys
+pub mod Ranges
+pub mod Indexed
+pub mod Turns

@@ -1,0 +1,6 @@
+use Rattle.std.proofs.Common.{arith}
+use Rattle.waiting_questions.proofs.Keys.{length_under}
+use Rattle.waiting_questions.proofs.table.Table.len.Goals as goal
+
+pub returns : goal.returns
+returns g c = omega (arith, c.len.ensures, c.args.self.now.in_turn.ok.0, length_under c.args.self.now.waiting c.args.self.now.in_turn.items c.requires.turns.present)

@@ -1,0 +1,59 @@
+//! A waiting question as it is kept, with the key of its question.
+
+ghost use Rattle.std.specs.Prelude.{◌≡◌};
+ghost use Rattle.outstanding.specs.Orders.{question_key};
+ghost use Rattle.waiting_questions.specs.Indexes.{to_question};
+
+use outstanding::QuestionKey;
+use std::alloc::Allocator;
+use std::cmp::Ordering;
+use std::marker::Model;
+use step_replies::Waiting;
+
+/// A waiting question, and the key of its question, which is made once. It is seen as the waiting question.
+#[derive(Drop)]
+pub(crate) struct Keyed<A: Allocator> {
+    waiting: Waiting<A>,
+    key: QuestionKey,
+}
+
+impl<A: Allocator> Model for Keyed<A> {
+    ghost use Rattle.std.specs.Prelude.{◌≡◌};
+    ghost use Rattle.outstanding.specs.Orders.{question_key};
+    ghost use Rattle.step_rules.specs.State.{Waiting};
+
+    ghost Value = { Waiting };
+
+    ghost view = { λ l. l.waiting };
+
+    ghost invariant = { λ l. l.key ≡ question_key l.waiting.wanted };
+}
+
+impl<A: Allocator> Keyed<A> {
+    pub(crate) fn new(waiting: Waiting<A>) -> Keyed<A>
+        ensures { result ≡ waiting }
+    {
+        let key = QuestionKey::of(&waiting.question);
+        Keyed { waiting, key }
+    }
+
+    pub(crate) fn waiting(&self) -> &Waiting<A>
+        ensures { result.now ≡ self.now }
+    {
+        &self.waiting
+    }
+
+    /// The key of its question.
+    pub(crate) fn key(&self) -> &QuestionKey
+        ensures { result.now ≡ question_key self.now.wanted }
+    {
+        &self.key
+    }
+
+    /// How its question compares to another.
+    pub(crate) fn cmp_question(&self, key: &QuestionKey) -> Ordering
+        ensures { result ≡ to_question key.now self.now }
+    {
+        self.key.cmp(key)
+    }
+}

@@ -1,0 +1,10 @@
+//! The questions that wait for their replies, in the order in which they were taken. What waits for one question is found
+//! without a look at the others.
+#![tactic(auto)]
+
+mod keyed;
+mod places;
+mod table;
+mod waiting_questions;
+
+pub use waiting_questions::{Those, WaitingQuestions};

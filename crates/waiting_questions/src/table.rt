@@ -1,0 +1,128 @@
+//! The waiting questions under keys, with indexes of the keys.
+
+ghost use Rattle.std.specs.Prelude.{◌≡◌, ◌<◌, ◌≤◌, ◌∷◌, ◌++◌, [], true, length, None, Some, MatchOption, OnOk, slice_get, slice_index};
+ghost use Rattle.std.specs.List.{remove, AllByRecursion};
+ghost use Rattle.slab.specs.Slab.{Updates};
+ghost use Rattle.waiting_questions.specs.Indexes.{has_room, items_of, to_question, IsIndexed, IsRange};
+
+use crate::keyed::Keyed;
+use crate::places::{range_of, turn_of};
+use outstanding::QuestionKey;
+use slab::Slab;
+use std::alloc::{AllocError, Allocator};
+use step_replies::Waiting;
+
+/// The waiting questions, each under a key that the slab picks, and the keys in the order of the questions, those for equal
+/// ones in the order of taking, and of all in the order of taking.
+#[derive(Drop)]
+pub(crate) struct Table<A: Allocator> {
+    pub(crate) waiting: Slab<Keyed<A>, A>,
+    pub(crate) by_question: Vec<usize, A>,
+    pub(crate) in_turn: Vec<usize, A>,
+}
+
+impl<A: Allocator> Table<A> {
+    /// None. It takes no memory.
+    pub(crate) fn new(alloc: A) -> Table<A>
+    where
+        A: Copy,
+        ensures indexed { IsIndexed result }
+        ensures empty { items_of result ≡ [] }
+    {
+        Table {
+            waiting: Slab::new(alloc),
+            by_question: Vec::new(alloc),
+            in_turn: Vec::new(alloc),
+        }
+    }
+
+    /// How many wait.
+    pub(crate) fn len(&self) -> usize
+        requires { IsIndexed self.now }
+        ensures { result ≡ length (items_of self.now) }
+    {
+        self.in_turn.len()
+    }
+
+    /// What was taken first, with its key.
+    pub(crate) fn first(&self) -> Option<&Keyed<A>>
+        requires { IsIndexed self.now }
+        ensures { MatchOption result (items_of self.now ≡ []) (λ keyed. slice_get (items_of self.now) 0 ≡ Some keyed.now) }
+    {
+        let key = *self.in_turn.first()?;
+        Some(&self.waiting[key])
+    }
+
+    /// From where up to where those stand by question that wait for this one.
+    pub(crate) fn range(&self, question: &QuestionKey) -> (usize, usize)
+        requires { IsIndexed self.now }
+        ensures { IsRange (to_question question.now) self.now.waiting self.now.by_question.items result.0 result.1 }
+    {
+        range_of(&self.waiting, &self.by_question, question)
+    }
+
+    /// Makes room for one more. `Err` where memory ran out.
+    pub(crate) fn reserve(&mut self) -> Result<(), AllocError>
+        requires { IsIndexed self.old }
+        ensures indexed { IsIndexed self.new }
+        ensures list { items_of self.new ≡ items_of self.old }
+        ensures room { OnOk result (has_room self.new ≡ true) }
+    {
+        self.waiting.reserve(1)?;
+        self.by_question.reserve(1)?;
+        self.in_turn.reserve(1)
+    }
+
+    /// Puts a question last, which was taken no earlier than the others, where there is room.
+    pub(crate) fn put(&mut self, waiting: Waiting<A>)
+        requires indexed { IsIndexed self.old }
+        requires room { has_room self.old ≡ true }
+        requires later { AllByRecursion (λ x. x.taken ≤ waiting.taken) (items_of self.old) }
+        ensures indexed { IsIndexed self.new }
+        ensures list { items_of self.new ≡ items_of self.old ++ waiting ∷ [] }
+    {
+        let keyed = Keyed::new(waiting);
+        let (_, end) = self.range(keyed.key());
+        let key = self.waiting.insert_reserved(keyed);
+        let Ok(()) = self.by_question.insert(end, key) else {
+            unreachable!();
+        };
+        self.in_turn.push_reserved(key);
+    }
+
+    /// Lets the question go whose key stands at this place by question, and in this turn.
+    pub(crate) fn take(&mut self, place: usize, turn: usize)
+        requires indexed { IsIndexed self.old }
+        requires place { place < length self.old.by_question.items }
+        requires turn { turn < length self.old.in_turn.items }
+        requires one { slice_index self.old.by_question.items place ≡ slice_index self.old.in_turn.items turn }
+        ensures indexed { IsIndexed self.new }
+        ensures list { items_of self.new ≡ remove (items_of self.old) turn }
+        ensures questions { self.new.by_question.items ≡ remove self.old.by_question.items place }
+        ensures values { Updates self.old.waiting self.new.waiting (slice_index self.old.by_question.items place) None }
+    {
+        let key = self.by_question.remove(place);
+        self.in_turn.remove(turn);
+        self.waiting.remove(key);
+    }
+
+    /// Where the key at this place by question stands in the order of taking.
+    pub(crate) fn turn(&self, place: usize) -> usize
+        requires indexed { IsIndexed self.now }
+        requires place { place < length self.now.by_question.items }
+        ensures within { result < length self.now.in_turn.items }
+        ensures one { slice_index self.now.by_question.items place ≡ slice_index self.now.in_turn.items result }
+    {
+        turn_of(&self.waiting, &self.in_turn, self.by_question[place])
+    }
+
+    /// Lets all go. It takes no memory.
+    pub(crate) fn clear(&mut self)
+        ensures indexed { IsIndexed self.new }
+        ensures list { items_of self.new ≡ [] }
+    {
+        self.waiting.clear();
+        self.by_question.clear();
+        self.in_turn.clear();
+    }
+}

@@ -1,0 +1,203 @@
+//! The questions that wait.
+
+ghost use Rattle.std.specs.Prelude.{◌≡◌, ◌<◌, ◌≤◌, ◌∷◌, ◌++◌, [], true, not, drop, filter, length, None, Some, IsSome, MatchOption, OnErr, OnOk, slice_get, slice_index};
+ghost use Rattle.std.specs.List.{list_any, All, AllByRecursion};
+ghost use Rattle.slab.specs.Slab.{get};
+ghost use Rattle.step_rules.specs.Steps.{waits_for};
+ghost use Rattle.waiting_questions.specs.Indexes.{waiting_under};
+
+use crate::keyed::Keyed;
+use crate::table::Table;
+use dns_message::Question;
+use outstanding::QuestionKey;
+use slab::Slab;
+use std::alloc::{AllocError, Allocator, Global};
+use std::marker::Model;
+use step_replies::Waiting;
+
+/// The questions that wait, in the order in which they were taken.
+#[derive(Drop)]
+pub struct WaitingQuestions<A: Allocator = Global> {
+    table: Table<A>,
+}
+
+impl<A: Allocator> Model for WaitingQuestions<A> {
+    ghost use Rattle.waiting_questions.specs.Indexes.{has_room, items_of, IsIndexed};
+    ghost use Rattle.waiting_questions.specs.Values.{WaitingList};
+
+    ghost Value = { WaitingList };
+
+    ghost view = { λ w. record { items = items_of w.table; has_room = has_room w.table } };
+
+    ghost invariant = { λ w. IsIndexed w.table };
+}
+
+impl<A: Allocator> WaitingQuestions<A> {
+    /// None. It takes no memory; what `reserve_one` and `push` take later comes from `alloc`.
+    pub fn new(alloc: A) -> WaitingQuestions<A>
+    where
+        A: Copy,
+        ensures { result.items ≡ [] }
+    {
+        WaitingQuestions {
+            table: Table::new(alloc),
+        }
+    }
+
+    /// How many wait. It takes no memory.
+    pub fn len(&self) -> usize
+        ensures { result ≡ length self.now.items }
+    {
+        self.table.len()
+    }
+
+    /// The question that was taken first. `None` exactly where none waits. It takes no memory.
+    pub fn first(&self) -> Option<&Waiting<A>>
+        ensures { MatchOption result (self.now.items ≡ []) (λ waiting. slice_get self.now.items 0 ≡ Some waiting.now) }
+    {
+        Some(self.table.first()?.waiting())
+    }
+
+    /// Makes room for one more question. `Err` where memory ran out; the same questions wait in either case.
+    pub fn reserve_one(&mut self) -> Result<(), AllocError>
+        ensures same { self.new.items ≡ self.old.items }
+        ensures room { OnOk result (self.new.has_room ≡ true) }
+    {
+        self.table.reserve()
+    }
+
+    /// Puts a question last. It takes no memory. The caller sees to it that there is room for it (`reserve_one`) and that
+    /// no question was taken later.
+    pub fn push_reserved(&mut self, waiting: Waiting<A>)
+        requires room { self.old.has_room ≡ true }
+        requires later { AllByRecursion (λ x. x.taken ≤ waiting.taken) self.old.items }
+        ensures { self.new.items ≡ self.old.items ++ waiting ∷ [] }
+    {
+        self.table.put(waiting);
+    }
+
+    /// Puts a question last. `Err` where memory ran out, and then the same questions wait. The caller sees to it that no
+    /// question was taken later.
+    pub fn push(&mut self, waiting: Waiting<A>) -> Result<(), AllocError>
+        requires { AllByRecursion (λ x. x.taken ≤ waiting.taken) self.old.items }
+        ensures ok { OnOk result (self.new.items ≡ self.old.items ++ waiting ∷ []) }
+        ensures err { OnErr result (self.new.items ≡ self.old.items) }
+    {
+        self.reserve_one()?;
+        self.push_reserved(waiting);
+        Ok(())
+    }
+
+    /// The question that was taken first waits no more. It takes no memory.
+    pub fn drop_first(&mut self)
+        ensures { self.new.items ≡ drop 1 self.old.items }
+    {
+        let Some(first) = self.table.first() else {
+            return;
+        };
+        let (place, _) = self.table.range(first.key());
+        self.table.take(place, 0);
+    }
+
+    /// Those that wait for this question wait no more, the newest of them first. It takes no memory, and looks at no other
+    /// question but those that the searches by halves meet.
+    pub fn end(&mut self, question: &Question<A>)
+        ensures { self.new.items ≡ filter (λ x. not (waits_for question.now x)) self.old.items }
+    {
+        let (start, end) = self.table.range(&QuestionKey::of(question));
+        for place in (start..end).rev() {
+            let turn = self.table.turn(place);
+            self.table.take(place, turn);
+        }
+    }
+
+    /// Those that wait for this question, in the order of taking. It takes no memory.
+    pub fn for_question(&self, question: &Question<A>) -> Those<'_, A>
+        ensures { result ≡ filter (waits_for question.now) self.now.items }
+    {
+        let (start, end) = self.table.range(&QuestionKey::of(question));
+        Those::new(
+            &self.table.waiting,
+            &self.table.by_question[start..end],
+        )
+    }
+
+    /// Whether any but the question that was taken first waits for this one. It takes no memory.
+    pub fn is_any_other_for(&self, question: &Question<A>) -> bool
+        ensures { result ≡ list_any (waits_for question.now) (drop 1 self.now.items) }
+    {
+        let key = QuestionKey::of(question);
+        let (start, end) = self.table.range(&key);
+        let waits = end - start;
+        match self.table.first() {
+            Some(first) => waits > usize::from(first.cmp_question(&key).is_eq()),
+            None => false,
+        }
+    }
+
+    /// No question waits any more. It takes no memory.
+    pub fn clear(&mut self)
+        ensures { self.new.items ≡ [] }
+    {
+        self.table.clear();
+    }
+}
+
+/// Those that wait for one question, in the order of taking.
+#[derive(Drop)]
+pub struct Those<'a, A: Allocator = Global> {
+    waiting: &'a Slab<Keyed<A>, A>,
+    keys: &'a [usize],
+}
+
+impl<'a, A: Allocator> Model for Those<'a, A> {
+    ghost use Rattle.std.specs.Prelude.{List, IsSome};
+    ghost use Rattle.std.specs.List.{All};
+    ghost use Rattle.slab.specs.Slab.{get};
+    ghost use Rattle.step_rules.specs.State.{Waiting};
+    ghost use Rattle.waiting_questions.specs.Indexes.{waiting_under};
+
+    ghost Value = { List Waiting };
+
+    ghost view = { λ t. waiting_under t.waiting.now t.keys.now };
+
+    ghost invariant = { λ t. All (λ key. IsSome (get t.waiting.now key)) t.keys.now };
+}
+
+impl<'a, A: Allocator> Those<'a, A> {
+    /// What waits under these keys.
+    fn new(waiting: &'a Slab<Keyed<A>, A>, keys: &'a [usize]) -> Those<'a, A>
+        requires { All (λ key. IsSome (get waiting.now key)) keys.now }
+        ensures { result ≡ waiting_under waiting.now keys.now }
+    {
+        Those { waiting, keys }
+    }
+
+    /// How many they are. It takes no memory.
+    pub fn len(&self) -> usize
+        ensures { result ≡ length self.now }
+    {
+        self.keys.len()
+    }
+
+    /// The one at this place, from 0. It takes no memory.
+    pub fn get(&self, place: usize) -> &'a Waiting<A>
+        requires { place < length self.now }
+        ensures { slice_get self.now place ≡ Some result.now }
+    {
+        question_at(self.waiting, self.keys, place)
+    }
+}
+
+/// What waits under the key at a place.
+fn question_at<'a, A: Allocator>(
+    waiting: &'a Slab<Keyed<A>, A>,
+    keys: &[usize],
+    place: usize,
+) -> &'a Waiting<A>
+    requires within { place < length keys.now }
+    requires present { All (λ key. IsSome (get waiting.now key)) keys.now }
+    ensures { get waiting.now (slice_index keys.now place) ≡ Some result.now }
+{
+    waiting[keys[place]].waiting()
+}
