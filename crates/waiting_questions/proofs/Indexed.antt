@@ -3,6 +3,7 @@ use Rattle.std.proofs.Common.{◌≡◌, ◌≢◌, ℕ, zero, suc, ◌+◌, ◌
 use Rattle.std.specs.Prelude.{filter}
 use Rattle.std.specs.List.{All, AllByRecursion, AllPairs, Contains, insert, remove, between, list_any, cons_option}
 use Rattle.std.proofs.lemmas.Bool.{cond-true}
+use mir.Val.{bool_byte}
 use Rattle.std.proofs.lemmas.Option.{none-some, same_Some}
 use Rattle.std.proofs.lemmas.List.Edits.{insert_end, between_none, length-between, get_or-between}
 use Rattle.std.proofs.lemmas.List.Elements.{All-from_get_or, All-filter, All-cons, All-take, Contains-get_or, filter-append}
@@ -15,7 +16,7 @@ use Rattle.step_rules.specs.Steps.{waits_for}
 use Rattle.waiting_questions.specs.Indexes.{waiting_under, passes, to_question, IsByQuestion, IsByTaken, AreKeys, AreIndexed, IsRange}
 use Rattle.waiting_questions.proofs.Lists.{filter_alike, filter_filter, filter_insert, filter_remove, filter_fails, any_counts, in_filter, from_filter, others, removed}
 use Rattle.waiting_questions.proofs.Keys.{value_of, ArePresent, length_under, at_under, same_under, filter_under, put_under, remove_under, stay, keys_put, stay_others, keys_left, no_keys}
-use Rattle.waiting_questions.proofs.Ranges.{waits_at, waits_itself, waits_among, passes_between, goes_behind, goes_before, none_behind}
+use Rattle.waiting_questions.proofs.Ranges.{waits_at, waits_itself, waits_among, passes_between, goes_behind, goes_before, none_behind, range_left}
 
 -- what holds of all that waits holds of what waits under each key
 under_all : (P : Waiting → Type 0) (s : Slab Waiting) (keys : List ℕ) → AllByRecursion P (waiting_under s keys) → All (λ key. (a : Waiting) → get s key ≡ Some a → P a) keys
@@ -171,6 +172,11 @@ one_more : (n : ℕ) → nat_lt 0 n ≡ nat_lt 1 (suc n)
 one_more zero = refl
 one_more (suc n) = lt-ltb 0 (suc n) (omega arith) ∙ sym (lt-ltb 1 (suc (suc n)) (omega arith))
 
+-- a byte for a truth
+pub byte_is : (b : Bool) → bool_byte b ≡ cond b 1 0
+byte_is true = refl
+byte_is false = refl
+
 -- whether any but the first passes, by how many do
 pub any_but_first : (p : Waiting → Bool) (x : Waiting) (xs : List Waiting) (count : ℕ) → count ≡ length (filter p (x ∷ xs)) → list_any p xs ≡ nat_lt (cond (p x) 1 0) count
 any_but_first p x xs count is = by (p x) is
@@ -201,6 +207,25 @@ module _ (s : Slab Waiting) (by_question in_turn : List ℕ) (indexed : AreIndex
       let own = subst (λ (k : QuestionKey). IsRange (to_question k) s by_question i j) is range in
       subst (λ (ks : List ℕ). ArePresent s (between i j ks) × (waiting_under s (between i j ks) ≡ filter (waits_for q) (waiting_under s in_turn))) (sym same)
       (those_present s by_question in_turn indexed q i j own, those_wait s by_question in_turn indexed q i j own)
+
+  -- the newest that waits for the question goes
+  pub end_step : (q : Question) (rest : List Waiting) (i place turn : ℕ) (s' : Slab Waiting) (by' turns' : List ℕ) → filter (λ x. not (waits_for q x)) (waiting_under s in_turn) ≡ rest → i < place
+      → IsRange (to_question (question_key q)) s by_question i place → turn < length in_turn → slice_index by_question (place - 1) ≡ slice_index in_turn turn
+      → waiting_under s' turns' ≡ remove (waiting_under s in_turn) turn → by' ≡ remove by_question (place - 1) → Updates s s' (slice_index by_question (place - 1)) None
+      → (filter (λ x. not (waits_for q x)) (waiting_under s' turns') ≡ rest) × (i ≤ place - 1) × IsRange (to_question (question_key q)) s' by' i (place - 1)
+  end_step q rest i place turn s' by' turns' kept less range t_in one list questions values =
+      let last : place ≡ suc (place - 1) = omega (arith, less) in
+      let le : i ≤ place - 1 = omega (arith, less) in
+      let whole : IsRange (to_question (question_key q)) s by_question i (suc (place - 1)) = subst (λ (n : ℕ). IsRange (to_question (question_key q)) s by_question i n) last range in (
+        ap (filter (λ x. not (waits_for q x))) list ∙ others_stay s by_question in_turn indexed q i (place - 1) turn whole le t_in one ∙ kept,
+        le,
+        subst (λ (ks : List ℕ). IsRange (to_question (question_key q)) s' ks i (place - 1)) (sym questions) (range_left IsByQuestion s s' by_question (to_question (question_key q)) i (place - 1) indexed.questions le whole values),
+      )
+
+  -- none is left that waits for the question
+  pub end_all : (q : Question) (rest : List Waiting) (i place : ℕ) → filter (λ x. not (waits_for q x)) (waiting_under s in_turn) ≡ rest → i ≡ place → IsRange (to_question (question_key q)) s by_question i place → waiting_under s in_turn ≡ rest
+  end_all q rest i place kept same range =
+      sym (none_wait s by_question in_turn indexed q i (subst (λ (n : ℕ). IsRange (to_question (question_key q)) s by_question i n) (sym same) range)) ∙ kept
 
   pub any_other : (q : Question) (key : QuestionKey) → key ≡ question_key q → (i j : ℕ) → IsRange (to_question key) s by_question i j → (items : List Waiting) → waiting_under s in_turn ≡ items
       → (x : Waiting) → slice_get items 0 ≡ Some x → nat_lt (cond (waits_for q x) 1 0) (j - i) ≡ list_any (waits_for q) (drop 1 items)

@@ -13,4 +13,4 @@ unreachable-requires g c =
     (taken_parted c.args.waiting.now c.args.keys.now c.requires.keys c.taken_at-taken.result) (λ a r f' k. search rules) in
     not_past c.args.waiting.now c.args.keys.now c.requires.keys c.args.key c.partition_point-end.result
     (subst (λ (m : ℕ). IsPartitionPoint (λ (k : ℕ). nat_le (taken_of (get c.args.waiting.now k)) m ≡ true) (λ (k : ℕ). nat_le (taken_of (get c.args.waiting.now k)) m ≡ false) c.args.keys.now c.partition_point-end.result) c.taken_at-taken.ensures point)
-    c.requires.listed (c.in_default.ensures tt)
+    c.requires.listed c.in_default.ensures

@@ -8,6 +8,6 @@ use Rattle.waiting_questions.proofs.waiting_questions.WaitingQuestions.end.Given
 abbrev pub invariant-loop-place : goal.invariant-loop-place
 invariant-loop-place g l =
     IsIndexed l.self-inside.table
-    × (filter (λ x. not (waits_for l.question x)) (items_of l.self-inside.table) ≡ filter (λ x. not (waits_for l.question x)) l.fn.self.items)
+    × (filter (λ x. not (waits_for l.fn.question x)) (items_of l.self-inside.table) ≡ filter (λ x. not (waits_for l.fn.question x)) l.fn.self.items)
     × (l.start ≤ l.place)
-    × IsRange (to_question (question_key l.question)) l.self-inside.table.waiting l.self-inside.table.by_question.items l.start l.place
+    × IsRange (to_question (question_key l.fn.question)) l.self-inside.table.waiting l.self-inside.table.by_question.items l.start l.place

@@ -5,7 +5,7 @@ use Rattle.step_rules.specs.Steps.{waits_for}
 use Rattle.waiting_questions.specs.Indexes.{to_question}
 use Rattle.waiting_questions.specs.Values.{WaitingList}
 use Rattle.waiting_questions.proofs.Ranges.{waits_by_key}
-use Rattle.waiting_questions.proofs.Indexed.{any_other}
+use Rattle.waiting_questions.proofs.Indexed.{any_other, byte_is}
 use Rattle.waiting_questions.proofs.waiting_questions.WaitingQuestions.is_any_other_for.Goals as goal
 
 pub returns-in-Some : goal.returns-in-Some
@@ -13,7 +13,7 @@ returns-in-Some g c =
     let x : Waiting = c.in-Some.first.now in
     let waits : c.is_eq.result ≡ waits_for c.args.question.now x =
     c.is_eq.ensures ∙ ap is_eq (c.cmp_question.ensures ∙ ap (λ (k : QuestionKey). to_question k x) c.of-key.ensures) ∙ sym (waits_by_key c.args.question.now x) in
-    let one : c.from.result ≡ cond (waits_for c.args.question.now x) 1 0 = c.from.ensures ∙ ap (λ (b : Bool). cond b 1 0) waits in
+    let one : c.from.result ≡ cond (waits_for c.args.question.now x) 1 0 = c.from.ensures ∙ byte_is c.is_eq.result ∙ ap (λ (b : Bool). cond {A = ℕ} b 1 0) waits in
     let items = ap (λ (w : WaitingList). w.items) c.self.view_is in
     ap (λ (n : ℕ). nat_lt n (c.range-start.result.1 - c.range-start.result.0)) one
     ∙ any_other c.self.inside.table.waiting c.self.inside.table.by_question.items c.self.inside.table.in_turn.items c.self.invariant c.args.question.now c.of-key.result c.of-key.ensures
