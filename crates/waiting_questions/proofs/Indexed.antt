@@ -1,7 +1,7 @@
 -- What is found of indexed questions, and what one more or less leaves.
-use Rattle.std.proofs.Common.{◌≡◌, ◌≢◌, ℕ, zero, suc, ◌+◌, ◌-◌, ◌<◌, ◌≤◌, List, [], ◌∷◌, ◌++◌, length, take, drop, slice_get, slice_index, slice_index_or, Bool, true, false, cond, not, nat_lt, Option, Some, None, IsSome, refl, sym, ap, ap₂, ◌∙◌, subst, subst₂, arith, get_or-take, get_or-drop, length-take, length-drop, lt-ltb, ◌==◌}
+use Rattle.std.proofs.Common.{◌≡◌, ℕ, zero, suc, ◌+◌, ◌-◌, ◌<◌, ◌≤◌, List, [], ◌∷◌, ◌++◌, length, take, drop, slice_get, slice_index, Bool, true, false, cond, not, nat_lt, Option, Some, None, IsSome, refl, sym, ap, ◌∙◌, subst, subst₂, arith, get_or-take, get_or-drop, length-take, length-drop, lt-ltb, ◌==◌}
 use Rattle.std.specs.Prelude.{filter}
-use Rattle.std.specs.List.{All, AllByRecursion, AllPairs, Contains, insert, remove, between, list_any, cons_option}
+use Rattle.std.specs.List.{All, AllByRecursion, Contains, insert, remove, between, list_any, cons_option}
 use Rattle.std.proofs.lemmas.Bool.{cond-true}
 use mir.Val.{bool_byte}
 use Rattle.std.proofs.lemmas.Option.{none-some, same_Some}
@@ -69,7 +69,7 @@ module _ (s : Slab Waiting) (by_question in_turn : List ℕ) (indexed : AreIndex
         by [] some e is = absurd (omega arith)
         by (key ∷ keys) some e is =
             let front : key ∷ filter (waits_at s q) keys ≡ between i j by_question =
-                sym (cond-true (waits_at s q key) (key ∷ filter (waits_at s q) keys) (filter (waits_at s q) keys) (ap (passes (waits_for q)) e ∙ waits)) ∙ is in
+            sym (cond-true (waits_at s q key) (key ∷ filter (waits_at s q) keys) (filter (waits_at s q) keys) (ap (passes (waits_for q)) e ∙ waits)) ∙ is in
             let long : suc (length (filter (waits_at s q) keys)) ≡ j - i = ap length front ∙ length-between by_question i j range.high in
             let less : i + 0 < j = omega (arith, long) in
             let here : i + 0 ≡ i = omega arith in (
@@ -116,7 +116,7 @@ module _ (s : Slab Waiting) (by_question in_turn : List ℕ) (indexed : AreIndex
       put_same : (q : Question) → filter (waits_at s' q) (insert by_question j key) ≡ filter (waits_at s' q) (in_turn ++ key ∷ [])
       put_same q =
           let alike : (keys : List ℕ) → All (λ n. get s' n ≡ get s n) keys → filter (waits_at s' q) keys ≡ filter (waits_at s q) keys =
-              λ keys stays. filter_alike (waits_at s' q) (waits_at s q) keys (λ k d less. ap (passes (waits_for q)) (stays k d less)) in
+          λ keys stays. filter_alike (waits_at s' q) (waits_at s q) keys (λ k d less. ap (passes (waits_for q)) (stays k d less)) in
           let stays = stay IsByQuestion s s' by_question indexed.questions key x was updates in
           filter_insert (waits_at s' q) by_question j key range.high (λ waits.
           All-from_get_or (λ n. waits_at s' q n ≡ false) (drop j by_question) 0 (λ k within.
@@ -135,7 +135,7 @@ module _ (s : Slab Waiting) (by_question in_turn : List ℕ) (indexed : AreIndex
     left_same : (q : Question) → filter (waits_at s' q) (others key by_question) ≡ filter (waits_at s' q) (others key in_turn)
     left_same q =
         let alike : (keys : List ℕ) → All (λ n. get s' n ≡ get s n) keys → filter (waits_at s' q) keys ≡ filter (waits_at s q) keys =
-            λ keys stays. filter_alike (waits_at s' q) (waits_at s q) keys (λ k d less. ap (passes (waits_for q)) (stays k d less)) in
+        λ keys stays. filter_alike (waits_at s' q) (waits_at s q) keys (λ k d less. ap (passes (waits_for q)) (stays k d less)) in
         alike (others key by_question) (stay_others IsByQuestion s s' by_question indexed.questions key updates)
         ∙ filter_filter (waits_at s q) (λ n. not (n == key)) by_question
         ∙ ap (others key) (indexed.same q)
@@ -164,7 +164,7 @@ module _ (s : Slab Waiting) (by_question in_turn : List ℕ) (indexed : AreIndex
   others_stay q i p turn range le t_in one =
       let a = value_of (get s (slice_index in_turn turn)) (indexed.turns.present turn 0 t_in) in
       let waits : waits_for q a.0 ≡ true =
-          sym (ap (passes (waits_for q)) a.1) ∙ ap (waits_at s q) (sym one) ∙ waits_among s by_question indexed.questions.present q i (suc p) range p le (omega arith) in
+      sym (ap (passes (waits_for q)) a.1) ∙ ap (waits_at s q) (sym one) ∙ waits_among s by_question indexed.questions.present q i (suc p) range p le (omega arith) in
       filter_remove (λ x. not (waits_for q x)) (waiting_under s in_turn) turn a.0 (omega (arith, length_under s in_turn indexed.turns.present))
       (at_under s in_turn turn indexed.turns.present t_in ∙ a.1) (ap not waits)
 

@@ -1,12 +1,11 @@
 -- What waits under keys, and one key more or less.
-use Rattle.std.proofs.Common.{◌≡◌, ◌≢◌, ◌⊎◌, ℕ, zero, suc, ◌+◌, ◌<◌, ◌≤◌, ◌==◌, List, [], ◌∷◌, ◌++◌, length, take, drop, slice_get, slice_index, slice_index_or, Bool, true, false, cond, not, Option, Some, None, IsSome, refl, sym, ap, ◌∙◌, subst, inl, inr, arith}
+use Rattle.std.proofs.Common.{◌≡◌, ◌≢◌, ℕ, zero, suc, ◌<◌, ◌≤◌, ◌==◌, List, [], ◌∷◌, ◌++◌, length, take, drop, slice_get, slice_index, Bool, true, false, cond, not, Option, Some, None, IsSome, refl, sym, ap, ◌∙◌, subst, arith}
 use Rattle.std.specs.Prelude.{filter}
 use Rattle.std.specs.List.{All, AllPairs, insert, remove, cons_option}
 use Rattle.std.proofs.lemmas.Bool.{false≢true}
 use Rattle.std.proofs.lemmas.Option.{same_Some}
 use Rattle.std.proofs.lemmas.List.Elements.{All-head, All-tail, All-weaker, All-take, All-drop, All-filter, filter_passes, filter_map-append}
 use Rattle.std.proofs.lemmas.List.Kept.{AllPairs-filter}
-use Rattle.std.proofs.lemmas.List.Edits.{get_or-insert_at}
 use Rattle.slab.specs.Slab.{Slab, get, Updates}
 use Rattle.step_rules.specs.State.{Waiting}
 use Rattle.waiting_questions.specs.Indexes.{waiting_under, passes, AreKeys}
@@ -62,6 +61,7 @@ filter_under p s (k ∷ keys) = by (get s k) refl (filter_under p s keys)
         → cond b (a ∷ filter p (waiting_under s keys)) (filter p (waiting_under s keys)) ≡ waiting_under s (cond b (k ∷ filter (λ j. passes p (get s j)) keys) (filter (λ j. passes p (get s j)) keys))
     inner a true e rest = ap (λ xs. a ∷ xs) rest ∙ sym (ap (λ o. cons_option o (waiting_under s (filter (λ j. passes p (get s j)) keys))) e)
     inner a false e rest = rest
+
     by : (o : Option Waiting) → get s k ≡ o → filter p (waiting_under s keys) ≡ waiting_under s (filter (λ j. passes p (get s j)) keys)
         → filter p (cons_option o (waiting_under s keys)) ≡ waiting_under s (cond (passes p o) (k ∷ filter (λ j. passes p (get s j)) keys) (filter (λ j. passes p (get s j)) keys))
     by None e rest = rest
@@ -103,9 +103,9 @@ module _ (L : Waiting → Waiting → Type 0) (s s' : Slab Waiting) (keys : List
       let Ordered : ℕ → ℕ → Type 0 = λ j k. (a b : Waiting) → get s' j ≡ Some a → get s' k ≡ Some b → L a b in
       let old : AllPairs Ordered keys = λ j k d less high a b e f. are.in_order j k d less high a b (sym (stay j d (omega arith)) ∙ e) (sym (stay k d high) ∙ f) in
       let low : All (λ j. Ordered j key) (take i keys) =
-          λ j d less a b e f. subst (λ y. L a y) (same_new b f) (before j d less a (sym (All-take Kept i keys stay j d less) ∙ e)) in
+      λ j d less a b e f. subst (λ y. L a y) (same_new b f) (before j d less a (sym (All-take Kept i keys stay j d less) ∙ e)) in
       let high : All (λ j. Ordered key j) (drop i keys) =
-          λ j d less a b e f. subst (λ y. L y b) (same_new a e) (behind j d less b (sym (All-drop Kept i keys stay j d less) ∙ f)) in
+      λ j d less a b e f. subst (λ y. L y b) (same_new a e) (behind j d less b (sym (All-drop Kept i keys stay j d less) ∙ f)) in
       record {
         present = all_insert Present keys i key (is_some_of (get s' key) x updates.changed) (λ j d less. subst (λ o. IsSome o) (sym (stay j d less)) (are.present j d less));
         apart = pairs_insert (λ j k. j ≢ k) keys i key within are.apart (All-take (λ j. j ≢ key) i keys not_among) (λ j d less same. All-drop (λ j. j ≢ key) i keys not_among j d less (sym same));

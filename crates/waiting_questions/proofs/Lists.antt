@@ -83,11 +83,11 @@ module _ {X : Type 0} where
       → ((k : ℕ) → j ≤ k → k < length xs → p (slice_index_or xs k d) ≡ false) → filter p xs ≡ between i j xs
   filter_between p xs i j d low high before among behind =
       let front : filter p (take i xs) ≡ [] =
-          filter_none p (take i xs) (All-from_get_or (λ x. p x ≡ false) (take i xs) d (λ k within. let less : k < i = omega (arith, length-take i xs) in ap p (get_or-take i xs k d less) ∙ before k less)) in
+      filter_none p (take i xs) (All-from_get_or (λ x. p x ≡ false) (take i xs) d (λ k within. let less : k < i = omega (arith, length-take i xs) in ap p (get_or-take i xs k d less) ∙ before k less)) in
       let middle : filter p (between i j xs) ≡ between i j xs =
-          filter_all p (between i j xs) (All-from_get_or (λ x. p x ≡ true) (between i j xs) d (λ k within. let less : i + k < j = omega (arith, length-between xs i j high) in ap p (get_or-between xs i j k d less) ∙ among (i + k) (omega arith) less)) in
+      filter_all p (between i j xs) (All-from_get_or (λ x. p x ≡ true) (between i j xs) d (λ k within. let less : i + k < j = omega (arith, length-between xs i j high) in ap p (get_or-between xs i j k d less) ∙ among (i + k) (omega arith) less)) in
       let back : filter p (drop j xs) ≡ [] =
-          filter_none p (drop j xs) (All-from_get_or (λ x. p x ≡ false) (drop j xs) d (λ k within. ap p (get_or-drop j xs k d) ∙ behind (j + k) (omega arith) (omega (arith, length-drop j xs)))) in
+      filter_none p (drop j xs) (All-from_get_or (λ x. p x ≡ false) (drop j xs) d (λ k within. ap p (get_or-drop j xs k d) ∙ behind (j + k) (omega arith) (omega (arith, length-drop j xs)))) in
       ap (filter p) (split_between xs i j low)
       ∙ filter-append p (take i xs) (between i j xs ++ drop j xs)
       ∙ ap (λ ys. ys ++ filter p (between i j xs ++ drop j xs)) front

@@ -1,13 +1,11 @@
 -- Ranges of keys: what a search finds, and what passes in it.
-use Rattle.std.proofs.Common.{◌≡◌, ◌≢◌, ◌⊎◌, ℕ, zero, suc, ◌+◌, ◌<◌, ◌≤◌, List, [], ◌∷◌, length, slice_index, slice_index_or, Bool, true, false, Option, Some, None, IsSome, Ordering, Less, Equal, Greater, is_eq, is_lt, is_le, refl, sym, ap, ◌∙◌, subst, inl, inr, arith}
+use Rattle.std.proofs.Common.{◌≡◌, ◌≢◌, ◌⊎◌, ℕ, suc, ◌+◌, ◌<◌, ◌≤◌, List, length, slice_index, slice_index_or, Bool, true, false, Some, None, Ordering, Less, Equal, Greater, is_eq, is_lt, is_le, refl, sym, ap, ◌∙◌, inl, inr, arith}
 use Rattle.std.specs.Prelude.{filter}
 use Rattle.std.specs.Ordering.{ordering_reverse}
-use Rattle.std.specs.Cmp.{IsTotalOrder}
-use Rattle.std.specs.List.{All, AllPairs, AllWithin, between, remove}
+use Rattle.std.specs.List.{between, remove}
 use Rattle.std.specs.List.Sorted.{IsPartitionedBy, IsPartitionPoint}
 use Rattle.std.proofs.lemmas.Bool.{cases_lt, false≢true}
-use Rattle.std.proofs.lemmas.Option.{same_Some}
-use Rattle.std.proofs.lemmas.Cmp.{alike_right, tied_itself, tied_back}
+use Rattle.std.proofs.lemmas.Cmp.{alike_right, tied_itself}
 use Rattle.std.proofs.lemmas.List.Edits.{length-remove, get_or-remove_below, get_or-remove_above}
 use Rattle.slab.specs.Slab.{Slab, get, Updates}
 use Rattle.dns_message.specs.Values.{Question}
@@ -16,7 +14,7 @@ use Rattle.outstanding.specs.Orders.{key_cmp, question_key}
 use Rattle.outstanding.proofs.CallerLemmas.{question_keys_are_ordered, same_question_by_keys}
 use Rattle.step_rules.specs.State.{Waiting}
 use Rattle.step_rules.specs.Steps.{waits_for}
-use Rattle.waiting_questions.specs.Indexes.{waiting_under, passes, compared, to_question, IsByQuestion, AreKeys, IsRange}
+use Rattle.waiting_questions.specs.Indexes.{passes, compared, to_question, IsByQuestion, AreKeys, IsRange}
 use Rattle.waiting_questions.proofs.Lists.{filter_between}
 use Rattle.waiting_questions.proofs.Keys.{value_of, ArePresent}
 
@@ -171,16 +169,16 @@ pub range_left : (L : Waiting → Waiting → Type 0) (s s' : Slab Waiting) (key
 range_left L s s' keys f i p are le range updates =
     let short : length (remove keys p) + 1 ≡ length keys = length-remove keys p (omega (arith, range.high)) in
     let stays : (k : ℕ) → k < length keys → k ≢ p → get s' (slice_index keys k) ≡ get s (slice_index keys k) =
-        λ k within other. updates.others (slice_index keys k) (λ same. elim (cases_lt k p) [
-          | inl less ↦ are.apart k p 0 less (omega (arith, range.high)) same
-          | inr more ↦ are.apart p k 0 (omega (arith, other)) within (sym same)
-        ])
+    λ k within other. updates.others (slice_index keys k) (λ same. elim (cases_lt k p) [
+      | inl less ↦ are.apart k p 0 less (omega (arith, range.high)) same
+      | inr more ↦ are.apart p k 0 (omega (arith, other)) within (sym same)
+    ])
     in
     let below : (k : ℕ) (a : Waiting) → k < p → get s' (slice_index (remove keys p) k) ≡ Some a → get s (slice_index keys k) ≡ Some a =
-        λ k a less e. sym (stays k (omega (arith, range.high)) (λ same. omega (arith, same))) ∙ sym (ap (get s') (get_or-remove_below keys p 0 k less (omega (arith, range.high)))) ∙ e
+    λ k a less e. sym (stays k (omega (arith, range.high)) (λ same. omega (arith, same))) ∙ sym (ap (get s') (get_or-remove_below keys p 0 k less (omega (arith, range.high)))) ∙ e
     in
     let above : (k : ℕ) (a : Waiting) → p ≤ k → k < length (remove keys p) → get s' (slice_index (remove keys p) k) ≡ Some a → get s (slice_index keys (k + 1)) ≡ Some a =
-        λ k a from within e. sym (stays (k + 1) (omega (arith, short)) (λ same. omega (arith, same))) ∙ sym (ap (get s') (get_or-remove_above keys p 0 k from (omega (arith, range.high)))) ∙ e
+    λ k a from within e. sym (stays (k + 1) (omega (arith, short)) (λ same. omega (arith, same))) ∙ sym (ap (get s') (get_or-remove_above keys p 0 k from (omega (arith, range.high)))) ∙ e
     in
     record {
       low = le;

@@ -1,6 +1,6 @@
 -- Where a key stands in the order of taking.
-use Rattle.std.proofs.Common.{◌≡◌, ◌≢◌, ◌⊎◌, ℕ, ◌<◌, ◌≤◌, List, length, take, slice_index, slice_index_or, true, false, nat_le, Option, Some, None, refl, sym, ap, ◌∙◌, subst, inl, inr, arith, get_or-take, length-take}
-use Rattle.std.specs.List.{All, AllPairs, AllWithin, Contains}
+use Rattle.std.proofs.Common.{◌≡◌, ◌≢◌, ◌⊎◌, ℕ, ◌<◌, ◌≤◌, List, take, slice_index_or, true, false, nat_le, sym, ap, ◌∙◌, inl, inr, arith, get_or-take, length-take}
+use Rattle.std.specs.List.{All, Contains}
 use Rattle.std.specs.List.Sorted.{IsNonDecreasingBy, IsPartitionedBy, IsPartitionPoint}
 use Rattle.std.proofs.lemmas.Bool.{cases_lt, le-leb, false≢true}
 use Rattle.std.proofs.lemmas.List.Sorted.{IsPartitionedBy-leb}
@@ -30,8 +30,10 @@ module _ (s : Slab Waiting) (keys : List ℕ) (are : AreKeys IsByTaken s keys) w
     where
       here : slice_index_or keys listed.0 key ≡ key
       here = listed.2
+
       early : nat_le (taken_of (get s (slice_index_or keys listed.0 key))) (taken_of (get s key)) ≡ true
       early = ap (λ k. nat_le (taken_of (get s k)) (taken_of (get s key))) here ∙ le-leb (taken_of (get s key)) (taken_of (get s key)) (omega arith)
+
       by : (listed.0 < end) ⊎ (end ≤ listed.0) → ⊥
       by (inl less) = none listed.0 key (omega (arith, length-take end keys, listed.1)) (get_or-take end keys listed.0 key less ∙ here)
       by (inr more) = false≢true (sym (point.1 listed.0 key more listed.1) ∙ early)

@@ -116,10 +116,7 @@ impl<A: Allocator> WaitingQuestions<A> {
         ensures { result ≡ filter (waits_for question.now) self.now.items }
     {
         let (start, end) = self.table.range(&QuestionKey::of(question));
-        Those::new(
-            &self.table.waiting,
-            &self.table.by_question[start..end],
-        )
+        Those::new(&self.table.waiting, &self.table.by_question[start..end])
     }
 
     /// Whether any but the question that was taken first waits for this one. It takes no memory.

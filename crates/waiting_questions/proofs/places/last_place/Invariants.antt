@@ -1,4 +1,4 @@
-use Rattle.std.proofs.Common.{◌≡◌, ◌≢◌, ◌≤◌, length}
+use Rattle.std.proofs.Common.{◌≢◌, length}
 use Rattle.std.specs.List.{AllWithin}
 use Rattle.waiting_questions.proofs.places.last_place.Given as goal
 

@@ -1,4 +1,4 @@
-use Rattle.std.proofs.Common.{◌≡◌, ◌≤◌, ◌++◌, ◌∷◌, [], ℕ, List, sym, ap, ◌∙◌, subst, subst₂}
+use Rattle.std.proofs.Common.{◌≤◌, ◌++◌, ◌∷◌, [], ℕ, List, sym, ap, ◌∙◌, subst, subst₂}
 use Rattle.std.specs.List.{AllByRecursion}
 use Rattle.outstanding.specs.declared.keyed.QuestionKey.{QuestionKey}
 use Rattle.outstanding.specs.Orders.{question_key}

@@ -1,7 +1,3 @@
-use Rattle.std.proofs.Common.{◌≡◌, sym, ap, ◌∙◌, subst, arith, length, Some, slice_get}
-use Rattle.outstanding.specs.declared.keyed.QuestionKey.{QuestionKey}
-use Rattle.waiting_questions.specs.Indexes.{to_question, IsRange}
-use Rattle.waiting_questions.proofs.Ranges.{waits_itself}
 use Rattle.waiting_questions.proofs.Indexed.{first_stands_at}
 use Rattle.waiting_questions.proofs.waiting_questions.WaitingQuestions.drop_first.Goals as goal
 

@@ -1,4 +1,4 @@
-use Rattle.std.proofs.Common.{◌≡◌, arith}
+use Rattle.std.proofs.Common.{arith}
 use Rattle.waiting_questions.proofs.Indexed.{end_step, end_all}
 use Rattle.waiting_questions.proofs.waiting_questions.WaitingQuestions.end.Goals as goal
 

@@ -1,4 +1,4 @@
-use Rattle.std.proofs.Common.{◌≡◌, ◌-◌, ℕ, cond, nat_lt, is_eq, Bool, slice_get, Some, List, ap, sym, ◌∙◌}
+use Rattle.std.proofs.Common.{◌≡◌, ◌-◌, ℕ, cond, nat_lt, is_eq, Bool, slice_get, List, ap, sym, ◌∙◌}
 use Rattle.outstanding.specs.declared.keyed.QuestionKey.{QuestionKey}
 use Rattle.step_rules.specs.State.{Waiting}
 use Rattle.step_rules.specs.Steps.{waits_for}
