@@ -44,7 +44,7 @@ later_entries m n es le all = All-weaker (IsEarlier m) (IsEarlier n) (λ h was. 
 
 -- ---- questions, later
 
-later_taken : (m n : ℕ) (xs : List Waiting) → m ≤ n → AllByRecursion (λ x. x.taken ≤ m) xs → AllByRecursion (λ x. x.taken ≤ n) xs
+pub later_taken : (m n : ℕ) (xs : List Waiting) → m ≤ n → AllByRecursion (λ x. x.taken ≤ m) xs → AllByRecursion (λ x. x.taken ≤ n) xs
 later_taken m n xs le all = All-weaker (λ (x : Waiting). x.taken ≤ m) (λ (x : Waiting). x.taken ≤ n) (λ x h. let at : x.taken ≤ m = h in omega (arith, at, le)) xs all
 
 in_turn_put : (m : ℕ) (xs : List Waiting) (y : Waiting) → AreTakenInTurn xs → AllByRecursion (λ x. x.taken ≤ m) xs → m ≤ y.taken → AreTakenInTurn (xs ++ y ∷ [])
@@ -310,7 +310,3 @@ room_is i m n is same = subst (λ (k : ℕ). i ≡ record { capacity = k; asks =
 -- no entries, with this much room
 pub cache_is : (e : Cache) (m n : ℕ) → e ≡ record { capacity = m; entries = [] } → m ≡ n → e ≡ record { capacity = n; entries = [] }
 cache_is e m n is same = subst (λ (k : ℕ). e ≡ record { capacity = k; entries = [] }) same is
-
-pub none_of : (xs : List Waiting) → length xs ≡ 0 → xs ≡ []
-none_of [] e = refl
-none_of (x ∷ xs) e = absurd (omega (arith, e))

@@ -1,6 +1,6 @@
 -- Which item a tick serves first.
 use Rattle.std.proofs.Common.{◌≡◌, ℕ, List, [], ◌∷◌, Bool, true, false, refl, sym, ap, ◌∙◌, Option, Some, None}
-use Rattle.std.specs.Prelude.{nat_le, slice_get, ◌||◌}
+use Rattle.std.specs.Prelude.{nat_le, slice_get, drop, ◌||◌}
 use Rattle.std.specs.List.{list_any}
 use Rattle.std.proofs.lemmas.Bool.{cond-true, cond-false, false≢true}
 use Rattle.suffix_routes.specs.Values.{Config}
@@ -12,6 +12,11 @@ use Rattle.step_rules.specs.State.{Waiting, State}
 use Rattle.step_rules.specs.Steps.{idle_step, waits_for}
 use Rattle.step_changes.specs.Next.{closed_path}
 use Rattle.step_rules.specs.Row.{left_alone, deadline_of, timeout_of, question, attempt, first_item, row_of_item, row_of_tick, is_due_at}
+
+-- the first of a list, and the rest
+pub rest_is : (xs : List Waiting) (x : Waiting) → slice_get xs 0 ≡ Some x → xs ≡ x ∷ drop 1 xs
+rest_is [] x e = absurd (cc)
+rest_is (y ∷ xs) x e = let same : y ≡ x = cc in ap (λ (z : Waiting). z ∷ xs) same
 
 pub tick_idle : (c : Config) (n : ℕ) (words : List ℕ) (s : State) → s.waiting ≡ [] → s.asks ≡ [] → idle_step n s ≡ row_of_tick c n words s
 tick_idle c n words s none no_ask = λ i. row_of_item c n words s (first_item c (sym none i) (sym no_ask i))

@@ -1,2 +1,3 @@
 pub mod Offering
 pub mod CallerLemmas
+mod Folds

@@ -9,9 +9,8 @@ mod replies;
 
 pub use attempts::{Try, by_tcp, by_udp, draw_connection, freed_port, new_ask, plan};
 pub use lists::{
-    close_inquiry, comes_first, drop_first, end_closed, forget_all, is_any_waiting_for, is_late,
-    is_live, is_overdue, list_ask,
+    close_inquiry, comes_first, end_closed, forget_all, is_late, is_live, is_overdue, list_ask,
 };
 pub use next::{Change, Next, Opening, Preferred};
 pub use offers::{held_from, offer_all};
-pub use replies::{answers_to, close_path, close_paths, failures, is_waiting_for};
+pub use replies::{answers_to, close_path, close_paths, failures};

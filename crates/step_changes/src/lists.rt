@@ -1,20 +1,17 @@
 //! What a forwarder keeps: the asks that are under way, the questions that wait, when their time ends, and the end of all.
 
-ghost use Rattle.std.specs.Prelude.{◌≡◌, ◌<◌, ◌+◌, ◌∷◌, ◌++◌, [], length, nat_lt, nat_le, not, drop, filter, OnOk, OnErr};
-ghost use Rattle.std.specs.List.{list_any};
+ghost use Rattle.std.specs.Prelude.{◌≡◌, ◌<◌, ◌+◌, ◌∷◌, ◌++◌, [], length, nat_lt, nat_le, OnOk, OnErr};
 ghost use Rattle.outstanding.specs.Lists.{MayBegin, on_path as ask_on, without_path};
-ghost use Rattle.step_rules.specs.Steps.{waits_for};
 ghost use Rattle.step_rules.specs.Row.{timeout_of, deadline_of};
 ghost use Rattle.step_changes.specs.Next.{left_waiting, without_closed};
 
-use crate::replies::is_waiting_for;
-use dns_message::Question;
 use outstanding::{Ask, Inquiries, Path, Refusal};
 use record_cache::Cache;
 use std::alloc::{AllocError, Allocator};
 use std::hash::BuildHasher;
 use step_replies::Waiting;
 use suffix_routes::Config;
+use waiting_questions::WaitingQuestions;
 
 /// Lists an ask for which there is room. `Err` where memory ran out, and then nothing has changed.
 pub fn list_ask<A: Allocator>(inquiries: &mut Inquiries<A>, ask: Ask<A>) -> Result<(), AllocError>
@@ -33,22 +30,15 @@ pub fn list_ask<A: Allocator>(inquiries: &mut Inquiries<A>, ask: Ask<A>) -> Resu
 /// The ask on the path is closed, and those that waited for it wait no more.
 pub fn close_inquiry<A: Allocator>(
     inquiries: &mut Inquiries<A>,
-    waiting: &mut Vec<Waiting<A>, A>,
+    waiting: &mut WaitingQuestions<A>,
     path: Path,
 )
     ensures asks { inquiries.new ≡ record inquiries.old { asks = without_path path inquiries.old.asks } }
     ensures waiting { waiting.new.items ≡ left_waiting (ask_on path inquiries.old.asks) waiting.old.items }
 {
     if let Some(ask) = inquiries.end(path) {
-        drop_waiting(waiting, &ask.question);
+        waiting.end(&ask.question);
     }
-}
-
-/// Leaves out those that wait for this question.
-fn drop_waiting<A: Allocator>(waiting: &mut Vec<Waiting<A>, A>, question: &Question<A>)
-    ensures { waiting.new.items ≡ filter (λ x. not (waits_for question.now x)) waiting.old.items }
-{
-    waiting.retain(|x| !is_waiting_for(question, x));
 }
 
 /// Ends the ask on a path, where there is one.
@@ -60,20 +50,11 @@ pub fn end_closed<A: Allocator>(inquiries: &mut Inquiries<A>, closed: Option<Pat
     }
 }
 
-/// The oldest question waits no more.
-pub fn drop_first<A: Allocator>(waiting: &mut Vec<Waiting<A>, A>)
-    ensures { waiting.new.items ≡ drop 1 waiting.old.items }
-{
-    if !waiting.is_empty() {
-        let _expired = waiting.remove(0);
-    }
-}
-
 /// All entries, asks and waiting questions are forgotten. It takes no memory.
 pub fn forget_all<H: BuildHasher + Drop, A: Allocator + Copy>(
     cache: &mut Cache<H, A>,
     inquiries: &mut Inquiries<A>,
-    waiting: &mut Vec<Waiting<A>, A>,
+    waiting: &mut WaitingQuestions<A>,
 )
     ensures entries { cache.new ≡ record cache.old { entries = [] } }
     ensures asks { inquiries.new ≡ record inquiries.old { asks = [] } }
@@ -111,11 +92,4 @@ pub fn comes_first<A: Allocator>(config: &Config<A>, waiting: &Waiting<A>, ask: 
 {
     let deadline = u128::from(waiting.taken) + u128::from(config.limits.deadline_ms);
     deadline <= u128::from(ask.asked) + u128::from(config.limits.ask_ms)
-}
-
-/// Another question waits for this one's ask.
-pub fn is_any_waiting_for<A: Allocator>(question: &Question<A>, waiting: &[Waiting<A>]) -> bool
-    ensures { result ≡ list_any (waits_for question.now) waiting.now }
-{
-    waiting.iter().any(|x| is_waiting_for(question, x))
 }

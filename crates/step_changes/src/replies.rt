@@ -6,23 +6,17 @@ ghost use Rattle.answer_builder.specs.Answers.{IsEarlier};
 ghost use Rattle.answer_builder.specs.Building.{lent};
 ghost use Rattle.step_replies.specs.Spelling.{Source};
 ghost use Rattle.step_values.specs.Values.{action_of, actions_of};
-ghost use Rattle.step_rules.specs.Steps.{closes, fails, reply_in, waits_for};
-ghost use Rattle.step_changes.specs.Next.{closing_path, gives_from, with_reply, with_replies};
+ghost use Rattle.step_rules.specs.Steps.{closes, fails};
+ghost use Rattle.step_changes.specs.Next.{closing_path, gives_from, with_replies};
 
 use dns_message::Question;
 use outstanding::{Ask, Path};
 use plain_list::PlainList;
 use record_cache::Held;
 use std::alloc::{AllocError, Allocator};
-use step_replies::{Answers, Waiting, failure};
+use step_replies::{Answers, failure};
 use step_values::{Action, Why};
-
-/// The question waits for this one.
-pub fn is_waiting_for<A: Allocator>(question: &Question<A>, waiting: &Waiting<A>) -> bool
-    ensures { result ≡ waits_for question.now waiting.now }
-{
-    waiting.question.is_same(question)
-}
+use waiting_questions::WaitingQuestions;
 
 /// The action that gives a path up.
 pub fn close_path<A: Allocator>(path: Path) -> Action<A>
@@ -48,55 +42,23 @@ pub fn close_paths<A: Allocator>(
     Ok(actions)
 }
 
-/// Puts the failure of a question last, where it waits for this one.
-fn put_failure<A: Allocator + Copy>(
-    alloc: A,
-    actions: &mut PlainList<Action<A>, A>,
-    question: &Question<A>,
-    waiting: &Waiting<A>,
-    why: Why,
-) -> Result<(), AllocError>
-    ensures { IfOk result (λ _. actions_of actions.new ≡ with_reply (actions_of actions.old) (reply_in (fails why question.now waiting.now))) }
-{
-    if !is_waiting_for(question, waiting) {
-        return Ok(());
-    }
-    let action = failure(alloc, &waiting.request(), why)?;
-    actions.push(action)
-}
-
 /// The query is closed, and each question that waits for it fails. `Err` where memory ran out.
 pub fn failures<A: Allocator + Copy>(
     alloc: A,
     query: &Ask<A>,
-    waiting: &[Waiting<A>],
+    waiting: &WaitingQuestions<A>,
     why: Why,
 ) -> Result<PlainList<Action<A>, A>, AllocError>
-    ensures { IfOk result (λ actions. actions_of actions ≡ with_replies (fails why query.now.question) (closes query.now.path ∷ []) waiting.now) }
+    ensures { IfOk result (λ actions. actions_of actions ≡ with_replies (fails why query.now.question) (closes query.now.path ∷ []) waiting.now.items) }
 {
     let mut actions = PlainList::new(alloc);
     actions.push(close_path(query.path))?;
-    for x in waiting {
-        put_failure(alloc, &mut actions, &query.question, x, why)?;
+    let those = waiting.for_question(&query.question);
+    for place in 0..those.len() {
+        let action = failure(alloc, &those.get(place).request(), why)?;
+        actions.push(action)?;
     }
     Ok(actions)
-}
-
-/// Puts the answer of a question last, where it waits for this one.
-fn put_answer<'a, A: Allocator + Copy>(
-    actions: &mut PlainList<Action<A>, A>,
-    question: &Question<A>,
-    answers: &mut Answers<'a, A>,
-    waiting: &'a Waiting<A>,
-) -> Result<(), AllocError>
-    ensures same { answers.new ≡ answers.old }
-    ensures put { IfOk result (λ _. actions_of actions.new ≡ with_reply (actions_of actions.old) (reply_in (gives_from answers.old question.now waiting.now))) }
-{
-    if !is_waiting_for(question, waiting) {
-        return Ok(());
-    }
-    let action = answers.reply(waiting)?;
-    actions.push(action)
 }
 
 /// Puts the answers of those questions last that wait for this one, in their order.
@@ -104,12 +66,14 @@ fn put_answers<'a, A: Allocator + Copy>(
     actions: &mut PlainList<Action<A>, A>,
     question: &Question<A>,
     answers: &mut Answers<'a, A>,
-    waiting: &'a [Waiting<A>],
+    waiting: &'a WaitingQuestions<A>,
 ) -> Result<(), AllocError>
-    ensures { IfOk result (λ _. actions_of actions.new ≡ with_replies (gives_from answers.old question.now) (actions_of actions.old) waiting.now) }
+    ensures { IfOk result (λ _. actions_of actions.new ≡ with_replies (gives_from answers.old question.now) (actions_of actions.old) waiting.now.items) }
 {
-    for x in waiting {
-        put_answer(actions, question, answers, x)?;
+    let those = waiting.for_question(question);
+    for place in 0..those.len() {
+        let action = answers.reply(those.get(place))?;
+        actions.push(action)?;
     }
     Ok(())
 }
@@ -128,10 +92,10 @@ pub fn answers_to<A: Allocator + Copy>(
     query: &Ask<A>,
     held: &[Held<A>],
     moment: u64,
-    waiting: &[Waiting<A>],
+    waiting: &WaitingQuestions<A>,
 ) -> Result<PlainList<Action<A>, A>, AllocError>
     requires { AllByRecursion (IsEarlier moment) held.now }
-    ensures { IfOk result (λ actions. actions_of actions ≡ with_replies (gives_from (record { chain = held.now; moment = moment }) query.now.question) (closes query.now.path ∷ []) waiting.now) }
+    ensures { IfOk result (λ actions. actions_of actions ≡ with_replies (gives_from (record { chain = held.now; moment = moment }) query.now.question) (closes query.now.path ∷ []) waiting.now.items) }
 {
     let chain = borrowed(alloc, held)?;
     let mut answers = Answers::new(alloc, &chain, moment);

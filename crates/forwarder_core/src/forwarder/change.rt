@@ -16,8 +16,7 @@ use record_cache::Held;
 use std::alloc::{AllocError, Allocator};
 use std::hash::BuildHasher;
 use step_changes::{
-    Change, Opening, Preferred, close_inquiry, drop_first, end_closed, is_late, is_overdue,
-    list_ask, offer_all,
+    Change, Opening, Preferred, close_inquiry, end_closed, is_late, is_overdue, list_ask, offer_all,
 };
 use step_look_ups::{Slots, promote_all};
 use step_replies::Waiting;
@@ -85,7 +84,7 @@ impl<H: BuildHasher + Drop, A: Allocator + Copy> Forwarder<H, A> {
         ensures err { OnErr result (self.new ≡ self.old) }
     {
         let count = count_tcp(self.tcp_asks, ask.path);
-        self.waiting.reserve(1)?;
+        self.waiting.reserve_one()?;
         list_ask(&mut self.inquiries, ask)?;
         self.waiting.push_reserved(waiting);
         self.tcp_asks = count;
@@ -125,7 +124,7 @@ impl<H: BuildHasher + Drop, A: Allocator + Copy> Forwarder<H, A> {
         ensures { self.new ≡ record { config = self.old.config; state = record self.old.state { asks = without_closed closed self.old.state.asks; waiting = drop 1 self.old.state.waiting; moment = moment } } }
     {
         end_closed(&mut self.inquiries, closed);
-        drop_first(&mut self.waiting);
+        self.waiting.drop_first();
         self.moment = moment;
     }
 
@@ -180,8 +179,8 @@ impl<H: BuildHasher + Drop, A: Allocator + Copy> Forwarder<H, A> {
     fn is_question_due(&self) -> bool
         ensures { result ≡ list_any (λ x. nat_le (deadline_of self.now.config x) self.now.state.moment) self.now.state.waiting }
     {
-        match self.waiting.split_first() {
-            Some((oldest, _)) => is_overdue(&self.config, self.moment, oldest),
+        match self.waiting.first() {
+            Some(oldest) => is_overdue(&self.config, self.moment, oldest),
             None => false,
         }
     }

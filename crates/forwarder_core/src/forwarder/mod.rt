@@ -24,9 +24,9 @@ use std::alloc::{AllocError, Allocator, Global};
 use std::hash::BuildHasher;
 use std::marker::Model;
 use step_changes::{Next, forget_all};
-use step_replies::Waiting;
 use step_values::{Event, Outcome};
 use suffix_routes::{Config, Route};
+use waiting_questions::WaitingQuestions;
 
 /// The greatest effective moment, in milliseconds.
 const LATEST: u64 = 1 << 62;
@@ -79,7 +79,7 @@ pub struct Forwarder<H: BuildHasher, A: Allocator = Global> {
     config: Config<A>,
     cache: Cache<H, A>,
     inquiries: Inquiries<A>,
-    waiting: Vec<Waiting<A>, A>,
+    waiting: WaitingQuestions<A>,
     preferred: Vec<usize, A>,
     moment: u64,
     tcp_asks: u64,
@@ -194,7 +194,7 @@ impl<H: BuildHasher + Drop, A: Allocator + Copy> Forwarder<H, A> {
             config,
             cache,
             inquiries: Inquiries::new(alloc, capacity),
-            waiting: Vec::new(alloc),
+            waiting: WaitingQuestions::new(alloc),
             preferred,
             moment: 0,
             tcp_asks: 0,

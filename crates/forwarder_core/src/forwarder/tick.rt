@@ -1,6 +1,6 @@
 //! What the passing of time calls for: the oldest question or the oldest ask is served, where it is due.
 
-ghost use Rattle.std.specs.Prelude.{◌≡◌, Bool, List, ◌^◌, ◌≤◌, ◌∷◌, false, IfOk, Some, drop, map, slice_get};
+ghost use Rattle.std.specs.Prelude.{◌≡◌, Bool, List, ◌^◌, ◌≤◌, false, IfOk, Some, drop, map, slice_get};
 ghost use Rattle.std.specs.List.{list_any};
 ghost use Rattle.step_rules.specs.Row.{expiry_step, left_alone, attempt, question, row_of_item, row_of_tick, is_due_at, deadline_of, timeout_of};
 ghost use Rattle.step_rules.specs.Progress.{least};
@@ -11,18 +11,16 @@ use outstanding::{Ask, Path};
 use retry_failover::Failure;
 use std::alloc::{AllocError, Allocator};
 use std::hash::BuildHasher;
-use step_changes::{
-    Change, Next, close_paths, comes_first, is_any_waiting_for, is_late, is_overdue,
-};
+use step_changes::{Change, Next, close_paths, comes_first, is_late, is_overdue};
 use step_replies::{Waiting, failure};
 use step_values::Why;
 
 impl<H: BuildHasher + Drop, A: Allocator + Copy> Forwarder<H, A> {
-    /// The path of the question's ask, where no other question waits for it.
-    fn left_alone(&self, oldest: &Waiting<A>, others: &[Waiting<A>]) -> Option<Path>
-        ensures { result ≡ closed_path (left_alone oldest.now.wanted others.now self.now.state.asks) }
+    /// The path of the oldest question's ask, where no other question waits for it.
+    fn left_alone(&self, oldest: &Waiting<A>) -> Option<Path>
+        ensures { result ≡ closed_path (left_alone oldest.now.wanted (drop 1 self.now.state.waiting) self.now.state.asks) }
     {
-        if is_any_waiting_for(&oldest.question, others) {
+        if self.waiting.is_any_other_for(&oldest.question) {
             return None;
         }
         match self.inquiries.by_question(&oldest.question) {
@@ -32,17 +30,12 @@ impl<H: BuildHasher + Drop, A: Allocator + Copy> Forwarder<H, A> {
     }
 
     /// The oldest question has waited as long as it may. With the last one that waits for it, an ask is closed.
-    fn expire(
-        &self,
-        moment: u64,
-        oldest: &Waiting<A>,
-        others: &[Waiting<A>],
-    ) -> Result<Next<'_, A>, AllocError>
-        requires { self.now.state.waiting ≡ oldest.now ∷ others.now }
-        ensures row { IfOk result (λ next. (rooms : List Bool) → next_of moment rooms self.now.state next ≡ expiry_step moment oldest.now others.now (left_alone oldest.now.wanted others.now self.now.state.asks) self.now.state) }
+    fn expire(&self, moment: u64, oldest: &Waiting<A>) -> Result<Next<'_, A>, AllocError>
+        requires { slice_get self.now.state.waiting 0 ≡ Some oldest.now }
+        ensures row { IfOk result (λ next. (rooms : List Bool) → next_of moment rooms self.now.state next ≡ expiry_step moment oldest.now (drop 1 self.now.state.waiting) (left_alone oldest.now.wanted (drop 1 self.now.state.waiting) self.now.state.asks) self.now.state) }
         ensures fits { IfOk result (λ next. CanChange self.now.config moment self.now.state next) }
     {
-        let closed = self.left_alone(oldest, others);
+        let closed = self.left_alone(oldest);
         let mut actions = close_paths(self.alloc, closed)?;
         let action = failure(self.alloc, &oldest.request(), Why::Deadline)?;
         actions.push(action)?;
@@ -55,10 +48,9 @@ impl<H: BuildHasher + Drop, A: Allocator + Copy> Forwarder<H, A> {
         moment: u64,
         words: [u32; 8],
         oldest: &Waiting<A>,
-        others: &[Waiting<A>],
     ) -> Result<Next<'_, A>, AllocError>
-        requires { self.now.state.waiting ≡ oldest.now ∷ others.now }
-        ensures row { IfOk result (λ next. (rooms : List Bool) → next_of moment rooms self.now.state next ≡ row_of_item self.now.config moment words self.now.state (question oldest.now others.now)) }
+        requires { slice_get self.now.state.waiting 0 ≡ Some oldest.now }
+        ensures row { IfOk result (λ next. (rooms : List Bool) → next_of moment rooms self.now.state next ≡ row_of_item self.now.config moment words self.now.state (question oldest.now (drop 1 self.now.state.waiting))) }
         ensures early { is_due_at self.now.config moment self.now.state ≡ false → IsQuiet result }
         ensures fits { IfOk result (λ next. CanChange self.now.config moment self.now.state next) }
     {
@@ -66,7 +58,7 @@ impl<H: BuildHasher + Drop, A: Allocator + Copy> Forwarder<H, A> {
         if !is_overdue(&self.config, moment, oldest) {
             return Ok(self.nothing());
         }
-        self.expire(moment, oldest, others)
+        self.expire(moment, oldest)
     }
 
     /// The oldest ask comes first.
@@ -97,13 +89,13 @@ impl<H: BuildHasher + Drop, A: Allocator + Copy> Forwarder<H, A> {
         ensures early { is_due_at self.now.config moment self.now.state ≡ false → IsQuiet result }
         ensures fits { IfOk result (λ next. CanChange self.now.config moment self.now.state next) }
     {
-        match (self.waiting.split_first(), self.inquiries.oldest()) {
+        match (self.waiting.first(), self.inquiries.oldest()) {
             (None, None) => Ok(self.nothing()),
             (None, Some(ask)) => self.on_attempt(moment, words, ask),
-            (Some((waiting, others)), None) => self.on_question(moment, words, waiting, others),
-            (Some((waiting, others)), Some(ask)) => {
+            (Some(waiting), None) => self.on_question(moment, words, waiting),
+            (Some(waiting), Some(ask)) => {
                 if comes_first(&self.config, waiting, ask) {
-                    self.on_question(moment, words, waiting, others)
+                    self.on_question(moment, words, waiting)
                 } else {
                     self.on_attempt(moment, words, ask)
                 }
@@ -115,7 +107,7 @@ impl<H: BuildHasher + Drop, A: Allocator + Copy> Forwarder<H, A> {
     pub(crate) fn first_deadline(&self) -> Option<u64>
         ensures { result ≡ least (map (deadline_of self.now.config) self.now.state.waiting) }
     {
-        let (oldest, _) = self.waiting.split_first()?;
+        let oldest = self.waiting.first()?;
         Some(oldest.taken + self.config.limits.deadline_ms)
     }
 

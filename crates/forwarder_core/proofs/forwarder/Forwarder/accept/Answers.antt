@@ -37,7 +37,7 @@ returns-clause-row g c = λ words rooms.
     (ap (λ (a : Ask). a.route) c.ask.view_is)
     (ap (λ (a : Ask). a.server) c.ask.view_is)
     (c.in_ok-actions.ensures
-    ∙ (λ i. with_replies (gives_from (record { chain = (ap (take (length c.as_slice-walked.result.now)) c.deref.ensures.value ∙ walk_first c.args.moment c.in_ok-held.held.items c.walk.inside.pieces c.walk.inside.authority _ c.in_ok-held.ensures.held (ap (λ (ps : List Piece). length ps) c.as_slice-walked.ensures) ∙ ap (λ (v : Walk). map (held_at c.args.moment) v.pieces) c.walk.view_is) i; moment = c.args.moment }) c.args.ask.now.question) (closes c.args.ask.now.path ∷ []) ((c.deref-2.ensures.value ∙ ap (λ (r : Running). r.state.waiting) c.self.view_is) i)))
+    ∙ (λ i. with_replies (gives_from (record { chain = (ap (take (length c.as_slice-walked.result.now)) c.deref.ensures.value ∙ walk_first c.args.moment c.in_ok-held.held.items c.walk.inside.pieces c.walk.inside.authority _ c.in_ok-held.ensures.held (ap (λ (ps : List Piece). length ps) c.as_slice-walked.ensures) ∙ ap (λ (v : Walk). map (held_at c.args.moment) v.pieces) c.walk.view_is) i; moment = c.args.moment }) c.args.ask.now.question) (closes c.args.ask.now.path ∷ []) (ap (λ (r : Running). r.state.waiting) c.self.view_is i)))
     (carried_is c.args.self.now.config c.args.moment c.args.ask.now c.args.walk c.requires.carried routed c.requires.taken c.in_ok-held.held.items c.walk.inside.pieces c.walk.inside.authority c.in_ok-held.ensures.held (ap (λ (v : Walk). v.pieces) c.walk.view_is) (ap (λ (v : Walk). v.authority) c.walk.view_is))
 
 pub returns-clause-fits : goal.returns-clause-fits

@@ -1,14 +1,15 @@
 use Rattle.std.proofs.Common.{◌+◌, ◌∙◌, ap, sym, Some}
-use Rattle.std.specs.Prelude.{map}
+use Rattle.std.specs.Prelude.{drop, map, slice_get}
 use Rattle.step_rules.specs.State.{Running, Waiting}
 use Rattle.step_rules.specs.Row.{deadline_of}
 use Rattle.step_rules.specs.Progress.{least}
 use Rattle.forwarder_core.proofs.KeptLaws.{oldest_deadline}
+use Rattle.forwarder_core.proofs.Ticks.{rest_is}
 use Rattle.forwarder_core.proofs.forwarder.Forwarder.first_deadline.Goals as goal
 
 pub returns : goal.returns
 returns g c =
     (λ i. Some (c.oldest.inside.taken + (c.self-inside.view_is i).config.limits.deadline_ms))
     ∙ ap (λ (x : Waiting). Some (deadline_of c.self.inside.config x)) c.oldest.view_is
-    ∙ sym (oldest_deadline c.self.inside.config c.in_ok-oldest.oldest.now c.in_ok-oldest.field-0-1.now c.self.inside.waiting.items ((λ i. (sym c.self-inside.view_is i).waiting.items) ∙ sym c.deref.ensures.value ∙ c.in_ok-oldest.ensures.cases.0) c.self.invariant.in_turn)
+    ∙ sym (oldest_deadline c.self.inside.config c.in_ok-oldest.oldest.now (drop 1 c.self.inside.waiting.items) c.self.inside.waiting.items (rest_is c.self.inside.waiting.items c.in_ok-oldest.oldest.now ((λ i. slice_get (sym c.self-inside.view_is i).waiting.items 0) ∙ c.in_ok-oldest.ensures)) c.self.invariant.in_turn)
     ∙ ap (λ (r : Running). least (map (deadline_of r.config) r.state.waiting)) c.self.view_is

@@ -10,7 +10,7 @@ pub returns-clause-row : goal.returns-clause-row
 returns-clause-row g c = λ rooms.
     plain_next c.args.moment rooms c.args.self.now.state c.without_cache.result (Close c.args.path None) _ c.without_cache.ensures.used c.without_cache.ensures.change c.without_cache.ensures.carried
     (closed_is g.row.A.Denot c.args.moment c.args.path c.args.self.now.state c.args.ask.now (fails c.args.why c.args.ask.now.question) None _ c.requires
-    (c.without_cache.ensures.actions ∙ c.in_ok-actions.ensures ∙ ap (with_replies (fails c.args.why c.args.ask.now.question) (closes c.args.ask.now.path ∷ [])) (c.deref.ensures.value ∙ ap (λ (r : Running). r.state.waiting) c.self.view_is))
+    (c.without_cache.ensures.actions ∙ c.in_ok-actions.ensures ∙ ap (with_replies (fails c.args.why c.args.ask.now.question) (closes c.args.ask.now.path ∷ [])) (ap (λ (r : Running). r.state.waiting) c.self.view_is))
     (fails_frees c.args.why c.args.ask.now.question))
 
 pub returns-clause-fits : goal.returns-clause-fits

@@ -1,13 +1,14 @@
 use Rattle.std.proofs.Common.{◌∙◌, ap, sym}
-use Rattle.std.specs.Prelude.{nat_le}
+use Rattle.std.specs.Prelude.{drop, nat_le}
 use Rattle.std.specs.List.{list_any}
 use Rattle.step_rules.specs.State.{Running, Waiting}
 use Rattle.step_rules.specs.Row.{deadline_of}
 use Rattle.forwarder_core.proofs.KeptLaws.{oldest_due}
+use Rattle.forwarder_core.proofs.Ticks.{rest_is}
 use Rattle.forwarder_core.proofs.forwarder.Forwarder.is_question_due.Goals as goal
 
 pub returns-in-Some : goal.returns-in-Some
 returns-in-Some g c =
     c.is_overdue.ensures
-    ∙ oldest_due c.self.inside.config.limits.deadline_ms c.self.inside.moment c.in-Some.oldest.now c.in-Some.field-0-1.now c.self.inside.waiting.items (sym c.deref.ensures.value ∙ c.in-Some.ensures.cases.0) c.self.invariant.in_turn
+    ∙ oldest_due c.self.inside.config.limits.deadline_ms c.self.inside.moment c.in-Some.oldest.now (drop 1 c.self.inside.waiting.items) c.self.inside.waiting.items (rest_is c.self.inside.waiting.items c.in-Some.oldest.now c.in-Some.ensures) c.self.invariant.in_turn
     ∙ ap (λ (r : Running). list_any (λ (x : Waiting). nat_le (deadline_of r.config x) r.state.moment) r.state.waiting) c.self.view_is

@@ -1,10 +1,18 @@
 use Rattle.std.proofs.Common.{◌∙◌, ℕ, ◌+◌, ◌^◌, ◌≤◌, ◌<◌, ◌∷◌, [], ◌++◌, length, sym, ap, subst, List, arith}
+use Rattle.std.specs.List.{AllByRecursion}
 use Rattle.outstanding.specs.Values.{Ask}
 use Rattle.step_rules.specs.State.{Running, Waiting}
 use Rattle.step_changes.specs.Kept.{IsKeptAsk, IsKept}
 use Rattle.step_changes.specs.Next.{tcp_count_of}
-use Rattle.forwarder_core.proofs.KeptLaws.{kept_joined, kept_asked}
+use Rattle.forwarder_core.proofs.KeptLaws.{kept_joined, kept_asked, later_taken}
 use Rattle.forwarder_core.proofs.forwarder.Forwarder.put_ask.Goals as goal
+
+pub push_reserved-requires-clause-later : goal.push_reserved-requires-clause-later
+push_reserved-requires-clause-later g c =
+    let later = subst (λ (r : Running). r.state.moment ≤ c.args.moment) (sym c.self.view_is) c.requires.later in
+    let taken = c.requires.waits.taken in
+    subst (AllByRecursion (λ (x : Waiting). x.taken ≤ c.args.waiting.taken)) (sym c.in_ok-reserve_one.ensures.same)
+    (later_taken c.self.inside.moment c.args.waiting.taken c.self.inside.waiting.items (omega (arith, later, taken)) c.self.invariant.taken)
 
 pub invariant_of-self-2 : goal.invariant_of-self-2
 invariant_of-self-2 g c =
@@ -12,7 +20,7 @@ invariant_of-self-2 g c =
     let joined = kept_joined c.self.inside.config c.self.inside.cache c.self.inside.inquiries c.self.inside.waiting.items _ c.self.inside.preferred.items c.self.inside.moment c.args.moment c.self.inside.tcp_asks c.args.waiting c.self.invariant
     (subst (λ (r : Running). r.state.moment ≤ c.args.moment) (sym c.self.view_is) c.requires.later) c.requires.in_time
     (subst (λ (r : Running). length r.state.waiting < r.config.limits.questions) (sym c.self.view_is) c.requires.waits.room) c.requires.waits.taken c.requires.waits.plain
-    (c.push_reserved.ensures.items ∙ ap (λ (xs : List Waiting). xs ++ c.args.waiting ∷ []) c.in_ok-reserve.ensures.items) in
+    (c.push_reserved.ensures ∙ ap (λ (xs : List Waiting). xs ++ c.args.waiting ∷ []) c.in_ok-reserve_one.ensures.same) in
     subst (λ (k : ℕ). IsKept c.self.inside.config c.self.inside.cache c.list_ask.new.inquiries c.push_reserved.new.self.items c.self.inside.preferred.items c.args.moment k) (sym c.count_tcp-count.ensures)
     (subst (λ (a : Ask). IsKept c.self.inside.config c.self.inside.cache c.list_ask.new.inquiries c.push_reserved.new.self.items c.self.inside.preferred.items c.args.moment (c.self.inside.tcp_asks + tcp_count_of a.path)) (sym c.ask.view_is)
     (kept_asked c.self.inside.config c.self.inside.cache c.self.inside.inquiries c.list_ask.new.inquiries c.push_reserved.new.self.items c.self.inside.preferred.items c.args.moment c.args.moment c.self.inside.tcp_asks (tcp_count_of c.args.ask.path) c.self.inside.inquiries.asks c.args.ask joined

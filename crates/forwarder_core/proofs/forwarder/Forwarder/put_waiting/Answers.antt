@@ -1,10 +1,15 @@
-use Rattle.std.proofs.Common.{◌≤◌, ◌<◌, length, sym, subst}
+use Rattle.std.proofs.Common.{◌≤◌, ◌<◌, length, sym, subst, arith}
 use Rattle.step_rules.specs.State.{Running}
-use Rattle.forwarder_core.proofs.KeptLaws.{kept_joined}
+use Rattle.forwarder_core.proofs.KeptLaws.{kept_joined, later_taken}
 use Rattle.forwarder_core.proofs.forwarder.Forwarder.put_waiting.Goals as goal
+
+pub push-requires : goal.push-requires
+push-requires g c =
+    let later = subst (λ (r : Running). r.state.moment ≤ c.args.moment) (sym c.self.view_is) c.requires.later in
+    let taken = c.requires.fits.taken in later_taken c.self.inside.moment c.args.waiting.taken c.self.inside.waiting.items (omega (arith, later, taken)) c.self.invariant.taken
 
 pub invariant_of-self-2 : goal.invariant_of-self-2
 invariant_of-self-2 g c =
     kept_joined c.self.inside.config c.self.inside.cache c.self.inside.inquiries c.self.inside.waiting.items _ c.self.inside.preferred.items c.self.inside.moment c.args.moment c.self.inside.tcp_asks c.args.waiting c.self.invariant
     (subst (λ (r : Running). r.state.moment ≤ c.args.moment) (sym c.self.view_is) c.requires.later) c.requires.in_time
-    (subst (λ (r : Running). length r.state.waiting < r.config.limits.questions) (sym c.self.view_is) c.requires.fits.room) c.requires.fits.taken c.requires.fits.plain c.in_ok-push.ensures.items
+    (subst (λ (r : Running). length r.state.waiting < r.config.limits.questions) (sym c.self.view_is) c.requires.fits.room) c.requires.fits.taken c.requires.fits.plain c.in_ok-push.ensures.ok

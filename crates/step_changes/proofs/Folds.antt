@@ -1,0 +1,73 @@
+-- Replies put one behind another, to those alone that get one.
+use Rattle.std.proofs.Common.{◌≡◌, ℕ, zero, suc, ◌+◌, List, [], ◌∷◌, ◌++◌, drop, slice_get, Bool, true, false, cond, true≢false, Option, None, Some, refl, sym, ap, ◌∙◌, arith}
+use Rattle.std.specs.Prelude.{filter}
+use Rattle.dns_message.specs.Values.{Question}
+use Rattle.answer_builder.specs.Transports.{answer_of}
+use Rattle.step_values.specs.declared.action.Why.{Why}
+use Rattle.step_values.specs.Values.{Action}
+use Rattle.step_replies.specs.Spelling.{Source}
+use Rattle.step_rules.specs.State.{Waiting}
+use Rattle.step_rules.specs.Steps.{Fate, gets, waits, reply_in, waits_for, fails, gives_up, sends, transport_of}
+use Rattle.step_changes.specs.Next.{with_reply, with_replies, gives_from}
+
+-- ---- those who get no reply may be left out
+
+pub with_replies_filter : (fate : Waiting → Fate) (p : Waiting → Bool) → ((x : Waiting) → p x ≡ false → reply_in (fate x) ≡ None) → (actions : List Action) (xs : List Waiting) → with_replies fate actions (filter p xs) ≡ with_replies fate actions xs
+with_replies_filter fate p none actions [] = refl
+with_replies_filter fate p none actions (x ∷ xs) = by (p x) refl (with_replies_filter fate p none (with_reply actions (reply_in (fate x))) xs) (with_replies_filter fate p none actions xs)
+  where
+    by : (b : Bool) → p x ≡ b → with_replies fate (with_reply actions (reply_in (fate x))) (filter p xs) ≡ with_replies fate (with_reply actions (reply_in (fate x))) xs
+        → with_replies fate actions (filter p xs) ≡ with_replies fate actions xs
+        → with_replies fate actions (cond b (x ∷ filter p xs) (filter p xs)) ≡ with_replies fate (with_reply actions (reply_in (fate x))) xs
+    by true e with_it without = with_it
+    by false e with_it without = without ∙ sym (ap (λ r. with_replies fate (with_reply actions r) xs) (none x e))
+
+waits_on : (b : Bool) (a : Action) (x : Waiting) → b ≡ false → reply_in (cond b (gets a) (waits x)) ≡ None
+waits_on false a x e = refl
+waits_on true a x e = absurd (true≢false e)
+
+-- failures, and answers, of those who wait for a question
+pub failures_filter : (why : Why) (q : Question) (actions : List Action) (xs : List Waiting) → with_replies (fails why q) actions (filter (waits_for q) xs) ≡ with_replies (fails why q) actions xs
+failures_filter why q = with_replies_filter (fails why q) (waits_for q) (λ x e. waits_on (waits_for q x) (gives_up why x) x e)
+
+pub answers_filter : (d : Source) (q : Question) (actions : List Action) (xs : List Waiting) → with_replies (gives_from d q) actions (filter (waits_for q) xs) ≡ with_replies (gives_from d q) actions xs
+answers_filter d q = with_replies_filter (gives_from d q) (waits_for q) (λ x e. waits_on (waits_for q x) (sends x (answer_of x.asked d.chain d.moment (transport_of x.client))) x e)
+
+-- ---- one reply more
+
+-- the one at a place, in front of those behind it
+drop_at : (xs : List Waiting) (i : ℕ) (x : Waiting) → slice_get xs i ≡ Some x → drop i xs ≡ x ∷ drop (suc i) xs
+drop_at [] i x there = absurd (cc)
+drop_at (y ∷ xs) zero x there = let same : y ≡ x = cc in ap (λ (z : Waiting). z ∷ xs) same
+drop_at (y ∷ xs) (suc i) x there = drop_at xs i x there
+
+-- what a filter leaves passes its test
+passes_at : (p : Waiting → Bool) (xs : List Waiting) (i : ℕ) (x : Waiting) → slice_get (filter p xs) i ≡ Some x → p x ≡ true
+passes_at p [] i x there = absurd (cc)
+passes_at p (y ∷ xs) i x there = by (p y) refl i there
+  where
+    by : (b : Bool) → p y ≡ b → (j : ℕ) → slice_get (cond b (y ∷ filter p xs) (filter p xs)) j ≡ Some x → p x ≡ true
+    by false e j at = passes_at p xs j x at
+    by true e zero at = let same : y ≡ x = cc in ap p (sym same) ∙ e
+    by true e (suc j) at = passes_at p xs j x at
+
+gets_on : (b : Bool) (a : Action) (x : Waiting) → b ≡ true → reply_in (cond b (gets a) (waits x)) ≡ Some a
+gets_on true a x e = refl
+gets_on false a x e = absurd (true≢false (sym e))
+
+one_more : (fate : Waiting → Fate) (actions : List Action) (those : List Waiting) (i : ℕ) (x : Waiting) (a : Action) → slice_get those i ≡ Some x → reply_in (fate x) ≡ Some a → with_replies fate (actions ++ a ∷ []) (drop (i + 1) those) ≡ with_replies fate actions (drop i those)
+one_more fate actions those i x a there gets_it =
+    ap (λ (n : ℕ). with_replies fate (actions ++ a ∷ []) (drop n those)) (let next : i + 1 ≡ suc i = omega arith in next)
+    ∙ sym (ap (λ (r : Option Action). with_replies fate (with_reply actions r) (drop (suc i) those)) gets_it)
+    ∙ sym (ap (with_replies fate actions) (drop_at those i x there))
+
+pub one_failed : (why : Why) (q : Question) (actions : List Action) (xs those : List Waiting) (i : ℕ) (x : Waiting) → those ≡ filter (waits_for q) xs → slice_get those i ≡ Some x
+    → with_replies (fails why q) (actions ++ gives_up why x ∷ []) (drop (i + 1) those) ≡ with_replies (fails why q) actions (drop i those)
+one_failed why q actions xs those i x are there =
+    one_more (fails why q) actions those i x (gives_up why x) there (gets_on (waits_for q x) (gives_up why x) x (passes_at (waits_for q) xs i x (ap (λ (ys : List Waiting). slice_get ys i) (sym are) ∙ there)))
+
+pub one_answered : (d : Source) (q : Question) (actions : List Action) (xs those : List Waiting) (i : ℕ) (x : Waiting) → those ≡ filter (waits_for q) xs → slice_get those i ≡ Some x
+    → with_replies (gives_from d q) (actions ++ sends x (answer_of x.asked d.chain d.moment (transport_of x.client)) ∷ []) (drop (i + 1) those) ≡ with_replies (gives_from d q) actions (drop i those)
+one_answered d q actions xs those i x are there =
+    let a = sends x (answer_of x.asked d.chain d.moment (transport_of x.client)) in
+    one_more (gives_from d q) actions those i x a there (gets_on (waits_for q x) a x (passes_at (waits_for q) xs i x (ap (λ (ys : List Waiting). slice_get ys i) (sym are) ∙ there)))
