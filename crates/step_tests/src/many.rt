@@ -1,0 +1,91 @@
+//! As many queries at a time as there may be, and a question more.
+
+use crate::worked::{SERVER, config, is_reply, sends};
+use forwarder_core::Forwarder;
+use lru::DefaultHasher;
+use std::alloc::{AllocError, Allocator, Global};
+use std::test::Fail;
+use step_values::{Action, Outcome, Why};
+use suffix_routes::{Config, Limits};
+
+/// So many queries may be under way.
+const QUERIES: u16 = 1024;
+
+/// For that many queries, and more questions that wait.
+fn wide<A: Allocator + Copy>(alloc: A) -> Result<Config<A>, AllocError> {
+    let mut config = config(alloc)?;
+    config.limits = Limits {
+        questions: 4096,
+        inquiries: 1024,
+        ..Limits::defaults()
+    };
+    Ok(config)
+}
+
+/// One of sixteen letters.
+fn letter(number: u16) -> u8 {
+    b'a' + (number % 16) as u8
+}
+
+/// A question for the address of a name with a first label of four letters, which differ from number to number.
+fn question(number: u16) -> [u8; 30] {
+    let mut text =
+        *b"\x12\x34\x01\x00\x00\x01\x00\x00\x00\x00\x00\x00\x04aaaa\x07example\x00\x00\x01\x00\x01";
+    text[13] = letter(number / 4096);
+    text[14] = letter(number / 256);
+    text[15] = letter(number / 16);
+    text[16] = letter(number);
+    text
+}
+
+/// The client asks the question with this number; the words give the identifier and the port behind it.
+fn asks(
+    forwarder: &mut Forwarder<DefaultHasher, Global>,
+    alloc: Global,
+    number: u16,
+) -> Result<Outcome<Global>, AllocError> {
+    let words = [u32::from(number) * 65_537; 8];
+    forwarder.step(1000, words, sends(alloc, &question(number))?)
+}
+
+/// One query goes out for the question with this number, and nothing else is done.
+fn is_query(outcome: &Outcome<Global>, number: u16) -> bool {
+    match outcome.actions.as_slice() {
+        [
+            Action::AskUdp {
+                port,
+                server,
+                bytes,
+            },
+        ] => {
+            *port == 1024 + number
+                && *server == SERVER
+                && bytes.as_slice()[12..] == question(number)[12..]
+        }
+        _ => false,
+    }
+}
+
+/// The question with this number fails, since no more queries may be under way: SERVFAIL (RFC 1035 4.1.1).
+fn is_refused(outcome: &Outcome<Global>, number: u16) -> bool {
+    let mut text = question(number);
+    [text[2], text[3]] = [0x81, 0x82];
+    match outcome.actions.as_slice() {
+        [reply] => is_reply(reply, &text, Why::InquiriesFull),
+        _ => false,
+    }
+}
+
+/// The next question fails; one that is under way already waits as well.
+#[test]
+fn as_many_queries_as_there_may_be(rt: HostRuntime) -> Result<(), Fail> {
+    let alloc = rt.alloc();
+    let mut forwarder = Forwarder::new(alloc, wide(alloc)?, DefaultHasher::default())?;
+    for number in 0..QUERIES {
+        let outcome = asks(&mut forwarder, alloc, number)?;
+        assert!(rt; is_query(&outcome, number), "question {number}");
+    }
+    assert!(rt; is_refused(&asks(&mut forwarder, alloc, QUERIES)?, QUERIES));
+    assert!(rt; asks(&mut forwarder, alloc, QUERIES - 1)?.actions.as_slice().is_empty());
+    Ok(())
+}
