@@ -3,6 +3,7 @@
 use crate::worked::{SERVER, config, is_reply, sends};
 use forwarder_core::Forwarder;
 use lru::DefaultHasher;
+use refusing_allocator::Refusing;
 use std::alloc::{AllocError, Allocator, Global};
 use std::test::Fail;
 use step_values::{Action, Outcome, Why};
@@ -38,18 +39,23 @@ fn question(number: u16) -> [u8; 30] {
     text
 }
 
-/// The client asks the question with this number; the words give the identifier and the port behind it.
+/// Words that give the identifier and the port of this number.
+fn words_of(number: u16) -> [u32; 8] {
+    [u32::from(number) * 65_537; 8]
+}
+
+/// The client asks the question with this number.
 fn asks(
     forwarder: &mut Forwarder<DefaultHasher, Global>,
     alloc: Global,
     number: u16,
 ) -> Result<Outcome<Global>, AllocError> {
-    let words = [u32::from(number) * 65_537; 8];
-    forwarder.step(1000, words, sends(alloc, &question(number))?)
+    let event = sends(alloc, &question(number))?;
+    forwarder.step(1000, words_of(number), event)
 }
 
 /// One query goes out for the question with this number, and nothing else is done.
-fn is_query(outcome: &Outcome<Global>, number: u16) -> bool {
+fn is_query<A: Allocator>(outcome: &Outcome<A>, number: u16) -> bool {
     match outcome.actions.as_slice() {
         [
             Action::AskUdp {
@@ -76,6 +82,48 @@ fn is_refused(outcome: &Outcome<Global>, number: u16) -> bool {
     }
 }
 
+/// The step of the question with this number, which is granted so many growths.
+fn granted<'a>(
+    heap: &'a Refusing<Global>,
+    forwarder: &mut Forwarder<DefaultHasher, &'a Refusing<Global>>,
+    number: u16,
+    count: u64,
+) -> Result<Outcome<&'a Refusing<Global>>, AllocError> {
+    let event = sends(heap, &question(number))?;
+    heap.allow(count);
+    let outcome = forwarder.step(1000, words_of(number), event);
+    heap.allow(u64::MAX);
+    outcome
+}
+
+/// Each growth of the question's step is refused in turn, and then its query goes out.
+fn asks_in_the_end<'a>(
+    heap: &'a Refusing<Global>,
+    forwarder: &mut Forwarder<DefaultHasher, &'a Refusing<Global>>,
+    number: u16,
+) -> bool {
+    for count in 0..64 {
+        if let Ok(outcome) = granted(heap, forwarder, number, count) {
+            return count > 0 && is_query(&outcome, number);
+        }
+    }
+    false
+}
+
+/// What was refused memory leaves no ask and no question behind, however long the lists are.
+#[test]
+fn growths_of_many_questions_are_refused_in_turn(rt: HostRuntime) -> Result<(), Fail> {
+    let heap = Refusing::new(rt.alloc());
+    let mut forwarder = Forwarder::new(&heap, wide(&heap)?, DefaultHasher::default())?;
+    for number in 0..40 {
+        assert!(rt;
+            asks_in_the_end(&heap, &mut forwarder, number),
+            "question {number}"
+        );
+    }
+    Ok(())
+}
+
 /// The next question fails; one that is under way already waits as well.
 #[test]
 fn as_many_queries_as_there_may_be(rt: HostRuntime) -> Result<(), Fail> {
@@ -86,6 +134,11 @@ fn as_many_queries_as_there_may_be(rt: HostRuntime) -> Result<(), Fail> {
         assert!(rt; is_query(&outcome, number), "question {number}");
     }
     assert!(rt; is_refused(&asks(&mut forwarder, alloc, QUERIES)?, QUERIES));
-    assert!(rt; asks(&mut forwarder, alloc, QUERIES - 1)?.actions.as_slice().is_empty());
+    assert!(rt;
+        asks(&mut forwarder, alloc, QUERIES - 1)?
+            .actions
+            .as_slice()
+            .is_empty()
+    );
     Ok(())
 }
