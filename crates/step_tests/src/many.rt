@@ -54,8 +54,10 @@ fn asks(
     forwarder.step(1000, words_of(number), event)
 }
 
-/// One query goes out for the question with this number, and nothing else is done.
+/// One query goes out for the question with this number, with its identifier, and nothing else is done.
 fn is_query<A: Allocator>(outcome: &Outcome<A>, number: u16) -> bool {
+    let mut text = question(number);
+    [text[0], text[1]] = number.to_be_bytes();
     match outcome.actions.as_slice() {
         [
             Action::AskUdp {
@@ -64,9 +66,9 @@ fn is_query<A: Allocator>(outcome: &Outcome<A>, number: u16) -> bool {
                 bytes,
             },
         ] => {
-            *port == 1024 + number
+            *port == number.wrapping_add(1024)
                 && *server == SERVER
-                && bytes.as_slice()[12..] == question(number)[12..]
+                && bytes.as_slice() == text.as_slice()
         }
         _ => false,
     }
