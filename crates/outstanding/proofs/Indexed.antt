@@ -1,15 +1,12 @@
 -- What is found of indexed asks, and what one ask more or less leaves.
-use Rattle.std.proofs.Common.{◌≡◌, ℕ, zero, suc, ◌+◌, ◌==◌, ◌<◌, List, [], ◌∷◌, ◌++◌, length, get_or, Bool, true, false, cond, not, Option, Some, None, is_eq, Ordering, refl, sym, ap, ◌∙◌, subst, subst₂, arith}
-use Rattle.std.specs.Prelude.{slice_index, filter, position, nat_lt}
-use Rattle.std.specs.List.{find, insert, remove, position_or_len}
+use Rattle.std.proofs.Common.{◌≡◌, ℕ, ◌+◌, ◌<◌, List, [], ◌∷◌, ◌++◌, length, get_or, Bool, true, not, Option, Some, None, is_eq, Ordering, refl, sym, ap, ◌∙◌, subst, subst₂, arith}
+use Rattle.std.specs.Prelude.{slice_index, filter}
+use Rattle.std.specs.List.{find, insert, remove}
 use Rattle.std.specs.Cmp.{IsTotalOrder}
-use Rattle.std.proofs.lemmas.Option.{none-some, slice_get_past}
+use Rattle.std.proofs.lemmas.Option.{none-some}
 use Rattle.std.proofs.lemmas.List.{get_or_default}
-use Rattle.std.proofs.lemmas.Bool.{cond-true, eq-eqb, eqb-true, ltb-false}
 use Rattle.std.proofs.lemmas.Cmp.{tied_itself}
 use Rattle.std.proofs.lemmas.List.Edits.{insert_end, length-remove}
-use Rattle.std.proofs.lemmas.List.Folds.{find_at}
-use Rattle.std.proofs.lemmas.List.Quantifiers.{position-Some}
 use Rattle.slab.specs.Slab.{Slab, get, Updates}
 use Rattle.dns_message.specs.Values.{Question}
 use Rattle.dns_message.specs.Questions.{same_question}
@@ -19,7 +16,6 @@ use Rattle.outstanding.specs.Values.{Ask}
 use Rattle.outstanding.specs.Lists.{on_path, of_question, without_path, same_path}
 use Rattle.outstanding.specs.Orders.{path_cmp, key_cmp, question_key}
 use Rattle.outstanding.specs.Tables.{Covers, Rises, IsAt, IsGap, AreIndexed, asks_under, to_path, to_question}
-use Rattle.outstanding.proofs.Listed.{missed}
 use Rattle.outstanding.proofs.Searches.{value_of, is_some_of, one_at, none_at}
 use Rattle.outstanding.proofs.KeyEdits.{same_value, covers_put, rises_put, same_left, covers_left, rises_left, no_keys, rises_none}
 use Rattle.outstanding.proofs.AsksUnder.{same_under, put_under, length_under, found, unfound, without}
@@ -97,36 +93,18 @@ module _ (s s' : Slab Ask) (by_path by_question in_turn : List ℕ) (indexed : A
 
 -- ---- one less
 
--- no place, no element
-nowhere : {X : Type 0} (p : X → Bool) (xs : List X) → position p xs ≡ None → find p xs ≡ None
-nowhere {X} p xs none = find_at p xs ∙ slice_get_past xs (position_or_len p xs) (ltb-false (position_or_len p xs) (length xs) (by (nat_lt (position_or_len p xs) (length xs)) none))
-  where
-    by : (b : Bool) → cond b (Some (position_or_len p xs)) None ≡ None → b ≡ false
-    by true e = absurd (none-some (position_or_len p xs) (sym e))
-    by false e = refl
-
--- the key of an ask stands in the order of asking
-stands : (keys : List ℕ) (key i : ℕ) → i < length keys → slice_index keys i ≡ key → find (λ k. k == key) keys ≡ None → ⊥
-stands [] key i within is none = omega arith
-stands (k ∷ keys) key zero within is none = none-some k (sym (sym (cond-true (k == key) (Some k) (find (λ k. k == key) keys) (eq-eqb k key is)) ∙ none))
-stands (k ∷ keys) key (suc i) within is none = stands keys key i (omega arith) is (missed (λ k. k == key) k keys none).1
-
 -- the places of an ask's key
 pub record Placed (s : Slab Ask) (by_path by_question in_turn : List ℕ) (path : Path) (key i j t : ℕ) (a : Ask) : Type 0 where
   pub here : get s key ≡ Some a
   pub at_path : IsAt (to_path path) s by_path i
   pub path_is : slice_index by_path i ≡ key
   pub at_question : IsAt (to_question (question_key a.question)) s by_question j
-  pub turn : position (λ k. k == key) in_turn ≡ Some t
+  pub turn_in : t < length in_turn
+  pub turn_is : slice_index in_turn t ≡ key
 
 module _ (s : Slab Ask) (by_path by_question in_turn : List ℕ) (indexed : AreIndexed s by_path by_question in_turn) where
   pub has_question : (key : ℕ) (a : Ask) → get s key ≡ Some a → (j : ℕ) → IsGap (to_question (question_key a.question)) s by_question j → ⊥
   has_question key a here j gap = none_at (to_question (question_key a.question)) s by_question indexed.questions j gap key a here (tied_itself key_total (question_key a.question))
-
-  pub has_turn : (key : ℕ) (a : Ask) → get s key ≡ Some a → position (λ k. k == key) in_turn ≡ None → ⊥
-  has_turn key a here none =
-      let v = indexed.turns.complete key (is_some_of (get s key) a here) in
-      stands in_turn key v.0 v.1 v.2 (nowhere (λ k. k == key) in_turn none)
 
   module _ (path : Path) (key i j t : ℕ) (a : Ask) (placed : Placed s by_path by_question in_turn path key i j t a) where
     first : get s (slice_index by_path i) ≡ Some a
@@ -134,12 +112,6 @@ module _ (s : Slab Ask) (by_path by_question in_turn : List ℕ) (indexed : AreI
 
     question_is : slice_index by_question j ≡ key
     question_is = sym (one_at key_cmp key_total (λ a. question_key a.question) s by_question indexed.questions indexed.questions_rise (question_key a.question) j placed.at_question key a placed.here (tied_itself key_total (question_key a.question)))
-
-    turn_in : t < length in_turn
-    turn_in = (position-Some (λ k. k == key) in_turn t 0 placed.turn).0
-
-    turn_is : slice_index in_turn t ≡ key
-    turn_is = eqb-true (slice_index in_turn t) key (position-Some (λ k. k == key) in_turn t 0 placed.turn).1
 
     pub take_ended : on_path path (asks_under s in_turn) ≡ Some a
     take_ended = path_found s by_path by_question in_turn indexed path i placed.at_path a first
@@ -151,17 +123,17 @@ module _ (s : Slab Ask) (by_path by_question in_turn : List ℕ) (indexed : AreI
         paths_rise = rises_left by_path i key placed.at_path.in_range placed.path_is s s' indexed.paths updates path_cmp (λ a. a.path) indexed.paths_rise;
         questions = covers_left by_question j key placed.at_question.in_range question_is s s' indexed.questions updates;
         questions_rise = rises_left by_question j key placed.at_question.in_range question_is s s' indexed.questions updates key_cmp (λ a. question_key a.question) indexed.questions_rise;
-        turns = covers_left in_turn t key turn_in turn_is s s' indexed.turns updates;
+        turns = covers_left in_turn t key placed.turn_in placed.turn_is s s' indexed.turns updates;
       }
 
       pub take_asks : asks_under s' (remove in_turn t) ≡ without_path path (asks_under s in_turn)
       take_asks =
-          same_under s s' (remove in_turn t) (same_left in_turn t key turn_in turn_is s s' indexed.turns updates)
+          same_under s s' (remove in_turn t) (same_left in_turn t key placed.turn_in placed.turn_is s s' indexed.turns updates)
           ∙ without_in path_cmp path_total (λ a. a.path) path (λ a. same_path a.path path) (λ a. same_path_is a.path path) s by_path in_turn indexed.paths indexed.paths_rise indexed.turns
-          i placed.at_path a first t turn_in (turn_is ∙ sym placed.path_is)
+          i placed.at_path a first t placed.turn_in (placed.turn_is ∙ sym placed.path_is)
 
       pub take_len : length (asks_under s' (remove in_turn t)) + 1 ≡ length (asks_under s in_turn)
-      take_len = omega (arith, length_under s' (remove in_turn t) take_indexed.turns.present, length_under s in_turn indexed.turns.present, length-remove in_turn t turn_in)
+      take_len = omega (arith, length_under s' (remove in_turn t) take_indexed.turns.present, length_under s in_turn indexed.turns.present, length-remove in_turn t placed.turn_in)
 
 -- ---- as lists of keys are told
 

@@ -6,4 +6,5 @@ pub mod KeyEdits
 pub mod AsksUnder
 pub mod SameOrders
 pub mod Indexed
+pub mod Turns
 pub mod CallerLemmas

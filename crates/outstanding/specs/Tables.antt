@@ -42,6 +42,11 @@ pub record IsGap (f : Ask → Ordering) (s : Slab Ask) (keys : List ℕ) (i : �
   pub before : (j : ℕ) (a : Ask) → j < i → get s (slice_index keys j) ≡ Some a → f a ≡ Less
   pub behind : (j : ℕ) (a : Ask) → i ≤ j → j < length keys → get s (slice_index keys j) ≡ Some a → f a ≡ Greater
 
+-- the moment of asking, in milliseconds; a key without an ask comes first
+abbrev pub asked_of : Option Ask → ℕ
+asked_of None = 0
+asked_of (Some a) = a.asked
+
 abbrev pub to_path : Path → Ask → Ordering
 to_path path a = path_cmp a.path path
 

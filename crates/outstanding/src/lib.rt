@@ -7,6 +7,7 @@ mod draws;
 mod inquiries;
 mod keyed;
 mod laws;
+mod places;
 mod table;
 
 pub use ask::{Ask, Path};

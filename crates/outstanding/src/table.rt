@@ -1,18 +1,17 @@
 //! The asks under keys, with indexes of the keys.
 
-ghost use Rattle.std.specs.Prelude.{◌≡◌, ◌<◌, ◌≤◌, ◌+◌, ◌==◌, ◌∷◌, ◌++◌, [], length, Some, None, IfOk, IfErr, OnOk, OnSome, MatchOption, position, vec_len, vec_capacity, slice_get};
+ghost use Rattle.std.specs.Prelude.{◌≡◌, ◌<◌, ◌≤◌, ◌+◌, ◌∷◌, ◌++◌, [], length, Some, None, OnOk, OnSome, MatchOption, vec_len, vec_capacity, slice_get};
 ghost use Rattle.std.specs.List.{insert, remove};
-ghost use Rattle.slab.specs.Slab.{get};
+ghost use Rattle.std.specs.List.Sorted.{IsNonDecreasingBy};
 ghost use Rattle.outstanding.specs.Lists.{of_question, on_path, without_path};
-ghost use Rattle.outstanding.specs.Tables.{asks_of, compared, Covers, HasRoom, IsAt, IsGap, IsIndexed, Rises, to_path, to_question};
-ghost use Rattle.outstanding.specs.Orders.{key_cmp, path_cmp, question_key};
+ghost use Rattle.outstanding.specs.Tables.{asks_of, HasRoom, IsIndexed};
 
 use crate::ask::{Ask, Path};
 use crate::keyed::{Keyed, QuestionKey};
+use crate::places::{place_of, place_on, turn_of};
 use dns_message::Question;
 use slab::Slab;
 use std::alloc::{AllocError, Allocator};
-use std::cmp::Ordering;
 
 /// The asks, each under a key that the slab picks, and the keys in the order of the paths, of the questions, and of
 /// asking.
@@ -117,7 +116,8 @@ impl<A: Allocator> Table<A> {
 
     /// Takes the ask on a path out, which leaves room for another one.
     pub(crate) fn take(&mut self, path: Path) -> Option<Ask<A>>
-        requires { IsIndexed self.old }
+        requires indexed { IsIndexed self.old }
+        requires moments { IsNonDecreasingBy (λ a. a.asked) (asks_of self.old) }
         ensures indexed { IsIndexed self.new }
         ensures ended { result ≡ on_path path (asks_of self.old) }
         ensures list { asks_of self.new ≡ without_path path (asks_of self.old) }
@@ -131,9 +131,7 @@ impl<A: Allocator> Table<A> {
         let Ok(question) = place_of(&self.asks, &self.by_question, self.asks[key].key()) else {
             unreachable!();
         };
-        let Some(turn) = place_in_turn(&self.in_turn, key) else {
-            unreachable!();
-        };
+        let turn = turn_of(&self.asks, &self.in_turn, key);
         take_key(&mut self.by_path, place);
         take_key(&mut self.by_question, question);
         take_key(&mut self.in_turn, turn);
@@ -150,65 +148,6 @@ impl<A: Allocator> Table<A> {
         self.by_question.clear();
         self.in_turn.clear();
     }
-}
-
-/// Where the key of the ask on a path stands among keys in the order of the paths, or where it would go.
-fn place_on<A: Allocator>(
-    asks: &Slab<Keyed<A>, A>,
-    keys: &[usize],
-    path: Path,
-) -> Result<usize, usize>
-    requires covered { Covers asks.now keys.now }
-    requires rises { Rises path_cmp (λ a. a.path) asks.now keys.now }
-    ensures found { IfOk result (IsAt (to_path path) asks.now keys.now) }
-    ensures absent { IfErr result (IsGap (to_path path) asks.now keys.now) }
-{
-    keys.binary_search_by(|key| compare_path(asks, *key, path))
-}
-
-/// How the path of the ask under a key compares to another; a key without an ask comes first.
-fn compare_path<A: Allocator>(asks: &Slab<Keyed<A>, A>, key: usize, path: Path) -> Ordering
-    ensures { result ≡ compared (to_path path) (get asks.now key) }
-{
-    match asks.get(key) {
-        Some(keyed) => keyed.cmp_path(path),
-        None => Ordering::Less,
-    }
-}
-
-/// Where the key of the ask with a question stands among keys in the order of the questions, or where it would go.
-fn place_of<A: Allocator>(
-    asks: &Slab<Keyed<A>, A>,
-    keys: &[usize],
-    question: &QuestionKey,
-) -> Result<usize, usize>
-    requires covered { Covers asks.now keys.now }
-    requires rises { Rises key_cmp (λ a. question_key a.question) asks.now keys.now }
-    ensures found { IfOk result (IsAt (to_question question.now) asks.now keys.now) }
-    ensures absent { IfErr result (IsGap (to_question question.now) asks.now keys.now) }
-{
-    keys.binary_search_by(|key| compare_question(asks, *key, question))
-}
-
-/// How the question of the ask under a key compares to another; a key without an ask comes first.
-fn compare_question<A: Allocator>(
-    asks: &Slab<Keyed<A>, A>,
-    key: usize,
-    question: &QuestionKey,
-) -> Ordering
-    ensures { result ≡ compared (to_question question.now) (get asks.now key) }
-{
-    match asks.get(key) {
-        Some(keyed) => keyed.cmp_question(question),
-        None => Ordering::Less,
-    }
-}
-
-/// Where a key stands.
-fn place_in_turn(keys: &[usize], key: usize) -> Option<usize>
-    ensures { result ≡ position (λ k. k == key) keys.now }
-{
-    keys.iter().position(|k| *k == key)
 }
 
 /// Puts a key at a place, where there is room.

@@ -6,7 +6,7 @@ use Rattle.outstanding.specs.Orders.{key_cmp, question_key}
 use Rattle.outstanding.specs.Tables.{compared, to_question}
 use Rattle.outstanding.proofs.SameOrders.{key_total}
 use Rattle.outstanding.proofs.Searches.{searched}
-use Rattle.outstanding.proofs.table.place_of.Goals as goal
+use Rattle.outstanding.proofs.places.place_of.Goals as goal
 
 pub returns-clause-found : goal.returns-clause-found
 returns-clause-found g c =

@@ -6,7 +6,7 @@ use Rattle.outstanding.specs.Orders.{path_cmp}
 use Rattle.outstanding.specs.Tables.{compared, to_path}
 use Rattle.outstanding.proofs.SameOrders.{path_total}
 use Rattle.outstanding.proofs.Searches.{searched}
-use Rattle.outstanding.proofs.table.place_on.Goals as goal
+use Rattle.outstanding.proofs.places.place_on.Goals as goal
 
 pub returns-clause-found : goal.returns-clause-found
 returns-clause-found g c =
