@@ -1,6 +1,6 @@
 -- What the parts of an event line tell.
 use Rattle.std.proofs.Common.{rules, ◌≡◌, ℕ, ◌<◌, ◌+◌, ◌-◌, ◌*◌, ◌^◌, List, Bool, true, false, length, fold, refl, ap, arith}
-use Rattle.std.specs.Prelude.{Result, Ok, Err, nat_lt, nat_le, ◌&&◌, IsUtf8}
+use Rattle.std.specs.Prelude.{Ok, Err, nat_lt, nat_le, ◌&&◌, IsUtf8}
 use Rattle.std.specs.List.{list_all}
 use Rattle.std.specs.Char.{is_ascii_digit}
 use Rattle.std.specs.Str.{is_utf8}
