@@ -66,10 +66,8 @@ module _ (s : Slab Ask) (keys : List ℕ) (covers : Covers s keys) where
           let there : slice_index (drop start keys) (v.0 - start) ≡ key = get_or-drop start keys (v.0 - start) 0 ∙ ap (slice_index keys) (omega arith) ∙ v.2 in
           stands (drop start keys) key (v.0 - start) (omega (arith, length-drop start keys, v.1)) there (nowhere (λ k. k == key) (drop start keys) none)
 
--- where it stands behind a place, it stands among all
-pub turn_found : (keys : List ℕ) (start key offset : ℕ) → position (λ k. k == key) (drop start keys) ≡ Some offset → (start + offset < length keys) × (slice_index keys (start + offset) ≡ key)
+-- where it stands from a place on, it stands among all
+pub turn_found : (keys : List ℕ) (start key offset : ℕ) → position (λ k. k == key) (drop start keys) ≡ Some offset → slice_index keys (start + offset) ≡ key
 turn_found keys start key offset is =
-    let found = position-Some (λ k. k == key) (drop start keys) offset 0 is in (
-      omega (arith, found.0, length-drop start keys),
-      sym (get_or-drop start keys offset 0) ∙ eqb-true (slice_index (drop start keys) offset) key found.1,
-    )
+    sym (get_or-drop start keys offset 0)
+    ∙ eqb-true (slice_index (drop start keys) offset) key (position-Some (λ k. k == key) (drop start keys) offset 0 is).1

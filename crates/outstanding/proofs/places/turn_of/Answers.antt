@@ -19,4 +19,6 @@ unreachable-requires g c =
     c.requires.listed (ap (position (λ k. k == c.args.key)) (sym (take_rest c.args.keys.now c.partition_point-start.result)) ∙ sym c.in_default.ensures)
 
 pub returns-clause-stands : goal.returns-clause-stands
-returns-clause-stands g c = (turn_found c.args.keys.now c.partition_point-start.result c.args.key c.in-Some.offset (ap (position (λ k. k == c.args.key)) (sym (take_rest c.args.keys.now c.partition_point-start.result)) ∙ sym c.in-Some.ensures)).1
+returns-clause-stands g c =
+    turn_found c.args.keys.now c.partition_point-start.result c.args.key c.in-Some.offset
+    (ap (position (λ k. k == c.args.key)) (sym (take_rest c.args.keys.now c.partition_point-start.result)) ∙ sym c.in-Some.ensures)
