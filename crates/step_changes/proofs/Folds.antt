@@ -44,12 +44,12 @@ drop_at (y ∷ xs) (suc i) x there = drop_at xs i x there
 -- what a filter leaves passes its test
 passes_at : (p : Waiting → Bool) (xs : List Waiting) (i : ℕ) (x : Waiting) → slice_get (filter p xs) i ≡ Some x → p x ≡ true
 passes_at p [] i x there = absurd (cc)
-passes_at p (y ∷ xs) i x there = by (p y) refl i there
+passes_at p (y ∷ xs) i x there = by (p y) refl (λ j at. passes_at p xs j x at) i there
   where
-    by : (b : Bool) → p y ≡ b → (j : ℕ) → slice_get (cond b (y ∷ filter p xs) (filter p xs)) j ≡ Some x → p x ≡ true
-    by false e j at = passes_at p xs j x at
-    by true e zero at = let same : y ≡ x = cc in ap p (sym same) ∙ e
-    by true e (suc j) at = passes_at p xs j x at
+    by : (b : Bool) → p y ≡ b → ((j : ℕ) → slice_get (filter p xs) j ≡ Some x → p x ≡ true) → (j : ℕ) → slice_get (cond b (y ∷ filter p xs) (filter p xs)) j ≡ Some x → p x ≡ true
+    by false e rest j at = rest j at
+    by true e rest zero at = let same : y ≡ x = cc in ap p (sym same) ∙ e
+    by true e rest (suc j) at = rest j at
 
 gets_on : (b : Bool) (a : Action) (x : Waiting) → b ≡ true → reply_in (cond b (gets a) (waits x)) ≡ Some a
 gets_on true a x e = refl

@@ -1,3 +1,3 @@
 pub mod Offering
 pub mod CallerLemmas
-mod Folds
+pub mod Folds

@@ -1,12 +1,13 @@
 //! The actions that end a query: its path is closed, and those that wait for it get their replies.
 
-ghost use Rattle.std.specs.Prelude.{◌≡◌, ◌∷◌, [], IfOk};
+ghost use Rattle.std.specs.Prelude.{◌≡◌, ◌∷◌, ◌++◌, [], IfOk};
 ghost use Rattle.std.specs.List.{AllByRecursion};
 ghost use Rattle.answer_builder.specs.Answers.{IsEarlier};
 ghost use Rattle.answer_builder.specs.Building.{lent};
+ghost use Rattle.answer_builder.specs.Transports.{answer_of};
 ghost use Rattle.step_replies.specs.Spelling.{Source};
 ghost use Rattle.step_values.specs.Values.{action_of, actions_of};
-ghost use Rattle.step_rules.specs.Steps.{closes, fails};
+ghost use Rattle.step_rules.specs.Steps.{closes, fails, gives_up, sends, transport_of};
 ghost use Rattle.step_changes.specs.Next.{closing_path, gives_from, with_replies};
 
 use dns_message::Question;
@@ -14,7 +15,7 @@ use outstanding::{Ask, Path};
 use plain_list::PlainList;
 use record_cache::Held;
 use std::alloc::{AllocError, Allocator};
-use step_replies::{Answers, failure};
+use step_replies::{Answers, Waiting, failure};
 use step_values::{Action, Why};
 use waiting_questions::WaitingQuestions;
 
@@ -42,6 +43,19 @@ pub fn close_paths<A: Allocator>(
     Ok(actions)
 }
 
+/// Puts the failure of a question last.
+fn put_failure<A: Allocator + Copy>(
+    alloc: A,
+    actions: &mut PlainList<Action<A>, A>,
+    waiting: &Waiting<A>,
+    why: Why,
+) -> Result<(), AllocError>
+    ensures { IfOk result (λ _. actions_of actions.new ≡ actions_of actions.old ++ gives_up why waiting.now ∷ []) }
+{
+    let action = failure(alloc, &waiting.request(), why)?;
+    actions.push(action)
+}
+
 /// The query is closed, and each question that waits for it fails. `Err` where memory ran out.
 pub fn failures<A: Allocator + Copy>(
     alloc: A,
@@ -55,10 +69,22 @@ pub fn failures<A: Allocator + Copy>(
     actions.push(close_path(query.path))?;
     let those = waiting.for_question(&query.question);
     for place in 0..those.len() {
-        let action = failure(alloc, &those.get(place).request(), why)?;
-        actions.push(action)?;
+        put_failure(alloc, &mut actions, those.get(place), why)?;
     }
     Ok(actions)
+}
+
+/// Puts the answer of a question last.
+fn put_answer<'a, A: Allocator + Copy>(
+    actions: &mut PlainList<Action<A>, A>,
+    answers: &mut Answers<'a, A>,
+    waiting: &'a Waiting<A>,
+) -> Result<(), AllocError>
+    ensures same { answers.new ≡ answers.old }
+    ensures put { IfOk result (λ _. actions_of actions.new ≡ actions_of actions.old ++ sends waiting.now (answer_of waiting.now.asked answers.old.chain answers.old.moment (transport_of waiting.now.client)) ∷ []) }
+{
+    let action = answers.reply(waiting)?;
+    actions.push(action)
 }
 
 /// Puts the answers of those questions last that wait for this one, in their order.
@@ -72,8 +98,7 @@ fn put_answers<'a, A: Allocator + Copy>(
 {
     let those = waiting.for_question(question);
     for place in 0..those.len() {
-        let action = answers.reply(those.get(place))?;
-        actions.push(action)?;
+        put_answer(actions, answers, those.get(place))?;
     }
     Ok(())
 }
