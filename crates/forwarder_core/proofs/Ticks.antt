@@ -1,9 +1,9 @@
 -- Which item a tick serves first.
-use Rattle.std.proofs.Common.{◌≡◌, ℕ, List, [], ◌∷◌, Bool, true, false, refl, sym, ap, ◌∙◌, Option, Some, None}
+use Rattle.std.proofs.Common.{◌≡◌, ℕ, ◌+◌, ◌^◌, ◌≤◌, List, [], ◌∷◌, Bool, true, false, refl, sym, ap, subst, ◌∙◌, Option, Some, None, arith, Fits, w64}
 use Rattle.std.specs.Prelude.{nat_le, slice_get, drop, ◌||◌}
-use Rattle.std.specs.List.{list_any}
+use Rattle.std.specs.List.{list_any, AllByRecursion}
 use Rattle.std.proofs.lemmas.Bool.{cond-true, cond-false, false≢true}
-use Rattle.suffix_routes.specs.Values.{Config}
+use Rattle.suffix_routes.specs.Values.{Config, IsConfig}
 use Rattle.outstanding.specs.Values.{Ask}
 use Rattle.dns_message.specs.Values.{Question}
 use Rattle.outstanding.specs.Lists.{on_path as ask_on, of_question, same_path}
@@ -17,6 +17,14 @@ use Rattle.step_rules.specs.Row.{left_alone, deadline_of, timeout_of, question, 
 pub rest_is : (xs : List Waiting) (x : Waiting) → slice_get xs 0 ≡ Some x → xs ≡ x ∷ drop 1 xs
 rest_is [] x e = absurd (cc)
 rest_is (y ∷ xs) x e = let same : y ≡ x = cc in ap (λ (z : Waiting). z ∷ xs) same
+
+-- the deadline of the oldest question is a number of 64 bits
+pub deadline_fits : (c : Config) (n : ℕ) (x : Waiting) (xs : List Waiting) (taken wait : ℕ) → IsConfig c → n ≤ 2 ^ 62 → AllByRecursion (λ (y : Waiting). y.taken ≤ n) xs → slice_get xs 0 ≡ Some x → taken ≡ x.taken → wait ≡ c.limits.deadline_ms
+    → Fits w64 (taken + wait)
+deadline_fits c n x xs taken wait config in_time all there same limit =
+    let first = subst (AllByRecursion (λ (y : Waiting). y.taken ≤ n)) (rest_is xs x there) all in
+    let earlier : x.taken ≤ n = first.0 in
+    let most = config.limits.deadline_ms.1 in omega (arith, earlier, in_time, same, limit, most)
 
 pub tick_idle : (c : Config) (n : ℕ) (words : List ℕ) (s : State) → s.waiting ≡ [] → s.asks ≡ [] → idle_step n s ≡ row_of_tick c n words s
 tick_idle c n words s none no_ask = λ i. row_of_item c n words s (first_item c (sym none i) (sym no_ask i))
@@ -57,7 +65,13 @@ or_left : (a b : Bool) → (a || b) ≡ false → a ≡ false
 or_left true b e = absurd (false≢true (sym e))
 or_left false b e = refl
 
--- where nothing is due, the oldest ask isn't
+-- where nothing is due, the oldest question isn't
+pub no_question_due : (c : Config) (n : ℕ) (s : State) (x : Waiting) → slice_get s.waiting 0 ≡ Some x → is_due_at c n s ≡ false → nat_le (deadline_of c x) n ≡ false
+no_question_due c n s x there none =
+    or_left (nat_le (deadline_of c x) n) (list_any (λ (y : Waiting). nat_le (deadline_of c y) n) (drop 1 s.waiting))
+    (sym (ap (list_any (λ (y : Waiting). nat_le (deadline_of c y) n)) (rest_is s.waiting x there)) ∙ or_left (list_any (λ (y : Waiting). nat_le (deadline_of c y) n) s.waiting) (list_any (λ (a : Ask). nat_le (timeout_of c a) n) s.asks) none)
+
+-- and the oldest ask isn't
 pub no_ask_due : (c : Config) (n : ℕ) (s : State) (a : Ask) → slice_get s.asks 0 ≡ Some a → is_due_at c n s ≡ false → nat_le (timeout_of c a) n ≡ false
 no_ask_due c n s a there none =
     let head = head_is s.asks a there in

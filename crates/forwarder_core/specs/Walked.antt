@@ -1,11 +1,19 @@
 -- The walk of a reply that was read.
 use Rattle.std.specs.Prelude.{◌≡◌, ◌<◌, length}
+use Rattle.plain_list.specs.Octets.{AreOctets}
 use Rattle.dns_message.specs.Values.{Message}
 use Rattle.dns_message.specs.Messages.{HasShapes}
 use Rattle.suffix_routes.specs.Values.{Config}
 use Rattle.trust_rank.specs.Values.{Walk}
 use Rattle.trust_rank.specs.Walks.{walk_of}
 use Rattle.outstanding.specs.Values.{Ask}
+use Rattle.reply_match.specs.declared.verdict.Judged.{Judged}
+use Rattle.reply_match.specs.declared.verdict.Judged.TheVariants.{Whole}
+
+-- each octet of the view, where there is one, is below 256
+abbrev pub ShowsOctets : Judged → Type 0
+ShowsOctets (Whole message) = AreOctets message
+ShowsOctets other = Unit {0}
 
 -- a message as it is read: the data of each record is of its type's shape, and a section's count has 16 bits
 pub record IsRead (m : Message) : Type 0 where

@@ -11,7 +11,8 @@ ghost use Rattle.step_history.specs.History.{counts_as_lame};
 ghost use Rattle.step_rules.specs.Row.{row_of_verdict, row_of_delivery, row_of_acceptance, row_of_walk, row_of_message, verdict_on};
 ghost use Rattle.outstanding.specs.Lists.{on_path as ask_on};
 ghost use Rattle.step_changes.specs.Next.{next_of, IsQuiet, CanChange};
-ghost use Rattle.forwarder_core.specs.Walked.{IsRead, IsWalkFor};
+ghost use Rattle.plain_list.specs.Octets.{AreOctets};
+ghost use Rattle.forwarder_core.specs.Walked.{IsRead, IsWalkFor, ShowsOctets};
 
 use crate::forwarder::Forwarder;
 use dns_message::{Fault, Message, MessageRef};
@@ -111,6 +112,7 @@ impl<H: BuildHasher + Drop, A: Allocator + Copy> Forwarder<H, A> {
         requires on { ask_on path self.now.state.asks ≡ Some ask.now }
         requires later { self.now.state.moment ≤ moment }
         requires in_time { moment ≤ 2 ^ 62 }
+        requires octets { AreOctets view.now }
         ensures row { IfOk result (λ next. (rooms : List Bool) → next_of moment rooms self.now.state next ≡ row_of_message self.now.config moment words rooms ask.now self.now.state (message_of view.now)) }
         ensures fits { IfOk result (λ next. CanChange self.now.config moment self.now.state next) }
     {
@@ -133,8 +135,9 @@ impl<H: BuildHasher + Drop, A: Allocator + Copy> Forwarder<H, A> {
         requires on { ask_on path self.now.state.asks ≡ Some ask.now }
         requires later { self.now.state.moment ≤ moment }
         requires in_time { moment ≤ 2 ^ 62 }
-        ensures row { (octets : List ℕ) → IsViewOf octets judged → IfOk result (λ next. (rooms : List Bool) → next_of moment rooms self.now.state next ≡ row_of_verdict self.now.config moment words rooms ask.now octets self.now.state (verdict_of judged)) }
-        ensures unmatched { verdict_of judged ≡ Verdict.Stranger → IsQuiet result }
+        requires octets { ShowsOctets judged }
+        ensures row { (octets : List ℕ) → IsViewOf octets judged.entry → IfOk result (λ next. (rooms : List Bool) → next_of moment rooms self.now.state next ≡ row_of_verdict self.now.config moment words rooms ask.now octets self.now.state (verdict_of judged.entry)) }
+        ensures unmatched { verdict_of judged.entry ≡ Verdict.Stranger → IsQuiet result }
         ensures fits { IfOk result (λ next. CanChange self.now.config moment self.now.state next) }
     {
         match judged {

@@ -1,11 +1,22 @@
-use Rattle.std.proofs.Common.{◌+◌, ◌∙◌, ap, sym, Some}
+use Rattle.std.proofs.Common.{◌+◌, ◌∙◌, List, ap, sym, Some}
 use Rattle.std.specs.Prelude.{drop, map, slice_get}
 use Rattle.step_rules.specs.State.{Running, Waiting}
 use Rattle.step_rules.specs.Row.{deadline_of}
 use Rattle.step_rules.specs.Progress.{least}
 use Rattle.forwarder_core.proofs.KeptLaws.{oldest_deadline}
-use Rattle.forwarder_core.proofs.Ticks.{rest_is}
+use Rattle.forwarder_core.proofs.Ticks.{rest_is, deadline_fits}
 use Rattle.forwarder_core.proofs.forwarder.Forwarder.first_deadline.Goals as goal
+
+pub overflow_add-result : goal.overflow_add-result
+overflow_add-result g c =
+    deadline_fits c.self.inside.config c.self.inside.moment c.in_ok-oldest.oldest.now c.self.inside.waiting.items _ _ c.self.invariant.config c.self.invariant.in_time c.self.invariant.taken
+    ((λ i. slice_get (sym c.self-inside.view_is i).waiting.items 0) ∙ c.in_ok-oldest.ensures) (ap (λ (x : Waiting). x.taken) c.oldest.view_is) (λ i. (c.self-inside.view_is i).config.limits.deadline_ms)
+
+pub returns-in_err-oldest : goal.returns-in_err-oldest
+returns-in_err-oldest g c =
+    c.from_residual.ensures
+    ∙ ap (λ (xs : List Waiting). least (map (deadline_of c.self.inside.config) xs)) (sym ((λ i. (sym c.self-inside.view_is i).waiting.items) ∙ c.in_err-oldest.ensures))
+    ∙ ap (λ (r : Running). least (map (deadline_of r.config) r.state.waiting)) c.self.view_is
 
 pub returns : goal.returns
 returns g c =

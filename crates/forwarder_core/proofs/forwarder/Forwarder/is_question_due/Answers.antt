@@ -1,4 +1,4 @@
-use Rattle.std.proofs.Common.{◌∙◌, ap, sym}
+use Rattle.std.proofs.Common.{◌∙◌, List, ap, sym}
 use Rattle.std.specs.Prelude.{drop, nat_le}
 use Rattle.std.specs.List.{list_any}
 use Rattle.step_rules.specs.State.{Running, Waiting}
@@ -11,4 +11,9 @@ pub returns-in-Some : goal.returns-in-Some
 returns-in-Some g c =
     c.is_overdue.ensures
     ∙ oldest_due c.self.inside.config.limits.deadline_ms c.self.inside.moment c.in-Some.oldest.now (drop 1 c.self.inside.waiting.items) c.self.inside.waiting.items (rest_is c.self.inside.waiting.items c.in-Some.oldest.now c.in-Some.ensures) c.self.invariant.in_turn
+    ∙ ap (λ (r : Running). list_any (λ (x : Waiting). nat_le (deadline_of r.config x) r.state.moment) r.state.waiting) c.self.view_is
+
+pub returns-in-None : goal.returns-in-None
+returns-in-None g c =
+    ap (λ (xs : List Waiting). list_any (λ (x : Waiting). nat_le (deadline_of c.self.inside.config x) c.self.inside.moment) xs) (sym c.in-None.ensures)
     ∙ ap (λ (r : Running). list_any (λ (x : Waiting). nat_le (deadline_of r.config x) r.state.moment) r.state.waiting) c.self.view_is

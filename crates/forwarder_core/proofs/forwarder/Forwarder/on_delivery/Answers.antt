@@ -1,11 +1,25 @@
-use Rattle.std.proofs.Common.{◌∙◌, ap, sym, ◌+◌}
+use Rattle.std.proofs.Common.{ℕ, List, ◌∙◌, ap, sym, subst, ◌+◌, arith}
 use Rattle.std.specs.Prelude.{nat_lt}
+use Rattle.std.proofs.lemmas.Grind.{get_or_default_zero}
 use Rattle.std.proofs.lemmas.Result.{IfOk-weaker}
+use Rattle.plain_list.specs.Octets.{AreOctets}
+use Rattle.reply_match.specs.declared.verdict.Judged.{Judged}
+use Rattle.reply_match.specs.declared.verdict.Judged.TheVariants.{Stranger, Truncated, Failed, Malformed, Whole}
+use Rattle.reply_match.specs.Judged.{IsViewOf}
 use Rattle.step_rules.specs.State.{Running}
 use Rattle.step_rules.specs.Row.{row_of_verdict}
 use Rattle.outstanding.specs.Lists.{on_path as ask_on}
+use Rattle.forwarder_core.specs.Walked.{ShowsOctets}
 use Rattle.forwarder_core.proofs.Deciding.{idle_unlisted, idle_late, judged_is, verdict_is}
 use Rattle.forwarder_core.proofs.forwarder.Forwarder.on_delivery.Goals as goal
+
+-- a view of octets shows octets
+shows : (octets : List ℕ) (judged : Judged) → AreOctets octets → IsViewOf octets judged → ShowsOctets judged
+shows octets Stranger are view = tt
+shows octets Truncated are view = tt
+shows octets (Failed rcode) are view = tt
+shows octets Malformed are view = tt
+shows octets (Whole message) are view = subst AreOctets (sym view) are
 
 pub returns-in_default-clause-row : goal.returns-in_default-clause-row
 returns-in_default-clause-row g c = λ rooms.
@@ -28,6 +42,10 @@ returns-then-not-is_live-clause-fits g c = c.nothing-then-not-is_live.ensures.fi
 
 pub on_verdict-requires-clause-on : goal.on_verdict-requires-clause-on
 on_verdict-requires-clause-on g c = sym (ap (ask_on c.args.path) (ap (λ (r : Running). r.state.asks) c.self.view_is)) ∙ c.in-Some.ensures.found
+
+pub on_verdict-requires-clause-octets : goal.on_verdict-requires-clause-octets
+on_verdict-requires-clause-octets g c =
+    shows c.args.bytes.now c.judge-judged.result (λ k d below. let same = get_or_default_zero c.args.bytes.now k d below in let fits = c.type_inv.bytes k in omega (arith, same, fits)) c.judge-judged.ensures.view
 
 pub returns-clause-row : goal.returns-clause-row
 returns-clause-row g c =

@@ -1,10 +1,14 @@
 use Rattle.std.proofs.Common.{◌∙◌, ap, sym}
 use Rattle.std.specs.Prelude.{nat_le}
-use Rattle.std.proofs.lemmas.Bool.{cond-true, cond-false}
+use Rattle.std.proofs.lemmas.Bool.{cond-true, cond-false, false≢true}
 use Rattle.std.proofs.lemmas.Result.{IfOk-weaker}
 use Rattle.step_rules.specs.State.{Running}
 use Rattle.step_rules.specs.Row.{deadline_of}
+use Rattle.forwarder_core.proofs.Ticks.{no_question_due}
 use Rattle.forwarder_core.proofs.forwarder.Forwarder.on_question.Goals as goal
+
+pub returns-clause-early : goal.returns-clause-early
+returns-clause-early g c none = absurd (false≢true (sym (no_question_due c.args.self.now.config c.args.moment c.args.self.now.state c.args.oldest.now c.requires none) ∙ ap (λ (r : Running). nat_le (deadline_of r.config c.args.oldest.now) c.args.moment) (sym c.self.view_is) ∙ sym c.is_overdue.ensures ∙ c.if-not-is_overdue.false))
 
 pub returns-then-not-is_overdue-clause-row : goal.returns-then-not-is_overdue-clause-row
 returns-then-not-is_overdue-clause-row g c = λ rooms.
