@@ -5,8 +5,6 @@
 #[cfg(test)]
 mod hits;
 #[cfg(test)]
-mod many;
-#[cfg(test)]
 mod quiet;
 #[cfg(test)]
 mod runs;
