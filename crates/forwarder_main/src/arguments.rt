@@ -26,7 +26,7 @@ pub fn text<'a, R: Env>(rt: &R, place: usize, room: &'a mut [u8]) -> Option<&'a 
 
 /// There are so many arguments behind the program's own name.
 pub fn are<R: Env>(rt: &R, count: usize) -> bool {
-    is_there(rt, count) && !is_there(rt, count + 1)
+    is_there(rt, count) && !is_there(rt, count.saturating_add(1))
 }
 
 fn is_there<R: Env>(rt: &R, place: usize) -> bool {
