@@ -57,7 +57,7 @@ fn refused<'a>(
     }
 }
 
-/// `begin` alone takes memory: each of its four growths is refused in turn, what was granted before stays, and then all
+/// `begin` alone takes memory: each of its five growths is refused in turn, what was granted before stays, and then all
 /// are there. One more that is allowed then stays unspent over all other calls, and over a `begin` into room that there
 /// is.
 #[test]
@@ -68,6 +68,7 @@ fn only_begin_takes_memory(rt: HostRuntime) -> Result<(), Fail> {
     heap.allow(0);
     let mut inquiries = Inquiries::new(&heap, 1);
     let first = refused(&heap, 0, &mut inquiries, first)?;
+    let first = refused(&heap, 1, &mut inquiries, first)?;
     let first = refused(&heap, 1, &mut inquiries, first)?;
     let first = refused(&heap, 1, &mut inquiries, first)?;
     let first = refused(&heap, 1, &mut inquiries, first)?;

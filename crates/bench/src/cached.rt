@@ -1,9 +1,11 @@
 //! What a cached answer costs, from the octets of a question to the octets of its answer.
 
+ghost use Rattle.std.specs.Prelude.{◌≤◌};
+
 use crate::filling::{MANY, ROUNDS, addresses, full_cache, held_of, numbered, slots_of};
 use answer_builder::{AskedRef, Transport, put_answer};
 use anyhow::Result;
-use dns_message::{MessageRef, QuestionRef};
+use dns_message::{Header, MessageRef, QuestionRef};
 use dns_name::Name;
 use lru::LruCache;
 use negative_cache::{Found, find_by_key};
@@ -43,6 +45,26 @@ fn question_of(alloc: Global, name: &Name) -> Result<Vec<u8>> {
     Ok(octets)
 }
 
+/// Writes the answer to a question, from one entry.
+fn write_answer(
+    alloc: Global,
+    text: &mut Vec<u8>,
+    header: Header,
+    question: QuestionRef<'_>,
+    held: &Held,
+) -> Result<()>
+    requires { held.now.accepted ≤ 1000 }
+{
+    let asked = AskedRef {
+        id: header.id,
+        opcode: 0,
+        rd: header.rd,
+        question: Some(question),
+    };
+    put_answer(alloc, text, asked, &[held], NOW, Transport::Udp)?;
+    Ok(())
+}
+
 /// Writes the answer to a question from the cache, and promotes what it used; whether there is one.
 fn answer(
     alloc: Global,
@@ -52,24 +74,37 @@ fn answer(
     text: &mut Vec<u8>,
 ) -> Result<bool> {
     let view = MessageRef::view(octets)?;
-    let header = view.header();
-    let question = view.question(alloc)?;
-    let key = view.key();
-    let slot = match find_by_key(cache, &key, view.class(), view.kind(), NOW, config) {
+    let Some(question) = view.question_ref() else {
+        return Ok(false);
+    };
+    let slot = match find_by_key(
+        cache,
+        &question.key(),
+        question.class(),
+        question.kind(),
+        NOW,
+        config,
+    ) {
         Found::Rows(held) | Found::Denied(held) if held.accepted <= NOW => {
-            let asked = AskedRef {
-                id: header.id,
-                opcode: 0,
-                rd: header.rd,
-                question: Some(QuestionRef::of(&question)),
-            };
-            put_answer(alloc, text, asked, &[held], NOW, Transport::Udp)?;
+            write_answer(alloc, text, view.header(), question, held)?;
             held.piece.slot
         }
         _ => return Ok(false),
     };
     cache.promote(&slot);
     Ok(true)
+}
+
+/// Writes the answer to a question from the entry at hand, where its name has the entry's key; whether it has.
+fn answer_from(alloc: Global, held: &Held, octets: &[u8], text: &mut Vec<u8>) -> Result<bool> {
+    let view = MessageRef::view(octets)?;
+    match view.question_ref() {
+        Some(question) if question.key() == held.piece.slot.key && held.accepted <= NOW => {
+            write_answer(alloc, text, view.header(), question, held)?;
+            Ok(true)
+        }
+        _ => Ok(false),
+    }
 }
 
 /// How often so many questions are asked in a round.
@@ -238,6 +273,28 @@ fn offer_name_error(alloc: Global, cache: &mut Cache<RandomState>, config: &Conf
     Ok(())
 }
 
+/// Prints what an answer costs that no look-up precedes: the question's octets, its key, the answer's octets.
+fn measure_text(rt: &HostRuntime) -> Result<()> {
+    let alloc = rt.alloc();
+    let held = held_of(alloc, 1)?;
+    let octets = question_of(alloc, &numbered(alloc, 1)?)?;
+    let mut text = Vec::with_capacity(alloc, 512)?;
+    let mut least = u128::MAX;
+    let mut answers = 0usize;
+    for _ in 0..ROUNDS {
+        answers = 0;
+        let started = Instant::now(rt)?;
+        for _ in 0..CALLS {
+            if answer_from(alloc, &held, octets.as_slice(), &mut text)? {
+                answers = answers.saturating_add(1);
+            }
+        }
+        least = least.min(each(rt, &started, CALLS, 1)?);
+    }
+    println!(rt; "without a look-up: {answers} answers, {least} ns")?;
+    Ok(())
+}
+
 /// Prints what cached answers cost.
 pub fn measure(rt: &HostRuntime) -> Result<()> {
     for count in [10, 1000, 10_000, MANY] {
@@ -252,5 +309,5 @@ pub fn measure(rt: &HostRuntime) -> Result<()> {
     for count in [1, 8, 64] {
         measure_denials(rt, count)?;
     }
-    Ok(())
+    measure_text(rt)
 }

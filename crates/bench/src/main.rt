@@ -6,12 +6,14 @@ mod carried;
 mod filling;
 mod look_ups;
 mod many_wait;
+mod open_queries;
 
 use anyhow::Result;
 use std::env;
 use std::process::ExitCode;
 
-const USAGE: &str = "usage: bench many_wait QUESTION REPLY, bench carried REPLY, or bench look_ups";
+const USAGE: &str =
+    "usage: bench many_wait QUESTION REPLY, bench carried REPLY, bench look_ups, or bench open_queries";
 
 /// Measures what the arguments ask for; `None` where they ask for nothing.
 fn run(rt: &HostRuntime) -> Result<Option<()>> {
@@ -29,6 +31,7 @@ fn run(rt: &HostRuntime) -> Result<Option<()>> {
             cached::measure(rt)?;
             look_ups::measure(rt)?;
         }
+        ("open_queries", None, None) => open_queries::measure(rt)?,
         _ => return Ok(None),
     }
     Ok(Some(()))

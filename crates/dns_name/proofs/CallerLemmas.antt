@@ -1,8 +1,11 @@
 -- What the proofs of crates above cite of names.
-use Rattle.std.proofs.Common.{◌≡◌, ℕ, ◌+◌, ◌<◌, ◌≤◌, Bool, true, List, [], ◌∷◌, ◌++◌, length, drop, Ok}
+use Rattle.std.proofs.Common.{◌≡◌, ℕ, ◌+◌, ◌<◌, ◌≤◌, Bool, true, ◌&&◌, eqb, List, [], ◌∷◌, ◌++◌, length, drop, Ok}
 use Rattle.std.specs.Bool.{Decides}
 use Rattle.dns_name.specs.Labels.{label_octets, octets_of, size_of, IsLabel, IsName, IsSame, IsUnder, same, is_under, lowered, labels_of, IsLaidOut}
+use Rattle.std.specs.Cmp.Lexicographic.{pointwise}
+use Rattle.dns_name.specs.Key.{key_octets, key_len}
 use Rattle.dns_name.specs.Text.{name_in}
+use Rattle.dns_name.proofs.KeyOf as keys
 use Rattle.dns_name.proofs.LabelLaws as labels
 use Rattle.dns_name.proofs.NameLaws as names
 use Rattle.dns_name.proofs.FaultLaws as faults
@@ -63,6 +66,14 @@ lowered_is_same = names.same_lowered
 -- the key of a name is a name
 pub lowered_is_name : (name : List (List ℕ)) → IsName name → IsName (lowered name)
 lowered_is_name = names.name_lowered
+
+-- the octets and the length of a key are those of no other
+pub one_key : (a b : List (List ℕ)) → key_octets a ≡ key_octets b → key_len a ≡ key_len b → a ≡ b
+one_key = keys.key_same
+
+-- the test of the code for one key: for crates that look keys up in a map or sort by them
+pub key_decides : (a b : List (List ℕ)) → Decides (pointwise eqb (key_octets a) (key_octets b) && eqb (key_len a) (key_len b)) (a ≡ b)
+key_decides = keys.key_decides
 
 -- ---- names under others
 

@@ -3,8 +3,8 @@ use Rattle.std.proofs.Common.{◌≡◌, ℕ, suc, ◌+◌, ◌-◌, ◌<◌, �
 use Rattle.std.specs.List.{AllByRecursion}
 use Rattle.std.proofs.Common.{Bool, true, false, ◌&&◌, eqb}
 use Rattle.std.specs.Bool.{Decides}
-use Rattle.std.specs.Cmp.Lexicographic.{pointwise}
-use Rattle.std.proofs.lemmas.Bool.Decides.{Decides-eqb}
+use Rattle.std.specs.Cmp.Lexicographic.{pointwise, bytes_decides}
+use Rattle.std.proofs.lemmas.Bool.Decides.{Decides-eqb, same_from_decides}
 use Rattle.std.proofs.lemmas.Slice.Eq.{slice_eq-Decides}
 use Rattle.std.specs.Char.{to_ascii_lowercase}
 use Rattle.std.proofs.lemmas.List.{take_at, length-take, length-map, map-append, take_more, set_at}
@@ -76,7 +76,7 @@ pub lowered_tail : (label : List ℕ) (labels : List (List ℕ)) → lowered (la
 lowered_tail label labels e = cons-tails (map to_ascii_lowercase label) label (lowered labels) labels e
 
 -- equal keys are keys of equal labels
-key_same : (a b : List (List ℕ)) → key_octets a ≡ key_octets b → key_len a ≡ key_len b → a ≡ b
+pub key_same : (a b : List (List ℕ)) → key_octets a ≡ key_octets b → key_len a ≡ key_len b → a ≡ b
 unfolding key_octets key_len
 key_same a b octets len =
     let size : length (octets_of a) ≡ length (octets_of b) = omega (arith, size_of-is a, size_of-is b, len) in
@@ -88,7 +88,7 @@ and_both : (x y : Bool) → (x && y) ≡ true → (x ≡ true) × (y ≡ true)
 and_both true y e = (refl, e)
 and_both false y e = absurd cc
 
--- what `==` on keys says: for crates that look keys up in a map or sort by them
+-- what `==` on keys says
 pub key_decides : (a b : List (List ℕ)) → Decides (pointwise eqb (key_octets a) (key_octets b) && eqb (key_len a) (key_len b)) (a ≡ b)
 key_decides a b =
     let octets = slice_eq-Decides Decides-eqb (key_octets a) (key_octets b) (pointwise eqb (key_octets a) (key_octets b)) refl in
@@ -96,3 +96,43 @@ key_decides a b =
       λ e. let both = and_both (pointwise eqb (key_octets a) (key_octets b)) (eqb (key_len a) (key_len b)) e in key_same a b (octets.0 both.0) (len.0 both.1),
       λ e. rw (octets.1 (ap key_octets e), len.1 (ap key_len e)) refl,
     )
+
+-- ---- keys compared by the octets up to their length
+
+-- the octets before the last one that the length counts
+before_last : (octets : List ℕ) (len : ℕ) → 1 ≤ len → len ≤ length octets → take (len - 1) (take len octets) ≡ take (len - 1) octets
+before_last octets len some short =
+    let next : len ≡ len - 1 + 1 = omega (arith, some) in
+    let whole : take len octets ≡ take (len - 1) octets ++ get_or octets (len - 1) 0 ∷ [] = ap (λ (n : ℕ). take n octets) next ∙ take_more octets (len - 1) 0 (omega (arith, some, short)) in
+    ap (take (len - 1)) whole ∙ take_at (take (len - 1) octets) (get_or octets (len - 1) 0 ∷ []) (len - 1) (omega (arith, length-take (len - 1) octets, some, short))
+
+-- the rest are zeros
+fronts_say_all : (a b : List ℕ) (m n : ℕ) → IsKey a m → IsKey b n → length a ≡ 255 → length b ≡ 255 → m ≡ n → take m a ≡ take m b → a ≡ b
+fronts_say_all a b m n left right long longer same front =
+    let names : take (m - 1) a ≡ take (n - 1) b =
+    sym (before_last a m left.some (omega (arith, left.short, long))) ∙ ap (take (m - 1)) front ∙ ap (λ (k : ℕ). take (k - 1) (take k b)) same ∙ before_last b n right.some (omega (arith, right.short, longer)) in
+    sym left.zeros ∙ ap padded names ∙ right.zeros
+
+and_true : (x y : Bool) → x ≡ true → y ≡ true → (x && y) ≡ true
+and_true true y e f = f
+and_true false y e f = e
+
+-- keys of one length are equal where their octets up to it are
+pub same_length : (a b : List ℕ) (m n : ℕ) → IsKey a m → IsKey b n → length a ≡ 255 → length b ≡ 255 → m ≡ n → pointwise eqb (take m a) (take m b) ≡ (pointwise eqb a b && eqb m n)
+same_length a b m n left right long longer same =
+    let front = pointwise eqb (take m a) (take m b) in
+    let octets = pointwise eqb a b in
+    same_from_decides {P = a ≡ b} front (octets && eqb m n) (
+      λ h. fronts_say_all a b m n left right long longer same ((bytes_decides (take m a) (take m b)).0 h),
+      λ e. (bytes_decides (take m a) (take m b)).1 (ap (take m) e),
+    ) (
+      λ h. (bytes_decides a b).0 (and_both octets (eqb m n) h).0,
+      λ e. and_true octets (eqb m n) ((bytes_decides a b).1 e) ((Decides-eqb m n).1 same),
+    )
+
+-- keys of other lengths are not
+pub other_length : (x : Bool) (m n : ℕ) → (m ≡ n → ⊥) → eqb m n ≡ (x && eqb m n)
+other_length x m n other =
+    same_from_decides {P = ⊥} (eqb m n) (x && eqb m n)
+    (λ h. other ((Decides-eqb m n).0 h), λ e. absurd e)
+    (λ h. other ((Decides-eqb m n).0 (and_both x (eqb m n) h).1), λ e. absurd e)

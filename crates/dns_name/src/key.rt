@@ -14,7 +14,7 @@ use std::marker::Model;
 /// A name for comparing and hashing: its octets as they stand in a message (RFC 1035 3.1), the zero octet at their end
 /// counted, with ASCII letters in lower case, then zeros up to 255 octets. It is seen as its labels in lower case, so
 /// keys are equal exactly where their names are the same.
-#[derive(Clone, Copy, PartialEq, Eq, PartialOrd, Ord)]
+#[derive(Clone, Copy, Eq, PartialOrd, Ord)]
 #[tactic(auto, using(crate::specs::KeyLaws::padded_back, crate::specs::KeyLaws::size_back))]
 pub struct NameKey {
     octets: [u8; 255],
@@ -38,6 +38,25 @@ impl Model for NameKey {
     ghost use Rattle.std.proofs.Common.{◌≡◌, ap};
 
     ghost inverse_ok = { λ k h. Prim.rw (padded_back k.octets k.len h, size_back k.octets k.len h) (λ _. k) };
+}
+
+// Zeros stand behind the octets of each name, so octets behind them say nothing more.
+impl PartialEq for NameKey {
+    ghost use Rattle.std.specs.Prelude.{nat_eq};
+    ghost use Rattle.std.specs.Ordering.{eq_of_both, on};
+    ghost use Rattle.std.specs.Cmp.Lexicographic.{pointwise};
+    ghost use Rattle.std.specs.Cmp.Rules.{comparing};
+    ghost use Rattle.std.proofs.Common.{rules};
+    ghost use Rattle.dns_name.specs.Key.{key_octets, key_len};
+
+    ghost eq = { eq_of_both (on key_octets (pointwise nat_eq)) (on key_len nat_eq) };
+
+    ghost laws = { Prim.search (comparing, rules) };
+
+    fn eq(&self, other: &NameKey) -> bool {
+        let len = usize::from(self.len);
+        self.len == other.len && self.octets[..len] == other.octets[..len]
+    }
 }
 
 // The octets of the name alone are hashed, and none of the zeros behind its end.

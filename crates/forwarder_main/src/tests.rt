@@ -1,11 +1,14 @@
 //! What no script can say: readers, writers and files that fail, refused growths, statuses and texts.
 
+use crate::arguments::{LONGEST, are, argument, text};
 use crate::commands::load;
 use crate::fault::Fault;
 use crate::serving::serve_config;
 use refusing_allocator::Refusing;
 use replay_script::{ReplayFault, read_config, replay_run};
+use std::env::FillError;
 use std::io::{ErrorKind, Read};
+use std::rt::Env;
 use std::test::Fail;
 use std::{fs, io};
 use suffix_routes::{ConfigFault, Position};
@@ -71,10 +74,14 @@ fn routes_in(rt: &HostRuntime, name: &[u8]) -> Result<usize, ReplayFault> {
     Ok(load(rt, name)?.routes().len())
 }
 
+/// A name that is no UTF-8 is one like any other.
 #[test]
 fn files_are_loaded(rt: HostRuntime) -> Result<(), Fail> {
     fs::write(&rt, "one_route", CONFIG)?;
     assert_eq!(rt; routes_in(&rt, b"one_route"), Ok(1));
+    assert_eq!(rt; os::link(b"one_route", b"\xe4\xff"), 0);
+    assert_eq!(rt; routes_in(&rt, b"\xe4\xff"), Ok(1));
+    assert_eq!(rt; os::unlink(b"\xe4\xff"), 0);
     assert_eq!(rt; routes_in(&rt, b"\xe4\xff"), Err(ReplayFault::Device));
     for name in [".", "/no/such/file", "/dev/zero", ""] {
         assert_eq!(rt;
@@ -84,6 +91,56 @@ fn files_are_loaded(rt: HostRuntime) -> Result<(), Fail> {
         );
     }
     Ok(())
+}
+
+/// Arguments behind the program's own name, which is none here.
+#[derive(Drop)]
+struct Arguments<'a>(&'a [&'a [u8]]);
+
+impl Env for Arguments<'_> {
+    fn arg(&self, i: usize, buf: &mut [u8]) -> Result<usize, FillError> {
+        let octets = self.0.get(i).ok_or(FillError::NotPresent)?;
+        let room = buf.get_mut(..octets.len()).ok_or(FillError::TooLong)?;
+        room.copy_from_slice(octets);
+        Ok(octets.len())
+    }
+
+    fn var(&self, _name: &str, _buf: &mut [u8]) -> Result<usize, FillError> {
+        Err(FillError::NotPresent)
+    }
+
+    fn var_at(&self, _i: usize, _buf: &mut [u8]) -> Result<usize, FillError> {
+        Err(FillError::NotPresent)
+    }
+}
+
+#[test]
+fn arguments_are_octets(rt: HostRuntime) {
+    let long = [b'a'; LONGEST + 1];
+    let words = [
+        b"".as_slice(),
+        b"check",
+        b"\xe4\xff",
+        b"",
+        &long[1..],
+        &long,
+    ];
+    let given = Arguments(&words);
+    let mut room = [0u8; LONGEST];
+    for (place, word) in words.iter().enumerate().take(5) {
+        let octets = argument(&given, place, &mut room).ok();
+        assert_eq!(rt; octets, Some(*word), "{place}");
+    }
+    let long = argument(&given, 5, &mut room);
+    assert!(rt; matches!(long, Err(FillError::TooLong)));
+    let missing = argument(&given, 6, &mut room);
+    assert!(rt; matches!(missing, Err(FillError::NotPresent)));
+    assert_eq!(rt; text(&given, 1, &mut room), Some("check"));
+    assert_eq!(rt; text(&given, 2, &mut room), None);
+    assert_eq!(rt; text(&given, 6, &mut room), None);
+    for count in 0..8usize {
+        assert_eq!(rt; are(&given, count), count == 5, "{count}");
+    }
 }
 
 #[test]

@@ -1,17 +1,15 @@
 //! Runs each worked row of a folder, and prints what differs from its expected lines.
 #![tactic(auto)]
 
-mod comparison;
 mod folder;
 mod manner;
 mod rows;
 mod sparing;
-mod tally;
 
+use row_report::Tally;
 use std::process::ExitCode;
 use std::rt::{Env, Files};
 use std::{env, io};
-use tally::Tally;
 
 fn main(rt: HostRuntime) -> ExitCode {
     match run(&rt) {

@@ -1,9 +1,8 @@
 //! The rows, run.
 
-use crate::comparison::{differing_line, line_at};
 use crate::folder::{has, names_in};
 use crate::manner::{Manner, told_by};
-use crate::tally::Tally;
+use row_report::{Tally, differing_line};
 use std::rt::Files;
 use std::{fs, io};
 
@@ -94,7 +93,7 @@ fn run_row<R: Files + Print + AllocGlobal>(
     names: &[String],
     tally: &mut Tally,
 ) -> io::Result<()> {
-    tally.rows = tally.rows.saturating_add(1);
+    tally.count_row();
     let mut is_well = true;
     for manner in kind.manners() {
         is_well = is_as_expected(rt, *manner, row, names)? && is_well;
@@ -157,4 +156,13 @@ fn is_told(
         "{path}, {manner}: line {line} differs\n  expected {wanted:?}\n  printed  {given:?}"
     )?;
     Ok(false)
+}
+
+/// The line of a text at a place counted from 0, with its line feed; empty where there is none, and `no text` where its octets
+/// are no UTF-8.
+fn line_at(text: &[u8], place: usize) -> &str {
+    let mut lines = text.split_inclusive(|octet| *octet == b'\n');
+    lines
+        .nth(place)
+        .map_or("", |line| str::from_utf8(line).unwrap_or("no text"))
 }

@@ -121,6 +121,22 @@ fn a_question_is_lent_where_it_lies(rt: HostRuntime) -> Result<(), Fail> {
     Ok(())
 }
 
+/// A question of any type and any class is read where there is memory.
+#[test]
+fn questions_of_each_type_are_read(rt: HostRuntime) -> Result<(), Fail> {
+    let mut octets =
+        *b"\x00\x08\x01\x00\x00\x01\x00\x00\x00\x00\x00\x00\x01a\x07example\x00\x00\x01\x00\x01";
+    for kind in 0..=300u16 {
+        [octets[23], octets[24]] = kind.to_be_bytes();
+        for class in [1u16, 2, 3, 4, 255] {
+            [octets[25], octets[26]] = class.to_be_bytes();
+            let question = MessageRef::view(&octets)?.question(rt.alloc())?;
+            assert_eq!(rt; (question.kind, question.class), (kind, class));
+        }
+    }
+    Ok(())
+}
+
 /// Questions for a and for b.a, whose names end with a pointer to the front of the message, where the identifier spells a.
 const COMPRESSED: [&str; 2] = [
     "016100000001000000000000c00000010001",

@@ -6,7 +6,8 @@ use std::test::Fail;
 
 /// A type; its data in a message, where a.example stands at 12 and example at 14; the data written out in full; and the
 /// data as it is written again: with pointers where RFC 1035 3.3 has the type, in full where a later document has it
-/// (RFC 3597 4), and unchanged where the type has no name.
+/// (RFC 3597 4), and unchanged where the type has no name. Behind a number stands a label of two octets, which with its length
+/// is no number of 16 bits: so data with a number more is told apart.
 const WORKED: [(u16, &str, &str, &str); 22] = [
     // NS, MD, MF, CNAME, MB, MG, MR, PTR: a name (RFC 1035 3.3).
     (2, "0162c00e", "0162076578616d706c6500", "0162c00e"),
@@ -34,9 +35,9 @@ const WORKED: [(u16, &str, &str, &str); 22] = [
     // MX: a number of 16 bits and a name (3.3.9).
     (
         15,
-        "000a0162c00e",
-        "000a0162076578616d706c6500",
-        "000a0162c00e",
+        "000a026e73c00e",
+        "000a026e73076578616d706c6500",
+        "000a026e73c00e",
     ),
     // RP: two names (RFC 1183 2.2).
     (
@@ -48,29 +49,29 @@ const WORKED: [(u16, &str, &str, &str); 22] = [
     // AFSDB: a number of 16 bits and a name (RFC 1183 1); RT the same (3.3).
     (
         18,
-        "00010162c00e",
-        "00010162076578616d706c6500",
-        "00010162076578616d706c6500",
+        "0001026e73c00e",
+        "0001026e73076578616d706c6500",
+        "0001026e73076578616d706c6500",
     ),
     (
         21,
-        "000a0162c00e",
-        "000a0162076578616d706c6500",
-        "000a0162076578616d706c6500",
+        "000a026e73c00e",
+        "000a026e73076578616d706c6500",
+        "000a026e73076578616d706c6500",
     ),
     // PX: a number of 16 bits and two names (RFC 2163 4).
     (
         26,
-        "000a0162c00ec00c",
-        "000a0162076578616d706c65000161076578616d706c6500",
-        "000a0162076578616d706c65000161076578616d706c6500",
+        "000a026e73c00ec00c",
+        "000a026e73076578616d706c65000161076578616d706c6500",
+        "000a026e73076578616d706c65000161076578616d706c6500",
     ),
     // SRV: three numbers of 16 bits and a name (RFC 2782).
     (
         33,
-        "0000000100350162c00e",
-        "0000000100350162076578616d706c6500",
-        "0000000100350162076578616d706c6500",
+        "000000010035026e73c00e",
+        "000000010035026e73076578616d706c6500",
+        "000000010035026e73076578616d706c6500",
     ),
     // NAPTR: two numbers of 16 bits, three texts and a name (RFC 3403 4.1).
     (

@@ -137,10 +137,6 @@ module _ (s : Slab Ask) (by_path by_question in_turn : List ℕ) (indexed : AreI
 
 -- ---- as lists of keys are told
 
--- a key that was put behind all others
-pub put_last : (keys : List ℕ) (last key : ℕ) (after : List ℕ) → last ≡ length keys → after ≡ insert keys last key → after ≡ keys ++ key ∷ []
-put_last keys last key after end is = is ∙ ap (λ (i : ℕ). insert keys i key) end ∙ insert_end keys key
-
 pub indexed_same : (s : Slab Ask) (p q t p' q' t' : List ℕ) → p' ≡ p → q' ≡ q → t' ≡ t → AreIndexed s p q t → AreIndexed s p' q' t'
 indexed_same s p q t p' q' t' paths questions turns indexed =
     subst (λ (ks : List ℕ). AreIndexed s ks q' t') (sym paths) (subst (λ (ks : List ℕ). AreIndexed s p ks t') (sym questions) (subst (λ (ks : List ℕ). AreIndexed s p q ks) (sym turns) indexed))

@@ -6,5 +6,4 @@ pub mod KeyEdits
 pub mod AsksUnder
 pub mod SameOrders
 pub mod Indexed
-pub mod Turns
 pub mod CallerLemmas

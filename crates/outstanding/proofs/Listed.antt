@@ -1,11 +1,9 @@
 -- What holds of listed asks after one more, or one less.
-use Rattle.std.proofs.Common.{◌≡◌, ℕ, zero, suc, ◌<◌, ◌≤◌, List, [], ◌∷◌, ◌++◌, length, Bool, true, false, cond, refl, sym, ap, subst, arith, length-append, Some, None}
+use Rattle.std.proofs.Common.{◌≡◌, ℕ, ◌<◌, ◌≤◌, List, [], ◌∷◌, ◌++◌, length, Bool, true, false, cond, refl, sym, ap, subst, arith, length-append, Some, None}
 use Rattle.std.specs.Prelude.{not, filter}
 use Rattle.std.specs.List.{find, AllByRecursion}
-use Rattle.std.specs.List.Sorted.{IsNonDecreasingBy}
 use Rattle.std.proofs.lemmas.Bool.{eqb-true, eq-eqb, false≢true}
 use Rattle.std.proofs.lemmas.Option.{none-some}
-use Rattle.std.proofs.lemmas.List.Elements.{All-from_recursion}
 use Rattle.outstanding.specs.declared.ask.Path.{Path}
 use Rattle.outstanding.specs.declared.ask.Path.TheVariants.{Udp, Tcp}
 use Rattle.outstanding.specs.Values.{Ask}
@@ -20,14 +18,6 @@ same_path-true (Tcp a) (Udp b) e = absurd (false≢true e)
 pub same_path-refl : (a : Path) → same_path a a ≡ true
 same_path-refl (Udp a) = eq-eqb a a refl
 same_path-refl (Tcp a) = eq-eqb a a refl
-
--- the moments never fall
-pub moments_never_fall : (asks : List Ask) → AreInTurn asks → IsNonDecreasingBy (λ a. a.asked) asks
-moments_never_fall [] in_turn i j d le within = absurd (omega arith)
-moments_never_fall (a ∷ asks) in_turn zero zero d le within = omega arith
-moments_never_fall (a ∷ asks) in_turn zero (suc j) d le within = (All-from_recursion (Follows a) asks in_turn.0 j d (omega arith)).asked
-moments_never_fall (a ∷ asks) in_turn (suc i) zero d le within = absurd (omega arith)
-moments_never_fall (a ∷ asks) in_turn (suc i) (suc j) d le within = moments_never_fall asks in_turn.1 i j d (omega arith) (omega arith)
 
 -- ---- one more
 

@@ -1,5 +1,5 @@
 -- The orders by which paths and questions are searched: equal exactly where they are the same.
-use Rattle.std.proofs.Common.{◌≡◌, ℕ, ◌+◌, ◌-◌, Bool, true, false, ◌&&◌, ◌==◌, List, [], ◌∷◌, length, replicate, is_eq, nat_cmp, Ordering, Less, Equal, Greater, refl, sym, ap, ◌∙◌, ap₂, arith, length-append}
+use Rattle.std.proofs.Common.{◌≡◌, ℕ, Bool, true, false, ◌&&◌, ◌==◌, List, is_eq, nat_cmp, Ordering, Less, Equal, Greater, refl, sym, ap, ◌∙◌, ap₂, arith}
 use Rattle.std.specs.Bool.{Decides}
 use Rattle.std.specs.Ordering.{ordering_then}
 use Rattle.std.specs.Cmp.{IsTotalOrder}
@@ -8,12 +8,11 @@ use Rattle.std.proofs.lemmas.Bool.{and_parts, eqb-true, false≢true}
 use Rattle.std.proofs.lemmas.Bool.Decides.{nat_tests, same_from_decides}
 use Rattle.std.proofs.lemmas.Cmp.{tied_itself}
 use Rattle.std.proofs.lemmas.Map.Text.{is_eq-slice_cmp}
-use Rattle.std.proofs.lemmas.List.{take_at}
-use Rattle.dns_name.specs.Key.{key_octets, key_len, padded}
-use Rattle.dns_name.specs.Labels.{octets_of, size_of, labels_of, lowered, same}
+use Rattle.dns_name.specs.Key.{key_octets, key_len}
+use Rattle.dns_name.specs.Labels.{lowered, same}
 use Rattle.dns_name.specs.contracts.key.NameKeyOrd.TheImpl as name_ord
 use Rattle.dns_name.specs.contracts.key.NameKeyOrd.TheImpl.Laws as name_laws
-use Rattle.dns_name.proofs.CallerLemmas.{labels_of_octets, same_decides}
+use Rattle.dns_name.proofs.CallerLemmas.{one_key, same_decides}
 use Rattle.dns_message.specs.Values.{Question}
 use Rattle.dns_message.specs.Questions.{same_question}
 use Rattle.outstanding.specs.declared.ask.Path.{Path}
@@ -52,30 +51,16 @@ both_equal Less y = refl
 both_equal Equal y = refl
 both_equal Greater y = refl
 
-size_is : (name : List (List ℕ)) → size_of name ≡ length (octets_of name) + 1
-size_is [] = refl
-size_is (label ∷ name) = omega (arith, size_is name, length-append label (octets_of name))
-
--- the octets and the size of a name are those of no other
-one_name : (a b : List (List ℕ)) → padded (octets_of a) ≡ padded (octets_of b) → size_of a ≡ size_of b → a ≡ b
-one_name a b o s =
-    let n : length (octets_of a) ≡ length (octets_of b) = omega (arith, s, size_is a, size_is b) in
-    let left = take_at (octets_of a) (replicate (255 - length (octets_of a)) 0) (length (octets_of a)) refl in
-    let right = take_at (octets_of b) (replicate (255 - length (octets_of b)) 0) (length (octets_of a)) (sym n) in
-    let equal : octets_of a ≡ octets_of b = cc (left, right, o) in
-    cc (labels_of_octets a, labels_of_octets b, ap labels_of equal)
-
 abbrev name_cmp : List (List ℕ) → List (List ℕ) → Ordering
 name_cmp = (name_ord.ghosts).cmp
 
 names_decide : (a b : List (List ℕ)) → Decides (is_eq (name_cmp a b)) (a ≡ b)
-unfolding key_octets key_len
 names_decide a b =
     let octets = slice_cmp nat_cmp (key_octets a) (key_octets b) in
     let size = nat_cmp (key_len a) (key_len b) in (
       λ h.
           let parts = and_parts (is_eq octets) (is_eq size) (sym (both_equal octets size) ∙ h) in
-          one_name a b
+          one_key a b
           ((bytes_decides (key_octets a) (key_octets b)).0 (sym (is_eq-slice_cmp (key_octets a) (key_octets b)) ∙ parts.0))
           (eqb-true (key_len a) (key_len b) (numbers (key_len a) (key_len b) ∙ parts.1)),
       λ e. ap is_eq (ap (name_cmp a) (sym e) ∙ tied_itself name_laws.total-law a),

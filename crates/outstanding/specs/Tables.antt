@@ -1,5 +1,5 @@
 -- Asks under the keys of a slab, and lists of those keys: one in the order of asking, two that are searched.
-use Rattle.std.specs.Prelude.{◌≡◌, ◌≢◌, ℕ, ◌<◌, ◌≤◌, List, length, Option, Some, None, IsSome, slice_index, vec_len, vec_capacity}
+use Rattle.std.specs.Prelude.{◌≡◌, ◌≢◌, ℕ, ◌<◌, ◌≤◌, true, List, length, Option, Some, None, IsSome, slice_index, vec_len, vec_capacity}
 use Rattle.std.specs.List.{filter_map}
 use Rattle.std.specs.declared.cmp.Ordering.{Ordering}
 use Rattle.std.specs.declared.cmp.Ordering.TheVariants.{Less, Equal, Greater}
@@ -42,11 +42,6 @@ pub record IsGap (f : Ask → Ordering) (s : Slab Ask) (keys : List ℕ) (i : �
   pub before : (j : ℕ) (a : Ask) → j < i → get s (slice_index keys j) ≡ Some a → f a ≡ Less
   pub behind : (j : ℕ) (a : Ask) → i ≤ j → j < length keys → get s (slice_index keys j) ≡ Some a → f a ≡ Greater
 
--- the moment of asking, in milliseconds; a key without an ask comes first
-abbrev pub asked_of : Option Ask → ℕ
-asked_of None = 0
-asked_of (Some a) = a.asked
-
 abbrev pub to_path : Path → Ask → Ordering
 to_path path a = path_cmp a.path path
 
@@ -55,7 +50,7 @@ to_question key a = key_cmp (question_key a.question) key
 
 -- the asks of a table, in the order of asking
 abbrev pub asks_of : {A : Type 0} → Table A → List Ask
-asks_of t = asks_under t.asks t.in_turn.items
+asks_of t = asks_under t.asks t.in_turn.keys
 
 -- the three lists of keys cover the asks, and two of them rise
 pub record AreIndexed (s : Slab Ask) (by_path by_question in_turn : List ℕ) : Type 0 where
@@ -66,11 +61,12 @@ pub record AreIndexed (s : Slab Ask) (by_path by_question in_turn : List ℕ) : 
   pub turns : Covers s in_turn
 
 abbrev pub IsIndexed : {A : Type 0} → Table A → Type 0
-IsIndexed t = AreIndexed t.asks t.by_path.items t.by_question.items t.in_turn.items
+IsIndexed t = AreIndexed t.asks t.by_path.items t.by_question.items t.in_turn.keys
 
 -- one more ask takes no memory
 pub record HasRoom {A : Type 0} (t : Table A) : Type 0 where
   pub asks : HasRoomFor t.asks 1
   pub by_path : vec_len t.by_path < vec_capacity t.by_path
   pub by_question : vec_len t.by_question < vec_capacity t.by_question
-  pub in_turn : vec_len t.in_turn < vec_capacity t.in_turn
+  pub in_turn : t.in_turn.has_room ≡ true
+  pub known : t.asks.vacant_key < t.in_turn.known

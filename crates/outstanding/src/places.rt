@@ -1,9 +1,8 @@
 //! Where keys stand, found by searches.
 
-ghost use Rattle.std.specs.Prelude.{◌≡◌, ◌<◌, ◌==◌, length, IfOk, IfErr, IsSome, position, slice_index};
-ghost use Rattle.std.specs.List.Sorted.{IsNonDecreasingBy};
+ghost use Rattle.std.specs.Prelude.{◌≡◌, IfOk, IfErr};
 ghost use Rattle.slab.specs.Slab.{get};
-ghost use Rattle.outstanding.specs.Tables.{asked_of, compared, Covers, IsAt, IsGap, Rises, to_path, to_question};
+ghost use Rattle.outstanding.specs.Tables.{compared, Covers, IsAt, IsGap, Rises, to_path, to_question};
 ghost use Rattle.outstanding.specs.Orders.{key_cmp, path_cmp, question_key};
 
 use crate::ask::Path;
@@ -62,39 +61,4 @@ fn compare_question<A: Allocator>(
         Some(keyed) => keyed.cmp_question(question),
         None => Ordering::Less,
     }
-}
-
-/// When the ask under a key was asked, in milliseconds; 0 for a key without an ask.
-fn asked_at<A: Allocator>(asks: &Slab<Keyed<A>, A>, key: usize) -> u64
-    ensures { result ≡ asked_of (get asks.now key) }
-{
-    match asks.get(key) {
-        Some(keyed) => keyed.ask().asked,
-        None => 0,
-    }
-}
-
-/// Where a key stands first.
-fn first_place(keys: &[usize], key: usize) -> Option<usize>
-    ensures { result ≡ position (λ k. k == key) keys.now }
-{
-    keys.iter().position(|other| *other == key)
-}
-
-/// Where a key stands in the order of asking. Of the other keys, those alone are looked at that were asked in the same
-/// millisecond, and earlier: none where asks end in the order of asking, as they do when their time is over; all that are
-/// left of that millisecond where the last of them ends first.
-pub(crate) fn turn_of<A: Allocator>(asks: &Slab<Keyed<A>, A>, keys: &[usize], key: usize) -> usize
-    requires covered { Covers asks.now keys.now }
-    requires moments { IsNonDecreasingBy (λ k. asked_of (get asks.now k)) keys.now }
-    requires listed { IsSome (get asks.now key) }
-    ensures within { result < length keys.now }
-    ensures stands { slice_index keys.now result ≡ key }
-{
-    let asked = asked_at(asks, key);
-    let start = keys.partition_point(|other| asked_at(asks, *other) < asked);
-    let Some(offset) = first_place(&keys[start..], key) else {
-        unreachable!();
-    };
-    start + offset
 }

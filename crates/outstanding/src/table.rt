@@ -2,14 +2,14 @@
 
 ghost use Rattle.std.specs.Prelude.{◌≡◌, ◌<◌, ◌≤◌, ◌+◌, ◌∷◌, ◌++◌, [], length, Some, None, OnOk, OnSome, MatchOption, vec_len, vec_capacity, slice_get};
 ghost use Rattle.std.specs.List.{insert, remove};
-ghost use Rattle.std.specs.List.Sorted.{IsNonDecreasingBy};
 ghost use Rattle.outstanding.specs.Lists.{of_question, on_path, without_path};
 ghost use Rattle.outstanding.specs.Tables.{asks_of, HasRoom, IsIndexed};
 
 use crate::ask::{Ask, Path};
 use crate::keyed::{Keyed, QuestionKey};
-use crate::places::{place_of, place_on, turn_of};
+use crate::places::{place_of, place_on};
 use dns_message::Question;
+use keys_in_turn::KeysInTurn;
 use slab::Slab;
 use std::alloc::{AllocError, Allocator};
 
@@ -20,7 +20,7 @@ pub(crate) struct Table<A: Allocator> {
     asks: Slab<Keyed<A>, A>,
     by_path: Vec<usize, A>,
     by_question: Vec<usize, A>,
-    in_turn: Vec<usize, A>,
+    in_turn: KeysInTurn<A>,
 }
 
 impl<A: Allocator> Table<A> {
@@ -35,7 +35,7 @@ impl<A: Allocator> Table<A> {
             asks: Slab::new(alloc),
             by_path: Vec::new(alloc),
             by_question: Vec::new(alloc),
-            in_turn: Vec::new(alloc),
+            in_turn: KeysInTurn::new(alloc),
         }
     }
 
@@ -52,7 +52,7 @@ impl<A: Allocator> Table<A> {
         requires { IsIndexed self.now }
         ensures { MatchOption result (asks_of self.now ≡ []) (λ ask. slice_get (asks_of self.now) 0 ≡ Some ask.now) }
     {
-        let key = *self.in_turn.first()?;
+        let key = self.in_turn.first()?;
         Some(self.asks[key].ask())
     }
 
@@ -88,7 +88,7 @@ impl<A: Allocator> Table<A> {
         self.asks.reserve(1)?;
         self.by_path.reserve(1)?;
         self.by_question.reserve(1)?;
-        self.in_turn.reserve(1)
+        self.in_turn.reserve(self.asks.vacant_key())
     }
 
     /// Puts an ask last, whose path and question no other has, where there is room.
@@ -107,17 +107,15 @@ impl<A: Allocator> Table<A> {
         let Err(question) = place_of(&self.asks, &self.by_question, keyed.key()) else {
             unreachable!();
         };
-        let last = self.in_turn.len();
         let key = self.asks.insert_reserved(keyed);
         put_key(&mut self.by_path, path, key);
         put_key(&mut self.by_question, question, key);
-        put_key(&mut self.in_turn, last, key);
+        self.in_turn.put(key);
     }
 
     /// Takes the ask on a path out, which leaves room for another one.
     pub(crate) fn take(&mut self, path: Path) -> Option<Ask<A>>
-        requires indexed { IsIndexed self.old }
-        requires moments { IsNonDecreasingBy (λ a. a.asked) (asks_of self.old) }
+        requires { IsIndexed self.old }
         ensures indexed { IsIndexed self.new }
         ensures ended { result ≡ on_path path (asks_of self.old) }
         ensures list { asks_of self.new ≡ without_path path (asks_of self.old) }
@@ -131,10 +129,10 @@ impl<A: Allocator> Table<A> {
         let Ok(question) = place_of(&self.asks, &self.by_question, self.asks[key].key()) else {
             unreachable!();
         };
-        let turn = turn_of(&self.asks, &self.in_turn, key);
+        let turn = self.in_turn.place_of(key);
         take_key(&mut self.by_path, place);
         take_key(&mut self.by_question, question);
-        take_key(&mut self.in_turn, turn);
+        self.in_turn.take(turn);
         Some(self.asks.remove(key).into_ask())
     }
 

@@ -1,14 +1,12 @@
 -- Slots: the test of the definitions and that of the code are true exactly where two slots are one.
-use Rattle.std.proofs.Common.{◌≡◌, ℕ, ◌+◌, ◌-◌, Bool, true, false, ◌&&◌, ◌==◌, nat_eq, List, [], ◌∷◌, length, replicate, Option, None, Some, refl, sym, ap, arith, length-append}
+use Rattle.std.proofs.Common.{◌≡◌, ℕ, Bool, true, false, ◌&&◌, ◌==◌, nat_eq, List, Option, None, Some, refl, ap}
 use Rattle.std.specs.Bool.{Decides}
 use Rattle.std.specs.Option.{option_eq}
 use Rattle.std.specs.Cmp.{first_so, second_so}
 use Rattle.std.specs.Cmp.Lexicographic.{pointwise, pointwise_decides, bytes_decides}
 use Rattle.std.proofs.lemmas.Bool.Decides.{Decides-eqb, same_from_decides}
-use Rattle.std.proofs.lemmas.List.{take_at}
-use Rattle.dns_name.specs.Key.{key_octets, key_len, padded}
-use Rattle.dns_name.specs.Labels.{octets_of, size_of, labels_of}
-use Rattle.dns_name.proofs.CallerLemmas.{labels_of_octets}
+use Rattle.dns_name.specs.Key.{key_octets, key_len}
+use Rattle.dns_name.proofs.CallerLemmas.{key_decides}
 use Rattle.trust_rank.specs.declared.slot.Slot.{Slot}
 use Rattle.trust_rank.specs.Replacing.{same_kind}
 use Rattle.trust_rank.specs.contracts.slot.SlotPartialEq.TheImpl.{eq-value}
@@ -49,29 +47,6 @@ is_slot_decides a b =
 
 -- ---- the test of the code
 
--- a name is as long as its octets and the zero behind them
-size_is : (name : List (List ℕ)) → size_of name ≡ length (octets_of name) + 1
-size_is [] = refl
-size_is (label ∷ name) = omega (arith, size_is name, length-append label (octets_of name))
-
--- the octets and the size of a name are those of no other
-one_key : (a b : List (List ℕ)) → padded (octets_of a) ≡ padded (octets_of b) → size_of a ≡ size_of b → a ≡ b
-one_key a b o s =
-    let n : length (octets_of a) ≡ length (octets_of b) = omega (arith, s, size_is a, size_is b) in
-    let left = take_at (octets_of a) (replicate (255 - length (octets_of a)) 0) (length (octets_of a)) refl in
-    let right = take_at (octets_of b) (replicate (255 - length (octets_of b)) 0) (length (octets_of a)) (sym n) in
-    let same : octets_of a ≡ octets_of b = cc (left, right, o) in
-    cc (labels_of_octets a, labels_of_octets b, ap labels_of same)
-
-keys_decide : (a b : List (List ℕ)) → Decides (pointwise nat_eq (key_octets a) (key_octets b) && nat_eq (key_len a) (key_len b)) (a ≡ b)
-unfolding key_octets key_len
-keys_decide a b =
-    let octets = pointwise nat_eq (key_octets a) (key_octets b) in
-    let size = nat_eq (key_len a) (key_len b) in (
-      λ h. one_key a b ((bytes_decides (key_octets a) (key_octets b)).0 (first_so octets size h)) ((Decides-eqb (key_len a) (key_len b)).0 (second_so octets size h)),
-      λ e. both octets size ((bytes_decides (key_octets a) (key_octets b)).1 (ap key_octets e)) ((Decides-eqb (key_len a) (key_len b)).1 (ap key_len e)),
-    )
-
 types_decide : (a b : Option ℕ) → Decides (option_eq nat_eq a b) (a ≡ b)
 types_decide None None = (λ h. refl, λ h. refl)
 types_decide None (Some b) = (λ h. cc, λ h. cc)
@@ -84,11 +59,11 @@ eq_decides a b =
     let class = nat_eq a.class b.class in
     let kind = option_eq nat_eq a.kind b.kind in (
       λ h. one_slot a b
-          ((keys_decide a.key b.key).0 (first_so key (class && kind) h))
+          ((key_decides a.key b.key).0 (first_so key (class && kind) h))
           ((Decides-eqb a.class b.class).0 (first_so class kind (second_so key (class && kind) h)))
           ((types_decide a.kind b.kind).0 (second_so class kind (second_so key (class && kind) h))),
       λ e. both key (class && kind)
-          ((keys_decide a.key b.key).1 (ap (λ s. s.key) e))
+          ((key_decides a.key b.key).1 (ap (λ s. s.key) e))
           (both class kind ((Decides-eqb a.class b.class).1 (ap (λ s. s.class) e)) ((types_decide a.kind b.kind).1 (ap (λ s. s.kind) e))),
     )
 

@@ -1,6 +1,8 @@
 //! Octets that a stream is still to take.
 
 ghost use Rattle.std.specs.Prelude.{◌≡◌, ◌==◌, ◌++◌, ◌≤◌, [], length, drop, IfOk, OnOk, OnErr};
+ghost use Rattle.std.specs.Io.{WritesAtMost};
+ghost use Rattle.std.specs.Io.KnownBytes.{WriteAppends};
 
 use plain_list::Octets;
 use std::alloc::{AllocError, Allocator};
@@ -83,6 +85,8 @@ impl<A: Allocator + Copy> Unsent<A> {
     /// Has the stream take what it takes at once, and tells how many octets that were. `Err` where it took none.
     pub fn send<W: Write>(&mut self, stream: &mut W) -> io::Result<usize>
         ensures taken { IfOk result (λ count. self.new ≡ drop count self.old) }
+        ensures bound { WritesAtMost result self.old }
+        ensures written { WriteAppends (W.contents stream.old) (W.contents stream.new) result self.old }
         ensures err { OnErr result (self.new ≡ self.old) }
     {
         let count = stream.write(&self.octets[self.taken..])?;

@@ -1,11 +1,14 @@
-//! The first answer to questions of many types, with ample memory.
+//! The first answer to questions of many types, by UDP and over TCP, with ample memory.
 
-use crate::worked::{QUERY, QUESTION, WORDS, config, is_reply, send_alone, sends};
+use crate::worked::{CLIENT, QUERY, QUESTION, WORDS, comes_from, config, goes_to, send_alone};
 use forwarder_core::Forwarder;
 use lru::DefaultHasher;
 use std::alloc::{AllocError, Allocator, Global};
 use std::test::Fail;
-use step_values::{Action, Why};
+use step_values::{Action, Client, Why};
+
+/// Who asks: a client by UDP, and one over TCP.
+const CLIENTS: [Client; 2] = [CLIENT, Client::Tcp(7)];
 
 /// The message with another type and class at its end.
 fn with_kind(message: [u8; 27], kind: u16, class: u16) -> [u8; 27] {
@@ -15,26 +18,33 @@ fn with_kind(message: [u8; 27], kind: u16, class: u16) -> [u8; 27] {
     changed
 }
 
-/// The actions refuse the question of this type and class as one that is not served: NOTIMP (RFC 1035 4.1.1).
-fn refuse<A: Allocator>(actions: &[Action<A>], kind: u16, class: u16) -> bool {
+/// The actions refuse this client's question of this type and class as one that is not served: NOTIMP (RFC 1035 4.1.1).
+fn refuse<A: Allocator>(actions: &[Action<A>], client: Client, kind: u16, class: u16) -> bool {
     let mut text = with_kind(QUESTION, kind, class);
     [text[2], text[3]] = [0x81, 0x84];
     match actions {
-        [action] => is_reply(action, &text, Why::NotServed),
+        [action] => goes_to(client, action, &text, Why::NotServed),
         _ => false,
     }
 }
 
-/// A new forwarder sends a query for a question of this type and class, or refuses it where it is not to be served.
-fn is_answered(alloc: Global, kind: u16, class: u16, is_served: bool) -> Result<bool, AllocError> {
+/// A new forwarder sends a query for this client's question of this type and class, or refuses it where it is not to be
+/// served.
+fn is_answered(
+    alloc: Global,
+    client: Client,
+    kind: u16,
+    class: u16,
+    is_served: bool,
+) -> Result<bool, AllocError> {
     let mut forwarder = Forwarder::new(alloc, config(alloc)?, DefaultHasher::default())?;
-    let event = sends(alloc, &with_kind(QUESTION, kind, class))?;
+    let event = comes_from(alloc, client, &with_kind(QUESTION, kind, class))?;
     let outcome = forwarder.step(1000, WORDS, event)?;
     let actions = outcome.actions.as_slice();
     Ok(if is_served {
         send_alone(actions, &with_kind(QUERY, kind, class))
     } else {
-        refuse(actions, kind, class)
+        refuse(actions, client, kind, class)
     })
 }
 
@@ -48,10 +58,12 @@ fn questions_of_each_type(rt: HostRuntime) -> Result<(), Fail> {
             _ => true,
         };
         for (class, is_one) in [(1, true), (2, true), (3, true), (4, true), (255, false)] {
-            assert!(rt;
-                is_answered(rt.alloc(), kind, class, is_data && is_one)?,
-                "type {kind}, class {class}"
-            );
+            for client in &CLIENTS {
+                assert!(rt;
+                    is_answered(rt.alloc(), *client, kind, class, is_data && is_one)?,
+                    "type {kind}, class {class}"
+                );
+            }
         }
     }
     Ok(())

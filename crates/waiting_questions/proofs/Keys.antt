@@ -3,7 +3,7 @@ use Rattle.std.proofs.Common.{◌≡◌, ◌≢◌, ℕ, zero, suc, ◌<◌, ◌
 use Rattle.std.specs.Prelude.{filter}
 use Rattle.std.specs.List.{All, AllPairs, insert, remove, cons_option}
 use Rattle.std.proofs.lemmas.Bool.{false≢true}
-use Rattle.std.proofs.lemmas.Option.{same_Some}
+use Rattle.std.proofs.lemmas.Option.{none-some, same_Some}
 use Rattle.std.proofs.lemmas.List.Elements.{All-head, All-tail, All-weaker, All-take, All-drop, All-filter, filter_passes, filter_map-append}
 use Rattle.std.proofs.lemmas.List.Kept.{AllPairs-filter}
 use Rattle.slab.specs.Slab.{Slab, get, Updates}
@@ -40,6 +40,11 @@ at_under s (k ∷ keys) (suc i) present within =
     let a = value_of (get s k) (All-head (λ j. IsSome (get s j)) k keys present) in
     ap (λ o. slice_get (cons_option o (waiting_under s keys)) (suc i)) a.1
     ∙ at_under s keys i (All-tail (λ j. IsSome (get s j)) k keys present) (omega arith)
+
+-- what waits under the first key is the first
+pub first_under : (s : Slab Waiting) (keys : List ℕ) (key : ℕ) (x : Waiting) → slice_get keys 0 ≡ Some key → get s key ≡ Some x → slice_get (waiting_under s keys) 0 ≡ Some x
+first_under s [] key x first here = absurd (none-some key first)
+first_under s (k ∷ keys) key x first here = ap (λ o. slice_get (cons_option o (waiting_under s keys)) 0) (ap (get s) (same_Some k key first) ∙ here)
 
 -- a place among what waits is one among the keys
 pub place_under : (s : Slab Waiting) (keys : List ℕ) (items : List Waiting) (place : ℕ) → ArePresent s keys → waiting_under s keys ≡ items → place < length items → place < length keys

@@ -2,4 +2,3 @@ pub mod Lists
 pub mod Keys
 pub mod Ranges
 pub mod Indexed
-pub mod Turns

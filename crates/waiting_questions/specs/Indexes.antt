@@ -20,11 +20,6 @@ abbrev pub passes : (Waiting → Bool) → Option Waiting → Bool
 passes p None = false
 passes p (Some x) = p x
 
--- when it was taken, in milliseconds
-abbrev pub taken_of : Option Waiting → ℕ
-taken_of None = 0
-taken_of (Some x) = x.taken
-
 -- how its question compares to another
 abbrev pub to_question : QuestionKey → Waiting → Ordering
 to_question key x = key_cmp (question_key x.wanted) key
@@ -64,11 +59,11 @@ pub record IsRange (f : Waiting → Ordering) (s : Slab Waiting) (keys : List �
 
 -- those of a table, in the order of taking
 abbrev pub items_of : {A : Type 0} → Table A → List Waiting
-items_of t = waiting_under t.waiting t.in_turn.items
+items_of t = waiting_under t.waiting t.in_turn.keys
 
 abbrev pub IsIndexed : {A : Type 0} → Table A → Type 0
-IsIndexed t = AreIndexed t.waiting t.by_question.items t.in_turn.items
+IsIndexed t = AreIndexed t.waiting t.by_question.items t.in_turn.keys
 
 -- one more takes no memory
 abbrev pub has_room : {A : Type 0} → Table A → Bool
-has_room t = nat_le (slab_len t.waiting + 1) t.waiting.capacity && (nat_lt (vec_len t.by_question) (vec_capacity t.by_question) && nat_lt (vec_len t.in_turn) (vec_capacity t.in_turn))
+has_room t = nat_le (slab_len t.waiting + 1) t.waiting.capacity && (nat_lt (vec_len t.by_question) (vec_capacity t.by_question) && (t.in_turn.has_room && nat_lt t.waiting.vacant_key t.in_turn.known))

@@ -6,7 +6,8 @@ ghost use Rattle.slab.specs.Slab.{Updates};
 ghost use Rattle.waiting_questions.specs.Indexes.{has_room, items_of, to_question, IsIndexed, IsRange};
 
 use crate::keyed::Keyed;
-use crate::places::{range_of, turn_of};
+use crate::places::range_of;
+use keys_in_turn::KeysInTurn;
 use outstanding::QuestionKey;
 use slab::Slab;
 use std::alloc::{AllocError, Allocator};
@@ -18,7 +19,7 @@ use step_replies::Waiting;
 pub(crate) struct Table<A: Allocator> {
     pub(crate) waiting: Slab<Keyed<A>, A>,
     pub(crate) by_question: Vec<usize, A>,
-    pub(crate) in_turn: Vec<usize, A>,
+    pub(crate) in_turn: KeysInTurn<A>,
 }
 
 impl<A: Allocator> Table<A> {
@@ -32,7 +33,7 @@ impl<A: Allocator> Table<A> {
         Table {
             waiting: Slab::new(alloc),
             by_question: Vec::new(alloc),
-            in_turn: Vec::new(alloc),
+            in_turn: KeysInTurn::new(alloc),
         }
     }
 
@@ -49,7 +50,7 @@ impl<A: Allocator> Table<A> {
         requires { IsIndexed self.now }
         ensures { MatchOption result (items_of self.now ≡ []) (λ keyed. slice_get (items_of self.now) 0 ≡ Some keyed.now) }
     {
-        let key = *self.in_turn.first()?;
+        let key = self.in_turn.first()?;
         Some(&self.waiting[key])
     }
 
@@ -70,7 +71,7 @@ impl<A: Allocator> Table<A> {
     {
         self.waiting.reserve(1)?;
         self.by_question.reserve(1)?;
-        self.in_turn.reserve(1)
+        self.in_turn.reserve(self.waiting.vacant_key())
     }
 
     /// Puts a question last, which was taken no earlier than the others, where there is room.
@@ -87,22 +88,22 @@ impl<A: Allocator> Table<A> {
         let Ok(()) = self.by_question.insert(end, key) else {
             unreachable!();
         };
-        self.in_turn.push_reserved(key);
+        self.in_turn.put(key);
     }
 
     /// Lets the question go whose key stands at this place by question, and in this turn.
     pub(crate) fn take(&mut self, place: usize, turn: usize)
         requires indexed { IsIndexed self.old }
         requires place { place < length self.old.by_question.items }
-        requires turn { turn < length self.old.in_turn.items }
-        requires one { slice_index self.old.by_question.items place ≡ slice_index self.old.in_turn.items turn }
+        requires turn { turn < length self.old.in_turn.keys }
+        requires one { slice_index self.old.by_question.items place ≡ slice_index self.old.in_turn.keys turn }
         ensures indexed { IsIndexed self.new }
         ensures list { items_of self.new ≡ remove (items_of self.old) turn }
         ensures questions { self.new.by_question.items ≡ remove self.old.by_question.items place }
         ensures values { Updates self.old.waiting self.new.waiting (slice_index self.old.by_question.items place) None }
     {
         let key = self.by_question.remove(place);
-        self.in_turn.remove(turn);
+        self.in_turn.take(turn);
         self.waiting.remove(key);
     }
 
@@ -110,10 +111,10 @@ impl<A: Allocator> Table<A> {
     pub(crate) fn turn(&self, place: usize) -> usize
         requires indexed { IsIndexed self.now }
         requires place { place < length self.now.by_question.items }
-        ensures within { result < length self.now.in_turn.items }
-        ensures one { slice_index self.now.by_question.items place ≡ slice_index self.now.in_turn.items result }
+        ensures within { result < length self.now.in_turn.keys }
+        ensures one { slice_index self.now.by_question.items place ≡ slice_index self.now.in_turn.keys result }
     {
-        turn_of(&self.waiting, &self.in_turn, self.by_question[place])
+        self.in_turn.place_of(self.by_question[place])
     }
 
     /// Lets all go. It takes no memory.

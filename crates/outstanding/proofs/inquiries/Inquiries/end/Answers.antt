@@ -2,11 +2,8 @@ use Rattle.std.proofs.Common.{List, sym, subst}
 use Rattle.outstanding.specs.Values.{Ask}
 use Rattle.outstanding.specs.Lists.{AreListed}
 use Rattle.outstanding.specs.Tables.{asks_of}
-use Rattle.outstanding.proofs.Listed.{moments_never_fall, left}
+use Rattle.outstanding.proofs.Listed.{left}
 use Rattle.outstanding.proofs.inquiries.Inquiries.end.Goals as goal
-
-pub take-requires-clause-moments : goal.take-requires-clause-moments
-take-requires-clause-moments g c = moments_never_fall (asks_of c.self.inside.table) c.self.invariant.1.in_turn
 
 pub invariant_of-self : goal.invariant_of-self
 invariant_of-self g c = (

@@ -3,4 +3,4 @@ use Rattle.outstanding.proofs.AsksUnder.{length_under}
 use Rattle.outstanding.proofs.table.Table.len.Goals as goal
 
 pub returns : goal.returns
-returns g c = omega (arith, c.len.ensures, c.args.self.now.in_turn.ok.0, length_under c.args.self.now.asks c.args.self.now.in_turn.items c.requires.turns.present)
+returns g c = omega (arith, c.len.ensures, length_under c.args.self.now.asks c.args.self.now.in_turn.keys c.requires.turns.present)

@@ -9,4 +9,4 @@ pub returns-in_err-reserve-2-clause-indexed : goal.returns-in_err-reserve-2-clau
 returns-in_err-reserve-2-clause-indexed g c = room_indexed c.args.self.now.waiting c.reserve.new.self _ _ _ _ c.reserve.ensures.rest_kept c.reserve-2.ensures.items refl c.requires
 
 pub returns-clause-indexed : goal.returns-clause-indexed
-returns-clause-indexed g c = room_indexed c.args.self.now.waiting c.reserve.new.self _ _ _ _ c.reserve.ensures.rest_kept c.reserve-2.ensures.items c.reserve-3.ensures.items c.requires
+returns-clause-indexed g c = room_indexed c.args.self.now.waiting c.reserve.new.self _ _ _ _ c.reserve.ensures.rest_kept c.reserve-2.ensures.items c.reserve-3.ensures.same c.requires

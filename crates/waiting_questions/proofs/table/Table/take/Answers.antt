@@ -8,13 +8,13 @@ use Rattle.waiting_questions.proofs.table.Table.take.Goals as goal
 pub returns-clause-indexed : goal.returns-clause-indexed
 returns-clause-indexed g c =
     let read : slice_index c.args.self.now.by_question.items c.args.place ≡ c.remove-key.result = sym (c.remove-key.ensures.value ∙ get_or_default c.args.self.now.by_question.items c.args.place c.remove-key.result 0 c.requires.place) in
-    subst₂ (AreIndexed c.remove-2.new.self) (sym c.remove-key.ensures.items) (sym c.remove.ensures.items)
-    (take_indexed c.args.self.now.waiting c.args.self.now.by_question.items c.args.self.now.in_turn.items c.requires.indexed c.remove-2.new.self c.remove-key.result c.remove-2.ensures.updates
+    subst₂ (AreIndexed c.remove.new.self) (sym c.remove-key.ensures.items) (sym c.take.ensures.keys)
+    (take_indexed c.args.self.now.waiting c.args.self.now.by_question.items c.args.self.now.in_turn.keys c.requires.indexed c.remove.new.self c.remove-key.result c.remove.ensures.updates
     c.args.place c.args.turn c.requires.place c.requires.turn read (sym c.requires.one ∙ read))
 
 pub returns-clause-list : goal.returns-clause-list
 returns-clause-list g c =
     let read : slice_index c.args.self.now.by_question.items c.args.place ≡ c.remove-key.result = sym (c.remove-key.ensures.value ∙ get_or_default c.args.self.now.by_question.items c.args.place c.remove-key.result 0 c.requires.place) in
-    ap (λ (ks : List ℕ). waiting_under c.remove-2.new.self ks) c.remove.ensures.items
-    ∙ take_items c.args.self.now.waiting c.args.self.now.by_question.items c.args.self.now.in_turn.items c.requires.indexed c.remove-2.new.self c.remove-key.result c.remove-2.ensures.updates
+    ap (λ (ks : List ℕ). waiting_under c.remove.new.self ks) c.take.ensures.keys
+    ∙ take_items c.args.self.now.waiting c.args.self.now.by_question.items c.args.self.now.in_turn.keys c.requires.indexed c.remove.new.self c.remove-key.result c.remove.ensures.updates
     c.args.place c.args.turn c.requires.place c.requires.turn read (sym c.requires.one ∙ read)

@@ -3,8 +3,8 @@ use Rattle.waiting_questions.proofs.waiting_questions.WaitingQuestions.drop_firs
 
 pub take-requires-clause-place : goal.take-requires-clause-place
 take-requires-clause-place g c =
-    (first_stands_at c.self.inside.table.waiting c.self.inside.table.by_question.items c.self.inside.table.in_turn.items c.self.invariant c.in-Some.first.now c.in-Some.ensures c.key.result.now c.key.ensures c.range-place.result.0 c.range-place.result.1 c.range-place.ensures).0
+    (first_stands_at c.self.inside.table.waiting c.self.inside.table.by_question.items c.self.inside.table.in_turn.keys c.self.invariant c.in-Some.first.now c.in-Some.ensures c.key.result.now c.key.ensures c.range-place.result.0 c.range-place.result.1 c.range-place.ensures).0
 
 pub take-requires-clause-one : goal.take-requires-clause-one
 take-requires-clause-one g c =
-    (first_stands_at c.self.inside.table.waiting c.self.inside.table.by_question.items c.self.inside.table.in_turn.items c.self.invariant c.in-Some.first.now c.in-Some.ensures c.key.result.now c.key.ensures c.range-place.result.0 c.range-place.result.1 c.range-place.ensures).1
+    (first_stands_at c.self.inside.table.waiting c.self.inside.table.by_question.items c.self.inside.table.in_turn.keys c.self.invariant c.in-Some.first.now c.in-Some.ensures c.key.result.now c.key.ensures c.range-place.result.0 c.range-place.result.1 c.range-place.ensures).1

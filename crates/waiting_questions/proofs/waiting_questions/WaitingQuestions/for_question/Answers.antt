@@ -7,10 +7,10 @@ use Rattle.waiting_questions.proofs.waiting_questions.WaitingQuestions.for_quest
 
 pub new-requires : goal.new-requires
 new-requires g c =
-    (those_at c.self.inside.table.waiting c.self.inside.table.by_question.items c.self.inside.table.in_turn.items c.self.invariant c.args.question.now c.of.result c.of.ensures c.range-start.result.0 c.range-start.result.1 c.range-start.ensures c.deref.result.now c.deref.ensures.value).0
+    (those_at c.self.inside.table.waiting c.self.inside.table.by_question.items c.self.inside.table.in_turn.keys c.self.invariant c.args.question.now c.of.result c.of.ensures c.range-start.result.0 c.range-start.result.1 c.range-start.ensures c.deref.result.now c.deref.ensures.value).0
 
 pub returns : goal.returns
 returns g c =
     c.new.ensures
-    ∙ (those_at c.self.inside.table.waiting c.self.inside.table.by_question.items c.self.inside.table.in_turn.items c.self.invariant c.args.question.now c.of.result c.of.ensures c.range-start.result.0 c.range-start.result.1 c.range-start.ensures c.deref.result.now c.deref.ensures.value).1
+    ∙ (those_at c.self.inside.table.waiting c.self.inside.table.by_question.items c.self.inside.table.in_turn.keys c.self.invariant c.args.question.now c.of.result c.of.ensures c.range-start.result.0 c.range-start.result.1 c.range-start.ensures c.deref.result.now c.deref.ensures.value).1
     ∙ ap (λ (w : WaitingList). filter (waits_for c.args.question.now) w.items) c.self.view_is

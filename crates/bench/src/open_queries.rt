@@ -1,0 +1,171 @@
+//! What a question and its reply cost while other queries are under way, and what it costs to answer all that wait.
+
+use anyhow::Result;
+use forwarder_core::Forwarder;
+use lru::DefaultHasher;
+use plain_list::PlainList;
+use std::alloc::Global;
+use std::time::Instant;
+use step_values::{Client, Event, Path};
+use suffix_routes::{Config, Peer};
+
+/// One route for all names, and room for as many queries and questions as there may be.
+const CONFIG: &str = r#"version = 1
+[limits]
+questions = 4096
+inquiries = 1024
+[[route]]
+suffix = "."
+servers = ["192.0.2.1:53"]
+"#;
+
+/// The server of the route.
+const SERVER: Peer = Peer {
+    ip: [192, 0, 2, 1],
+    port: 53,
+};
+
+/// So often the least time is taken of.
+const ROUNDS: u32 = 5;
+
+/// So many questions are asked, each with its reply.
+const PAIRS: u16 = 20_000;
+
+/// So many clients ask each question that all wait for.
+const CLIENTS: u16 = 4;
+
+/// Four letters, other ones for each number.
+fn letters(number: u16) -> [u8; 4] {
+    [number / 4096, number / 256, number / 16, number].map(|part| b'a' + (part % 16) as u8)
+}
+
+/// A question for the address of a name with these letters in front.
+fn question(number: u16) -> [u8; 30] {
+    let mut text =
+        *b"\x12\x34\x01\x00\x00\x01\x00\x00\x00\x00\x00\x00\x04aaaa\x07example\x00\x00\x01\x00\x01";
+    [text[13], text[14], text[15], text[16]] = letters(number);
+    text
+}
+
+/// The reply to its query, which has the number as its identifier.
+fn reply(number: u16) -> [u8; 46] {
+    let mut text =
+        *b"\x00\x00\x85\x00\x00\x01\x00\x01\x00\x00\x00\x00\x04aaaa\x07example\x00\x00\x01\x00\x01\xc0\x0c\x00\x01\x00\x01\x00\x00\x01\x2c\x00\x04\xc6\x33\x64\x05";
+    [text[0], text[1]] = number.to_be_bytes();
+    [text[13], text[14], text[15], text[16]] = letters(number);
+    text
+}
+
+/// Words that give the identifier and the port of this number.
+fn words_of(number: u16) -> [u32; 8] {
+    [u32::from(number) * 65_537; 8]
+}
+
+/// When the question with this number comes, in milliseconds: 1,024 of them in each.
+fn moment_of(number: u16) -> u64 {
+    1000 + u64::from(number / 1024)
+}
+
+fn forwarder(alloc: Global) -> Result<Forwarder<DefaultHasher>> {
+    let config = Config::read(alloc, alloc, CONFIG)?;
+    Ok(Forwarder::new(alloc, config, DefaultHasher::default())?)
+}
+
+/// A client asks the question with this number.
+fn ask(
+    forwarder: &mut Forwarder<DefaultHasher>,
+    alloc: Global,
+    number: u16,
+    client: u16,
+) -> Result<()> {
+    let peer = Peer {
+        ip: [10, 0, 0, 7],
+        port: client,
+    };
+    let event = Event::Client {
+        client: Client::Udp(peer),
+        bytes: PlainList::copied(alloc, &question(number))?,
+    };
+    forwarder.step(moment_of(number), words_of(number), event)?;
+    Ok(())
+}
+
+/// The reply to the query with this number comes; how many clients it answers.
+fn answer(
+    forwarder: &mut Forwarder<DefaultHasher>,
+    alloc: Global,
+    number: u16,
+    moment: u64,
+) -> Result<usize> {
+    let event = Event::Delivery {
+        path: Path::Udp(number.wrapping_add(1024)),
+        from: SERVER,
+        bytes: PlainList::copied(alloc, &reply(number))?,
+    };
+    let outcome = forwarder.step(moment, words_of(number), event)?;
+    Ok(outcome.actions.as_slice().len().saturating_sub(1))
+}
+
+/// Nanoseconds for a question and the reply to the oldest query, while so many are under way, and how many were answered.
+fn time_of_pair(rt: &HostRuntime, open: u16) -> Result<(u128, usize)> {
+    let alloc = rt.alloc();
+    let mut forwarder = forwarder(alloc)?;
+    for number in 0..open {
+        ask(&mut forwarder, alloc, number, 40_000)?;
+    }
+    let mut answers = 0usize;
+    let started = Instant::now(rt)?;
+    for number in 0..PAIRS {
+        let newest = open.wrapping_add(number);
+        ask(&mut forwarder, alloc, newest, 40_000)?;
+        let answered = answer(&mut forwarder, alloc, number, moment_of(newest))?;
+        answers = answers.saturating_add(answered);
+    }
+    Ok((started.elapsed(rt)?.as_nanos() / u128::from(PAIRS), answers))
+}
+
+/// Nanoseconds for each question, where so many queries are replied to one after another, for each of which four clients
+/// wait, and how many were answered.
+fn time_of_all(rt: &HostRuntime, open: u16) -> Result<(u128, usize)> {
+    let alloc = rt.alloc();
+    let mut forwarder = forwarder(alloc)?;
+    for number in 0..open {
+        for client in 0..CLIENTS {
+            ask(&mut forwarder, alloc, number, client)?;
+        }
+    }
+    let mut answers = 0usize;
+    let started = Instant::now(rt)?;
+    for number in 0..open {
+        let answered = answer(&mut forwarder, alloc, number, moment_of(open))?;
+        answers = answers.saturating_add(answered);
+    }
+    let took = started.elapsed(rt)?.as_nanos();
+    Ok((took / (answers as u128).max(1), answers))
+}
+
+/// Prints what a question with its reply costs with few and with many queries under way, and what it costs to answer all
+/// that wait.
+pub fn measure(rt: &HostRuntime) -> Result<()> {
+    for open in [10u16, 100, 1000] {
+        let (mut least, mut answers) = (u128::MAX, 0usize);
+        for _ in 0..ROUNDS {
+            let (took, answered) = time_of_pair(rt, open)?;
+            least = least.min(took);
+            answers = answered;
+        }
+        println!(rt; "{open} under way: a question and a reply: {least} ns, {answers} answers")?;
+    }
+    for open in [256u16, 1024] {
+        let (mut least, mut answers) = (u128::MAX, 0usize);
+        for _ in 0..ROUNDS {
+            let (took, answered) = time_of_all(rt, open)?;
+            least = least.min(took);
+            answers = answered;
+        }
+        println!(rt;
+            "{open} under way, four wait for each: {least} ns an answer, {answers} answers"
+        )?;
+    }
+    Ok(())
+}
