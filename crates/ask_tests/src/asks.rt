@@ -57,22 +57,32 @@ fn refused<'a>(
     }
 }
 
-/// `begin` alone takes memory: each of its five growths is refused in turn, what was granted before stays, and then all
-/// are there. One more that is allowed then stays unspent over all other calls, and over a `begin` into room that there
-/// is.
+/// Each of the five growths of `begin` is refused in turn, and what was granted before stays: with the last one all are
+/// there.
+#[test]
+fn begin_takes_memory(rt: HostRuntime) -> Result<(), Fail> {
+    let heap = Refusing::new(rt.alloc());
+    let ask = ask_for(&heap, "a.example", Path::Udp(1024), 1000)?;
+    heap.allow(0);
+    let mut inquiries = Inquiries::new(&heap, 1);
+    let ask = refused(&heap, 0, &mut inquiries, ask)?;
+    let ask = refused(&heap, 1, &mut inquiries, ask)?;
+    let ask = refused(&heap, 1, &mut inquiries, ask)?;
+    let ask = refused(&heap, 1, &mut inquiries, ask)?;
+    let ask = refused(&heap, 1, &mut inquiries, ask)?;
+    heap.allow(1);
+    assert!(rt; inquiries.begin(ask).is_ok());
+    assert!(rt; Box::new(&heap, 0u8).is_err(), "no growth is left");
+    Ok(())
+}
+
+/// One growth that is allowed stays unspent over all other calls, and over a `begin` into room that there is.
 #[test]
 fn only_begin_takes_memory(rt: HostRuntime) -> Result<(), Fail> {
     let heap = Refusing::new(rt.alloc());
     let first = ask_for(&heap, "a.example", Path::Udp(1024), 1000)?;
     let second = ask_for(&heap, "A.EXAMPLE", Path::Tcp(0), 2500)?;
-    heap.allow(0);
     let mut inquiries = Inquiries::new(&heap, 1);
-    let first = refused(&heap, 0, &mut inquiries, first)?;
-    let first = refused(&heap, 1, &mut inquiries, first)?;
-    let first = refused(&heap, 1, &mut inquiries, first)?;
-    let first = refused(&heap, 1, &mut inquiries, first)?;
-    let first = refused(&heap, 1, &mut inquiries, first)?;
-    heap.allow(1);
     assert!(rt; inquiries.begin(first).is_ok());
     heap.allow(1);
     assert_eq!(rt; draw([0; 8], &inquiries, None), None);

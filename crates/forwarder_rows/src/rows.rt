@@ -112,17 +112,39 @@ fn is_as_expected<R: Files + Print + AllocGlobal>(
     names: &[String],
 ) -> io::Result<bool> {
     let told = told_by(rt, manner, row)?;
+    let prints = prints_as_expected(rt, manner, row, names, &told.stdout)?;
+    let ends = ends_as_expected(rt, manner, row, names, told.stderr.as_bytes())?;
+    Ok(prints && ends)
+}
+
+/// Whether a row prints what its file `NAME.stdout` has, which has to be there.
+fn prints_as_expected<R: Files + Print + AllocGlobal>(
+    rt: &R,
+    manner: Manner,
+    row: &str,
+    names: &[String],
+    text: &[u8],
+) -> io::Result<bool> {
     let path = format!(in rt.alloc(); "{row}.stdout")?;
     let Some(expected) = expected_in(rt, path.as_str(), names)? else {
         println!(rt; "{path}: missing")?;
         return Ok(false);
     };
-    let prints = is_told(rt, manner, path.as_str(), &expected, &told.stdout)?;
+    is_told(rt, manner, path.as_str(), &expected, text)
+}
+
+/// Whether a row ends as its file `NAME.stderr` says, and without one well.
+fn ends_as_expected<R: Files + Print + AllocGlobal>(
+    rt: &R,
+    manner: Manner,
+    row: &str,
+    names: &[String],
+    text: &[u8],
+) -> io::Result<bool> {
     let path = format!(in rt.alloc(); "{row}.stderr")?;
     let expected = expected_in(rt, path.as_str(), names)?;
     let expected = expected.unwrap_or(Vec::new(rt.alloc()));
-    let ends = is_told(rt, manner, path.as_str(), &expected, told.stderr.as_bytes())?;
-    Ok(prints && ends)
+    is_told(rt, manner, path.as_str(), &expected, text)
 }
 
 /// What a file has that tells what is expected; `None` where it is not among the folder's names.

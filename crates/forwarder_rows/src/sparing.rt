@@ -48,7 +48,7 @@ pub(crate) fn run_sparingly<W: Write>(
             Ok(before) if before < MOST_LINES => before + 1,
             _ => return Err(ReplayFault::Line(MOST_LINES + 1)),
         };
-        forwarder = run_line(alloc, &heap, script, forwarder, number, line, writer)?;
+        run_line(alloc, &heap, script, &mut forwarder, number, line, writer)?;
     }
     Ok(())
 }
@@ -106,38 +106,43 @@ fn run_line<'a, W: Write>(
     alloc: Global,
     heap: Heap<'a>,
     script: Script<'_>,
-    mut forwarder: Forwarder<DefaultHasher, Heap<'a>>,
+    forwarder: &mut Forwarder<DefaultHasher, Heap<'a>>,
     number: u32,
     line: &[u8],
     writer: &mut W,
-) -> Result<Forwarder<DefaultHasher, Heap<'a>>, ReplayFault>
+) -> Result<(), ReplayFault>
     requires { number ≤ MOST_LINES }
 {
     let handed = handed_in(heap, script, number, line)?;
     let mut unkept = Vec::new(alloc);
     for count in 0..MOST_GROWTHS {
-        let Ok(outcome) = step_with(heap, &mut forwarder, &handed, count)? else {
+        let Ok(outcome) = step_with(heap, forwarder, &handed, count)? else {
             continue;
         };
-        let is_refused = count > 0;
-        let lines = lines_of(alloc, heap, script, number, &outcome, is_refused)?;
+        let lines = lines_of(alloc, heap, script, number, &outcome, count > 0)?;
+        tell_difference(writer, number, &unkept, &lines)?;
         if outcome.unkept == 0 {
-            if !unkept.is_empty() && unkept != lines {
-                writeln!(writer, "{number} other actions where a piece was not kept")?;
-            }
             writer.write_all(&lines)?;
-            return Ok(forwarder);
-        }
-        if !unkept.is_empty() && unkept != lines {
-            writeln!(
-                writer,
-                "{number} other actions where more pieces were not kept"
-            )?;
+            return Ok(());
         }
         unkept = lines;
-        forwarder = run_before(alloc, heap, script, number)?;
+        *forwarder = run_before(alloc, heap, script, number)?;
     }
     Err(ReplayFault::Memory)
+}
+
+/// Tells where a step that kept more does something else than the one before it, which could not keep a piece. There may
+/// be none before it: then nothing is told.
+fn tell_difference<W: Write>(
+    writer: &mut W,
+    number: u32,
+    unkept: &[u8],
+    lines: &[u8],
+) -> Result<(), ReplayFault> {
+    if !unkept.is_empty() && unkept != lines {
+        writeln!(writer, "{number} other actions where a piece was not kept")?;
+    }
+    Ok(())
 }
 
 /// A step with so many growths granted.

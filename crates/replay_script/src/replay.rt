@@ -29,6 +29,16 @@ pub fn replay_run<A: Allocator + Copy, R: Read, W: Write>(
     let config = config_in(heap, alloc, config)?;
     let hasher = BuildHasherDefault::<FoldHasher>::default();
     let mut forwarder = Forwarder::new(alloc, config, hasher)?;
+    run_lines(alloc, &mut forwarder, events, writer)
+}
+
+/// Runs the event lines, the last of which may end in a line feed.
+fn run_lines<A: Allocator + Copy, W: Write>(
+    alloc: A,
+    forwarder: &mut Forwarder<BuildHasherDefault<FoldHasher>, A>,
+    events: &[u8],
+    writer: &mut W,
+) -> Result<(), ReplayFault> {
     if events.is_empty() {
         return Ok(());
     }
@@ -38,7 +48,7 @@ pub fn replay_run<A: Allocator + Copy, R: Read, W: Write>(
             Ok(before) if before < MOST_LINES => before + 1,
             _ => return Err(ReplayFault::Line(MOST_LINES + 1)),
         };
-        run_line(alloc, &mut forwarder, number, line, writer)?;
+        run_line(alloc, forwarder, number, line, writer)?;
     }
     Ok(())
 }
