@@ -76,6 +76,19 @@ fn begin_takes_memory(rt: HostRuntime) -> Result<(), Fail> {
     Ok(())
 }
 
+/// Draws and look-ups find the ask that is listed, and its like.
+fn are_found<'a>(
+    inquiries: &Inquiries<&'a Refusing<Global>>,
+    question: &Question<&'a Refusing<Global>>,
+) -> bool {
+    draw([0; 8], inquiries, None).is_none()
+        && draw([0; 8], inquiries, Some(1024)) == Some((0, 1024))
+        && draw([u32::MAX; 8], inquiries, None) == Some((65535, 2047))
+        && inquiries.next_due(1500) == Some((2500, Path::Udp(1024)))
+        && inquiries.by_question(question).is_some()
+        && inquiries.by_path(Path::Udp(1024)).is_some()
+}
+
 /// One growth that is allowed stays unspent over all other calls, and over a `begin` into room that there is.
 #[test]
 fn only_begin_takes_memory(rt: HostRuntime) -> Result<(), Fail> {
@@ -85,12 +98,7 @@ fn only_begin_takes_memory(rt: HostRuntime) -> Result<(), Fail> {
     let mut inquiries = Inquiries::new(&heap, 1);
     assert!(rt; inquiries.begin(first).is_ok());
     heap.allow(1);
-    assert_eq!(rt; draw([0; 8], &inquiries, None), None);
-    assert_eq!(rt; draw([0; 8], &inquiries, Some(1024)), Some((0, 1024)));
-    assert_eq!(rt; draw([u32::MAX; 8], &inquiries, None), Some((65535, 2047)));
-    assert_eq!(rt; inquiries.next_due(1500), Some((2500, Path::Udp(1024))));
-    assert!(rt; inquiries.by_question(&second.question).is_some());
-    assert!(rt; inquiries.by_path(Path::Udp(1024)).is_some());
+    assert!(rt; are_found(&inquiries, &second.question));
     let ended = inquiries.replace(Path::Udp(1024), second);
     assert_eq!(rt; ended.path, Path::Udp(1024));
     assert!(rt; inquiries.end(Path::Udp(1024)).is_none());
