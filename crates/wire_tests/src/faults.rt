@@ -1,8 +1,8 @@
 //! Turns over a wire that refuses calls, and turns without memory.
 
 use crate::worked::{
-    QUESTION, SECOND, SERVER, answers, asks, asks_at, closes, counted, fails, forwarder,
-    forwarder_to, gives_up, piece, question, reply, reply_from, wire,
+    SECOND, SERVER, answers, asks, asks_at, closes, counted, fails, forwarder, gives_up, question,
+    reply, reply_from, serve_anew, wire, wire_of_two_pieces,
 };
 use network_model::{Arrival, Served, Wire, serve};
 use refusing_allocator::Refusing;
@@ -10,39 +10,47 @@ use std::alloc::{AllocError, Allocator, Global};
 use std::test::Fail;
 use step_values::Action;
 
-/// The calls are: the arrival, the ask that is refused, the close of its path, the next ask.
+/// The ask that is refused, the close of its path, the next ask.
+fn is_asked_again<A: Allocator>(puts: &[(Action<A>, bool)]) -> bool {
+    match puts {
+        [first, second, third] => asks(first, false) && closes(second) && asks(third, true),
+        _ => false,
+    }
+}
+
+/// The first call is the arrival.
 #[test]
 fn a_refused_ask_is_a_failed_path(rt: HostRuntime) -> Result<(), Fail> {
     let heap = Refusing::new(rt.alloc());
-    let mut forwarder = forwarder(&heap)?;
     let mut wire = wire(&heap, question(&heap)?, Arrival::Nothing, &[1])?;
-    let served = serve(&heap, &mut wire, &mut forwarder, 2)?;
+    let served = serve_anew(&heap, &mut wire, &[SERVER], 2)?;
     assert_eq!(rt; served, counted(2, 0));
     assert_eq!(rt; wire.faults(), 1);
-    match wire.puts() {
-        [first, second, third] => {
-            assert!(rt; asks(first, false) && closes(second) && asks(third, true));
-        }
-        _ => assert!(rt; false),
-    }
+    assert!(rt; is_asked_again(wire.puts()));
     Ok(())
 }
 
-/// As above with a second server, which is asked next, and answers.
+/// The ask that is refused, the close of its path, the ask of the second server, which answers.
+fn is_answered_by_the_second<A: Allocator>(puts: &[(Action<A>, bool)]) -> bool {
+    match puts {
+        [first, second, third, fourth, fifth] => {
+            asks(first, false)
+                && closes(second)
+                && asks_at(third, SECOND, true)
+                && closes(fourth)
+                && answers(fifth, true)
+        }
+        _ => false,
+    }
+}
+
 #[test]
 fn behind_a_refused_ask_the_next_server_is_asked(rt: HostRuntime) -> Result<(), Fail> {
     let heap = Refusing::new(rt.alloc());
-    let mut forwarder = forwarder_to(&heap, &[SERVER, SECOND])?;
     let mut wire = wire(&heap, question(&heap)?, reply_from(&heap, SECOND)?, &[1])?;
-    let served = serve(&heap, &mut wire, &mut forwarder, 3)?;
+    let served = serve_anew(&heap, &mut wire, &[SERVER, SECOND], 3)?;
     assert_eq!(rt; served, counted(3, 0));
-    match wire.puts() {
-        [first, second, third, fourth, fifth] => {
-            assert!(rt; asks(first, false) && closes(second) && asks_at(third, SECOND, true));
-            assert!(rt; closes(fourth) && answers(fifth, true));
-        }
-        _ => assert!(rt; false),
-    }
+    assert!(rt; is_answered_by_the_second(wire.puts()));
     Ok(())
 }
 
@@ -60,10 +68,9 @@ fn is_refused<A: Allocator>(place: usize, put: &(Action<A>, bool)) -> bool {
 #[test]
 fn every_put_is_refused(rt: HostRuntime) -> Result<(), Fail> {
     let heap = Refusing::new(rt.alloc());
-    let mut forwarder = forwarder_to(&heap, &[SERVER, SECOND])?;
     let calls = [1, 2, 3, 4, 5, 6, 7, 8, 9];
     let mut wire = wire(&heap, question(&heap)?, Arrival::Nothing, &calls)?;
-    let served = serve(&heap, &mut wire, &mut forwarder, 1)?;
+    let served = serve_anew(&heap, &mut wire, &[SERVER, SECOND], 1)?;
     assert_eq!(rt; served, counted(1, 5));
     assert_eq!(rt; wire.puts().len(), 9);
     for (place, put) in wire.puts().iter().enumerate() {
@@ -72,42 +79,53 @@ fn every_put_is_refused(rt: HostRuntime) -> Result<(), Fail> {
     Ok(())
 }
 
-/// The calls are: an arrival and the ask, an arrival, the close and the reply that is refused.
+/// The ask, the close of its path, and the reply that is refused.
+fn is_answered_in_vain<A: Allocator>(puts: &[(Action<A>, bool)]) -> bool {
+    match puts {
+        [first, second, third] => asks(first, true) && closes(second) && answers(third, false),
+        _ => false,
+    }
+}
+
+/// Two arrivals are calls as well.
 #[test]
 fn a_refused_reply_is_counted(rt: HostRuntime) -> Result<(), Fail> {
     let heap = Refusing::new(rt.alloc());
-    let mut forwarder = forwarder(&heap)?;
     let mut wire = wire(&heap, question(&heap)?, reply(&heap)?, &[4])?;
-    let served = serve(&heap, &mut wire, &mut forwarder, 2)?;
+    let served = serve_anew(&heap, &mut wire, &[SERVER], 2)?;
     assert_eq!(rt; served, counted(2, 1));
-    match wire.puts() {
-        [first, second, third] => {
-            assert!(rt; asks(first, true) && closes(second) && answers(third, false));
-        }
-        _ => assert!(rt; false),
-    }
+    assert!(rt; is_answered_in_vain(wire.puts()));
     Ok(())
+}
+
+/// Two turns in which the question comes in two pieces, while the readers of pieces are granted so many growths of this
+/// heap: how many puts there were, or `None` where memory ran out.
+fn puts_with<'a>(
+    ample: &'a Refusing<Global>,
+    heap: &'a Refusing<Global>,
+    count: u64,
+) -> Result<Option<usize>, AllocError> {
+    let mut forwarder = forwarder(ample)?;
+    let mut wire = wire_of_two_pieces(ample)?;
+    heap.allow(count);
+    match serve(heap, &mut wire, &mut forwarder, 2) {
+        Ok(_) => Ok(Some(wire.puts().len())),
+        Err(_) => Ok(None),
+    }
 }
 
 #[test]
 fn a_reader_without_memory_ends_the_call(rt: HostRuntime) -> Result<(), Fail> {
     let ample = Refusing::new(rt.alloc());
     let heap = Refusing::new(rt.alloc());
-    let mut refused = 0u64;
-    for count in 0..20u64 {
-        let mut forwarder = forwarder(&ample)?;
-        let rest = piece(&ample, 3, &QUESTION[1..])?;
-        let mut wire = wire(&ample, piece(&ample, 3, b"\x00\x1b\x12")?, rest, &[])?;
-        heap.allow(count);
-        let served = serve(&heap, &mut wire, &mut forwarder, 2);
-        heap.allow(u64::MAX);
-        if served.is_ok() {
-            assert_eq!(rt; wire.puts().len(), 1);
-            break;
-        }
-        refused = refused.saturating_add(1);
+    for count in 0..4 {
+        assert_eq!(rt;
+            puts_with(&ample, &heap, count)?,
+            None,
+            "with {count} growths"
+        );
     }
-    assert_eq!(rt; refused, 4);
+    assert_eq!(rt; puts_with(&ample, &heap, 4)?, Some(1));
     Ok(())
 }
 

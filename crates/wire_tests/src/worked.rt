@@ -5,7 +5,7 @@ ghost use Rattle.std.specs.Prelude.{◌<◌, ◌≤◌, length};
 use dns_name::Name;
 use forwarder_core::Forwarder;
 use lru::DefaultHasher;
-use network_model::{Arrival, ScriptTurn, ScriptWire, Served};
+use network_model::{Arrival, ScriptTurn, ScriptWire, Served, serve};
 use plain_list::PlainList;
 use std::alloc::{AllocError, Allocator};
 use step_values::{Action, Client, Why};
@@ -136,6 +136,27 @@ pub(crate) fn wire<A: Allocator + Copy>(
         words: WORDS,
     })?;
     Ok(ScriptWire::new(alloc, turns, Vec::from_slice(alloc, refuse)?))
+}
+
+/// A wire on which the question comes over a client's connection in two pieces.
+pub(crate) fn wire_of_two_pieces<A: Allocator + Copy>(
+    alloc: A,
+) -> Result<ScriptWire<A>, AllocError> {
+    let rest = piece(alloc, 3, &QUESTION[1..])?;
+    wire(alloc, piece(alloc, 3, b"\x00\x1b\x12")?, rest, &[])
+}
+
+/// Serves so many turns over a wire with a new forwarder, as [`forwarder_to`].
+pub(crate) fn serve_anew<A: Allocator + Copy>(
+    alloc: A,
+    wire: &mut ScriptWire<A>,
+    servers: &[Peer],
+    turns: u64,
+) -> Result<Served, AllocError>
+    requires { (0 < length servers.now) × (length servers.now ≤ 8) }
+{
+    let mut forwarder = forwarder_to(alloc, servers)?;
+    serve(alloc, wire, &mut forwarder, turns)
 }
 
 /// The query goes to the server from its port, and was or wasn't refused.
