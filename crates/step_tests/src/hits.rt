@@ -34,20 +34,31 @@ fn granted<'a>(
 }
 
 /// The question wants all of these growths, and then gets this reply alone.
-fn wants_them(alloc: Global, question: &[u8], text: &[u8], why: Why) -> Result<bool, Fail> {
-    let heap = Refusing::new(alloc);
-    let mut forwarder = asked(&heap)?;
-    let _answered = forwarder.step(1020, WORDS, replies(&heap)?)?;
+fn wants_all<'a>(
+    heap: &'a Refusing<Global>,
+    forwarder: &mut Forwarder<DefaultHasher, &'a Refusing<Global>>,
+    question: &[u8],
+    text: &[u8],
+    why: Why,
+) -> Result<bool, AllocError> {
     for count in 0..GROWTHS {
-        if granted(&heap, &mut forwarder, question, count).is_ok() {
+        if granted(heap, forwarder, question, count).is_ok() {
             return Ok(false);
         }
     }
-    let outcome = granted(&heap, &mut forwarder, question, GROWTHS)?;
+    let outcome = granted(heap, forwarder, question, GROWTHS)?;
     match outcome.actions.as_slice() {
         [reply] => Ok(is_reply(reply, text, why)),
         _ => Ok(false),
     }
+}
+
+/// The same of a forwarder that has kept the reply's set.
+fn wants_them(alloc: Global, question: &[u8], text: &[u8], why: Why) -> Result<bool, AllocError> {
+    let heap = Refusing::new(alloc);
+    let mut forwarder = asked(&heap)?;
+    let _answered = forwarder.step(1020, WORDS, replies(&heap)?)?;
+    wants_all(&heap, &mut forwarder, question, text, why)
 }
 
 #[test]

@@ -80,14 +80,24 @@ fn event<A: Allocator + Copy>(alloc: A, row: Row) -> Result<Event<A>, AllocError
     }
 }
 
+/// The step of a row has no action and takes no memory.
+fn is_quiet_row<'a>(
+    heap: &'a Refusing<Global>,
+    forwarder: &mut Forwarder<DefaultHasher, &'a Refusing<Global>>,
+    now: u64,
+    row: Row,
+) -> Result<bool, AllocError> {
+    let event = event(heap, row)?;
+    is_quiet(heap, forwarder, now, event)
+}
+
 #[test]
 fn what_calls_for_nothing_takes_no_memory(rt: HostRuntime) -> Result<(), Fail> {
     let heap = Refusing::new(rt.alloc());
     let mut forwarder = asked(&heap)?;
     for (number, (now, row)) in ROWS.iter().enumerate() {
-        let event = event(&heap, *row)?;
         assert!(rt;
-            is_quiet(&heap, &mut forwarder, *now, event)?,
+            is_quiet_row(&heap, &mut forwarder, *now, *row)?,
             "row {number}"
         );
     }

@@ -4,7 +4,7 @@ use crate::worked::{QUERY, QUESTION, WORDS, answer_whole, config, replies, send_
 use lru::DefaultHasher;
 use network_model::{Recorded, run_list};
 use refusing_allocator::Refusing;
-use std::alloc::{AllocError, Allocator};
+use std::alloc::{AllocError, Allocator, Global};
 use std::test::Fail;
 use step_values::{Handed, Step};
 
@@ -73,30 +73,53 @@ fn a_run_over_a_list(rt: HostRuntime) -> Result<(), Fail> {
     Ok(())
 }
 
-/// A refused step changes nothing: made again with memory, it and those before it are the worked ones.
+/// A run that has made the first step.
+fn begun<'a>(
+    heap: &'a Refusing<Global>,
+) -> Result<Recorded<DefaultHasher, &'a Refusing<Global>>, AllocError> {
+    let mut recorded = Recorded::new(heap, config(heap)?, DefaultHasher::default())?;
+    recorded.step(first(heap)?)?;
+    Ok(recorded)
+}
+
+/// The second step, which is granted so many growths; whether it was made.
+fn made_with<'a>(
+    heap: &'a Refusing<Global>,
+    recorded: &mut Recorded<DefaultHasher, &'a Refusing<Global>>,
+    count: u64,
+) -> Result<bool, AllocError> {
+    let handed = second(heap)?;
+    heap.allow(count);
+    let outcome = recorded.step(handed);
+    heap.allow(u64::MAX);
+    Ok(outcome.is_ok())
+}
+
+/// The second step was refused and changed nothing: made again with memory, it and the first are the worked ones.
+fn is_made_again<'a>(
+    heap: &'a Refusing<Global>,
+    recorded: &mut Recorded<DefaultHasher, &'a Refusing<Global>>,
+) -> Result<bool, AllocError> {
+    let was_first_alone = recorded.steps().len() == 1;
+    recorded.step(second(heap)?)?;
+    Ok(was_first_alone && are_worked(recorded.steps(), 0))
+}
+
 #[test]
 fn a_recorded_run(rt: HostRuntime) -> Result<(), Fail> {
     let heap = Refusing::new(rt.alloc());
     let (mut refused, mut unkept) = (0u64, 0u64);
     for count in 0..200u64 {
-        let mut recorded = Recorded::new(&heap, config(&heap)?, DefaultHasher::default())?;
-        recorded.step(first(&heap)?)?;
-        let handed = second(&heap)?;
-        heap.allow(count);
-        let outcome = recorded.step(handed);
-        heap.allow(u64::MAX);
-        if are_worked(recorded.steps(), 0) {
+        let mut recorded = begun(&heap)?;
+        if !made_with(&heap, &mut recorded, count)? {
+            assert!(rt; is_made_again(&heap, &mut recorded)?, "after {count}");
+            refused = refused.saturating_add(1);
+        } else if are_worked(recorded.steps(), 0) {
             break;
-        }
-        if outcome.is_ok() {
+        } else {
             assert!(rt; are_worked(recorded.steps(), 1), "after {count}");
             unkept = unkept.saturating_add(1);
-            continue;
         }
-        refused = refused.saturating_add(1);
-        assert_eq!(rt; recorded.steps().len(), 1, "after {count}");
-        recorded.step(second(&heap)?)?;
-        assert!(rt; are_worked(recorded.steps(), 0), "after {count}");
     }
     // Those of the step, and the copy of its event.
     assert_eq!(rt; (refused, unkept), (14 + 1, 1));
