@@ -273,25 +273,37 @@ fn offer_name_error(alloc: Global, cache: &mut Cache<RandomState>, config: &Conf
     Ok(())
 }
 
+/// How many of so many calls give an answer from the entry at hand.
+fn answers_from(alloc: Global, held: &Held, octets: &[u8], text: &mut Vec<u8>) -> Result<usize> {
+    let mut answers = 0usize;
+    for _ in 0..CALLS {
+        if answer_from(alloc, held, octets, text)? {
+            answers = answers.saturating_add(1);
+        }
+    }
+    Ok(answers)
+}
+
+/// How many answers a round gives from the entry at hand, and the least time of one, in nanoseconds.
+fn time_of_text(rt: &HostRuntime, held: &Held, octets: &[u8]) -> Result<(usize, u128)> {
+    let mut text = Vec::with_capacity(rt.alloc(), 512)?;
+    let mut least = u128::MAX;
+    let mut answers = 0usize;
+    for _ in 0..ROUNDS {
+        let started = Instant::now(rt)?;
+        answers = answers_from(rt.alloc(), held, octets, &mut text)?;
+        least = least.min(each(rt, &started, CALLS, 1)?);
+    }
+    Ok((answers, least))
+}
+
 /// Prints what an answer costs that no look-up precedes: the question's octets, its key, the answer's octets.
 fn measure_text(rt: &HostRuntime) -> Result<()> {
     let alloc = rt.alloc();
     let held = held_of(alloc, 1)?;
     let octets = question_of(alloc, &numbered(alloc, 1)?)?;
-    let mut text = Vec::with_capacity(alloc, 512)?;
-    let mut least = u128::MAX;
-    let mut answers = 0usize;
-    for _ in 0..ROUNDS {
-        answers = 0;
-        let started = Instant::now(rt)?;
-        for _ in 0..CALLS {
-            if answer_from(alloc, &held, octets.as_slice(), &mut text)? {
-                answers = answers.saturating_add(1);
-            }
-        }
-        least = least.min(each(rt, &started, CALLS, 1)?);
-    }
-    println!(rt; "without a look-up: {answers} answers, {least} ns")?;
+    let (answers, took) = time_of_text(rt, &held, octets.as_slice())?;
+    println!(rt; "without a look-up: {answers} answers, {took} ns")?;
     Ok(())
 }
 

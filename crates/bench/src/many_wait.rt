@@ -47,6 +47,34 @@ fn client(number: u16, over_tcp: bool) -> Client {
     })
 }
 
+/// A forwarder that so many clients have asked the question.
+fn asked(
+    alloc: Global,
+    question: &[u8],
+    waiting: u16,
+    over_tcp: bool,
+) -> Result<Forwarder<DefaultHasher>> {
+    let config = Config::read(alloc, alloc, CONFIG)?;
+    let mut forwarder = Forwarder::new(alloc, config, DefaultHasher::default())?;
+    for number in 0..waiting {
+        let client = client(number, over_tcp);
+        let bytes = PlainList::copied(alloc, question)?;
+        forwarder.step(1000, WORDS, Event::Client { client, bytes })?;
+    }
+    Ok(forwarder)
+}
+
+/// How many octets the actions send to clients.
+fn octets_sent(actions: &[Action]) -> usize {
+    let mut sent = 0usize;
+    for action in actions {
+        if let Action::Reply { bytes, .. } = action {
+            sent = sent.saturating_add(bytes.as_slice().len());
+        }
+    }
+    sent
+}
+
 /// How long the step with the reply takes in nanoseconds where so many wait for it, and how many octets it sends.
 fn time_of_reply(
     rt: &HostRuntime,
@@ -56,13 +84,7 @@ fn time_of_reply(
     over_tcp: bool,
 ) -> Result<(u128, usize)> {
     let alloc = rt.alloc();
-    let config = Config::read(alloc, alloc, CONFIG)?;
-    let mut forwarder = Forwarder::new(alloc, config, DefaultHasher::default())?;
-    for number in 0..waiting {
-        let client = client(number, over_tcp);
-        let bytes = PlainList::copied(alloc, question)?;
-        forwarder.step(1000, WORDS, Event::Client { client, bytes })?;
-    }
+    let mut forwarder = asked(alloc, question, waiting, over_tcp)?;
     let event = Event::Delivery {
         path: PATH,
         from: SERVER,
@@ -71,13 +93,7 @@ fn time_of_reply(
     let started = Instant::now(rt)?;
     let outcome = forwarder.step(1020, WORDS, event)?;
     let took = started.elapsed(rt)?.as_nanos();
-    let mut sent = 0usize;
-    for action in outcome.actions.as_slice() {
-        if let Action::Reply { bytes, .. } = action {
-            sent = sent.saturating_add(bytes.as_slice().len());
-        }
-    }
-    Ok((took, sent))
+    Ok((took, octets_sent(outcome.actions.as_slice())))
 }
 
 /// Prints how long the step with the reply takes where one and where 1,000 wait for it, over UDP and over TCP. The files

@@ -106,40 +106,58 @@ fn answer(
     Ok(outcome.actions.as_slice().len().saturating_sub(1))
 }
 
-/// Nanoseconds for a question and the reply to the oldest query, while so many are under way, and how many were answered.
-fn time_of_pair(rt: &HostRuntime, open: u16) -> Result<(u128, usize)> {
-    let alloc = rt.alloc();
+/// A forwarder with so many queries under way, for each of which so many clients wait.
+fn waited_for(alloc: Global, open: u16, clients: u16) -> Result<Forwarder<DefaultHasher>> {
     let mut forwarder = forwarder(alloc)?;
     for number in 0..open {
-        ask(&mut forwarder, alloc, number, 40_000)?;
+        for client in 0..clients {
+            ask(&mut forwarder, alloc, number, client)?;
+        }
     }
+    Ok(forwarder)
+}
+
+/// Asks one question after another, each with the reply to the oldest of so many queries and the new one; how many were
+/// answered.
+fn answer_pairs(
+    forwarder: &mut Forwarder<DefaultHasher>,
+    alloc: Global,
+    open: u16,
+) -> Result<usize> {
     let mut answers = 0usize;
-    let started = Instant::now(rt)?;
     for number in 0..PAIRS {
         let newest = open.wrapping_add(number);
-        ask(&mut forwarder, alloc, newest, 40_000)?;
-        let answered = answer(&mut forwarder, alloc, number, moment_of(newest))?;
+        ask(forwarder, alloc, newest, 0)?;
+        let answered = answer(forwarder, alloc, number, moment_of(newest))?;
         answers = answers.saturating_add(answered);
     }
+    Ok(answers)
+}
+
+/// Replies to so many queries one after another; how many clients that answers.
+fn answer_all(forwarder: &mut Forwarder<DefaultHasher>, alloc: Global, open: u16) -> Result<usize> {
+    let mut answers = 0usize;
+    for number in 0..open {
+        let answered = answer(forwarder, alloc, number, moment_of(open))?;
+        answers = answers.saturating_add(answered);
+    }
+    Ok(answers)
+}
+
+/// Nanoseconds for a question and the reply to the oldest query, while so many are under way, and how many were answered.
+fn time_of_pair(rt: &HostRuntime, open: u16) -> Result<(u128, usize)> {
+    let mut forwarder = waited_for(rt.alloc(), open, 1)?;
+    let started = Instant::now(rt)?;
+    let answers = answer_pairs(&mut forwarder, rt.alloc(), open)?;
     Ok((started.elapsed(rt)?.as_nanos() / u128::from(PAIRS), answers))
 }
 
 /// Nanoseconds for each question, where so many queries are replied to one after another, for each of which four clients
 /// wait, and how many were answered.
 fn time_of_all(rt: &HostRuntime, open: u16) -> Result<(u128, usize)> {
-    let alloc = rt.alloc();
-    let mut forwarder = forwarder(alloc)?;
-    for number in 0..open {
-        for client in 0..CLIENTS {
-            ask(&mut forwarder, alloc, number, client)?;
-        }
-    }
-    let mut answers = 0usize;
+    let mut forwarder = waited_for(rt.alloc(), open, CLIENTS)?;
     let started = Instant::now(rt)?;
-    for number in 0..open {
-        let answered = answer(&mut forwarder, alloc, number, moment_of(open))?;
-        answers = answers.saturating_add(answered);
-    }
+    let answers = answer_all(&mut forwarder, rt.alloc(), open)?;
     let took = started.elapsed(rt)?.as_nanos();
     Ok((took / (answers as u128).max(1), answers))
 }

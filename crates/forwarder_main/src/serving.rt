@@ -1,7 +1,7 @@
 //! The service: a forwarder over sockets.
 
 use forwarder_core::Forwarder;
-use network_model::{Served, serve};
+use network_model::{Served, Wire, serve};
 use replay_script::ReplayFault;
 use socket_wire::MioWire;
 use std::alloc::Allocator;
@@ -20,8 +20,19 @@ pub fn serve_config<R: Net + Clock + RandomSource, A: Allocator + Copy>(
     turns: u64,
 ) -> Result<Served, ReplayFault> {
     let mut wire = MioWire::new(rt, alloc, config.listen, config.limits.deadline_ms)?;
+    serve_over(rt, alloc, &mut wire, config, turns)
+}
+
+/// The same over a wire that listens. No stranger knows the hasher.
+fn serve_over<R: RandomSource, A: Allocator + Copy, W: Wire<A>>(
+    rt: &R,
+    alloc: A,
+    wire: &mut W,
+    config: Config<A>,
+    turns: u64,
+) -> Result<Served, ReplayFault> {
     let hasher = RandomState::new(rt)?;
     let mut forwarder = Forwarder::new(alloc, config, hasher)?;
-    let served = serve(alloc, &mut wire, &mut forwarder, turns)?;
+    let served = serve(alloc, wire, &mut forwarder, turns)?;
     Ok(served)
 }

@@ -43,12 +43,23 @@ pub(crate) fn run_sparingly<W: Write>(
     if events.is_empty() {
         return Ok(());
     }
+    run_lines(alloc, &heap, script, &mut forwarder, writer)
+}
+
+/// Runs the lines of a script one after another.
+fn run_lines<'a, W: Write>(
+    alloc: Global,
+    heap: Heap<'a>,
+    script: Script<'_>,
+    forwarder: &mut Forwarder<DefaultHasher, Heap<'a>>,
+    writer: &mut W,
+) -> Result<(), ReplayFault> {
     for (before, line) in script.events.split(|octet| *octet == b'\n').enumerate() {
         let number = match u32::try_from(before) {
             Ok(before) if before < MOST_LINES => before + 1,
             _ => return Err(ReplayFault::Line(MOST_LINES + 1)),
         };
-        run_line(alloc, &heap, script, &mut forwarder, number, line, writer)?;
+        run_line(alloc, heap, script, forwarder, number, line, writer)?;
     }
     Ok(())
 }
