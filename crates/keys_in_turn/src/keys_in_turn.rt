@@ -1,10 +1,11 @@
 //! Keys in turn.
 
-ghost use Rattle.std.specs.Prelude.{◌≡◌, ◌≢◌, ◌<◌, ◌==◌, ◌∷◌, ◌++◌, [], true, length, OnOk, position, slice_get, slice_index};
+ghost use Rattle.std.specs.Prelude.{◌≡◌, ◌≢◌, ◌<◌, ◌≤◌, ◌==◌, ◌∷◌, ◌++◌, [], true, drop, length, OnOk, position, slice_get, slice_index};
 ghost use Rattle.std.specs.List.{remove, All, Contains};
 ghost use Rattle.keys_in_turn.specs.Turns.{AreNumbered, IsBehindAll};
 
 use std::alloc::{AllocError, Allocator, Global};
+use std::collections::VecDeque;
 use std::marker::Model;
 
 /// Keys in the order in which they were put, none of them twice. Each has a number, which is not below those of the keys
@@ -12,18 +13,19 @@ use std::marker::Model;
 /// highest one that was put are kept.
 #[derive(Drop)]
 pub struct KeysInTurn<A: Allocator = Global> {
-    keys: Vec<usize, A>,
+    keys: VecDeque<usize, A>,
     /// The number of each key, at the key.
     numbers: Vec<u64, A>,
 }
 
 impl<A: Allocator> Model for KeysInTurn<A> {
-    ghost use Rattle.std.specs.Prelude.{length, nat_lt, vec_len, vec_capacity};
+    ghost use Rattle.std.specs.Prelude.{length, nat_lt};
+    ghost use Rattle.std.specs.VecDeque.{deque_len, deque_capacity};
     ghost use Rattle.keys_in_turn.specs.Turns.{AreNumbered, KeysInTurn};
 
     ghost Value = { KeysInTurn };
 
-    ghost view = { λ k. record { keys = k.keys.items; has_room = nat_lt (vec_len k.keys) (vec_capacity k.keys); known = length k.numbers.items } };
+    ghost view = { λ k. record { keys = k.keys.items; has_room = nat_lt (deque_len k.keys) (deque_capacity k.keys); known = length k.numbers.items } };
 
     ghost invariant = { λ k. AreNumbered k.numbers.items k.keys.items };
 }
@@ -36,7 +38,7 @@ impl<A: Allocator> KeysInTurn<A> {
         ensures { result.keys ≡ [] }
     {
         KeysInTurn {
-            keys: Vec::new(alloc),
+            keys: VecDeque::new(alloc),
             numbers: Vec::new(alloc),
         }
     }
@@ -52,7 +54,7 @@ impl<A: Allocator> KeysInTurn<A> {
     pub fn first(&self) -> Option<usize>
         ensures { result ≡ slice_get self.now.keys 0 }
     {
-        self.keys.first().copied()
+        self.keys.front().copied()
     }
 
     /// Makes room for this key. `Err` where memory ran out; the keys are the same in either case.
@@ -79,7 +81,7 @@ impl<A: Allocator> KeysInTurn<A> {
         ensures known { self.new.known ≡ self.old.known }
     {
         self.numbers[key] = next_number(&self.numbers, &self.keys);
-        self.keys.push_reserved(key);
+        self.keys.push_back_reserved(key);
     }
 
     /// Where a key stands, counted from 0. It takes no memory.
@@ -99,7 +101,9 @@ impl<A: Allocator> KeysInTurn<A> {
         ensures freed { slice_index self.old.keys place < self.new.known }
         ensures known { self.new.known ≡ self.old.known }
     {
-        self.keys.remove(place);
+        let Some(_) = self.keys.remove(place) else {
+            unreachable!();
+        };
     }
 
     /// Takes all keys out. It takes no memory.
@@ -123,11 +127,11 @@ fn number_of(numbers: &[u64], key: usize) -> u64
 
 /// The number of the next key: one more than that of the last, and where there is none 0. It stays at the highest number,
 /// which no keys come to.
-fn next_number(numbers: &[u64], keys: &[usize]) -> u64
-    requires { AreNumbered numbers.now keys.now }
-    ensures { IsBehindAll numbers.now keys.now result }
+fn next_number<A: Allocator>(numbers: &[u64], keys: &VecDeque<usize, A>) -> u64
+    requires { AreNumbered numbers.now keys.now.items }
+    ensures { IsBehindAll numbers.now keys.now.items result }
 {
-    match keys.last() {
+    match keys.back() {
         Some(key) => number_of(numbers, *key).saturating_add(1),
         None => 0,
     }
@@ -135,23 +139,28 @@ fn next_number(numbers: &[u64], keys: &[usize]) -> u64
 
 /// Where a key stands. Of the other keys, those alone are looked at that the search by halves meets, and those with an equal
 /// number: there is none below the highest number.
-fn place_in(numbers: &[u64], keys: &[usize], key: usize) -> usize
-    requires numbered { AreNumbered numbers.now keys.now }
-    requires listed { Contains keys.now key }
-    ensures within { result < length keys.now }
-    ensures stands { slice_index keys.now result ≡ key }
+fn place_in<A: Allocator>(numbers: &[u64], keys: &VecDeque<usize, A>, key: usize) -> usize
+    requires numbered { AreNumbered numbers.now keys.now.items }
+    requires listed { Contains keys.now.items key }
+    ensures within { result < length keys.now.items }
+    ensures stands { slice_index keys.now.items result ≡ key }
 {
     let number = number_of(numbers, key);
     let start = keys.partition_point(|other| number_of(numbers, *other) < number);
-    let Some(offset) = first_place(&keys[start..], key) else {
+    let Some(offset) = first_place(keys, start, key) else {
         unreachable!();
     };
     start + offset
 }
 
-/// Where a key stands first.
-fn first_place(keys: &[usize], key: usize) -> Option<usize>
-    ensures { result ≡ position (λ k. k == key) keys.now }
+/// Where a key stands first, counted from a place on.
+fn first_place<A: Allocator>(
+    keys: &VecDeque<usize, A>,
+    start: usize,
+    key: usize,
+) -> Option<usize>
+    requires { start ≤ length keys.now.items }
+    ensures { result ≡ position (λ k. k == key) (drop start keys.now.items) }
 {
-    keys.iter().position(|other| *other == key)
+    keys.range(start..).position(|other| *other == key)
 }

@@ -2,7 +2,7 @@
 
 use mio::net::UdpSocket;
 use mio::{Events, Interest, Poll, Token};
-use rand_chacha::ChaCha20Rng;
+use rand_chacha::ChaCha12Rng;
 use rand_core::SeedableRng;
 use rand_core::utils::NextWord;
 use std::alloc::Allocator;
@@ -30,7 +30,7 @@ struct Relay<'a, R: Net, A: Allocator> {
     readable: bool,
     open: BTreeMap<u16, Open, A>,
     buffer: Vec<u8, A>,
-    random: ChaCha20Rng,
+    random: ChaCha12Rng,
 }
 
 impl<R: Net, A: Allocator + Copy> Relay<'_, R, A> {
@@ -120,7 +120,7 @@ pub(crate) fn serve<R: Net, A: Allocator + Copy>(
         readable: true,
         open: BTreeMap::new(alloc),
         buffer: vec![in alloc; 0u8; 65535]?,
-        random: ChaCha20Rng::from_seed([7u8; 32]),
+        random: ChaCha12Rng::from_seed([7u8; 32]),
     };
     for _turn in 0..u64::MAX {
         relay.turn();

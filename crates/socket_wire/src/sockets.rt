@@ -111,31 +111,48 @@ impl<'a, R: Net, A: Allocator + Copy> Sockets<'a, R, A> {
             }
             None => {}
         }
-        self.look(now);
-        for _ in 0..TRIES {
-            let Some(origin) = self.readiness.next() else {
-                break;
-            };
-            match self.attempt(origin, now)? {
-                Tried::Arrived(arrival) => return Ok(arrival),
-                Tried::Served => return Ok(Arrival::Nothing),
-                Tried::Nothing => self.readiness.remove(origin),
-            }
+        let has_waited = self.look(now);
+        if let Some(arrival) = self.try_ready(now)? {
+            return Ok(arrival);
         }
-        Ok(Arrival::Nothing)
+        if has_waited || !self.readiness.is_empty() {
+            return Ok(Arrival::Nothing);
+        }
+        self.readiness.wait(PAUSE);
+        Ok(self.try_ready(now)?.unwrap_or(Arrival::Nothing))
     }
 
-    /// Looks what is ready; waits where nothing is.
-    fn look(&mut self, now: u64) {
+    /// Looks what is ready; waits where nothing is. True where it waited.
+    fn look(&mut self, now: u64) -> bool {
         if now.saturating_sub(self.tried) >= PAUSE {
             self.tried = now;
             self.readiness.wait(0);
             self.try_others(now);
-        } else if self.readiness.is_empty() {
+            return false;
+        }
+        if self.readiness.is_empty() {
             self.readiness.wait(PAUSE);
-        } else if self.readiness.has_no_server() && self.has_asks() {
+            return true;
+        }
+        if self.readiness.has_no_server() && self.has_asks() {
             self.readiness.wait(0);
         }
+        false
+    }
+
+    /// What arrives of a socket that may be ready. `None` where none is ready any more, or many were tried.
+    fn try_ready(&mut self, now: u64) -> Result<Option<Arrival<A>>, AllocError> {
+        for _ in 0..TRIES {
+            let Some(origin) = self.readiness.next() else {
+                return Ok(None);
+            };
+            match self.attempt(origin, now)? {
+                Tried::Arrived(arrival) => return Ok(Some(arrival)),
+                Tried::Served => return Ok(Some(Arrival::Nothing)),
+                Tried::Nothing => self.readiness.remove(origin),
+            }
+        }
+        Ok(None)
     }
 
     fn has_asks(&self) -> bool {

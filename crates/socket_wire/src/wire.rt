@@ -5,7 +5,7 @@ ghost use Rattle.std.specs.Prelude.{◌≡◌, IfOk};
 use crate::moments::Moments;
 use crate::sockets::Sockets;
 use network_model::{Arrival, Wire, WireFault};
-use rand_chacha::ChaCha20Rng;
+use rand_chacha::ChaCha12Rng;
 use rand_core::SeedableRng;
 use rand_core::utils::NextWord;
 use std::alloc::{Allocator, Global};
@@ -23,7 +23,7 @@ use suffix_routes::Peer;
 pub struct MioWire<'a, R: Net + Clock, A: Allocator = Global> {
     sockets: Sockets<'a, R, A>,
     moments: Moments<'a, R>,
-    random: ChaCha20Rng,
+    random: ChaCha12Rng,
     faults: u64,
 }
 
@@ -46,7 +46,7 @@ impl<'a, R: Net + Clock + RandomSource, A: Allocator + Copy> MioWire<'a, R, A> {
         Ok(MioWire {
             sockets: Sockets::new(rt, alloc, listen, deadline)?,
             moments: Moments::new(rt)?,
-            random: ChaCha20Rng::from_seed(seed),
+            random: ChaCha12Rng::from_seed(seed),
             faults: 0,
         })
     }
