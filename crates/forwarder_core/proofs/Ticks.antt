@@ -1,6 +1,6 @@
 -- Which item a tick serves first.
 use Rattle.std.proofs.Common.{◌≡◌, ℕ, ◌+◌, ◌^◌, ◌≤◌, List, [], ◌∷◌, Bool, true, false, refl, sym, ap, subst, ◌∙◌, Option, Some, None, arith, Fits, w64}
-use Rattle.std.specs.Prelude.{nat_le, slice_get, drop, ◌||◌}
+use Rattle.std.specs.Prelude.{nat_le, slice_get, drop, ◌||◌, if◌then◌else◌}
 use Rattle.std.specs.List.{list_any, AllByRecursion}
 use Rattle.std.proofs.lemmas.Bool.{cond-true, cond-false, false≢true}
 use Rattle.suffix_routes.specs.Values.{Config, IsConfig}
@@ -11,7 +11,8 @@ use Rattle.outstanding.proofs.CallerLemmas.{same_path_reflexive}
 use Rattle.step_rules.specs.State.{Waiting, State}
 use Rattle.step_rules.specs.Steps.{idle_step, waits_for}
 use Rattle.step_changes.specs.Next.{closed_path}
-use Rattle.step_rules.specs.Row.{left_alone, deadline_of, timeout_of, question, attempt, first_item, row_of_item, row_of_tick, is_due_at}
+use Rattle.step_rules.specs.Row.{left_alone, deadline_of, timeout_of, question, attempt, first_item, row_of_item, row_of_tick, is_due_at, effective, Happens, HandsOctets, Row}
+use Rattle.step_values.specs.Values.{Event, Outcome, tick}
 
 -- the first of a list, and the rest
 pub rest_is : (xs : List Waiting) (x : Waiting) → slice_get xs 0 ≡ Some x → xs ≡ x ∷ drop 1 xs
@@ -81,3 +82,31 @@ no_ask_due c n s a there none =
 -- the ask of a question for which no other waits
 pub alone_is : (q : Question) (others : List Waiting) (listed : List Ask) (o : Option Ask) → list_any (waits_for q) others ≡ false → of_question q listed ≡ o → closed_path o ≡ closed_path (left_alone q others listed)
 alone_is q others listed o none is = sym (ap closed_path (cond-false (list_any (waits_for q) others) None (of_question q listed) none ∙ is))
+
+-- ---- a tick where nothing is due
+
+idle_item : (c : Config) (n : ℕ) (words : List ℕ) (s : State) (xs : List Waiting) (listed : List Ask) → list_any (λ (x : Waiting). nat_le (deadline_of c x) n) xs ≡ false → list_any (λ (a : Ask). nat_le (timeout_of c a) n) listed ≡ false
+    → row_of_item c n words s (first_item c xs listed) ≡ idle_step n s
+idle_item c n words s [] [] early in_time = refl
+idle_item c n words s [] (a ∷ listed) early in_time = cond-false (nat_le (timeout_of c a) n) _ _ (or_left (nat_le (timeout_of c a) n) (list_any (λ (b : Ask). nat_le (timeout_of c b) n) listed) in_time)
+idle_item c n words s (x ∷ xs) [] early in_time = cond-false (nat_le (deadline_of c x) n) _ _ (or_left (nat_le (deadline_of c x) n) (list_any (λ (y : Waiting). nat_le (deadline_of c y) n) xs) early)
+idle_item c n words s (x ∷ xs) (a ∷ listed) early in_time = by (nat_le (deadline_of c x) (timeout_of c a))
+  where
+    by : (b : Bool) → row_of_item c n words s (if b then question x xs else attempt a) ≡ idle_step n s
+    by true = cond-false (nat_le (deadline_of c x) n) _ _ (or_left (nat_le (deadline_of c x) n) (list_any (λ (y : Waiting). nat_le (deadline_of c y) n) xs) early)
+    by false = cond-false (nat_le (timeout_of c a) n) _ _ (or_left (nat_le (timeout_of c a) n) (list_any (λ (b : Ask). nat_le (timeout_of c b) n) listed) in_time)
+
+-- nothing is done, and the moment passes
+pub idle_tick : (c : Config) (n : ℕ) (words : List ℕ) (s : State) → is_due_at c n s ≡ false → row_of_tick c n words s ≡ idle_step n s
+idle_tick c n words s none =
+    idle_item c n words s s.waiting s.asks (or_left (list_any (λ (x : Waiting). nat_le (deadline_of c x) n) s.waiting) (list_any (λ (a : Ask). nat_le (timeout_of c a) n) s.asks) none)
+    (or_right (list_any (λ (x : Waiting). nat_le (deadline_of c x) n) s.waiting) (list_any (λ (a : Ask). nat_le (timeout_of c a) n) s.asks) none)
+
+pub idle_row : (c : Config) (s t : State) (now n : ℕ) (words : List ℕ) (e : Event) (o : Outcome) → n ≡ effective now s → e ≡ tick → is_due_at c n s ≡ false → o ≡ record { actions = []; unkept = 0; more = false } → t ≡ record s { moment = n } → HandsOctets e
+    → Row c s (record { now = now; words = words; event = e }) o t
+idle_row c s t now n words e o moment is none nothing after octets = record {
+  octets = octets;
+  happens = subst (λ (e : Event). Happens c (effective now s) words s e (record { actions = o.actions; unkept = o.unkept; state = t })) (sym is)
+      ((λ i. record { actions = (nothing i).actions; unkept = (nothing i).unkept; state = after i }) ∙ sym (idle_tick c n words s none) ∙ ap (λ (m : ℕ). row_of_tick c m words s) moment);
+  more = ap (λ (p : Outcome). p.more) nothing ∙ sym none ∙ sym (ap (λ (u : State). is_due_at c u.moment u) after);
+}

@@ -84,12 +84,15 @@ impl<A: Allocator> KeysInTurn<A> {
         self.keys.push_back_reserved(key);
     }
 
-    /// Where a key stands, counted from 0. It takes no memory.
+    /// Where a key stands, counted from 0. It takes no memory. The key that was put first is found at once.
     pub fn place_of(&self, key: usize) -> usize
         requires { Contains self.now.keys key }
         ensures within { result < length self.now.keys }
         ensures stands { slice_index self.now.keys result ≡ key }
     {
+        if self.first() == Some(key) {
+            return 0;
+        }
         place_in(&self.numbers, &self.keys, key)
     }
 
@@ -154,11 +157,7 @@ fn place_in<A: Allocator>(numbers: &[u64], keys: &VecDeque<usize, A>, key: usize
 }
 
 /// Where a key stands first, counted from a place on.
-fn first_place<A: Allocator>(
-    keys: &VecDeque<usize, A>,
-    start: usize,
-    key: usize,
-) -> Option<usize>
+fn first_place<A: Allocator>(keys: &VecDeque<usize, A>, start: usize, key: usize) -> Option<usize>
     requires { start ≤ length keys.now.items }
     ensures { result ≡ position (λ k. k == key) (drop start keys.now.items) }
 {

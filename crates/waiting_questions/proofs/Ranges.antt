@@ -6,6 +6,7 @@ use Rattle.std.specs.List.{between, remove}
 use Rattle.std.specs.List.Sorted.{IsPartitionedBy, IsPartitionPoint}
 use Rattle.std.proofs.lemmas.Bool.{cases_lt, false≢true}
 use Rattle.std.proofs.lemmas.Cmp.{alike_right, tied_itself}
+use Rattle.std.proofs.lemmas.List.{get_or_default}
 use Rattle.std.proofs.lemmas.List.Edits.{length-remove, get_or-remove_below, get_or-remove_above}
 use Rattle.slab.specs.Slab.{Slab, get, Updates}
 use Rattle.dns_message.specs.Values.{Question}
@@ -102,6 +103,22 @@ module _ (s : Slab Waiting) (keys : List ℕ) (are : AreKeys IsByQuestion s keys
       by : (j < i) ⊎ (i ≤ j) → i ≤ j
       by (inr le) = le
       by (inl less) = absurd (false≢true (sym (upper.1 j 0 (omega arith) (omega (arith, i_in))) ∙ is_lt_le (told (slice_index keys j)) (lower.0 j 0 (omega arith) less)))
+
+  -- the first that comes behind what is sought
+  pub ends_at : (j : ℕ) → j < length keys → ((k : ℕ) → k < j → is_le (told (slice_index keys k)) ≡ true) → is_le (told (slice_index keys j)) ≡ false
+      → IsPartitionPoint (λ key. is_le (told key) ≡ true) (λ key. is_le (told key) ≡ false) keys j
+  ends_at j j_in before behind = (
+    (λ k d from less. ap (λ key. is_le (told key)) (get_or_default keys k d 0 (omega (arith, less, j_in))) ∙ before k less),
+    (λ k d from within. by k d from within (is_le (told (slice_index_or keys k d))) refl),
+  )
+    where
+      by : (k d : ℕ) → j ≤ k → k < length keys → (b : Bool) → is_le (told (slice_index_or keys k d)) ≡ b → is_le (told (slice_index_or keys k d)) ≡ false
+      by k d from within false e = e
+      by k d from within true e = absurd (false≢true (sym (ap (λ key. is_le (told key)) (get_or_default keys j d 0 j_in) ∙ behind) ∙ upper_parted j k d from within e))
+
+  -- those that are no earlier, and no later, up to here
+  pub not_behind : (i : ℕ) → ((k : ℕ) → k < i → is_lt (told (slice_index keys k)) ≡ true) → (k : ℕ) → k < i → is_le (told (slice_index keys k)) ≡ true
+  not_behind i lower k less = is_lt_le (told (slice_index keys k)) (lower k less)
 
 -- ---- what passes
 

@@ -1,6 +1,8 @@
 -- Waiting questions under the keys of a slab, and two lists of those keys: one in the order of taking, one by question.
-use Rattle.std.specs.Prelude.{◌≡◌, ◌≢◌, ℕ, ◌<◌, ◌≤◌, ◌+◌, ◌&&◌, Bool, false, nat_le, nat_lt, List, length, filter, Option, Some, None, IsSome, slice_index, vec_len, vec_capacity}
+use Rattle.std.specs.Prelude.{◌≡◌, ◌≢◌, ℕ, ◌<◌, ◌≤◌, ◌+◌, ◌&&◌, Bool, true, false, nat_le, nat_lt, List, length, filter, Option, Some, None, IsSome, slice_index, vec_len, vec_capacity}
 use Rattle.std.specs.List.{All, AllPairs, filter_map}
+use Rattle.std.specs.List.Sorted.{IsPartitionPoint}
+use Rattle.std.specs.Ordering.{is_lt}
 use Rattle.std.specs.declared.cmp.Ordering.{Ordering}
 use Rattle.std.specs.declared.cmp.Ordering.TheVariants.{Less, Equal, Greater}
 use Rattle.slab.specs.Slab.{Slab, get, slab_len}
@@ -48,6 +50,10 @@ pub record AreIndexed (s : Slab Waiting) (by_question in_turn : List ℕ) : Type
   pub questions : AreKeys IsByQuestion s by_question
   pub turns : AreKeys IsByTaken s in_turn
   pub same : (q : Question) → filter (λ key. passes (waits_for q) (get s key)) by_question ≡ filter (λ key. passes (waits_for q) (get s key)) in_turn
+
+-- those that come before what is sought stand before place i
+abbrev pub BeginsAt : (Waiting → Ordering) → Slab Waiting → List ℕ → ℕ → Type 0
+BeginsAt f s keys i = (i ≤ length keys) × IsPartitionPoint (λ key. is_lt (compared f (get s key)) ≡ true) (λ key. is_lt (compared f (get s key)) ≡ false) keys i
 
 -- what is sought stands from place i up to place j
 pub record IsRange (f : Waiting → Ordering) (s : Slab Waiting) (keys : List ℕ) (i j : ℕ) : Type 0 where

@@ -54,6 +54,6 @@ impl<A: Allocator> Keyed<A> {
     pub(crate) fn cmp_question(&self, key: &QuestionKey) -> Ordering
         ensures { result ≡ to_question key.now self.now }
     {
-        self.key.cmp(key)
+        self.key.compare(key)
     }
 }

@@ -53,7 +53,7 @@ fn put_place(places: &mut [usize], route: usize, server: usize)
 
 impl<H: BuildHasher + Drop, A: Allocator + Copy> Forwarder<H, A> {
     /// The moment has come.
-    fn pass(&mut self, moment: u64)
+    pub(crate) fn pass(&mut self, moment: u64)
         requires later { self.old.state.moment ≤ moment }
         requires in_time { moment ≤ 2 ^ 62 }
         ensures { self.new ≡ record { config = self.old.config; state = record self.old.state { moment = moment } } }
@@ -176,30 +176,37 @@ impl<H: BuildHasher + Drop, A: Allocator + Copy> Forwarder<H, A> {
     }
 
     /// A question has waited as long as it may: the list is in the order of time, so the first one tells.
-    fn is_question_due(&self) -> bool
-        ensures { result ≡ list_any (λ x. nat_le (deadline_of self.now.config x) self.now.state.moment) self.now.state.waiting }
+    fn is_question_due(&self, moment: u64) -> bool
+        ensures { result ≡ list_any (λ x. nat_le (deadline_of self.now.config x) moment) self.now.state.waiting }
     {
         match self.waiting.first() {
-            Some(oldest) => is_overdue(&self.config, self.moment, oldest),
+            Some(oldest) => is_overdue(&self.config, moment, oldest),
             None => false,
         }
     }
 
     /// An ask is past its time: the list is in the order of time, so the first one tells.
-    fn is_ask_due(&self) -> bool
-        ensures { result ≡ list_any (λ a. nat_le (timeout_of self.now.config a) self.now.state.moment) self.now.state.asks }
+    fn is_ask_due(&self, moment: u64) -> bool
+        ensures { result ≡ list_any (λ a. nat_le (timeout_of self.now.config a) moment) self.now.state.asks }
     {
         match self.inquiries.oldest() {
-            Some(oldest) => is_late(&self.config, self.moment, oldest),
+            Some(oldest) => is_late(&self.config, moment, oldest),
             None => false,
         }
+    }
+
+    /// Something is due at this moment.
+    pub(crate) fn is_due_by(&self, moment: u64) -> bool
+        ensures { result ≡ is_due_at self.now.config moment self.now.state }
+    {
+        self.is_question_due(moment) || self.is_ask_due(moment)
     }
 
     /// More is due at the moment that it is now.
     fn is_due(&self) -> bool
         ensures { result ≡ is_due_at self.now.config self.now.state.moment self.now.state }
     {
-        self.is_question_due() || self.is_ask_due()
+        self.is_due_by(self.moment)
     }
 
     /// Does what was decided. An `Err` changes nothing.

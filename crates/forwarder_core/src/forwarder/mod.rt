@@ -1,6 +1,6 @@
 //! The forwarder, and its step.
 
-ghost use Rattle.std.specs.Prelude.{◌≡◌, ◌^◌, ◌≤◌, ◌<◌, ◌+◌, ◌*◌, [], IfOk, IfSome, OnErr, IsOk, map};
+ghost use Rattle.std.specs.Prelude.{◌≡◌, ◌^◌, ◌≤◌, ◌<◌, ◌+◌, ◌*◌, [], false, IfOk, IfSome, OnErr, IsOk, map};
 ghost use Rattle.suffix_routes.specs.Values.{IsConfig};
 ghost use Rattle.step_values.specs.Values.{event_of};
 ghost use Rattle.plain_list.specs.Octets.{AreOctets};
@@ -147,6 +147,17 @@ impl<H: BuildHasher + Drop, A: Allocator + Copy> Forwarder<H, A> {
         now.min(LATEST).max(self.moment)
     }
 
+    /// The outcome of a step that does nothing, where nothing is due.
+    fn nothing_done(&self) -> Outcome<A>
+        ensures { result ≡ record { actions = []; unkept = 0; more = false } }
+    {
+        Outcome {
+            actions: PlainList::new(self.alloc),
+            unkept: 0,
+            more: false,
+        }
+    }
+
     /// One step over octets that were looked at.
     fn take(
         &mut self,
@@ -161,6 +172,10 @@ impl<H: BuildHasher + Drop, A: Allocator + Copy> Forwarder<H, A> {
         ensures err { OnErr result (self.new ≡ self.old) }
     {
         let moment = self.effective(now);
+        if self.is_idle_tick(moment, event) {
+            self.pass(moment);
+            return Ok(self.nothing_done());
+        }
         let Some(
             Next {
                 actions,
@@ -171,11 +186,7 @@ impl<H: BuildHasher + Drop, A: Allocator + Copy> Forwarder<H, A> {
         ) = self.decide(moment, words, event)?
         else {
             self.restart();
-            return Ok(Outcome {
-                actions: PlainList::new(self.alloc),
-                unkept: 0,
-                more: false,
-            });
+            return Ok(self.nothing_done());
         };
         let used = used.copied(self.alloc)?;
         self.carry_out(moment, actions, &used, change, carried)

@@ -1,10 +1,11 @@
 //! What the passing of time calls for: the oldest question or the oldest ask is served, where it is due.
 
-ghost use Rattle.std.specs.Prelude.{◌≡◌, Bool, List, ◌^◌, ◌≤◌, false, IfOk, Some, drop, map, slice_get};
+ghost use Rattle.std.specs.Prelude.{◌≡◌, Bool, List, ◌^◌, ◌≤◌, false, IfOk, IsTrue, Some, drop, map, slice_get};
 ghost use Rattle.std.specs.List.{list_any};
 ghost use Rattle.step_rules.specs.Row.{expiry_step, left_alone, attempt, question, row_of_item, row_of_tick, is_due_at, deadline_of, timeout_of};
 ghost use Rattle.step_rules.specs.Progress.{least};
 ghost use Rattle.step_changes.specs.Next.{closed_path, next_of, IsQuiet, CanChange};
+ghost use Rattle.step_values.specs.Values.{event_of, tick};
 
 use crate::forwarder::Forwarder;
 use outstanding::{Ask, Path};
@@ -13,7 +14,7 @@ use std::alloc::{AllocError, Allocator};
 use std::hash::BuildHasher;
 use step_changes::{Change, Next, close_paths, comes_first, is_late, is_overdue};
 use step_replies::{Waiting, failure};
-use step_values::Why;
+use step_values::{Event, Why};
 
 impl<H: BuildHasher + Drop, A: Allocator + Copy> Forwarder<H, A> {
     /// The path of the oldest question's ask, where no other question waits for it.
@@ -79,6 +80,13 @@ impl<H: BuildHasher + Drop, A: Allocator + Copy> Forwarder<H, A> {
             return Ok(self.nothing());
         }
         self.fail(moment, words, oldest.path, oldest, Failure::TimedOut)
+    }
+
+    /// The event is a tick, and nothing is due at this moment.
+    pub(crate) fn is_idle_tick(&self, moment: u64, event: &Event<A>) -> bool
+        ensures { IsTrue result → (event_of event.now ≡ tick) × (is_due_at self.now.config moment self.now.state ≡ false) }
+    {
+        matches!(event, Event::Tick) && !self.is_due_by(moment)
     }
 
     /// Time has passed.

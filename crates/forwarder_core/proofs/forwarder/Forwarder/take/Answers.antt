@@ -3,7 +3,9 @@ use Rattle.std.proofs.lemmas.Result.{IfOk-weaker}
 use Rattle.step_values.specs.Values.{event_of}
 use Rattle.step_rules.specs.Row.{TakesNoMemory}
 use Rattle.step_changes.specs.declared.next.Next.{Next}
+use Rattle.step_rules.specs.State.{Running}
 use Rattle.forwarder_core.proofs.Deciding.{quiet_at, row_is}
+use Rattle.forwarder_core.proofs.Ticks.{idle_row}
 use Rattle.forwarder_core.proofs.forwarder.Forwarder.take.Goals as goal
 
 pub returns-clause-row : goal.returns-clause-row
@@ -18,3 +20,10 @@ pub returns-clause-no_memory : goal.returns-clause-no_memory
 returns-clause-no_memory g c = λ none.
     c.carry_out.ensures.quiet (quiet_at c.in_ok-actions.field-0 c.in-Some.field-0 c.in-Some.is
     (c.in_ok-actions.ensures.no_memory (subst (λ (m : ℕ). TakesNoMemory c.args.self.now.config m c.args.self.now.state (event_of c.args.event.now)) (sym c.effective-moment.ensures.value) none))).1
+
+-- a tick where nothing is due
+pub returns-then-is_idle_tick-clause-row : goal.returns-then-is_idle_tick-clause-row
+returns-then-is_idle_tick-clause-row g c =
+    let idle = c.is_idle_tick.ensures c.if-is_idle_tick.true in
+    idle_row c.args.self.now.config c.args.self.now.state c.pass.new.self.state c.args.now c.effective-moment.result c.args.words (event_of c.args.event.now) c.nothing_done.result c.effective-moment.ensures.value idle.0 idle.1 c.nothing_done.ensures
+    (ap (λ (r : Running). r.state) c.pass.ensures) c.requires
