@@ -6,6 +6,7 @@ mod carried;
 mod filling;
 mod look_ups;
 mod many_wait;
+mod messages;
 mod open_queries;
 
 use anyhow::Result;
@@ -13,7 +14,7 @@ use std::env;
 use std::process::ExitCode;
 
 const USAGE: &str =
-    "usage: bench many_wait QUESTION REPLY, bench carried REPLY, bench look_ups, or bench open_queries";
+    "usage: bench many_wait QUESTION REPLY, bench carried REPLY, bench messages, bench look_ups, or bench open_queries";
 
 /// Measures what the arguments ask for; `None` where they ask for nothing.
 fn run(rt: &HostRuntime) -> Result<Option<()>> {
@@ -27,6 +28,7 @@ fn run(rt: &HostRuntime) -> Result<Option<()>> {
             many_wait::measure(rt, question.as_str(), reply.as_str())?;
         }
         ("carried", Some(reply), None) => carried::measure(rt, reply.as_str())?,
+        ("messages", None, None) => messages::measure(rt)?,
         ("look_ups", None, None) => {
             cached::measure(rt)?;
             look_ups::measure(rt)?;
