@@ -1,6 +1,6 @@
 -- Which clients wait, and which have been silent for too long (RFC 7766 6.2.3).
 use Rattle.std.specs.Prelude.{◌≡◌, ℕ, ◌+◌, ◌-◌, ◌^◌, ◌==◌, ◌&&◌, min, Bool, false, if◌then◌else◌, nat_le, List, [], length}
-use Rattle.socket_wire.specs.declared.framing.Within.TheVariants.{Nothing}
+use Rattle.tcp_streams.specs.declared.framing.Within.TheVariants.{Nothing}
 use Rattle.socket_wire.specs.declared.clients.ClientStream.{ClientStream}
 
 -- A client that has just come has sent nothing.

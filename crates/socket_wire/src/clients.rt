@@ -6,18 +6,17 @@ ghost use Rattle.std.specs.Ordering.{nat_cmp};
 ghost use Rattle.std.specs.Map.{remove_entry};
 ghost use Rattle.std.specs.BTreeMap.{btree_map_len, get, is_at};
 ghost use Rattle.tcp_frames.specs.Frames.{frames_of, unfinished_of};
-ghost use Rattle.socket_wire.specs.Counting.{Stands};
+ghost use Rattle.tcp_streams.specs.Counting.{Stands};
 ghost use Rattle.socket_wire.specs.Listed.{Admits, first_from, first_idle};
 ghost use Rattle.socket_wire.specs.Waiting.{Hears, IsNew, is_idle, is_late};
 
-use crate::framing::Within;
-use crate::unsent::Unsent;
 use mio::net::TcpStream;
 use std::alloc::{AllocError, Allocator};
 use std::collections::BTreeMap;
 use std::io;
 use std::io::{ErrorKind, Read};
 use tcp_frames::frame;
+use tcp_streams::{Unsent, Within};
 
 /// How many connections clients may have.
 const MOST: usize = 1024;

@@ -4,7 +4,6 @@
 mod address;
 mod asks;
 mod clients;
-mod framing;
 mod moments;
 mod numbers;
 mod origin;
@@ -12,7 +11,6 @@ mod readiness;
 mod receive_buffer;
 mod servers;
 mod sockets;
-mod unsent;
 mod wire;
 
 pub use wire::MioWire;

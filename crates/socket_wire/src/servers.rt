@@ -3,7 +3,6 @@
 use crate::address::address_of;
 use crate::origin::Origin;
 use crate::readiness::Readiness;
-use crate::unsent::Unsent;
 use mio::net::TcpStream;
 use std::alloc::Allocator;
 use std::io;
@@ -11,6 +10,7 @@ use std::io::{ErrorKind, Read};
 use std::net::Net;
 use suffix_routes::Peer;
 use tcp_frames::frame;
+use tcp_streams::Unsent;
 
 /// A connection to a server, and what of the query it didn't take yet.
 #[derive(Drop)]

@@ -2,8 +2,8 @@
 use Rattle.std.specs.Prelude.{◌≡◌, ℕ, ◌+◌, ◌*◌, List, [], ◌∷◌, ◌++◌, length}
 use Rattle.std.specs.Int.NonZero.{non_zero_u16_get}
 use Rattle.tcp_frames.specs.Frames.{frames_of, unfinished_of}
-use Rattle.socket_wire.specs.declared.framing.Within.{Within}
-use Rattle.socket_wire.specs.declared.framing.Within.TheVariants.{Nothing, Length, Message}
+use Rattle.tcp_streams.specs.declared.framing.Within.{Within}
+use Rattle.tcp_streams.specs.declared.framing.Within.TheVariants.{Nothing, Length, Message}
 
 -- These octets are a length, and all but so many of its message.
 abbrev pub Misses : ℕ → List ℕ → Type 0

@@ -1,7 +1,7 @@
 use Rattle.std.proofs.Common.{ℕ, ◌+◌, ◌≤◌, List, length}
-use Rattle.socket_wire.specs.Counting.{Stands}
-use Rattle.socket_wire.proofs.Counting.{GoesOn}
-use Rattle.socket_wire.proofs.framing.Within.count.Given as goal
+use Rattle.tcp_streams.specs.Counting.{Stands}
+use Rattle.tcp_streams.proofs.Counting.{GoesOn}
+use Rattle.tcp_streams.proofs.framing.Within.count.Given as goal
 
 abbrev pub invariant-loop-rest : goal.invariant-loop-rest
 invariant-loop-rest l = record {

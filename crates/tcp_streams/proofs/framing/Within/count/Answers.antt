@@ -1,7 +1,7 @@
 use Rattle.std.proofs.Common.{arith}
 use Rattle.std.proofs.lemmas.Grind.{common_steps}
-use Rattle.socket_wire.proofs.Counting.{goes_on_end}
-use Rattle.socket_wire.proofs.framing.Within.count.Goals as goal
+use Rattle.tcp_streams.proofs.Counting.{goes_on_end}
+use Rattle.tcp_streams.proofs.framing.Within.count.Goals as goal
 
 pub returns : goal.returns
 returns c = λ rest stands. goes_on_end rest c.args.piece.now c.loop-rest.rest.now c.loop-rest.ended c.loop-rest.self

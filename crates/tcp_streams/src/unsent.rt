@@ -12,7 +12,7 @@ use std::marker::Model;
 
 /// Octets that a stream is still to take, in order.
 #[derive(Drop)]
-pub(crate) struct Unsent<A: Allocator> {
+pub struct Unsent<A: Allocator> {
     alloc: A,
     octets: Vec<u8, A>,
     /// How many of them it took.

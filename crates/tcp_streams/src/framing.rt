@@ -1,7 +1,7 @@
 //! How many whole messages a client has sent.
 
 ghost use Rattle.std.specs.Prelude.{◌≡◌, ℕ, ◌<◌, ◌≤◌, List, length, take};
-ghost use Rattle.socket_wire.specs.Counting.{Counts, Leaves, Stands, ended};
+ghost use Rattle.tcp_streams.specs.Counting.{Counts, Leaves, Stands, ended};
 
 use std::num::NonZeroU16;
 use tcp_frames::pieces_continue;
@@ -9,7 +9,7 @@ use tcp_frames::pieces_continue;
 /// Where a stream stands in its frames: each is a length in two octets, the high one first, and as many octets
 /// (RFC 1035 4.2.2).
 #[derive(Clone, Copy)]
-pub(crate) enum Within {
+pub enum Within {
     /// Between two frames.
     Nothing,
     /// Behind the high octet of a length.

@@ -1,8 +1,8 @@
 use Rattle.std.proofs.Common.{subst, arith}
-use Rattle.socket_wire.specs.declared.framing.Within.{Within}
-use Rattle.socket_wire.specs.Counting.{Stands}
-use Rattle.socket_wire.proofs.Counting.{length_begins, length_ends, message_goes_on}
-use Rattle.socket_wire.proofs.framing.Within.advance.Goals as goal
+use Rattle.tcp_streams.specs.declared.framing.Within.{Within}
+use Rattle.tcp_streams.specs.Counting.{Stands}
+use Rattle.tcp_streams.proofs.Counting.{length_begins, length_ends, message_goes_on}
+use Rattle.tcp_streams.proofs.framing.Within.advance.Goals as goal
 
 pub returns-in-Nothing-clause-counts : goal.returns-in-Nothing-clause-counts
 returns-in-Nothing-clause-counts c = λ rest stands. length_begins c.args.piece.now rest c.requires (subst (λ (place : Within). Stands place rest) c.in-Nothing.is stands)

@@ -4,9 +4,9 @@ use Rattle.std.proofs.lemmas.Bool.{le-leb, lt-leb}
 use Rattle.std.proofs.lemmas.List.{take_all, drop_all, length-append, length-take-le, take-append-drop}
 use Rattle.tcp_frames.specs.Frames.{frames_within, frames_of, unfinished_of}
 use Rattle.tcp_frames.specs.Laws.{PiecesContinue}
-use Rattle.socket_wire.specs.declared.framing.Within.{Within}
-use Rattle.socket_wire.specs.declared.framing.Within.TheVariants.{Nothing, Length, Message}
-use Rattle.socket_wire.specs.Counting.{Counts, Leaves, Misses, Stands, ended}
+use Rattle.tcp_streams.specs.declared.framing.Within.{Within}
+use Rattle.tcp_streams.specs.declared.framing.Within.TheVariants.{Nothing, Length, Message}
+use Rattle.tcp_streams.specs.Counting.{Counts, Leaves, Misses, Stands, ended}
 
 -- ---- a part of a frame
 
