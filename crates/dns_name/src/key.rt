@@ -2,7 +2,7 @@
 
 ghost use Rattle.std.specs.Prelude.{◌≡◌, ◌≤◌, ◌↔◌, IsTrue, length, map};
 ghost use Rattle.std.specs.Char.{to_ascii_lowercase};
-ghost use Rattle.dns_name.specs.Key.{padded};
+ghost use Rattle.dns_name.specs.Key.{end_of_words, padded};
 ghost use Rattle.dns_name.specs.Labels.{labels_of, IsLaidOut, IsUnder, lowered, parent_of};
 
 use crate::labels::{Labels, labels_in, split_label};
@@ -59,21 +59,31 @@ impl PartialEq for NameKey {
     }
 }
 
-// The octets of the name alone are hashed, and none of the zeros behind its end.
+// The octets of the name alone are hashed, up to the end of the eight in which it ends: a hasher takes whole words at once,
+// and single octets one by one.
 impl Hash for NameKey {
     ghost use Rattle.std.specs.Prelude.{take, ◌∷◌, []};
     ghost use Rattle.std.specs.Cmp.Rules.{hashing};
     ghost use Rattle.std.proofs.Common.{rules};
-    ghost use Rattle.dns_name.specs.Key.{key_octets, key_len};
+    ghost use Rattle.dns_name.specs.Key.{key_octets, key_len, end_of_words};
 
-    ghost hash_input = { λ k. take (key_len k) (key_octets k) ∷ [] };
+    ghost hash_input = { λ k. take (end_of_words (key_len k)) (key_octets k) ∷ [] };
 
     ghost respects_eq = { Prim.search (hashing, rules) };
 
     fn hash<H: Hasher>(&self, state: &mut H) {
-        let len = usize::from(self.len);
-        state.write(&self.octets[..len]);
+        let end = end_of_words(self.len);
+        state.write(&self.octets[..end]);
     }
+}
+
+/// Where the eight octets end in which so many octets end; a key has no more than 255.
+fn end_of_words(len: u8) -> usize
+    ensures end { result ≡ end_of_words len }
+    ensures within { result ≤ 255 }
+{
+    let words = (usize::from(len) + 7) / 8;
+    (words * 8).min(255)
 }
 
 impl NameKey {

@@ -242,6 +242,6 @@ fn each_refused_growth_of_writing_is_want_of_memory(rt: HostRuntime) -> Result<(
         }
         refused = count + 1;
     }
-    assert_eq!(rt; refused, 4);
+    assert_eq!(rt; refused, 3);
     Ok(())
 }

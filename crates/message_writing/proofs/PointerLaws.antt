@@ -1,5 +1,5 @@
 -- Names with their pointers, found one by one or by a map.
-use Rattle.std.proofs.Common.{◌≡◌, ℕ, Bool, true, false, cond, List, [], ◌∷◌, ◌++◌, length, drop, get_or, ◌<◌, ◌≤◌, ◌+◌, Option, Some, None, refl}
+use Rattle.std.proofs.Common.{◌≡◌, ℕ, Bool, true, false, cond, List, [], ◌∷◌, ◌++◌, length, drop, get_or, ◌<◌, ◌≤◌, ◌+◌, Option, Some, None, refl, arith}
 use Rattle.std.specs.Borrow.{Bor}
 use Rattle.std.specs.Option.{option_or}
 use Rattle.std.specs.Ordering.{nat_cmp}
@@ -7,9 +7,11 @@ use Rattle.std.specs.Cmp.Lexicographic.{slice_cmp}
 use Rattle.std.specs.BTreeMap.{UpdatesBy, get_by}
 use Rattle.std.specs.Str.{bytes_eq}
 use Rattle.std.proofs.lemmas.List.{drop_more, drop_all}
+use Rattle.std.proofs.lemmas.Bool.{le-leb}
 use Rattle.std.proofs.lemmas.Map.Text.{btree_map_updates_str}
 use Rattle.std.proofs.lemmas.Slice.Eq.{bytes_eq-Decides}
 use Rattle.message_writing.specs.declared.pointers.Pointers.{Pointers}
+use Rattle.message_writing.specs.Writing.{pointer_to}
 use Rattle.message_writing.specs.Writer.{KnownName, pointer_among, pointer_known, IsPutIn}
 
 none_first : (a b : Option ℕ) → option_or a b ≡ None → a ≡ None
@@ -43,6 +45,10 @@ among_more (y ∷ ys) x octets = more_by (bytes_eq y.0.now octets) (among_more y
     more_by true rest = refl
     more_by false rest = rest
 
+pub nothing_in : {X : Type 0} (xs : List X) → length xs ≡ 0 → xs ≡ []
+nothing_in [] none = refl
+nothing_in (x ∷ xs) none = absurd (omega arith)
+
 -- no name is known at the start
 pub none_known : {A : Type 0} (ps : Pointers A) (octets : List ℕ) → ps.few.items ≡ [] → ps.many.entries ≡ [] → pointer_known ps octets ≡ None
 unfolding pointer_among
@@ -50,11 +56,18 @@ none_known ps octets few many = rw (few, many) refl
 
 -- ---- one more
 
+-- what was known is known, and so is this name
+abbrev pub IsKnownNow : {A : Type 0} → Pointers A → Pointers A → List ℕ → ℕ → Type 0
+IsKnownNow old new octets pointer = (other : List ℕ) → pointer_known new other ≡ cond (bytes_eq octets other) (Some pointer) (pointer_known old other)
+
+pub put_near : {A : Type 0} (old new : Pointers A) (octets : List ℕ) (offset pointer : ℕ) → offset ≤ 16383 → pointer ≡ pointer_to offset → IsKnownNow old new octets pointer → IsPutIn old new octets offset
+put_near old new octets offset pointer near is put other = rw (le-leb offset 16383 near, ← is) (put other)
+
 abbrev in_map : {A : Type 0} → Pointers A → List ℕ → Option ℕ
 in_map ps octets = get_by (λ k. slice_cmp nat_cmp octets k.now) ps.many
 
 pub put_in_few : {A : Type 0} (old new : Pointers A) (name : Bor (List ℕ)) (pointer : ℕ) → new.few.items ≡ old.few.items ++ (name, pointer) ∷ [] → new.many ≡ old.many → pointer_known old name.now ≡ None
-    → IsPutIn old new name.now pointer
+    → IsKnownNow old new name.now pointer
 put_in_few old new name pointer grown same none other = rw (grown, same, among_more old.few.items (name, pointer) other) (put_by (bytes_eq name.now other) refl)
   where
     put_by : (b : Bool) → bytes_eq name.now other ≡ b
@@ -66,7 +79,7 @@ put_in_few old new name pointer grown same none other = rw (grown, same, among_m
     put_by false is = or_nothing (pointer_among old.few.items other) (in_map old other)
 
 pub put_in_many : {A : Type 0} (old new : Pointers A) (octets : List ℕ) (pointer : ℕ) → new.few ≡ old.few → pointer_known old octets ≡ None
-    → UpdatesBy (λ x y. slice_cmp nat_cmp x.now y.now) (λ k. slice_cmp nat_cmp octets k.now) old.many new.many (Some pointer) → IsPutIn old new octets pointer
+    → UpdatesBy (λ x y. slice_cmp nat_cmp x.now y.now) (λ k. slice_cmp nat_cmp octets k.now) old.many new.many (Some pointer) → IsKnownNow old new octets pointer
 put_in_many old new octets pointer same none updated other = rw (same, btree_map_updates_str octets old.many new.many (Some pointer) updated other) (put_by (bytes_eq octets other) refl)
   where
     put_by : (b : Bool) → bytes_eq octets other ≡ b

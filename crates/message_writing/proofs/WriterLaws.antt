@@ -1,16 +1,16 @@
 -- What a writer holds after something more was written.
-use Rattle.std.proofs.Common.{◌≡◌, ℕ, ◌+◌, ◌<◌, ◌≤◌, Bool, true, false, cond, List, [], ◌∷◌, ◌++◌, length, Option, Some, None, refl, sym, ap, ◌∙◌, append_assoc, arith}
+use Rattle.std.proofs.Common.{◌≡◌, ℕ, ◌+◌, ◌-◌, ◌<◌, ◌≤◌, Bool, true, false, cond, ◌&&◌, leb, take, List, [], ◌∷◌, ◌++◌, length, Option, Some, None, refl, sym, ap, ◌∙◌, append_assoc, arith}
 use Rattle.std.specs.Bool.{Decides}
 use Rattle.std.specs.Option.{option_map, IfSome}
 use Rattle.std.specs.Str.{bytes_eq}
-use Rattle.std.proofs.lemmas.List.{append-nil, length-append}
-use Rattle.std.proofs.lemmas.Bool.{lt-leb, le-leb}
+use Rattle.std.proofs.lemmas.List.{append-nil, length-append, take_at, take_all}
 use Rattle.std.proofs.lemmas.Slice.Eq.{slice_eq-Decides, bytes_eq-Decides}
 use Rattle.dns_name.specs.Labels.{labels_of, octets_of, label_octets, IsLaidOut, Splits}
 use Rattle.dns_name.proofs.CallerLemmas.{labels_of_octets, labels_of_nothing}
+use Rattle.message_writing.specs.declared.pointers.Pointers.{Pointers}
 use Rattle.message_writing.specs.declared.writer.Writer.{Writer}
 use Rattle.message_writing.specs.Writing.{Place, Text, Writing, as_is, after, ◌▹◌, labels_eq, place_of, pointer_to, octets16, places_at, label_text, name_text}
-use Rattle.message_writing.specs.Writer.{Holds, HoldsText, Writes, IsKnown, IsPutIn, pointer_in}
+use Rattle.message_writing.specs.Writer.{Holds, HoldsText, Writes, IsKnown, IsPutIn, pointer_known, pointer_in}
 
 -- ---- one thing behind another
 
@@ -32,6 +32,17 @@ holds_more old new xs grown same t h = record {
 
 pub both : {A : Type 0} (old mid new : Writer A) (a b : Writing) → Writes old mid a → Writes mid new b → Writes old new (a ▹ b)
 both old mid new a b first second t h = rw after_both (second (after t a) (first t h))
+
+after_octets : (t : Text) (xs ys : List ℕ) → after (after t (as_is xs)) (as_is ys) ≡ after t (as_is (xs ++ ys))
+unfolding after
+after_octets t xs ys = rw (append_assoc t.octets xs ys, append-nil t.places, append-nil t.places) refl
+
+-- octets that are written at once are written one behind another
+pub in_turn : {A : Type 0} (old new : Writer A) (a : Writing) (xs ys : List ℕ) → Writes old new (a ▹ as_is (xs ++ ys)) → Writes old new (a ▹ as_is xs ▹ as_is ys)
+in_turn old new a xs ys step t h =
+    let apart : after t (a ▹ as_is xs ▹ as_is ys) ≡ after t (a ▹ as_is (xs ++ ys)) =
+    after_both t (a ▹ as_is xs) (as_is ys) ∙ ap (λ (u : Text). after u (as_is ys)) (after_both t a (as_is xs)) ∙ after_octets (after t a) xs ys ∙ sym (after_both t a (as_is (xs ++ ys))) in
+    rw apart (step t h)
 
 -- ---- on the way
 
@@ -110,44 +121,37 @@ no_place : (r : Option ℕ) → option_map pointer_to r ≡ None → r ≡ None
 no_place None is = refl
 no_place (Some p) is = absurd cc
 
-places_near : (o : ℕ) (n : List (List ℕ)) → o ≤ 16383 → places_at o n ≡ one_place o n
-places_near o n le = rw (le-leb o 16383 le) refl
+-- the pointers are those of the places
+abbrev pub PointInto : {A : Type 0} → Pointers A → List Place → Type 0
+PointInto ps places = (name : List (List ℕ)) → pointer_known ps (octets_of name) ≡ option_map pointer_to (place_of places name)
 
-places_far : (o : ℕ) (n : List (List ℕ)) → 16383 < o → places_at o n ≡ []
-places_far o n lt = rw (lt-leb o 16383 lt) refl
-
--- a label too far for a pointer
-pub holds_far : {A : Type 0} (old new : Writer A) (label : List ℕ) (rest : List (List ℕ)) → 16383 < length old.octets.items
-    → new.octets.items ≡ (old.octets.items ++ length label ∷ []) ++ label → new.pointers ≡ old.pointers → Writes old new (label_text label rest)
-unfolding after
-holds_far old new label rest far grown same t h =
-    let none = places_far (length t.octets) (label ∷ rest) (omega (arith, ap length h.octets)) in
-    record {
-      octets = grown ∙ append_assoc old.octets.items (length label ∷ []) label ∙ ap (λ (o : List ℕ). o ++ label_octets label) h.octets;
-      pointers = λ name. rw (none, same, append-nil) (h.pointers name);
-    }
-
--- a label that a pointer reaches, of a name that was not known
-pub holds_near : {A : Type 0} (old new : Writer A) (label : List ℕ) (rest : List (List ℕ)) (octets : List ℕ) (pointer : ℕ) → IsLaidOut octets → labels_of octets ≡ label ∷ rest
-    → length old.octets.items ≤ 16383 → pointer_in old octets ≡ None → pointer ≡ pointer_to (length old.octets.items) → IsPutIn old.pointers new.pointers octets pointer
-    → new.octets.items ≡ (old.octets.items ++ length label ∷ []) ++ label → Writes old new (label_text label rest)
-unfolding after
-holds_near old new label rest octets pointer laid begins_ near unknown pointer_is updated grown t h = record {
-  octets = grown ∙ append_assoc old.octets.items (length label ∷ []) label ∙ ap (λ (o : List ℕ). o ++ label_octets label) h.octets;
-  pointers = λ q. rw (updated (octets_of q), places_near (length t.octets) (label ∷ rest) (omega (arith, ap length h.octets)))
-      (by_test q (bytes_eq octets (octets_of q)) refl);
-}
+-- they are also once a name begins that was not known
+one_more : {A : Type 0} (ps qs : Pointers A) (places : List Place) (octets : List ℕ) (offset : ℕ) → IsLaidOut octets → pointer_known ps octets ≡ None → IsPutIn ps qs octets offset → PointInto ps places
+    → PointInto qs (places ++ places_at offset (labels_of octets))
+one_more ps qs places octets offset laid unknown updated into q = rw (updated (octets_of q)) (by_reach (leb offset 16383))
   where
-    same : (q : List (List ℕ)) → bytes_eq octets (octets_of q) ≡ labels_eq (label ∷ rest) q
-    same q = let e = same_name octets q laid in rw begins_ at e
-
-    by_test : (q : List (List ℕ)) (b : Bool) → bytes_eq octets (octets_of q) ≡ b
-        → cond b (Some pointer) (pointer_in old (octets_of q)) ≡ option_map pointer_to (place_of (t.places ++ one_place (length t.octets) (label ∷ rest)) q)
-    by_test q true is =
+    by_test : (b : Bool) → bytes_eq octets (octets_of q) ≡ b
+        → cond b (Some (pointer_to offset)) (pointer_known ps (octets_of q)) ≡ option_map pointer_to (place_of (places ++ one_place offset (labels_of octets)) q)
+    by_test true is =
         let e : octets ≡ octets_of q = (bytes_eq-Decides octets (octets_of q)).0 is in
-        let none = no_place (place_of t.places q) (sym (h.pointers q) ∙ rw (← e) unknown) in
-        rw (push_new t.places (length t.octets) (label ∷ rest) q (sym (same q) ∙ is) none, pointer_is, h.octets) refl
-    by_test q false is = rw (push_other t.places (length t.octets) (label ∷ rest) q (sym (same q) ∙ is)) (h.pointers q)
+        let none = no_place (place_of places q) (sym (into q) ∙ rw (← e) unknown) in
+        rw (push_new places offset (labels_of octets) q (sym (same_name octets q laid) ∙ is) none) refl
+    by_test false is = rw (push_other places offset (labels_of octets) q (sym (same_name octets q laid) ∙ is)) (into q)
+
+    by_reach : (near : Bool) → cond (near && bytes_eq octets (octets_of q)) (Some (pointer_to offset)) (pointer_known ps (octets_of q))
+        ≡ option_map pointer_to (place_of (places ++ cond near (one_place offset (labels_of octets)) []) q)
+    by_reach true = by_test (bytes_eq octets (octets_of q)) refl
+    by_reach false = rw (append-nil places) (into q)
+
+-- names that are shorter than one that begins stay unknown
+pub none_shorter : {A : Type 0} (ps qs : Pointers A) (octets behind : List ℕ) (offset : ℕ) → length behind < length octets → IsPutIn ps qs octets offset
+    → ((q : List ℕ) → length q ≤ length octets → pointer_known ps q ≡ None) → (q : List ℕ) → length q ≤ length behind → pointer_known qs q ≡ None
+none_shorter ps qs octets behind offset shorter updated none q short = rw (updated q) (by_test (leb offset 16383) (bytes_eq octets q) refl)
+  where
+    by_test : (near b : Bool) → bytes_eq octets q ≡ b → cond (near && b) (Some (pointer_to offset)) (pointer_known ps q) ≡ None
+    by_test near true is = absurd (omega (arith, ap length ((bytes_eq-Decides octets q).0 is)))
+    by_test true false is = none q (omega arith)
+    by_test false false is = none q (omega arith)
 
 -- ---- the steps of a name
 
@@ -163,19 +167,12 @@ pointer_left : (t : Text) (label : List ℕ) (rest : List (List ℕ)) (offset : 
 unfolding after name_text
 pointer_left t label rest offset there = rw there refl
 
--- a name that the writer does not know
-pub unknown_left : {A : Type 0} (w : Writer A) (octets label behind : List ℕ) → IsLaidOut octets → Splits octets label behind → pointer_in w octets ≡ None
-    → (u : Text) → Holds w u → after u (name_text (labels_of octets)) ≡ after u (label_text label (labels_of behind) ▹ name_text (labels_of behind))
-unknown_left w octets label behind laid splits unknown u h =
-    let none = no_place (place_of u.places (labels_of octets)) (sym (h.pointers (labels_of octets)) ∙ rw laid.whole unknown) in
-    rw splits.labels (label_left u label (labels_of behind) (rw splits.labels at none))
-
--- a name to which the writer has a pointer
-pub known_left : {A : Type 0} (w : Writer A) (octets label : List ℕ) (rest : List (List ℕ)) (pointer : ℕ) → IsLaidOut octets → labels_of octets ≡ label ∷ rest → pointer_in w octets ≡ Some pointer
-    → (u : Text) → Holds w u → after u (name_text (labels_of octets)) ≡ after u (as_is (octets16 pointer))
-known_left w octets label rest pointer laid labels known u h =
-    let at : pointer_in w (octets_of (labels_of octets)) ≡ Some pointer = rw laid.whole known in
-    known_by (place_of u.places (labels_of octets)) refl (sym (h.pointers (labels_of octets)) ∙ at)
+-- a name to which there is a pointer
+pub known_left : {A : Type 0} (ps : Pointers A) (octets label : List ℕ) (rest : List (List ℕ)) (pointer : ℕ) → IsLaidOut octets → labels_of octets ≡ label ∷ rest → pointer_known ps octets ≡ Some pointer
+    → (u : Text) → PointInto ps u.places → after u (name_text (labels_of octets)) ≡ after u (as_is (octets16 pointer))
+known_left ps octets label rest pointer laid labels known u into =
+    let at : pointer_known ps (octets_of (labels_of octets)) ≡ Some pointer = rw laid.whole known in
+    known_by (place_of u.places (labels_of octets)) refl (sym (into (labels_of octets)) ∙ at)
   where
     known_by : (r : Option ℕ) → place_of u.places (labels_of octets) ≡ r → option_map pointer_to r ≡ Some pointer → after u (name_text (labels_of octets)) ≡ after u (as_is (octets16 pointer))
     known_by None there is = absurd cc
@@ -183,17 +180,94 @@ known_left w octets label rest pointer laid labels known u h =
         let e : pointer_to p ≡ pointer = cc in
         rw (labels, ← e) (pointer_left u label rest p (rw labels at there))
 
+-- the text that stands once a name's front is written, and these pointers are those into it
+pub record Ahead {A : Type 0} (ps : Pointers A) (front : List ℕ) (left : Writing) (start goal : Text) : Type 0 where
+  pub text : Text
+  pub octets : text.octets ≡ start.octets ++ front
+  pub into : PointInto ps text.places
+  pub rest : after text left ≡ goal
+
+-- the ends of a name are looked up and remembered down to this one, and none of its octets is written
+pub record OnTheWay {A : Type 0} (start now : Writer A) (name end : List ℕ) (is_first : Bool) : Type 0 where
+  pub front : List ℕ
+  pub whole : name ≡ front ++ end
+  pub laid : IsLaidOut end
+  pub octets : now.octets.items ≡ start.octets.items
+  pub none : is_first ≡ true → (other : List ℕ) → length other ≤ length end → pointer_in now other ≡ None
+  pub left : (t : Text) → Holds start t → Ahead now.pointers front (name_text (labels_of end)) t (after t (name_text (labels_of name)))
+
+pub way_begins : {A : Type 0} (w : Writer A) (name : List ℕ) (is_first : Bool) → IsLaidOut name → (is_first ≡ true → (other : List ℕ) → pointer_in w other ≡ None) → OnTheWay w w name name is_first
+way_begins w name is_first laid none = record {
+  front = [];
+  whole = refl;
+  laid = laid;
+  octets = refl;
+  none = λ first other short. none first other;
+  left = λ t h. record { text = t; octets = sym (append-nil t.octets); into = h.pointers; rest = refl };
+}
+
+-- the end is its first label and the end behind it
+end_splits : (end label behind : List ℕ) → IsLaidOut end → Splits end label behind → end ≡ label_octets label ++ behind
+end_splits end label behind laid splits =
+    let same : octets_of (labels_of end) ≡ label_octets label ++ octets_of (labels_of behind) = ap octets_of splits.labels in
+    sym laid.whole ∙ same ∙ ap (λ (xs : List ℕ). label_octets label ++ xs) splits.laid.whole
+
+pub way_goes_on : {A : Type 0} (start now next : Writer A) (name end label behind : List ℕ) (is_first : Bool) (offset : ℕ) → OnTheWay start now name end is_first → Splits end label behind → pointer_in now end ≡ None
+    → offset ≡ length start.octets.items + (length name - length end) → IsPutIn now.pointers next.pointers end offset → next.octets.items ≡ now.octets.items → OnTheWay start next name behind is_first
+unfolding after
+way_goes_on start now next name end label behind is_first offset way splits unknown offset_is updated same =
+    let parts = end_splits end label behind way.laid splits in record {
+      front = way.front ++ label_octets label;
+      whole = way.whole ∙ ap (λ (xs : List ℕ). way.front ++ xs) parts ∙ sym (append_assoc way.front (label_octets label) behind);
+      laid = splits.laid;
+      octets = same ∙ way.octets;
+      none = λ first. none_shorter now.pointers next.pointers end behind offset (omega (arith, splits.size)) updated (way.none first);
+      left = λ t h.
+          let r = way.left t h in
+          let here : offset ≡ length r.text.octets = omega (arith, offset_is, ap length r.octets, length-append t.octets way.front, ap length way.whole, length-append way.front end, ap length h.octets) in
+          let none = no_place (place_of r.text.places (labels_of end)) (sym (r.into (labels_of end)) ∙ rw way.laid.whole unknown) in
+          record {
+            text = after r.text (label_text label (labels_of behind));
+            octets = ap (λ (xs : List ℕ). xs ++ label_octets label) r.octets ∙ append_assoc t.octets way.front (label_octets label);
+            into = rw (← here, ← splits.labels) (one_more now.pointers next.pointers r.text.places end offset way.laid unknown updated r.into);
+            rest = sym (after_both r.text (label_text label (labels_of behind)) (name_text (labels_of behind))) ∙ sym (label_left r.text label (labels_of behind) (rw splits.labels at none)) ∙ rw (← splits.labels) r.rest;
+          };
+    }
+
+-- the front of the root is the whole
+pub all_of : (name end : List ℕ) → end ≡ [] → name ≡ take (length name - length end) name
+all_of name end none = sym (take_all (length name - length end) name (omega (arith, ap length none)))
+
+-- the octets of the front are written, and what stands for the end
+pub way_ends : {A : Type 0} (start now mid new : Writer A) (name end front last : List ℕ) (is_first : Bool) → OnTheWay start now name end is_first → front ≡ take (length name - length end) name
+    → mid.octets.items ≡ now.octets.items ++ front → mid.pointers ≡ now.pointers → ((u : Text) → PointInto now.pointers u.places → after u (name_text (labels_of end)) ≡ after u (as_is last)) → Writes mid new (as_is last)
+    → Writes start new (name_text (labels_of name))
+way_ends start now mid new name end front last is_first way front_is grown same ends_as step t h =
+    let r = way.left t h in
+    let size : length way.front ≡ length name - length end = omega (arith, ap length way.whole, length-append way.front end) in
+    let is : front ≡ way.front = front_is ∙ ap (take (length name - length end)) way.whole ∙ take_at way.front end (length name - length end) size in
+    let holds : Holds mid r.text = record { octets = grown ∙ rw (is, way.octets, h.octets, r.octets) refl; pointers = λ q. rw same (r.into q) } in
+    rw (← r.rest, ends_as r.text r.into) (step r.text holds)
+
 -- ---- a pointer that is looked up once
 
 -- its pointer is the whole of a known name
-pub known_written : {A : Type 0} (w v : Writer A) (octets : List ℕ) (pointer : ℕ) → IsLaidOut octets → IsKnown w octets pointer → Writes w v (as_is (octets16 pointer)) → Writes w v (name_text (labels_of octets))
-known_written w v octets pointer laid known step t h = written_by (labels_of octets) refl
+pointer_is_name : {A : Type 0} (w : Writer A) (octets : List ℕ) (pointer : ℕ) → IsLaidOut octets → IsKnown w octets pointer → (t : Text) → Holds w t → after t (name_text (labels_of octets)) ≡ after t (as_is (octets16 pointer))
+pointer_is_name w octets pointer laid known t h = is_by (labels_of octets) refl
   where
-    written_by : (ls : List (List ℕ)) → labels_of octets ≡ ls → Holds v (after t (name_text (labels_of octets)))
-    written_by [] none =
+    is_by : (ls : List (List ℕ)) → labels_of octets ≡ ls → after t (name_text (labels_of octets)) ≡ after t (as_is (octets16 pointer))
+    is_by [] none =
         let empty : octets ≡ octets_of [] = sym laid.whole ∙ ap octets_of none in
         absurd (omega (arith, known.some, ap length empty))
-    written_by (label ∷ rest) is = rw (known_left w octets label rest pointer laid is known.is t h) (step t h)
+    is_by (label ∷ rest) is = known_left w.pointers octets label rest pointer laid is known.is t h.pointers
+
+-- a known name, and octets behind it
+pub known_written : {A : Type 0} (old new : Writer A) (octets : List ℕ) (pointer : ℕ) (xs : List ℕ) → IsLaidOut octets → IsKnown old octets pointer → Writes old new (as_is (octets16 pointer ++ xs))
+    → Writes old new (name_text (labels_of octets) ▹ as_is xs)
+known_written old new octets pointer xs laid known step t h =
+    let same : after t (name_text (labels_of octets) ▹ as_is xs) ≡ after t (as_is (octets16 pointer ++ xs)) =
+    after_both t (name_text (labels_of octets)) (as_is xs) ∙ ap (λ (u : Text). after u (as_is xs)) (pointer_is_name old octets pointer laid known t h) ∙ after_octets t (octets16 pointer) xs in
+    rw same (step t h)
 
 place_stays : (ps qs : List Place) (name : List (List ℕ)) (o : ℕ) → place_of ps name ≡ Some o → place_of (ps ++ qs) name ≡ Some o
 place_stays [] qs name o there = absurd cc

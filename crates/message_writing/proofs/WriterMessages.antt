@@ -1,11 +1,12 @@
 -- A whole message, written within a limit.
 use Rattle.std.proofs.Common.{◌≡◌, ℕ, ◌+◌, ◌<◌, ◌≤◌, max, leb, true, List, [], ◌∷◌, ◌++◌, length, Result, Ok, Err, refl, ap, ◌∙◌, arith, ◌⊎◌, inl, inr}
+use Rattle.std.specs.List.{flat_map}
 use Rattle.std.proofs.lemmas.List.{length-append}
 use Rattle.std.proofs.lemmas.Bool.{cases_lt, lt-ltb, le-ltb, leb-true, le-leb}
 use Rattle.message_names.specs.declared.fault.Fault.{Fault}
 use Rattle.message_names.specs.declared.fault.Fault.TheVariants.{Short, LabelForm, Pointer, NameLong, Rdata, TooLarge, Memory, NoQuestion}
 use Rattle.message_writing.specs.declared.writer.Writer.{Writer}
-use Rattle.std.specs.Prelude.{slice_index, MatchResult}
+use Rattle.std.specs.Prelude.{MatchResult}
 use Rattle.message_reading.specs.declared.header.Header.{Header}
 use Rattle.message_reading.specs.Values.{Question, Record, Message}
 use Rattle.message_names.specs.Reading.{Fails}
@@ -169,18 +170,20 @@ pub section_written : {A X : Type 0} (w u v : Writer A) (before : Writing) (text
 section_written w u v before text xs ys same first step =
     both w u v before (each text ys) first (writes_as u v (each text xs) (each text ys) (ap (each text) same) step)
 
-pub header_written : {A : Type 0} (w0 w1 w2 w3 w4 w5 w6 : Writer A) (h : Header) (flags : ℕ) (counts : List ℕ) → flags ≡ flags_of h
-    → Writes w0 w1 (as_is (octets16 h.id)) → Writes w1 w2 (as_is (octets16 flags)) → Writes w2 w3 (as_is (octets16 (slice_index counts 0))) → Writes w3 w4 (as_is (octets16 (slice_index counts 1)))
-    → Writes w4 w5 (as_is (octets16 (slice_index counts 2))) → Writes w5 w6 (as_is (octets16 (slice_index counts 3))) → Writes w0 w6 (counted_header h counts)
-header_written w0 w1 w2 w3 w4 w5 w6 h flags counts f s1 s2 s3 s4 s5 s6 =
-    let number : ℕ → Writing = λ k. as_is (octets16 k) in
-    let id : Writing = number h.id in
-    let bits : Writing = number (flags_of h) in
-    let count : ℕ → Writing = λ i. number (slice_index counts i) in
-    both w0 w5 w6 (id ▹ bits ▹ count 0 ▹ count 1 ▹ count 2) (count 3)
-    (both w0 w4 w5 (id ▹ bits ▹ count 0 ▹ count 1) (count 2)
-    (both w0 w3 w4 (id ▹ bits ▹ count 0) (count 1)
-    (both w0 w2 w3 (id ▹ bits) (count 0) (both w0 w1 w2 id bits s1 (writes_as w1 w2 (number flags) bits (ap number f) s2)) s3) s4) s5) s6
+-- six numbers, written at once
+header_whole : (h : Header) (counts : List ℕ) → length counts ≡ 4 → as_is (octets16 h.id ++ (octets16 (flags_of h) ++ flat_map octets16 counts)) ≡ counted_header h counts
+unfolding ◌▹◌
+header_whole h (a ∷ b ∷ c ∷ d ∷ []) four = refl
+header_whole h [] four = absurd (omega arith)
+header_whole h (a ∷ []) four = absurd (omega arith)
+header_whole h (a ∷ b ∷ []) four = absurd (omega arith)
+header_whole h (a ∷ b ∷ c ∷ []) four = absurd (omega arith)
+header_whole h (a ∷ b ∷ c ∷ d ∷ e ∷ more) four = absurd (omega arith)
+
+pub header_written : {A : Type 0} (old new : Writer A) (h : Header) (flags : ℕ) (counts xs : List ℕ) → length counts ≡ 4 → flags ≡ flags_of h → xs ≡ octets16 h.id ++ (octets16 flags ++ flat_map octets16 counts)
+    → Writes old new (as_is xs) → Writes old new (counted_header h counts)
+header_written old new h flags counts xs four f is step =
+    writes_as old new (as_is xs) (counted_header h counts) (ap as_is is ∙ rw f (header_whole h counts four)) step
 
 -- the header of a message, from its lists
 pub header_of_lists : {A : Type 0} (w v : Writer A) (m : Message) (h : Header) (qs : List Question) (as_ ns ds : List Record) → h ≡ m.header → qs ≡ m.questions → as_ ≡ m.answers → ns ≡ m.authority → ds ≡ m.additional

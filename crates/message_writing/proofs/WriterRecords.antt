@@ -4,14 +4,14 @@ use Rattle.std.proofs.lemmas.List.{append-nil, length-append, length-take, lengt
 use Rattle.message_names.specs.declared.fault.Fault.{Fault}
 use Rattle.message_names.specs.declared.fault.Fault.TheVariants.{Short, LabelForm, Pointer, NameLong, Rdata, TooLarge, Memory, NoQuestion}
 use Rattle.message_writing.specs.declared.writer.Writer.{Writer}
-use Rattle.message_writing.specs.Writing.{Text, Writing, as_is, after, ◌▹◌, each, octets16, with_length, name_text, question_text}
+use Rattle.message_writing.specs.Writing.{Text, Writing, as_is, after, ◌▹◌, each, octets16, octets32, with_length, name_text, question_text, head_text}
 use Rattle.std.specs.List.{AllByRecursion}
 use Rattle.dns_name.specs.Labels.{IsName}
 use Rattle.message_writing.specs.Written.{IsQuestion}
 use Rattle.message_reading.specs.Values.{Question, Record}
 use Rattle.message_writing.specs.Borrowed.{record_of}
 use Rattle.message_writing.specs.Writer.{Holds, Writes, HoldsText, Refused}
-use Rattle.message_writing.proofs.WriterLaws.{GoesOn, after_both, along, both, goes_on, all_done}
+use Rattle.message_writing.proofs.WriterLaws.{GoesOn, after_both, in_turn, along, both, goes_on, all_done}
 
 pub after_long : (t : Text) (w : Writing) → length t.octets ≤ length (after t w).octets
 unfolding after
@@ -105,14 +105,19 @@ plain_long old new xs (t, h) step = omega (arith, ap length (step t h).octets, p
 pub writes_as : {A : Type 0} (old new : Writer A) (a b : Writing) → a ≡ b → Writes old new a → Writes old new b
 writes_as old new a b same step t h = let P : Writing → Type 0 = λ w. Holds new (after t w) in subst P same (step t h)
 
--- a question, field by field
-pub question_written : {A : Type 0} (w0 w1 w2 w3 : Writer A) (q : Question) (labels : List (List ℕ)) (kind class : ℕ) → labels ≡ q.name → kind ≡ q.kind → class ≡ q.class
-    → Writes w0 w1 (name_text labels) → Writes w1 w2 (as_is (octets16 kind)) → Writes w2 w3 (as_is (octets16 class)) → Writes w0 w3 (question_text q)
-question_written w0 w1 w2 w3 q labels kind class named is_kind is_class name step last =
-    let number : ℕ → Writing = λ n. as_is (octets16 n) in
-    both w0 w2 w3 (name_text q.name ▹ number q.kind) (number q.class)
-    (both w0 w1 w2 (name_text q.name) (number q.kind) (writes_as w0 w1 (name_text labels) (name_text q.name) (ap name_text named) name) (writes_as w1 w2 (number kind) (number q.kind) (ap number is_kind) step))
-    (writes_as w2 w3 (number class) (number q.class) (ap number is_class) last)
+-- a question, its type and class at once
+pub question_written : {A : Type 0} (old mid new : Writer A) (q : Question) (labels : List (List ℕ)) (kind class : ℕ) (xs : List ℕ) → labels ≡ q.name → kind ≡ q.kind → class ≡ q.class → xs ≡ octets16 kind ++ octets16 class
+    → Writes old mid (name_text labels) → Writes mid new (as_is xs) → Writes old new (question_text q)
+question_written old mid new q labels kind class xs named is_kind is_class is name step =
+    in_turn old new (name_text q.name) (octets16 q.kind) (octets16 q.class)
+    (both old mid new (name_text q.name) (as_is (octets16 q.kind ++ octets16 q.class)) (writes_as old mid (name_text labels) (name_text q.name) (ap name_text named) name)
+    (writes_as mid new (as_is xs) (as_is (octets16 q.kind ++ octets16 q.class)) (ap as_is (is ∙ rw (is_kind, is_class) refl)) step))
+
+-- what stands before the data, the numbers at once
+pub head_written : {A : Type 0} (old new : Writer A) (r : Record) (xs : List ℕ) → xs ≡ octets16 r.kind ++ (octets16 r.class ++ octets32 r.ttl) → Writes old new (name_text r.owner ▹ as_is xs) → Writes old new (head_text r)
+head_written old new r xs is step =
+    in_turn old new (name_text r.owner ▹ as_is (octets16 r.kind)) (octets16 r.class) (octets32 r.ttl)
+    (in_turn old new (name_text r.owner) (octets16 r.kind) (octets16 r.class ++ octets32 r.ttl) (writes_as old new (name_text r.owner ▹ as_is xs) (name_text r.owner ▹ as_is (octets16 r.kind ++ (octets16 r.class ++ octets32 r.ttl))) (rw is refl) step))
 
 pub question_is : (q : Question) (labels : List (List ℕ)) (kind class : ℕ) → labels ≡ q.name → kind ≡ q.kind → class ≡ q.class → IsName labels → kind < 65536 → class < 65536 → IsQuestion q
 question_is q labels kind class named is_kind is_class name k c = record { name = subst IsName named name; kind = omega (arith, is_kind, k); class = omega (arith, is_class, c) }

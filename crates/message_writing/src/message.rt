@@ -1,11 +1,12 @@
 //! Writing messages as octets: RFC 1035 4.1.
 
-ghost use Rattle.std.specs.Prelude.{◌≡◌, ◌↔◌, ◌≤◌, ◌<◌, length, Ok, OnOk, IfOk, IfErr, IsTrue, MatchOption, MatchResult};
+ghost use Rattle.std.specs.Prelude.{◌≡◌, ◌↔◌, ◌≤◌, ◌<◌, ◌++◌, length, Ok, OnOk, IfOk, IfErr, IsTrue, MatchOption, MatchResult};
+ghost use Rattle.std.specs.List.{flat_map};
 ghost use Rattle.message_names.specs.Reading.{Gives, Fails};
 ghost use Rattle.message_names.specs.declared.fault.Fault.TheVariants.{Memory};
 ghost use Rattle.message_reading.specs.Header.{FitsBits};
 ghost use Rattle.message_reading.specs.Messages.{Spells, HasShapes};
-ghost use Rattle.message_writing.specs.Writing.{bit, flags_of, counted_header, list_counts, CanBeCounted, message_text, written_within};
+ghost use Rattle.message_writing.specs.Writing.{octets16, bit, flags_of, counted_header, list_counts, CanBeCounted, message_text, written_within};
 ghost use Rattle.message_writing.specs.Borrowed.{records_in};
 ghost use Rattle.message_writing.specs.Written.{IsMessage, IsCounted};
 ghost use Rattle.message_writing.specs.Writer.{Writes, Puts, HoldsText};
@@ -13,6 +14,7 @@ ghost use Rattle.message_writing.specs.Writer.{Writes, Puts, HoldsText};
 use crate::borrowed::{MessageParts, RowsRef};
 use crate::records::{put_only_question, put_questions, put_records, put_sets};
 use crate::writer::Writer;
+use byteorder::{BigEndian, ByteOrder};
 use message_names::Fault;
 use message_reading::{Header, Message};
 use plain_list::Octets;
@@ -83,6 +85,17 @@ fn counts_of<A: Allocator>(message: &MessageParts<A>) -> Option<[u16; 4]>
     Some([questions, answers, authority, 0])
 }
 
+/// The octets of a header: identifier, flags, and counts (RFC 1035 4.1.1).
+fn header_octets(id: u16, flags: u16, counts: [u16; 4]) -> [u8; 12]
+    ensures { result ≡ octets16 id ++ octets16 flags ++ flat_map octets16 counts }
+{
+    let mut octets = [0; 12];
+    BigEndian::write_u16(&mut octets, id);
+    BigEndian::write_u16(&mut octets[2..], flags);
+    BigEndian::write_u16_into(&counts, &mut octets[4..]);
+    octets
+}
+
 /// Writes the header with these counts: questions, answers, authority, additional.
 fn put_header<'a, A: Allocator + Copy>(
     writer: &mut Writer<'a, A>,
@@ -92,12 +105,7 @@ fn put_header<'a, A: Allocator + Copy>(
     requires { FitsBits header.now }
     ensures { OnOk result (Writes writer.old writer.new (counted_header header.now counts) × (header.now.id < 65536)) }
 {
-    writer.put_u16(header.id)?;
-    writer.put_u16(flags_of(header))?;
-    writer.put_u16(counts[0])?;
-    writer.put_u16(counts[1])?;
-    writer.put_u16(counts[2])?;
-    writer.put_u16(counts[3])?;
+    writer.put(&header_octets(header.id, flags_of(header), counts))?;
     Ok(())
 }
 

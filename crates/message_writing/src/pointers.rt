@@ -1,6 +1,6 @@
 //! The names that begin in octets, and where each began first.
 
-ghost use Rattle.std.specs.Prelude.{◌≡◌, ℕ, List, None, OnOk};
+ghost use Rattle.std.specs.Prelude.{◌≡◌, ℕ, List, None, OnOk, IsTrue};
 ghost use Rattle.message_writing.specs.Writer.{pointer_among, pointer_known, IsPutIn};
 
 use arrayvec::ArrayVec;
@@ -9,6 +9,12 @@ use std::collections::BTreeMap;
 
 /// So many names are found one by one, without memory; further ones by a map.
 const FEW: usize = 16;
+
+/// The last offset that the 14 bits of a pointer reach (RFC 1035 4.1.4).
+const LAST_PLACE: usize = 16383;
+
+/// The two high bits of a pointer.
+const POINTER: u16 = 0xC000;
 
 /// Names, each without its zero octet, and a pointer to the first place of each.
 #[derive(Drop)]
@@ -50,11 +56,23 @@ impl<'a, A: Allocator + Copy> Pointers<'a, A> {
         self.many.get(name).copied()
     }
 
-    /// Remembers a name that is not known. It takes memory once there are more than a few.
-    pub fn insert(&mut self, name: &'a [u8], pointer: u16) -> Result<(), AllocError>
-        requires { pointer_known self.old name.now ≡ None }
-        ensures { OnOk result (IsPutIn self.old self.new name.now pointer) }
+    /// Whether no name is known.
+    pub fn is_empty(&self) -> bool
+        ensures { IsTrue result → (name : List ℕ) → pointer_known self.now name ≡ None }
     {
+        self.few.is_empty() && self.many.is_empty()
+    }
+
+    /// Remembers that a name that is not known begins at this offset, as far as a pointer reaches. It takes memory once
+    /// there are more than a few.
+    pub fn insert(&mut self, name: &'a [u8], offset: usize) -> Result<(), AllocError>
+        requires { pointer_known self.old name.now ≡ None }
+        ensures { OnOk result (IsPutIn self.old self.new name.now offset) }
+    {
+        if offset > LAST_PLACE {
+            return Ok(());
+        }
+        let pointer = POINTER + offset as u16;
         if self.few.is_full() {
             self.many.insert(name, pointer)?;
             return Ok(());

@@ -1,10 +1,10 @@
 //! Questions and records, written one behind another: RFC 1035 4.1.2 and 4.1.3.
 
-ghost use Rattle.std.specs.Prelude.{◌≤◌, ◌<◌, ℕ, List, length, OnOk};
+ghost use Rattle.std.specs.Prelude.{◌≡◌, ◌++◌, ◌≤◌, ◌<◌, ℕ, List, length, OnOk};
 ghost use Rattle.std.specs.Option.{IfSome};
 ghost use Rattle.std.specs.List.{AllByRecursion};
 ghost use Rattle.dns_name.specs.Labels.{labels_of, IsLaidOut};
-ghost use Rattle.message_writing.specs.Writing.{each, question_text, head_text, record_text};
+ghost use Rattle.message_writing.specs.Writing.{octets16, octets32, each, question_text, head_text, record_text};
 ghost use Rattle.message_writing.specs.Borrowed.{record_of, records_of, records_in, questions_of};
 ghost use Rattle.message_writing.specs.Written.{IsQuestion, IsRecord};
 ghost use Rattle.message_writing.specs.Writer.{Writes, Puts, HoldsText, IsKnown};
@@ -12,9 +12,20 @@ ghost use Rattle.message_writing.specs.Writer.{Writes, Puts, HoldsText, IsKnown}
 use crate::borrowed::{DataRef, RowsRef};
 use crate::data::put_with_length;
 use crate::writer::Writer;
+use byteorder::{BigEndian, ByteOrder};
 use message_names::Fault;
 use message_reading::{Question, QuestionRef, Rdata, Record};
 use std::alloc::{AllocError, Allocator};
+
+/// A type and a class.
+fn kind_and_class(kind: u16, class: u16) -> [u8; 4]
+    ensures { result ≡ octets16 kind ++ octets16 class }
+{
+    let mut octets = [0; 4];
+    BigEndian::write_u16(&mut octets, kind);
+    BigEndian::write_u16(&mut octets[2..], class);
+    octets
+}
 
 /// Writes a question, as far as the limit lets it.
 pub(crate) fn put_question<'a, A: Allocator + Copy>(
@@ -25,8 +36,7 @@ pub(crate) fn put_question<'a, A: Allocator + Copy>(
     ensures { Puts limit result writer.old writer.new (question_text question.now) (IsQuestion question.now) }
 {
     writer.put_name(question.name())?;
-    writer.put_u16(question.kind())?;
-    writer.put_u16(question.class())?;
+    writer.put(&kind_and_class(question.kind(), question.class()))?;
     writer.check(limit)?;
     Ok(())
 }
@@ -74,6 +84,26 @@ struct Head<'a> {
     ttl: u32,
 }
 
+/// Type, class and TTL.
+fn numbers_of(head: &Head<'_>) -> [u8; 8]
+    ensures { result ≡ octets16 head.now.kind ++ octets16 head.now.class ++ octets32 head.now.ttl }
+{
+    let mut octets = [0; 8];
+    octets[..4].copy_from_slice(&kind_and_class(head.kind, head.class));
+    BigEndian::write_u32(&mut octets[4..], head.ttl);
+    octets
+}
+
+/// The pointer to an owner, and these octets behind it.
+fn behind_pointer(pointer: u16, numbers: [u8; 8]) -> [u8; 10]
+    ensures { result ≡ octets16 pointer ++ numbers }
+{
+    let mut octets = [0; 10];
+    BigEndian::write_u16(&mut octets, pointer);
+    octets[2..].copy_from_slice(&numbers);
+    octets
+}
+
 /// Writes what stands before the data of a record and its length. This is the pointer to its owner, if any.
 fn put_head<'a, A: Allocator + Copy>(
     writer: &mut Writer<'a, A>,
@@ -84,10 +114,14 @@ fn put_head<'a, A: Allocator + Copy>(
     requires known { IfSome known (λ pointer. IsKnown writer.old head.now.owner.now pointer) }
     ensures { (rdata : List ℕ) → OnOk result (Writes writer.old writer.new (head_text (record_of (labels_of head.now.owner.now) head.now.kind head.now.class head.now.ttl rdata))) }
 {
-    writer.put_known(head.owner, known)?;
-    writer.put_u16(head.kind)?;
-    writer.put_u16(head.class)?;
-    writer.put_u32(head.ttl)?;
+    let numbers = numbers_of(head);
+    match known {
+        Some(pointer) => writer.put(&behind_pointer(pointer, numbers))?,
+        None => {
+            writer.put_name(head.owner)?;
+            writer.put(&numbers)?;
+        }
+    }
     Ok(())
 }
 

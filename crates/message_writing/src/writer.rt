@@ -1,9 +1,9 @@
 //! Octets that are written from the front, with pointers to the names in them.
 
-ghost use Rattle.std.specs.Prelude.{◌≡◌, ◌≤◌, ◌<◌, ◌-◌, ◌∷◌, [], ℕ, List, length, OnOk, None, MatchResult};
+ghost use Rattle.std.specs.Prelude.{◌≡◌, ◌≤◌, ◌<◌, ◌-◌, [], length, OnOk, IsTrue, None, MatchResult};
 ghost use Rattle.std.specs.Option.{IfSome};
-ghost use Rattle.dns_name.specs.Labels.{labels_of, IsLaidOut, IsLabel};
-ghost use Rattle.message_writing.specs.Writing.{as_is, octets16, octets32, name_text, label_text};
+ghost use Rattle.dns_name.specs.Labels.{labels_of, IsLaidOut};
+ghost use Rattle.message_writing.specs.Writing.{as_is, octets16, name_text};
 ghost use Rattle.message_writing.specs.Writer.{Writes, IsEmpty, IsKnown, pointer_in};
 
 use crate::pointers::Pointers;
@@ -11,12 +11,6 @@ use byteorder::{BigEndian, ByteOrder};
 use dns_name::split_label;
 use message_names::Fault;
 use std::alloc::{AllocError, Allocator};
-
-/// The last offset that the 14 bits of a pointer reach (RFC 1035 4.1.4).
-const LAST_PLACE: usize = 16383;
-
-/// The two high bits of a pointer.
-const POINTER: u16 = 0xC000;
 
 /// What was written so far.
 #[derive(Drop)]
@@ -54,44 +48,38 @@ impl<'a, A: Allocator + Copy> Writer<'a, A> {
         self.put(&buffer)
     }
 
-    pub fn put_u32(&mut self, number: u32) -> Result<(), AllocError>
-        ensures { OnOk result (Writes self.old self.new (as_is (octets32 number))) }
+    /// The pointer to an end of a name, where there is one. None is looked up for the first name: no two ends of one
+    /// name are equal.
+    fn find(&self, end: &[u8], first: bool) -> Option<u16>
+        requires { IsTrue first → pointer_in self.now end.now ≡ None }
+        ensures { result ≡ pointer_in self.now end.now }
     {
-        let mut buffer = [0u8; 4];
-        BigEndian::write_u32(&mut buffer, number);
-        self.put(&buffer)
-    }
-
-    /// Writes a label, with which this name begins.
-    fn put_label(&mut self, label: &[u8], name: &'a [u8]) -> Result<(), AllocError>
-        requires laid { IsLaidOut name.now }
-        requires is_label { IsLabel label.now }
-        requires unknown { pointer_in self.old name.now ≡ None }
-        ensures { (rest : List (List ℕ)) → labels_of name.now ≡ label.now ∷ rest → OnOk result (Writes self.old self.new (label_text label.now rest)) }
-    {
-        let offset = self.octets.len();
-        self.octets.push(label.len() as u8)?;
-        self.octets.extend_from_slice(label)?;
-        if offset <= LAST_PLACE {
-            self.pointers.insert(name, POINTER + offset as u16)?;
+        if first {
+            return None;
         }
-        Ok(())
+        self.pointers.find(end)
     }
 
-    /// Writes the name with these octets, its longest end that is known as a pointer.
+    /// Writes the name with these octets, its longest end that is known as a pointer. The octets in front of that are
+    /// written at once.
     pub fn put_name(&mut self, name: &'a [u8]) -> Result<(), AllocError>
         requires { IsLaidOut name.now }
         ensures { OnOk result (Writes self.old self.new (name_text (labels_of name.now))) }
     {
+        let start = self.octets.len();
+        let first = self.pointers.is_empty();
         let mut rest = name;
-        while let Some((label, after)) = split_label(rest) {
-            if let Some(pointer) = self.pointers.find(rest) {
+        while let Some((_label, after)) = split_label(rest) {
+            let front = name.len() - rest.len();
+            if let Some(pointer) = self.find(rest, first) {
+                self.octets.extend_from_slice(&name[..front])?;
                 self.put_u16(pointer)?;
                 return Ok(());
             }
-            self.put_label(label, rest)?;
+            self.pointers.insert(rest, start + front)?;
             rest = after;
         }
+        self.octets.extend_from_slice(name)?;
         self.put(&[0])?;
         Ok(())
     }
@@ -105,19 +93,6 @@ impl<'a, A: Allocator + Copy> Writer<'a, A> {
             return before;
         }
         self.pointers.find(name)
-    }
-
-    /// Writes this name, to which this is the pointer, if any.
-    pub fn put_known(&mut self, name: &'a [u8], known: Option<u16>) -> Result<(), AllocError>
-        requires laid { IsLaidOut name.now }
-        requires known { IfSome known (λ pointer. IsKnown self.old name.now pointer) }
-        ensures { OnOk result (Writes self.old self.new (name_text (labels_of name.now))) }
-    {
-        match known {
-            Some(pointer) => self.put_u16(pointer)?,
-            None => self.put_name(name)?,
-        }
-        Ok(())
     }
 
     /// How many octets the limit leaves.

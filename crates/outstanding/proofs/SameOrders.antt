@@ -4,7 +4,7 @@ use Rattle.std.specs.Bool.{Decides}
 use Rattle.std.specs.Ordering.{ordering_then}
 use Rattle.std.specs.Cmp.{IsTotalOrder}
 use Rattle.std.specs.Cmp.Lexicographic.{slice_cmp, bytes_decides}
-use Rattle.std.proofs.lemmas.Bool.{and_parts, eqb-true, false≢true}
+use Rattle.std.proofs.lemmas.Bool.{and_parts, eqb-true, eq-eqb, false≢true}
 use Rattle.std.proofs.lemmas.Bool.Decides.{nat_tests, same_from_decides}
 use Rattle.std.proofs.lemmas.Cmp.{tied_itself}
 use Rattle.std.proofs.lemmas.Map.Text.{is_eq-slice_cmp}
@@ -19,7 +19,7 @@ use Rattle.outstanding.specs.declared.ask.Path.{Path}
 use Rattle.outstanding.specs.declared.ask.Path.TheVariants.{Udp, Tcp}
 use Rattle.outstanding.specs.contracts.ask.PathOrd.TheImpl.Laws as path_laws
 use Rattle.outstanding.specs.contracts.keyed.QuestionKeyOrd.TheImpl.Laws as key_laws
-use Rattle.outstanding.specs.Orders.{path_cmp, key_cmp, question_key}
+use Rattle.outstanding.specs.Orders.{path_cmp, key_cmp, name_number, question_key}
 use Rattle.outstanding.specs.Lists.{same_path}
 
 pub path_total : IsTotalOrder path_cmp
@@ -70,12 +70,29 @@ three : (a b c : Bool) → (a && b && c) ≡ (a && (b && c))
 three true b c = refl
 three false b c = refl
 
+-- what follows from a test may be asked before it
+asked_before : (a b c : Bool) → (b ≡ true → a ≡ true) → (a && (b && c)) ≡ (b && c)
+asked_before true b c follows = refl
+asked_before false true c follows = absurd (false≢true (follows refl))
+asked_before false false c follows = refl
+
+-- equal names have one number
+one_number : (a b : List (List ℕ)) → is_eq (name_cmp a b) ≡ true → is_eq (nat_cmp (name_number a) (name_number b)) ≡ true
+one_number a b equal =
+    let same : name_number b ≡ name_number a = ap name_number (sym ((names_decide a b).0 equal)) in
+    sym (numbers (name_number a) (name_number b)) ∙ ap (λ n. name_number a == n) same ∙ eq-eqb (name_number a) (name_number a) refl
+
 pub same_question_is : (q r : Question) → same_question q r ≡ is_eq (key_cmp (question_key q) (question_key r))
 same_question_is q r =
     let names : same q.name r.name ≡ is_eq (name_cmp (lowered q.name) (lowered r.name)) =
     same_from_decides (same q.name r.name) (is_eq (name_cmp (lowered q.name) (lowered r.name))) (same_decides q.name r.name) (names_decide (lowered q.name) (lowered r.name)) in
     let rest : is_eq (ordering_then (nat_cmp q.kind r.kind) (nat_cmp q.class r.class)) ≡ (q.kind == r.kind) && (q.class == r.class) =
     both_equal (nat_cmp q.kind r.kind) (nat_cmp q.class r.class) ∙ ap₂ (λ k c. k && c) (sym (numbers q.kind r.kind)) (sym (numbers q.class r.class)) in
+    let name = name_cmp (lowered q.name) (lowered r.name) in
+    let others = ordering_then (nat_cmp q.kind r.kind) (nat_cmp q.class r.class) in
+    let number = nat_cmp (name_number (lowered q.name)) (name_number (lowered r.name)) in
     three (same q.name r.name) (q.kind == r.kind) (q.class == r.class)
     ∙ ap₂ (λ n k. n && k) names (sym rest)
-    ∙ sym (both_equal (name_cmp (lowered q.name) (lowered r.name)) (ordering_then (nat_cmp q.kind r.kind) (nat_cmp q.class r.class)))
+    ∙ sym (asked_before (is_eq number) (is_eq name) (is_eq others) (one_number (lowered q.name) (lowered r.name)))
+    ∙ ap (λ o. is_eq number && o) (sym (both_equal name others))
+    ∙ sym (both_equal number (ordering_then name others))

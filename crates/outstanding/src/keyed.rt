@@ -1,7 +1,7 @@
 //! An ask as it is kept, with the key of its question.
 
 ghost use Rattle.std.specs.Prelude.{◌≡◌};
-ghost use Rattle.outstanding.specs.Orders.{key_cmp, path_cmp, question_key};
+ghost use Rattle.outstanding.specs.Orders.{key_cmp, octets_number, path_cmp, question_key};
 
 use crate::ask::{Ask, Path};
 use dns_message::Question;
@@ -10,9 +10,13 @@ use std::alloc::Allocator;
 use std::cmp::Ordering;
 use std::marker::Model;
 
-/// A question for comparing: keys are equal exactly where questions are, letter case aside.
+/// A question for comparing: keys are equal exactly where questions are, letter case aside. The number, which is that of the
+/// name, is compared first: a search goes over keys that stand far from one another in memory, and most are told apart
+/// without a look at their names. It is no hash against strangers: names that were sought out to have one number are told
+/// apart by their octets, which takes no more than it would without numbers.
 #[derive(Clone, Copy, PartialEq, Eq, PartialOrd, Ord)]
 pub struct QuestionKey {
+    number: u64,
     name: NameKey,
     kind: u16,
     class: u16,
@@ -23,18 +27,23 @@ impl QuestionKey {
     pub fn of<A: Allocator>(question: &Question<A>) -> QuestionKey
         ensures { result ≡ question_key question.now }
     {
+        let name = question.name.key();
         QuestionKey {
-            name: question.name.key(),
+            number: number_of(name.octets()),
+            name,
             kind: question.kind,
             class: question.class,
         }
     }
 
-    /// How it compares to another. It takes no memory. Equal keys, to which a search comes at its end, are told without a
-    /// look at the zeros behind their names.
+    /// How it compares to another. It takes no memory. Numbers that differ tell it alone. Equal keys, to which a search comes
+    /// at its end, are told without a look at the zeros behind their names.
     pub fn compare(&self, other: &QuestionKey) -> Ordering
         ensures { result ≡ key_cmp self.now other.now }
     {
+        if self.number != other.number {
+            return self.number.cmp(&other.number);
+        }
         if self == other {
             return Ordering::Equal;
         }
@@ -42,11 +51,27 @@ impl QuestionKey {
     }
 }
 
-/// An ask, and the key of its question, which is made once. It is seen as the ask.
+/// What the number of the octets before is multiplied by at each octet. By this prime, which is that of the FNV hashes, names
+/// that differ in few letters get numbers that differ.
+const SPREAD: u64 = 0x100000001b3;
+
+/// The number of a name, by its octets in lower case.
+fn number_of(octets: &[u8]) -> u64
+    ensures { result ≡ octets_number octets.now }
+{
+    let mut number = 0u64;
+    for octet in octets {
+        number = number.wrapping_mul(SPREAD).wrapping_add(u64::from(*octet));
+    }
+    number
+}
+
+/// An ask, and the key of its question, which is made once. It is seen as the ask. The key stands first, where a search by
+/// question looks.
 #[derive(Drop)]
 pub(crate) struct Keyed<A: Allocator> {
-    ask: Ask<A>,
     key: QuestionKey,
+    ask: Ask<A>,
 }
 
 impl<A: Allocator> Model for Keyed<A> {
@@ -66,7 +91,7 @@ impl<A: Allocator> Keyed<A> {
         ensures { result ≡ ask }
     {
         let key = QuestionKey::of(&ask.question);
-        Keyed { ask, key }
+        Keyed { key, ask }
     }
 
     pub(crate) fn ask(&self) -> &Ask<A>
@@ -78,7 +103,7 @@ impl<A: Allocator> Keyed<A> {
     pub(crate) fn into_ask(self) -> Ask<A>
         ensures { result ≡ self }
     {
-        let Keyed { ask, key: _ } = self;
+        let Keyed { key: _, ask } = self;
         ask
     }
 

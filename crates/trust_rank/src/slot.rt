@@ -14,22 +14,22 @@ pub struct Slot {
     pub kind: Option<u16>,
 }
 
-// Class and type are hashed as one number, since one write of four octets costs less than three writes.
+// Class and type are hashed as one number of eight octets: a hasher takes whole words at once.
 impl Hash for Slot {
     ghost use Rattle.std.specs.Prelude.{take, ◌∷◌, ◌+◌, ◌*◌};
     ghost use Rattle.std.specs.Hash as fed;
     ghost use Rattle.std.specs.Option.{unwrap_or};
     ghost use Rattle.std.specs.Cmp.Rules.{hashing};
     ghost use Rattle.std.proofs.Common.{rules};
-    ghost use Rattle.dns_name.specs.Key.{key_octets, key_len};
+    ghost use Rattle.dns_name.specs.Key.{key_octets, key_len, end_of_words};
 
-    ghost hash_input = { λ s. take (key_len s.key) (key_octets s.key) ∷ fed.u32 (65536 * s.class + unwrap_or s.kind 0) };
+    ghost hash_input = { λ s. take (end_of_words (key_len s.key)) (key_octets s.key) ∷ fed.u64 (65536 * s.class + unwrap_or s.kind 0) };
 
     ghost respects_eq = { Prim.search (hashing, rules) };
 
     fn hash<H: Hasher>(&self, state: &mut H) {
         self.key.hash(state);
         let kind = self.kind.unwrap_or(0);
-        state.write_u32(65_536 * u32::from(self.class) + u32::from(kind));
+        state.write_u64(65_536 * u64::from(self.class) + u64::from(kind));
     }
 }

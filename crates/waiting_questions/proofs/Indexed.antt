@@ -1,7 +1,8 @@
 -- What is found of indexed questions, and what one more or less leaves.
-use Rattle.std.proofs.Common.{◌≡◌, ℕ, zero, suc, ◌+◌, ◌-◌, ◌<◌, ◌≤◌, List, [], ◌∷◌, ◌++◌, length, take, drop, slice_get, slice_index, Bool, true, false, cond, not, nat_lt, Option, Some, None, IsSome, refl, sym, ap, ◌∙◌, subst, subst₂, arith, get_or-take, get_or-drop, length-take, length-drop, lt-ltb, ◌==◌}
+use Rattle.std.proofs.Common.{◌≡◌, ℕ, zero, suc, ◌+◌, ◌-◌, ◌<◌, ◌≤◌, List, [], ◌∷◌, ◌++◌, length, take, drop, slice_get, slice_index, slice_index_or, Bool, true, false, cond, not, nat_lt, Option, Some, None, IsSome, refl, sym, ap, ◌∙◌, subst, subst₂, arith, get_or-take, get_or-drop, length-take, length-drop, lt-ltb, ◌==◌}
 use Rattle.std.specs.Prelude.{filter}
-use Rattle.std.specs.List.{All, AllByRecursion, Contains, insert, remove, between, list_any, cons_option}
+use Rattle.std.specs.List.{All, AllByRecursion, Contains, insert, remove, remove_range, between, list_any, cons_option}
+use Rattle.std.proofs.lemmas.List.{get_or_default}
 use Rattle.std.proofs.lemmas.Bool.{cond-true}
 use mir.Val.{bool_byte}
 use Rattle.std.proofs.lemmas.Option.{none-some, same_Some}
@@ -14,7 +15,7 @@ use Rattle.outstanding.specs.Orders.{question_key}
 use Rattle.step_rules.specs.State.{Waiting}
 use Rattle.step_rules.specs.Steps.{waits_for}
 use Rattle.waiting_questions.specs.Indexes.{waiting_under, passes, to_question, IsByQuestion, IsByTaken, AreKeys, AreIndexed, IsRange}
-use Rattle.waiting_questions.proofs.Lists.{filter_alike, filter_filter, filter_insert, filter_remove, filter_fails, any_counts, in_filter, from_filter, others, removed}
+use Rattle.waiting_questions.proofs.Lists.{filter_alike, filter_filter, filter_insert, filter_remove, filter_fails, any_counts, in_filter, from_filter, others, removed, range_grows, before_range}
 use Rattle.waiting_questions.proofs.Keys.{value_of, ArePresent, length_under, at_under, same_under, filter_under, put_under, remove_under, stay, keys_put, stay_others, keys_left, no_keys}
 use Rattle.waiting_questions.proofs.Ranges.{waits_at, waits_itself, waits_among, passes_between, goes_behind, goes_before, none_behind, range_left}
 
@@ -208,25 +209,6 @@ module _ (s : Slab Waiting) (by_question in_turn : List ℕ) (indexed : AreIndex
       subst (λ (ks : List ℕ). ArePresent s (between i j ks) × (waiting_under s (between i j ks) ≡ filter (waits_for q) (waiting_under s in_turn))) (sym same)
       (those_present s by_question in_turn indexed q i j own, those_wait s by_question in_turn indexed q i j own)
 
-  -- the newest that waits for the question goes
-  pub end_step : (q : Question) (rest : List Waiting) (i place turn : ℕ) (s' : Slab Waiting) (by' turns' : List ℕ) → filter (λ x. not (waits_for q x)) (waiting_under s in_turn) ≡ rest → i < place
-      → IsRange (to_question (question_key q)) s by_question i place → turn < length in_turn → slice_index by_question (place - 1) ≡ slice_index in_turn turn
-      → waiting_under s' turns' ≡ remove (waiting_under s in_turn) turn → by' ≡ remove by_question (place - 1) → Updates s s' (slice_index by_question (place - 1)) None
-      → (filter (λ x. not (waits_for q x)) (waiting_under s' turns') ≡ rest) × (i ≤ place - 1) × IsRange (to_question (question_key q)) s' by' i (place - 1)
-  end_step q rest i place turn s' by' turns' kept less range t_in one list questions values =
-      let last : place ≡ suc (place - 1) = omega (arith, less) in
-      let le : i ≤ place - 1 = omega (arith, less) in
-      let whole : IsRange (to_question (question_key q)) s by_question i (suc (place - 1)) = subst (λ (n : ℕ). IsRange (to_question (question_key q)) s by_question i n) last range in (
-        ap (filter (λ x. not (waits_for q x))) list ∙ others_stay s by_question in_turn indexed q i (place - 1) turn whole le t_in one ∙ kept,
-        le,
-        subst (λ (ks : List ℕ). IsRange (to_question (question_key q)) s' ks i (place - 1)) (sym questions) (range_left IsByQuestion s s' by_question (to_question (question_key q)) i (place - 1) indexed.questions le whole values),
-      )
-
-  -- none is left that waits for the question
-  pub end_all : (q : Question) (rest : List Waiting) (i place : ℕ) → filter (λ x. not (waits_for q x)) (waiting_under s in_turn) ≡ rest → i ≡ place → IsRange (to_question (question_key q)) s by_question i place → waiting_under s in_turn ≡ rest
-  end_all q rest i place kept same range =
-      sym (none_wait s by_question in_turn indexed q i (subst (λ (n : ℕ). IsRange (to_question (question_key q)) s by_question i n) (sym same) range)) ∙ kept
-
   pub any_other : (q : Question) (key : QuestionKey) → key ≡ question_key q → (i j : ℕ) → IsRange (to_question key) s by_question i j → (items : List Waiting) → waiting_under s in_turn ≡ items
       → (x : Waiting) → slice_get items 0 ≡ Some x → nat_lt (cond (waits_for q x) 1 0) (j - i) ≡ list_any (waits_for q) (drop 1 items)
   any_other q key is i j range items are x first =
@@ -235,3 +217,62 @@ module _ (s : Slab Waiting) (by_question in_turn : List ℕ) (indexed : AreIndex
       by : (xs : List Waiting) → j - i ≡ length (filter (waits_for q) xs) → slice_get xs 0 ≡ Some x → nat_lt (cond (waits_for q x) 1 0) (j - i) ≡ list_any (waits_for q) (drop 1 xs)
       by [] count e = absurd (none-some x e)
       by (y ∷ xs) count e = ap (λ z. nat_lt (cond (waits_for q z) 1 0) (j - i)) (sym (same_Some y x e)) ∙ sym (any_but_first (waits_for q) y xs (j - i) count)
+
+-- ---- those of a question go
+
+-- The questions from one place up to an end have gone, though their keys still stand by question. Those that are left and wait for
+-- the same question stand before them, from place i on.
+pub record IsEnding (q : Question) (left : List Waiting) (s : Slab Waiting) (by_question in_turn : List ℕ) (i place end : ℕ) : Type 0 where
+  pub indexed : AreIndexed s (remove_range by_question place end) in_turn
+  pub waiting : filter (λ x. not (waits_for q x)) (waiting_under s in_turn) ≡ left
+  pub range : IsRange (to_question (question_key q)) s (remove_range by_question place end) i place
+  pub low : place ≤ end
+  pub high : end ≤ length by_question
+
+module _ (q : Question) (left : List Waiting) (s : Slab Waiting) (by_question in_turn : List ℕ) (i place end : ℕ) (ending : IsEnding q left s by_question in_turn i place end) where
+  -- the newest of those that are left
+  module _ (key : ℕ) (some : i < place) (read : key ≡ slice_index_or by_question (place - 1) key) where
+    abbrev keys : List ℕ
+    keys = remove_range by_question place end
+
+    stands : slice_index keys (place - 1) ≡ key
+    stands =
+        before_range by_question place end (place - 1) 0 (omega (arith, some)) (omega (arith, ending.low, ending.high))
+        ∙ sym (read ∙ get_or_default by_question (place - 1) key 0 (omega (arith, some, ending.low, ending.high)))
+
+    within : place - 1 < length keys
+    within = omega (arith, some, ending.range.high)
+
+    pub newest_in_turn : Contains in_turn key
+    newest_in_turn = subst (Contains in_turn) stands (key_in_turn s keys in_turn ending.indexed (place - 1) within)
+
+    pub newest_ends : (s' : Slab Waiting) → Updates s s' key None → (turn : ℕ) → turn < length in_turn → slice_index in_turn turn ≡ key → (turns : List ℕ) → turns ≡ remove in_turn turn → IsEnding q left s' by_question turns i (place - 1) end
+    newest_ends s' updates turn t_in t_is turns are =
+        let last : place ≡ suc (place - 1) = omega (arith, some) in
+        let le : i ≤ place - 1 = omega (arith, some) in
+        let range : IsRange (to_question (question_key q)) s keys i (suc (place - 1)) = subst (λ (n : ℕ). IsRange (to_question (question_key q)) s keys i n) last ending.range in
+        let shorter : remove keys (place - 1) ≡ remove_range by_question (place - 1) end =
+        ap (λ (n : ℕ). remove (remove_range by_question n end) (place - 1)) last ∙ range_grows by_question (place - 1) end (omega (arith, some, ending.low, ending.high)) in
+        let gone : Updates s s' (slice_index keys (place - 1)) None = subst (λ (k : ℕ). Updates s s' k None) (sym stands) updates in
+        record {
+          indexed = subst₂ (AreIndexed s') shorter (sym are) (take_indexed s keys in_turn ending.indexed s' key updates (place - 1) turn within t_in stands t_is);
+          waiting = ap (λ (ks : List ℕ). filter (λ x. not (waits_for q x)) (waiting_under s' ks)) are
+              ∙ ap (filter (λ x. not (waits_for q x))) (take_items s keys in_turn ending.indexed s' key updates (place - 1) turn within t_in stands t_is)
+              ∙ others_stay s keys in_turn ending.indexed q i (place - 1) turn range le t_in (stands ∙ sym t_is) ∙ ending.waiting;
+          range = subst (λ (ks : List ℕ). IsRange (to_question (question_key q)) s' ks i (place - 1)) shorter (range_left IsByQuestion s s' keys (to_question (question_key q)) i (place - 1) ending.indexed.questions le range gone);
+          low = omega (arith, ending.low);
+          high = ending.high;
+        }
+
+  -- none is left
+  module _ (none : place ≤ i) (rest : List ℕ) (are : rest ≡ remove_range by_question i end) where
+    at_start : place ≡ i
+    at_start = omega (arith, none, ending.range.low)
+
+    pub ended_indexed : AreIndexed s rest in_turn
+    ended_indexed = subst (λ (ks : List ℕ). AreIndexed s ks in_turn) (ap (λ (n : ℕ). remove_range by_question n end) at_start ∙ sym are) ending.indexed
+
+    pub ended_items : waiting_under s in_turn ≡ left
+    ended_items =
+        let range : IsRange (to_question (question_key q)) s (remove_range by_question place end) i i = subst (λ (n : ℕ). IsRange (to_question (question_key q)) s (remove_range by_question place end) i n) at_start ending.range in
+        sym (none_wait s (remove_range by_question place end) in_turn ending.indexed q i range) ∙ ending.waiting

@@ -1,10 +1,11 @@
 -- Lists: filters, and pairs of elements, with one element more or less.
 use Rattle.std.proofs.Common.{◌≡◌, ◌≢◌, ℕ, zero, suc, ◌+◌, ◌<◌, ◌≤◌, ◌==◌, List, [], ◌∷◌, ◌++◌, length, take, drop, slice_index, slice_index_or, Bool, true, false, cond, ◌||◌, not, nat_lt, refl, sym, ap, ◌∙◌, arith, append-nil, length-take, length-drop, get_or-take, get_or-drop, lt-ltb, slice_get, Some}
 use Rattle.std.specs.Prelude.{filter}
-use Rattle.std.specs.List.{All, AllPairs, Contains, insert, remove, between, list_any}
+use Rattle.std.specs.List.{All, AllPairs, Contains, insert, remove, remove_range, between, list_any}
+use Rattle.std.proofs.Math.ListN.{get_or-append}
 use Rattle.std.proofs.lemmas.Bool.{cond-true, cond-false, eq-eqb, false_from_ne_true, eqb-true, false≢true}
 use Rattle.std.proofs.lemmas.Option.{same_Some}
-use Rattle.std.proofs.lemmas.List.Edits.{split_between, get_or-between, length-between}
+use Rattle.std.proofs.lemmas.List.Edits.{split_between, get_or-between, length-between, remove-append_left}
 use Rattle.std.proofs.lemmas.List.Elements.{All-head, All-tail, All-cons, All-append, All-take, All-drop, All-filter, All-contains, All-contains_itself, All-from_get_or, filter-append}
 use Rattle.std.proofs.lemmas.List.Kept.{AllPairs-cons}
 
@@ -139,6 +140,24 @@ module _ {X : Type 0} where
 
   pub from_filter : (p : X → Bool) (xs : List X) (x : X) → Contains (filter p xs) x → Contains xs x
   from_filter p xs x = All-contains (Contains xs) (filter p xs) x (All-filter p (Contains xs) xs (All-contains_itself xs))
+
+  -- ---- without a range
+
+  -- the last of a front goes
+  front_left : (xs : List X) (p : ℕ) → p < length xs → remove (take (suc p) xs) p ≡ take p xs
+  front_left [] p within = absurd (omega arith)
+  front_left (x ∷ xs) zero within = refl
+  front_left (x ∷ xs) (suc p) within = ap (λ ys. x ∷ ys) (front_left xs p (omega arith))
+
+  -- the range begins one place earlier
+  pub range_grows : (xs : List X) (p j : ℕ) → p < length xs → remove (remove_range xs (suc p) j) p ≡ remove_range xs p j
+  range_grows xs p j within =
+      remove-append_left (take (suc p) xs) (drop j xs) p (omega (arith, length-take (suc p) xs))
+      ∙ ap (λ ys. ys ++ drop j xs) (front_left xs p within)
+
+  -- what stands before the range stays
+  pub before_range : (xs : List X) (i j k : ℕ) (d : X) → k < i → i ≤ length xs → slice_index_or (remove_range xs i j) k d ≡ slice_index_or xs k d
+  before_range xs i j k d less within = get_or-append (take i xs) (drop j xs) d k (omega (arith, length-take i xs)) ∙ get_or-take i xs k d less
 
 -- ---- keys
 

@@ -10,11 +10,12 @@ use std::cmp::Ordering;
 use std::marker::Model;
 use step_replies::Waiting;
 
-/// A waiting question, and the key of its question, which is made once. It is seen as the waiting question.
+/// A waiting question, and the key of its question, which is made once. It is seen as the waiting question. The key stands
+/// first, where a search looks.
 #[derive(Drop)]
 pub(crate) struct Keyed<A: Allocator> {
-    waiting: Waiting<A>,
     key: QuestionKey,
+    waiting: Waiting<A>,
 }
 
 impl<A: Allocator> Model for Keyed<A> {
@@ -34,7 +35,7 @@ impl<A: Allocator> Keyed<A> {
         ensures { result ≡ waiting }
     {
         let key = QuestionKey::of(&waiting.question);
-        Keyed { waiting, key }
+        Keyed { key, waiting }
     }
 
     pub(crate) fn waiting(&self) -> &Waiting<A>

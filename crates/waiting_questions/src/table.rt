@@ -1,12 +1,13 @@
 //! The waiting questions under keys, with indexes of the keys.
 
-ghost use Rattle.std.specs.Prelude.{◌≡◌, ◌<◌, ◌≤◌, ◌∷◌, ◌++◌, [], true, length, None, Some, MatchOption, OnOk, slice_get, slice_index};
-ghost use Rattle.std.specs.List.{remove, AllByRecursion};
-ghost use Rattle.slab.specs.Slab.{Updates};
+ghost use Rattle.std.specs.Prelude.{◌≡◌, ◌<◌, ◌≤◌, ◌∷◌, ◌++◌, [], true, not, filter, length, Some, MatchOption, OnOk, slice_get, slice_index, vec_len};
+ghost use Rattle.std.specs.List.{remove, remove_range, AllByRecursion};
+ghost use Rattle.step_rules.specs.Steps.{waits_for};
 ghost use Rattle.waiting_questions.specs.Indexes.{has_room, items_of, to_question, IsIndexed, IsRange};
 
 use crate::keyed::Keyed;
 use crate::places::range_of;
+use dns_message::Question;
 use keys_in_turn::KeysInTurn;
 use outstanding::QuestionKey;
 use slab::Slab;
@@ -99,22 +100,27 @@ impl<A: Allocator> Table<A> {
         requires one { slice_index self.old.by_question.items place ≡ slice_index self.old.in_turn.keys turn }
         ensures indexed { IsIndexed self.new }
         ensures list { items_of self.new ≡ remove (items_of self.old) turn }
-        ensures questions { self.new.by_question.items ≡ remove self.old.by_question.items place }
-        ensures values { Updates self.old.waiting self.new.waiting (slice_index self.old.by_question.items place) None }
     {
         let key = self.by_question.remove(place);
         self.in_turn.take(turn);
         self.waiting.remove(key);
     }
 
-    /// Where the key at this place by question stands in the order of taking.
-    pub(crate) fn turn(&self, place: usize) -> usize
-        requires indexed { IsIndexed self.now }
-        requires place { place < length self.now.by_question.items }
-        ensures within { result < length self.now.in_turn.keys }
-        ensures one { slice_index self.now.by_question.items place ≡ slice_index self.now.in_turn.keys result }
+    /// Lets those go that wait for this question, the newest of them first. Their keys leave those by question at once, when
+    /// all are gone.
+    pub(crate) fn end(&mut self, question: &Question<A>)
+        requires { IsIndexed self.old }
+        ensures indexed { IsIndexed self.new }
+        ensures list { items_of self.new ≡ filter (λ x. not (waits_for question.now x)) (items_of self.old) }
     {
-        self.in_turn.place_of(self.by_question[place])
+        let (start, end) = self.range(&QuestionKey::of(question));
+        for place in (start..end).rev() {
+            let key = self.by_question[place];
+            let turn = self.in_turn.place_of(key);
+            self.in_turn.take(turn);
+            self.waiting.remove(key);
+        }
+        take_range(&mut self.by_question, start, end);
     }
 
     /// Lets all go. It takes no memory.
@@ -126,4 +132,13 @@ impl<A: Allocator> Table<A> {
         self.by_question.clear();
         self.in_turn.clear();
     }
+}
+
+/// Takes the keys from one place up to another out. Those behind them move up once.
+fn take_range<A: Allocator>(keys: &mut Vec<usize, A>, start: usize, end: usize)
+    requires low { start ≤ end }
+    requires high { end ≤ vec_len keys.old }
+    ensures { keys.new.items ≡ remove_range keys.old.items start end }
+{
+    drop(keys.drain(start..end));
 }

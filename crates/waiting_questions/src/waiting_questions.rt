@@ -104,11 +104,7 @@ impl<A: Allocator> WaitingQuestions<A> {
     pub fn end(&mut self, question: &Question<A>)
         ensures { self.new.items ≡ filter (λ x. not (waits_for question.now x)) self.old.items }
     {
-        let (start, end) = self.table.range(&QuestionKey::of(question));
-        for place in (start..end).rev() {
-            let turn = self.table.turn(place);
-            self.table.take(place, turn);
-        }
+        self.table.end(question);
     }
 
     /// Those that wait for this question, in the order of taking. It takes no memory.

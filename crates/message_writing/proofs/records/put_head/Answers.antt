@@ -1,14 +1,18 @@
+use Rattle.std.proofs.Common.{ap}
 use Rattle.dns_name.specs.Labels.{labels_of}
-use Rattle.message_writing.specs.Writing.{Writing, name_text, as_is, octets16, octets32, ◌▹◌}
-use Rattle.message_writing.proofs.WriterLaws.{both}
+use Rattle.message_writing.specs.Borrowed.{record_of}
+use Rattle.message_writing.specs.Writing.{name_text, as_is}
+use Rattle.message_writing.proofs.WriterLaws.{both, known_written}
+use Rattle.message_writing.proofs.WriterRecords.{head_written, writes_as}
 use Rattle.message_writing.proofs.records.put_head.Goals as goal
 
-pub returns : goal.returns
-returns g c = λ rdata.
-    let name : Writing = name_text (labels_of c.args.head.now.owner.now) in
-    let kind : Writing = as_is (octets16 c.args.head.now.kind) in
-    let class : Writing = as_is (octets16 c.args.head.now.class) in
-    let ttl : Writing = as_is (octets32 c.args.head.now.ttl) in
-    let two = both c.args.writer.now c.put_known.new.self c.put_u16.new.self name kind c.in_ok-put_known.ensures c.in_ok-put_u16.ensures in
-    let three = both c.args.writer.now c.put_u16.new.self c.put_u16-2.new.self (name ▹ kind) class two c.in_ok-put_u16-2.ensures in
-    both c.args.writer.now c.put_u16-2.new.self c.put_u32.new.self (name ▹ kind ▹ class) ttl three c.in_ok-put_u32.ensures
+pub returns-in_ok-put-in-Some : goal.returns-in_ok-put-in-Some
+returns-in_ok-put-in-Some g c = λ rdata.
+    head_written c.args.writer.now c.put.new.self (record_of (labels_of c.args.head.now.owner.now) c.args.head.now.kind c.args.head.now.class c.args.head.now.ttl rdata) c.numbers_of-numbers.result c.numbers_of-numbers.ensures
+    (known_written c.args.writer.now c.put.new.self c.args.head.now.owner.now c.in-Some.pointer c.numbers_of-numbers.result c.requires.laid (rw c.in-Some.is at c.requires.known)
+    (writes_as c.args.writer.now c.put.new.self _ _ (ap as_is c.behind_pointer.ensures) c.in_ok-put-in-Some.ensures))
+
+pub returns-in_ok-put-in-None : goal.returns-in_ok-put-in-None
+returns-in_ok-put-in-None g c = λ rdata.
+    head_written c.args.writer.now c.put-in-None.new.self (record_of (labels_of c.args.head.now.owner.now) c.args.head.now.kind c.args.head.now.class c.args.head.now.ttl rdata) c.numbers_of-numbers.result c.numbers_of-numbers.ensures
+    (both c.args.writer.now c.put_name.new.self c.put-in-None.new.self (name_text (labels_of c.args.head.now.owner.now)) (as_is c.numbers_of-numbers.result) c.in_ok-put_name-in-None.ensures c.in_ok-put-in-None.ensures)

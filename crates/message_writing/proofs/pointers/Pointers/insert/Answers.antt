@@ -1,9 +1,13 @@
-use Rattle.std.proofs.Common.{refl}
-use Rattle.message_writing.proofs.PointerLaws.{put_in_few, put_in_many}
+use Rattle.std.proofs.Common.{refl, arith}
+use Rattle.message_writing.proofs.PointerLaws.{put_in_few, put_in_many, put_near}
 use Rattle.message_writing.proofs.pointers.Pointers.insert.Goals as goal
 
 pub returns-then-is_full : goal.returns-then-is_full
-returns-then-is_full g c = put_in_many c.args.self.now (record { few = c.args.self.now.few; many = c.insert.new.self }) c.args.name.now c.args.pointer refl c.requires c.in_ok-insert.ensures.updates
+returns-then-is_full g c =
+    put_near c.args.self.now (record { few = c.args.self.now.few; many = c.insert.new.self }) c.args.name.now c.args.offset _ (omega arith) (omega arith)
+    (put_in_many c.args.self.now (record { few = c.args.self.now.few; many = c.insert.new.self }) c.args.name.now _ refl c.requires c.in_ok-insert.ensures.updates)
 
 pub returns : goal.returns
-returns g c = put_in_few c.args.self.now (record { few = c.push.new.self; many = c.args.self.now.many }) c.args.name c.args.pointer c.push.ensures.items refl c.requires
+returns g c =
+    put_near c.args.self.now (record { few = c.push.new.self; many = c.args.self.now.many }) c.args.name.now c.args.offset _ (omega arith) (omega arith)
+    (put_in_few c.args.self.now (record { few = c.push.new.self; many = c.args.self.now.many }) c.args.name _ c.push.ensures.items refl c.requires)
