@@ -75,6 +75,18 @@ fn octets_sent(actions: &[Action]) -> usize {
     sent
 }
 
+/// How long a step takes in nanoseconds, and how many octets it sends to clients.
+fn time_of_step(
+    rt: &HostRuntime,
+    forwarder: &mut Forwarder<DefaultHasher>,
+    event: Event,
+) -> Result<(u128, usize)> {
+    let started = Instant::now(rt)?;
+    let outcome = forwarder.step(1020, WORDS, event)?;
+    let took = started.elapsed(rt)?.as_nanos();
+    Ok((took, octets_sent(outcome.actions.as_slice())))
+}
+
 /// How long the step with the reply takes in nanoseconds where so many wait for it, and how many octets it sends.
 fn time_of_reply(
     rt: &HostRuntime,
@@ -90,10 +102,7 @@ fn time_of_reply(
         from: SERVER,
         bytes: PlainList::copied(alloc, reply)?,
     };
-    let started = Instant::now(rt)?;
-    let outcome = forwarder.step(1020, WORDS, event)?;
-    let took = started.elapsed(rt)?.as_nanos();
-    Ok((took, octets_sent(outcome.actions.as_slice())))
+    time_of_step(rt, &mut forwarder, event)
 }
 
 /// Prints how long the step with the reply takes where one and where 1,000 wait for it, over UDP and over TCP. The files

@@ -43,6 +43,9 @@ impl<A: Allocator> Round<A> {
         ensures next { (origin : Origin) → HasToken origin → next_token self.old.last self.old.tokens.keys ≡ Some (token_of origin) → result ≡ Some origin }
         ensures none { next_token self.old.last self.old.tokens.keys ≡ None → result ≡ None }
     {
+        if self.tokens.is_empty() {
+            return None;
+        }
         let after = self.last.saturating_add(1);
         let next = match self.tokens.range(after..).next() {
             Some(token) => *token,

@@ -63,6 +63,7 @@ impl<R: Net + Clock, A: Allocator + Copy> Wire<A> for MioWire<'_, R, A> {
         if self.faults == u64::MAX {
             return Ok(Arrival::Nothing);
         }
+        self.moments.begin_turn();
         match self.sockets.arrival(self.moments.last) {
             Ok(arrival) => Ok(arrival),
             Err(_) => {

@@ -38,6 +38,8 @@ impl<'a, A: Allocator + Copy> SlotsRef<'a, A> {
     }
 
     /// A copy that stands on its own. Only where there are more than one does it take memory; `Err` where that ran out.
+    // A slot is large: called, it would be moved on its way out.
+    #[inline(always)]
     pub fn copied(self, alloc: A) -> Result<Slots<A>, AllocError>
         ensures slots { IfOk result (λ slots. slots ≡ self.entry) }
         ensures none { self.entry ≡ [] → IsOk result }
@@ -79,6 +81,7 @@ impl<A: Allocator> Slots<A> {
     }
 
     /// The slots of these entries.
+    #[inline(always)]
     fn of(alloc: A, entries: &[&Held<A>]) -> Result<Slots<A>, AllocError>
         ensures slots { IfOk result (λ slots. slots ≡ map (λ h. h.piece.slot) (lent entries.now)) }
         ensures none { lent entries.now ≡ [] → IsOk result }

@@ -149,7 +149,9 @@ impl<H: BuildHasher + Drop, A: Allocator + Copy> Forwarder<H, A> {
         }
     }
 
-    /// A delivery on a path to a server.
+    /// A delivery on a path to a server. It stands by itself, so that a client's question does without the room on the stack
+    /// that reading a reply takes.
+    #[inline(never)]
     pub(crate) fn on_delivery(
         &self,
         moment: u64,

@@ -158,6 +158,38 @@ impl<H: BuildHasher + Drop, A: Allocator + Copy> Forwarder<H, A> {
         }
     }
 
+    /// What an event calls for is decided and put in place. A tick that finds nothing due does without it, and without the
+    /// room on the stack that it takes: so it stands by itself.
+    #[inline(never)]
+    fn act_on(
+        &mut self,
+        now: u64,
+        words: [u32; 8],
+        event: &Event<A>,
+    ) -> Result<Outcome<A>, AllocError>
+        requires { HandsOctets (event_of event.now) }
+        ensures row { IfOk result (λ outcome. Row self.old.config self.old.state (record { now = now; words = words; event = event_of event.now }) outcome self.new.state) }
+        ensures config { self.new.config ≡ self.old.config }
+        ensures no_memory { TakesNoMemory self.old.config (effective now self.old.state) self.old.state (event_of event.now) → IsOk result }
+        ensures err { OnErr result (self.new ≡ self.old) }
+    {
+        let moment = self.effective(now);
+        let Some(
+            Next {
+                actions,
+                used,
+                change,
+                carried,
+            },
+        ) = self.decide(moment, words, event)?
+        else {
+            self.restart();
+            return Ok(self.nothing_done());
+        };
+        let used = used.copied(self.alloc)?;
+        self.carry_out(moment, actions, &used, change, carried)
+    }
+
     /// One step over octets that were looked at.
     fn take(
         &mut self,
@@ -176,20 +208,7 @@ impl<H: BuildHasher + Drop, A: Allocator + Copy> Forwarder<H, A> {
             self.pass(moment);
             return Ok(self.nothing_done());
         }
-        let Some(
-            Next {
-                actions,
-                used,
-                change,
-                carried,
-            },
-        ) = self.decide(moment, words, event)?
-        else {
-            self.restart();
-            return Ok(self.nothing_done());
-        };
-        let used = used.copied(self.alloc)?;
-        self.carry_out(moment, actions, &used, change, carried)
+        self.act_on(now, words, event)
     }
 
     /// A forwarder that remembers nothing. `Err` where memory ran out.

@@ -1,25 +1,8 @@
-use Rattle.std.proofs.Common.{◌≡◌, ◌∙◌, ℕ, Some, ap, sym, subst}
-use Rattle.std.proofs.lemmas.Result.{IfOk-weaker}
+use Rattle.std.proofs.Common.{ap}
 use Rattle.step_values.specs.Values.{event_of}
-use Rattle.step_rules.specs.Row.{TakesNoMemory}
-use Rattle.step_changes.specs.declared.next.Next.{Next}
 use Rattle.step_rules.specs.State.{Running}
-use Rattle.forwarder_core.proofs.Deciding.{quiet_at, row_is}
 use Rattle.forwarder_core.proofs.Ticks.{idle_row}
 use Rattle.forwarder_core.proofs.forwarder.Forwarder.take.Goals as goal
-
-pub returns-clause-row : goal.returns-clause-row
-returns-clause-row g c =
-    let own : Next g.row.A.Denot = record { actions = c.in-Some.field-0.actions; used = c.in_ok-used.used; change = c.in-Some.field-0.change; carried = c.in-Some.field-0.carried } in
-    let own_is : c.in-Some.field-0 ≡ own = λ i. record { actions = c.in-Some.field-0.actions; used = sym c.in_ok-used.ensures.slots i; change = c.in-Some.field-0.change; carried = c.in-Some.field-0.carried } in
-    IfOk-weaker c.carry_out.result _ _
-    (λ o done. row_is c.args.self.now.config c.args.self.now.state _ c.args.now c.effective-moment.result c.args.words (event_of c.args.event.now) _ own o c.effective-moment.ensures.value c.requires c.in_ok-actions.ensures.row (c.in-Some.is ∙ ap (λ (n : Next g.row.A.Denot). Some n) own_is) done)
-    c.carry_out.ensures.ok
-
-pub returns-clause-no_memory : goal.returns-clause-no_memory
-returns-clause-no_memory g c = λ none.
-    c.carry_out.ensures.quiet (quiet_at c.in_ok-actions.field-0 c.in-Some.field-0 c.in-Some.is
-    (c.in_ok-actions.ensures.no_memory (subst (λ (m : ℕ). TakesNoMemory c.args.self.now.config m c.args.self.now.state (event_of c.args.event.now)) (sym c.effective-moment.ensures.value) none))).1
 
 -- a tick where nothing is due
 pub returns-then-is_idle_tick-clause-row : goal.returns-then-is_idle_tick-clause-row
