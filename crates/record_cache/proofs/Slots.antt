@@ -59,12 +59,12 @@ eq_decides a b =
     let class = nat_eq a.class b.class in
     let kind = option_eq nat_eq a.kind b.kind in (
       λ h. one_slot a b
-          ((key_decides a.key b.key).0 (first_so key (class && kind) h))
-          ((Decides-eqb a.class b.class).0 (first_so class kind (second_so key (class && kind) h)))
-          ((types_decide a.kind b.kind).0 (second_so class kind (second_so key (class && kind) h))),
-      λ e. both key (class && kind)
-          ((key_decides a.key b.key).1 (ap (λ s. s.key) e))
-          (both class kind ((Decides-eqb a.class b.class).1 (ap (λ s. s.class) e)) ((types_decide a.kind b.kind).1 (ap (λ s. s.kind) e))),
+          ((key_decides a.key b.key).0 (second_so kind key (second_so class (kind && key) h)))
+          ((Decides-eqb a.class b.class).0 (first_so class (kind && key) h))
+          ((types_decide a.kind b.kind).0 (first_so kind key (second_so class (kind && key) h))),
+      λ e. both class (kind && key)
+          ((Decides-eqb a.class b.class).1 (ap (λ s. s.class) e))
+          (both kind key ((types_decide a.kind b.kind).1 (ap (λ s. s.kind) e)) ((key_decides a.key b.key).1 (ap (λ s. s.key) e))),
     )
 
 pub eq_is : (a b : Slot) → eq-value.it a b ≡ is_slot a b

@@ -11,13 +11,13 @@ use std::alloc::{Allocator, Global};
 use std::marker::Model;
 use trust_rank::{Piece, Slot};
 
-/// A piece, and when it was accepted.
+/// A piece, and when it was accepted. The moment lies in memory beside what an answer needs of the piece.
 #[derive(Drop)]
 pub struct Held<A: Allocator = Global> {
-    /// What is held.
-    pub piece: Piece<A>,
     /// The moment of acceptance, in milliseconds.
     pub accepted: u64,
+    /// What is held.
+    pub piece: Piece<A>,
 }
 
 impl<A: Allocator> Model for Held<A> {

@@ -22,21 +22,22 @@ pub enum Body<A: Allocator = Global> {
     Denied(Option<Record<A>>),
 }
 
-/// A record set or a denial, which lives and dies as one.
+/// A record set or a denial, which lives and dies as one. Its fields lie in memory as they stand here: what an answer needs
+/// comes first, close together, and the slot, which is large, last.
 #[derive(Drop)]
 pub struct Piece<A: Allocator = Global> {
-    /// The name, spelled as in the first record of a set.
-    pub owner: Name<A>,
-    /// What it tells of; its key is the owner's.
-    pub slot: Slot,
-    /// What it tells: `Denied` exactly where the slot has no type.
-    pub body: Body<A>,
     /// In seconds, a week at most.
     pub lifetime: u32,
     /// 3, 2 or 1, from the most to the least trustworthy (RFC 2181 5.4.1).
     pub rank: u8,
     /// The route of the ask that it answered.
     pub route: RouteId,
+    /// The name, spelled as in the first record of a set.
+    pub owner: Name<A>,
+    /// What it tells: `Denied` exactly where the slot has no type.
+    pub body: Body<A>,
+    /// What it tells of; its key is the owner's.
+    pub slot: Slot,
 }
 
 impl<A: Allocator> Model for Piece<A> {
@@ -48,6 +49,20 @@ impl<A: Allocator> Model for Piece<A> {
     ghost view = { λ p. record { owner = p.owner; slot = p.slot; body = body_of p.body; lifetime = p.lifetime; rank = p.rank; route = p.route } };
 
     ghost invariant = { λ p. IsPiece (record { owner = p.owner; slot = p.slot; body = body_of p.body; lifetime = p.lifetime; rank = p.rank; route = p.route }) };
+}
+
+impl<A: Allocator> Piece<A> {
+    /// A copy of its slot. The key is made from the owner, which an answer reads too: so the zeros behind a name are not
+    /// fetched from where the slot lies. It takes no memory.
+    pub fn own_slot(&self) -> Slot
+        ensures { result ≡ self.now.slot }
+    {
+        Slot {
+            class: self.slot.class,
+            kind: self.slot.kind,
+            key: self.owner.key(),
+        }
+    }
 }
 
 impl<A: Allocator + Copy> Piece<A> {

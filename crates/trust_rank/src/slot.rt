@@ -3,15 +3,16 @@
 use dns_name::NameKey;
 use std::hash::{Hash, Hasher};
 
-/// What a piece tells of: a name and class with a type, or with none for the denial of a whole name.
+/// What a piece tells of: a name and class with a type, or with none for the denial of a whole name. Class and type come
+/// first, so that they lie in memory beside the octets of a usual name.
 #[derive(Clone, Copy, PartialEq, Eq)]
 pub struct Slot {
-    /// The name, letter case aside (RFC 4343).
-    pub key: NameKey,
     /// 1 is IN.
     pub class: u16,
     /// The type; `None` for a name error.
     pub kind: Option<u16>,
+    /// The name, letter case aside (RFC 4343).
+    pub key: NameKey,
 }
 
 // Class and type are hashed as one number of eight octets: a hasher takes whole words at once.
