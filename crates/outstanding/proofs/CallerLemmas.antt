@@ -1,10 +1,12 @@
 -- What the proofs of crates above cite of asks that are under way.
-use Rattle.std.proofs.Common.{◌≡◌, ℕ, ◌<◌, List, [], ◌∷◌, ◌++◌, length, true, is_eq, Some, None}
+use Rattle.std.proofs.Common.{◌≡◌, ℕ, ◌<◌, List, [], ◌∷◌, ◌++◌, length, true, is_eq, nat_cmp, Some, None}
 use Rattle.std.specs.Cmp.{IsTotalOrder}
+use Rattle.std.specs.Ordering.{ordering_then}
 use Rattle.std.specs.List.{AllByRecursion}
 use Rattle.dns_message.specs.Values.{Question}
 use Rattle.dns_message.specs.Questions.{same_question}
 use Rattle.outstanding.specs.declared.ask.Path.{Path}
+use Rattle.outstanding.specs.declared.keyed.QuestionKey.{QuestionKey}
 use Rattle.outstanding.specs.Values.{Ask}
 use Rattle.outstanding.specs.Lists.{same_path, on_path, of_question, without_path, IsInTime, AreInTurn, AreListed, MayBegin}
 use Rattle.outstanding.specs.Laws.{NextMayBegin, EndedIsUnlisted, UnlistedStaysSo}
@@ -56,6 +58,10 @@ pub next_may_begin : NextMayBegin
 next_may_begin = retries.next_begins
 
 -- ---- keys of questions
+
+-- numbers that differ tell how keys compare
+pub question_numbers_tell : (a b : QuestionKey) → ordering_then (nat_cmp a.number b.number) (key_cmp a b) ≡ key_cmp a b
+question_numbers_tell = orders.key_numbers_tell
 
 pub question_keys_are_ordered : IsTotalOrder key_cmp
 question_keys_are_ordered = orders.key_total

@@ -1,17 +1,15 @@
 -- What is found of indexed asks, and what one ask more or less leaves.
-use Rattle.std.proofs.Common.{◌≡◌, ℕ, ◌+◌, ◌<◌, List, [], ◌∷◌, ◌++◌, length, get_or, Bool, true, not, Option, Some, None, is_eq, Ordering, refl, sym, ap, ◌∙◌, subst, subst₂, arith}
+use Rattle.std.proofs.Common.{◌≡◌, ℕ, ◌+◌, ◌<◌, List, [], ◌∷◌, ◌++◌, length, get_or, Bool, true, not, Option, Some, None, is_eq, Ordering, refl, sym, ap, ◌∙◌, subst, arith}
 use Rattle.std.specs.Prelude.{slice_index, filter}
 use Rattle.std.specs.List.{find, insert, remove}
 use Rattle.std.specs.Cmp.{IsTotalOrder}
 use Rattle.std.proofs.lemmas.Option.{none-some}
-use Rattle.std.proofs.lemmas.List.{get_or_default}
 use Rattle.std.proofs.lemmas.Cmp.{tied_itself}
 use Rattle.std.proofs.lemmas.List.Edits.{insert_end, length-remove}
 use Rattle.slab.specs.Slab.{Slab, get, Updates}
 use Rattle.dns_message.specs.Values.{Question}
 use Rattle.dns_message.specs.Questions.{same_question}
 use Rattle.outstanding.specs.declared.ask.Path.{Path}
-use Rattle.outstanding.specs.declared.keyed.QuestionKey.{QuestionKey}
 use Rattle.outstanding.specs.Values.{Ask}
 use Rattle.outstanding.specs.Lists.{on_path, of_question, without_path, same_path}
 use Rattle.outstanding.specs.Orders.{path_cmp, key_cmp, question_key}
@@ -56,10 +54,6 @@ module _ (s : Slab Ask) (by_path by_question in_turn : List ℕ) (indexed : AreI
 
   pub question_absent : (q : Question) (i : ℕ) → IsGap (to_question (question_key q)) s by_question i → of_question q (asks_under s in_turn) ≡ None
   question_absent q = absent_in key_cmp key_total (λ a. question_key a.question) (question_key q) (λ a. same_question a.question q) (λ a. same_question_is a.question q) s by_question in_turn indexed.questions indexed.questions_rise indexed.turns
-
--- the key that was read at a place
-pub read_at : (keys : List ℕ) (i key : ℕ) → i < length keys → key ≡ get_or keys i key → slice_index keys i ≡ key
-read_at keys i key within read = sym (read ∙ get_or_default keys i key 0 within)
 
 -- ---- none
 
@@ -110,8 +104,8 @@ module _ (s : Slab Ask) (by_path by_question in_turn : List ℕ) (indexed : AreI
     first : get s (slice_index by_path i) ≡ Some a
     first = ap (get s) placed.path_is ∙ placed.here
 
-    question_is : slice_index by_question j ≡ key
-    question_is = sym (one_at key_cmp key_total (λ a. question_key a.question) s by_question indexed.questions indexed.questions_rise (question_key a.question) j placed.at_question key a placed.here (tied_itself key_total (question_key a.question)))
+    pub question_place : slice_index by_question j ≡ key
+    question_place = sym (one_at key_cmp key_total (λ a. question_key a.question) s by_question indexed.questions indexed.questions_rise (question_key a.question) j placed.at_question key a placed.here (tied_itself key_total (question_key a.question)))
 
     pub take_ended : on_path path (asks_under s in_turn) ≡ Some a
     take_ended = path_found s by_path by_question in_turn indexed path i placed.at_path a first
@@ -121,8 +115,8 @@ module _ (s : Slab Ask) (by_path by_question in_turn : List ℕ) (indexed : AreI
       take_indexed = record {
         paths = covers_left by_path i key placed.at_path.in_range placed.path_is s s' indexed.paths updates;
         paths_rise = rises_left by_path i key placed.at_path.in_range placed.path_is s s' indexed.paths updates path_cmp (λ a. a.path) indexed.paths_rise;
-        questions = covers_left by_question j key placed.at_question.in_range question_is s s' indexed.questions updates;
-        questions_rise = rises_left by_question j key placed.at_question.in_range question_is s s' indexed.questions updates key_cmp (λ a. question_key a.question) indexed.questions_rise;
+        questions = covers_left by_question j key placed.at_question.in_range question_place s s' indexed.questions updates;
+        questions_rise = rises_left by_question j key placed.at_question.in_range question_place s s' indexed.questions updates key_cmp (λ a. question_key a.question) indexed.questions_rise;
         turns = covers_left in_turn t key placed.turn_in placed.turn_is s s' indexed.turns updates;
       }
 
@@ -140,19 +134,6 @@ module _ (s : Slab Ask) (by_path by_question in_turn : List ℕ) (indexed : AreI
 pub indexed_same : (s : Slab Ask) (p q t p' q' t' : List ℕ) → p' ≡ p → q' ≡ q → t' ≡ t → AreIndexed s p q t → AreIndexed s p' q' t'
 indexed_same s p q t p' q' t' paths questions turns indexed =
     subst (λ (ks : List ℕ). AreIndexed s ks q' t') (sym paths) (subst (λ (ks : List ℕ). AreIndexed s p ks t') (sym questions) (subst (λ (ks : List ℕ). AreIndexed s p q ks) (sym turns) indexed))
-
--- what is sought, and where, in other words
-pub at_same : (path path' : Path) (s : Slab Ask) (keys keys' : List ℕ) (i : ℕ) → path ≡ path' → keys ≡ keys' → IsAt (to_path path) s keys i → IsAt (to_path path') s keys' i
-at_same path path' s keys keys' i p k = subst₂ (λ (p : Path) (ks : List ℕ). IsAt (to_path p) s ks i) p k
-
-pub gap_same : (path path' : Path) (s : Slab Ask) (keys keys' : List ℕ) (i : ℕ) → path ≡ path' → keys ≡ keys' → IsGap (to_path path) s keys i → IsGap (to_path path') s keys' i
-gap_same path path' s keys keys' i p k = subst₂ (λ (p : Path) (ks : List ℕ). IsGap (to_path p) s ks i) p k
-
-pub at_same_question : (key key' : QuestionKey) (s : Slab Ask) (keys keys' : List ℕ) (i : ℕ) → key ≡ key' → keys ≡ keys' → IsAt (to_question key) s keys i → IsAt (to_question key') s keys' i
-at_same_question key key' s keys keys' i p k = subst₂ (λ (p : QuestionKey) (ks : List ℕ). IsAt (to_question p) s ks i) p k
-
-pub gap_same_question : (key key' : QuestionKey) (s : Slab Ask) (keys keys' : List ℕ) (i : ℕ) → key ≡ key' → keys ≡ keys' → IsGap (to_question key) s keys i → IsGap (to_question key') s keys' i
-gap_same_question key key' s keys keys' i p k = subst₂ (λ (p : QuestionKey) (ks : List ℕ). IsGap (to_question p) s ks i) p k
 
 -- what is sought is listed
 module _ (s : Slab Ask) (by_path by_question in_turn : List ℕ) (indexed : AreIndexed s by_path by_question in_turn) where

@@ -3,6 +3,7 @@ pub mod Dues
 pub mod Retries
 pub mod Searches
 pub mod KeyEdits
+pub mod KeyNumbers
 pub mod AsksUnder
 pub mod SameOrders
 pub mod Indexed

@@ -1,15 +1,18 @@
 -- What a search of the keys of asks finds.
-use Rattle.std.proofs.Common.{◌≡◌, ◌⊎◌, ℕ, ◌<◌, ◌≤◌, List, length, Option, Some, None, IsSome, Result, Ok, Err, IfOk, IfErr, Ordering, Less, Equal, Greater, refl, sym, ap, ◌∙◌, subst, inl, inr, arith}
+use Rattle.std.proofs.Common.{◌≡◌, ◌⊎◌, ℕ, ◌<◌, ◌≤◌, List, length, map, get_or, Option, Some, None, IsSome, Result, Ok, Err, IfOk, IfErr, nat_cmp, Ordering, Less, Equal, Greater, refl, sym, ap, ap₂, ◌∙◌, subst, subst₂, inl, inr, arith}
 use Rattle.std.specs.Prelude.{slice_index}
-use Rattle.std.specs.Ordering.{ordering_index}
+use Rattle.std.specs.List.{All}
+use Rattle.std.specs.Ordering.{ordering_index, ordering_then}
 use Rattle.std.specs.Cmp.{IsTotalOrder}
 use Rattle.std.specs.List.Sorted.{IsSearchInRange, IsBinarySearchResult, IsNonDecreasingBy}
 use Rattle.std.proofs.lemmas.Bool.{cases_lt, cases_order, false≢true}
 use Rattle.std.proofs.lemmas.Cmp.{tied_back, alike_right}
+use Rattle.std.proofs.lemmas.List.{length-map, get_or-map}
 use Rattle.std.proofs.lemmas.List.Sorted.{IsNonDecreasingBy-from_default}
 use Rattle.slab.specs.Slab.{Slab, get}
+use Rattle.outstanding.specs.declared.numbered.NumberedKey.{NumberedKey}
 use Rattle.outstanding.specs.Values.{Ask}
-use Rattle.outstanding.specs.Tables.{Covers, Rises, compared, IsAt, IsGap}
+use Rattle.outstanding.specs.Tables.{Covers, Rises, compared, IsAt, IsGap, keys_of, AreNumbered, compared_by_number}
 
 -- the value of an option that has one
 pub value_of : {X : Type 0} (o : Option X) → IsSome o → (x : X) × (o ≡ Some x)
@@ -91,3 +94,36 @@ none_at f s keys covers i gap key b e equal =
       | inl less ↦ let low : f b ≡ Less = gap.before v.0 b less there in cc
       | inr more ↦ let high : f b ≡ Greater = gap.behind v.0 b more v.1 there in cc
     ]
+
+-- ---- by number
+
+-- a search goes the same way among what is read of the elements, where they compare the same
+module _ {X Y : Type 0} (f : X → Y) (to : X → Ordering) (to' : Y → Ordering) (xs : List X) (d : X) (same : All (λ x. to x ≡ to' (f x)) xs) where
+  each : (i : ℕ) (c : X) (e : Y) → i < length xs → to' (get_or (map f xs) i e) ≡ to (get_or xs i c)
+  each i c e within = ap to' (get_or-map f xs i c e within) ∙ sym (same i c within)
+
+  searched_same : (r : Result ℕ ℕ) → IsSearchInRange r (length xs) → IsBinarySearchResult to xs r → IsBinarySearchResult to' (map f xs) r
+  searched_same (Ok i) in_range equal = λ e. each i d e in_range ∙ equal d
+  searched_same (Err i) in_range parted = λ rise.
+      let parts = parted (λ j k c le within. subst₂ (λ (a b : Ordering). ordering_index a ≤ ordering_index b) (each j c (f c) (omega arith)) (each k c (f c) within) (rise j k (f c) le (omega (arith, length-map xs f)))) in (
+        λ j e low high. each j d e (omega arith) ∙ parts.0 j d low high,
+        λ j e low high. each j d e (omega (arith, length-map xs f)) ∙ parts.1 j d low (omega (arith, length-map xs f)),
+      )
+
+-- where numbers that differ tell the order, a search that compares them first ends at the ask that is sought, or where it would go
+module _ {K : Type 0} (R : K → K → Ordering) (total : IsTotalOrder R) (read : Ask → K) (number : K → ℕ) (tell : (y z : K) → ordering_then (nat_cmp (number y) (number z)) (R y z) ≡ R y z)
+    (s : Slab Ask) (keys : List NumberedKey) (covers : Covers s (keys_of keys)) (rises : Rises R read s (keys_of keys)) (numbered : AreNumbered (λ a. number (read a)) s keys) (x : K) (n : ℕ) (is : n ≡ number x) where
+  compared_same : All (λ k. compared_by_number n (λ a. R (read a) x) s k ≡ compared (λ a. R (read a) x) (get s k.key)) keys
+  compared_same i d within =
+      let k : NumberedKey = get_or keys i d in
+      let a = value_of (get s k.key) (subst (λ (j : ℕ). IsSome (get s j)) (get_or-map (λ k. k.key) keys i d 0 within) (covers.present i (omega (arith, length-map keys (λ (k : NumberedKey). k.key))))) in
+      ap₂ (λ (m : ℕ) (o : Option Ask). ordering_then (nat_cmp m n) (compared (λ b. R (read b) x) o)) (numbered i d within a.0 a.1) a.1
+      ∙ ap (λ (m : ℕ). ordering_then (nat_cmp (number (read a.0)) m) (R (read a.0) x)) is
+      ∙ tell (read a.0) x
+      ∙ sym (ap (compared (λ b. R (read b) x)) a.1)
+
+  pub searched_by_number : (r : Result ℕ ℕ) → IsSearchInRange r (length keys) → IsBinarySearchResult (compared_by_number n (λ a. R (read a) x) s) keys r
+      → IfOk r (IsAt (λ a. R (read a) x) s (keys_of keys)) × IfErr r (IsGap (λ a. R (read a) x) s (keys_of keys))
+  searched_by_number r in_range result =
+      searched R total read s (keys_of keys) covers rises x r (subst (IsSearchInRange r) (sym (length-map keys (λ (k : NumberedKey). k.key))) in_range)
+      (searched_same (λ k. k.key) (compared_by_number n (λ a. R (read a) x) s) (λ key. compared (λ a. R (read a) x) (get s key)) keys (record { number = 0; key = 0 }) compared_same r in_range result)

@@ -1,13 +1,16 @@
--- Asks under the keys of a slab, and lists of those keys: one in the order of asking, two that are searched.
-use Rattle.std.specs.Prelude.{◌≡◌, ◌≢◌, ℕ, ◌<◌, ◌≤◌, true, List, length, Option, Some, None, IsSome, slice_index, vec_len, vec_capacity}
-use Rattle.std.specs.List.{filter_map}
+-- Asks under the keys of a slab, and lists of those keys: one in the order of asking, two that are searched and have numbers.
+use Rattle.std.specs.Prelude.{◌≡◌, ◌≢◌, ℕ, ◌<◌, ◌≤◌, ◌^◌, true, List, length, map, Option, Some, None, IsSome, slice_index}
+use Rattle.std.specs.List.{All, filter_map}
+use Rattle.std.specs.Ordering.{nat_cmp, ordering_then}
+use Rattle.std.specs.VecDeque.{deque_len, deque_capacity}
 use Rattle.std.specs.declared.cmp.Ordering.{Ordering}
 use Rattle.std.specs.declared.cmp.Ordering.TheVariants.{Less, Equal, Greater}
 use Rattle.slab.specs.Slab.{Slab, get, HasRoomFor}
 use Rattle.outstanding.specs.declared.ask.Path.{Path}
 use Rattle.outstanding.specs.declared.keyed.QuestionKey.{QuestionKey}
+use Rattle.outstanding.specs.declared.numbered.NumberedKey.{NumberedKey}
 use Rattle.outstanding.specs.declared.table.Table.{Table}
-use Rattle.outstanding.specs.Orders.{path_cmp, key_cmp, question_key}
+use Rattle.outstanding.specs.Orders.{path_cmp, path_number, key_cmp, question_key}
 use Rattle.outstanding.specs.Values.{Ask}
 
 -- the asks under these keys
@@ -42,6 +45,21 @@ pub record IsGap (f : Ask → Ordering) (s : Slab Ask) (keys : List ℕ) (i : �
   pub before : (j : ℕ) (a : Ask) → j < i → get s (slice_index keys j) ≡ Some a → f a ≡ Less
   pub behind : (j : ℕ) (a : Ask) → i ≤ j → j < length keys → get s (slice_index keys j) ≡ Some a → f a ≡ Greater
 
+-- the keys alone
+abbrev pub keys_of : List NumberedKey → List ℕ
+keys_of keys = map (λ k. k.key) keys
+
+-- it has the number of the ask under its key
+abbrev pub HasNumber : (Ask → ℕ) → Slab Ask → NumberedKey → Type 0
+HasNumber number s k = (a : Ask) → get s k.key ≡ Some a → k.number ≡ number a
+
+abbrev pub AreNumbered : (Ask → ℕ) → Slab Ask → List NumberedKey → Type 0
+AreNumbered number s keys = All (HasNumber number s) keys
+
+-- how the ask under a key compares to what is sought, which has this number: numbers that differ tell it
+abbrev pub compared_by_number : ℕ → (Ask → Ordering) → Slab Ask → NumberedKey → Ordering
+compared_by_number number f s k = ordering_then (nat_cmp k.number number) (compared f (get s k.key))
+
 abbrev pub to_path : Path → Ask → Ordering
 to_path path a = path_cmp a.path path
 
@@ -60,13 +78,17 @@ pub record AreIndexed (s : Slab Ask) (by_path by_question in_turn : List ℕ) : 
   pub questions_rise : Rises key_cmp (λ a. question_key a.question) s by_question
   pub turns : Covers s in_turn
 
-abbrev pub IsIndexed : {A : Type 0} → Table A → Type 0
-IsIndexed t = AreIndexed t.asks t.by_path.items t.by_question.items t.in_turn.keys
+-- and those two have the numbers of their asks
+pub record IsIndexed {A : Type 0} (t : Table A) : Type 0 where
+  pub keys : AreIndexed t.asks (keys_of t.by_path.items) (keys_of t.by_question.items) t.in_turn.keys
+  pub path_numbers : AreNumbered (λ a. path_number a.path) t.asks t.by_path.items
+  pub question_numbers : AreNumbered (λ a. (question_key a.question).number) t.asks t.by_question.items
 
 -- one more ask takes no memory
 pub record HasRoom {A : Type 0} (t : Table A) : Type 0 where
   pub asks : HasRoomFor t.asks 1
-  pub by_path : vec_len t.by_path < vec_capacity t.by_path
-  pub by_question : vec_len t.by_question < vec_capacity t.by_question
+  pub by_path : deque_len t.by_path < deque_capacity t.by_path
+  pub by_question : deque_len t.by_question < deque_capacity t.by_question
   pub in_turn : t.in_turn.has_room ≡ true
   pub known : t.asks.vacant_key < t.in_turn.known
+  pub small : t.asks.vacant_key < 2 ^ 32

@@ -2,6 +2,7 @@
 
 ghost use Rattle.std.specs.Prelude.{◌≡◌};
 ghost use Rattle.outstanding.specs.Lists.{same_path};
+ghost use Rattle.outstanding.specs.Orders.{path_number};
 
 use dns_message::Question;
 use std::alloc::{Allocator, Global};
@@ -26,6 +27,18 @@ impl Path {
             (Path::Udp(port), Path::Udp(other)) => port == other,
             (Path::Tcp(connection), Path::Tcp(other)) => connection == other,
             _ => false,
+        }
+    }
+
+    /// The number that a search compares first: the port, and for all connections one number above the ports. So numbers that
+    /// differ tell how paths compare. It takes no memory.
+    #[inline]
+    pub(crate) fn number(self) -> u32
+        ensures { result ≡ path_number self }
+    {
+        match self {
+            Path::Udp(port) => u32::from(port),
+            Path::Tcp(_) => 65_536,
         }
     }
 }

@@ -11,12 +11,13 @@ use std::cmp::Ordering;
 use std::marker::Model;
 
 /// A question for comparing: keys are equal exactly where questions are, letter case aside. The number, which is that of the
-/// name, is compared first: a search goes over keys that stand far from one another in memory, and most are told apart
-/// without a look at their names. It is no hash against strangers: names that were sought out to have one number are told
-/// apart by their octets, which takes no more than it would without numbers.
+/// name, is compared first: a list that is searched has it beside each key of a slab (`NumberedKey`), so most questions are
+/// told apart without a look at their names, which stand far from one another in memory. It is no hash against strangers:
+/// names that were sought out to have one number are told apart by their octets, which takes no more than it would without
+/// numbers.
 #[derive(Clone, Copy, PartialEq, Eq, PartialOrd, Ord)]
 pub struct QuestionKey {
-    number: u64,
+    number: u32,
     name: NameKey,
     kind: u16,
     class: u16,
@@ -36,6 +37,14 @@ impl QuestionKey {
         }
     }
 
+    /// The number, which is compared first. It takes no memory.
+    #[inline]
+    pub fn number(&self) -> u32
+        ensures { result ≡ self.now.number }
+    {
+        self.number
+    }
+
     /// How it compares to another. It takes no memory. Numbers that differ tell it alone. Equal keys, to which a search comes
     /// at its end, are told without a look at the zeros behind their names.
     pub fn compare(&self, other: &QuestionKey) -> Ordering
@@ -51,17 +60,17 @@ impl QuestionKey {
     }
 }
 
-/// What the number of the octets before is multiplied by at each octet. By this prime, which is that of the FNV hashes, names
-/// that differ in few letters get numbers that differ.
-const SPREAD: u64 = 0x100000001b3;
+/// What the number of the octets before is multiplied by at each octet. By this prime, which is that of the FNV hashes of
+/// 32 bits, names that differ in few letters get numbers that differ.
+const SPREAD: u32 = 0x01000193;
 
 /// The number of a name, by its octets in lower case.
-fn number_of(octets: &[u8]) -> u64
+fn number_of(octets: &[u8]) -> u32
     ensures { result ≡ octets_number octets.now }
 {
-    let mut number = 0u64;
+    let mut number = 0u32;
     for octet in octets {
-        number = number.wrapping_mul(SPREAD).wrapping_add(u64::from(*octet));
+        number = number.wrapping_mul(SPREAD).wrapping_add(u32::from(*octet));
     }
     number
 }

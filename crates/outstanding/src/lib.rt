@@ -7,6 +7,7 @@ mod draws;
 mod inquiries;
 mod keyed;
 mod laws;
+mod numbered;
 mod places;
 mod table;
 
@@ -15,3 +16,4 @@ pub use draws::draw;
 pub use inquiries::{Inquiries, Refusal};
 pub use keyed::QuestionKey;
 pub use laws::{ended_is_unlisted, next_may_begin, unlisted_stays_so};
+pub use numbered::NumberedKey;

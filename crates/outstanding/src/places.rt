@@ -1,35 +1,51 @@
 //! Where keys stand, found by searches.
 
-ghost use Rattle.std.specs.Prelude.{◌≡◌, IfOk, IfErr};
-ghost use Rattle.slab.specs.Slab.{get};
-ghost use Rattle.outstanding.specs.Tables.{compared, Covers, IsAt, IsGap, Rises, to_path, to_question};
-ghost use Rattle.outstanding.specs.Orders.{key_cmp, path_cmp, question_key};
+ghost use Rattle.std.specs.Prelude.{◌≡◌, ◌<◌, ◌≤◌, IfOk, IfErr};
+ghost use Rattle.std.specs.VecDeque.{deque_len};
+ghost use Rattle.outstanding.specs.Tables.{AreNumbered, compared_by_number, Covers, IsAt, IsGap, keys_of, Rises, to_path, to_question};
+ghost use Rattle.outstanding.specs.Orders.{key_cmp, path_cmp, path_number, question_key};
 
 use crate::ask::Path;
 use crate::keyed::{Keyed, QuestionKey};
+use crate::numbered::NumberedKey;
 use slab::Slab;
 use std::alloc::Allocator;
 use std::cmp::Ordering;
+use std::collections::VecDeque;
 
 /// Where the key of the ask on a path stands among keys in the order of the paths, or where it would go.
 pub(crate) fn place_on<A: Allocator>(
     asks: &Slab<Keyed<A>, A>,
-    keys: &[usize],
+    keys: &VecDeque<NumberedKey, A>,
     path: Path,
 ) -> Result<usize, usize>
-    requires covered { Covers asks.now keys.now }
-    requires rises { Rises path_cmp (λ a. a.path) asks.now keys.now }
-    ensures found { IfOk result (IsAt (to_path path) asks.now keys.now) }
-    ensures absent { IfErr result (IsGap (to_path path) asks.now keys.now) }
+    requires covered { Covers asks.now (keys_of keys.now.items) }
+    requires rises { Rises path_cmp (λ a. a.path) asks.now (keys_of keys.now.items) }
+    requires numbered { AreNumbered (λ a. path_number a.path) asks.now keys.now.items }
+    ensures within { IfOk result (λ place. place < deque_len keys.now) }
+    ensures room { IfErr result (λ place. place ≤ deque_len keys.now) }
+    ensures found { IfOk result (IsAt (to_path path) asks.now (keys_of keys.now.items)) }
+    ensures absent { IfErr result (IsGap (to_path path) asks.now (keys_of keys.now.items)) }
 {
-    keys.binary_search_by(|key| compare_path(asks, *key, path))
+    let number = path.number();
+    keys.binary_search_by(|key| compare_path(asks, *key, number, path))
 }
 
-/// How the path of the ask under a key compares to another; a key without an ask comes first.
-fn compare_path<A: Allocator>(asks: &Slab<Keyed<A>, A>, key: usize, path: Path) -> Ordering
-    ensures { result ≡ compared (to_path path) (get asks.now key) }
+/// How the path of the ask under a key compares to another, which has this number: numbers that differ tell it, and only
+/// where they are equal the ask is looked at. A key without an ask comes first then.
+#[inline]
+fn compare_path<A: Allocator>(
+    asks: &Slab<Keyed<A>, A>,
+    key: NumberedKey,
+    number: u32,
+    path: Path,
+) -> Ordering
+    ensures { result ≡ compared_by_number number (to_path path) asks.now key }
 {
-    match asks.get(key) {
+    if key.number != number {
+        return key.number.cmp(&number);
+    }
+    match asks.get(key.key()) {
         Some(keyed) => keyed.cmp_path(path),
         None => Ordering::Less,
     }
@@ -38,26 +54,36 @@ fn compare_path<A: Allocator>(asks: &Slab<Keyed<A>, A>, key: usize, path: Path) 
 /// Where the key of the ask with a question stands among keys in the order of the questions, or where it would go.
 pub(crate) fn place_of<A: Allocator>(
     asks: &Slab<Keyed<A>, A>,
-    keys: &[usize],
+    keys: &VecDeque<NumberedKey, A>,
     question: &QuestionKey,
 ) -> Result<usize, usize>
-    requires covered { Covers asks.now keys.now }
-    requires rises { Rises key_cmp (λ a. question_key a.question) asks.now keys.now }
-    ensures found { IfOk result (IsAt (to_question question.now) asks.now keys.now) }
-    ensures absent { IfErr result (IsGap (to_question question.now) asks.now keys.now) }
+    requires covered { Covers asks.now (keys_of keys.now.items) }
+    requires rises { Rises key_cmp (λ a. question_key a.question) asks.now (keys_of keys.now.items) }
+    requires numbered { AreNumbered (λ a. (question_key a.question).number) asks.now keys.now.items }
+    ensures within { IfOk result (λ place. place < deque_len keys.now) }
+    ensures room { IfErr result (λ place. place ≤ deque_len keys.now) }
+    ensures found { IfOk result (IsAt (to_question question.now) asks.now (keys_of keys.now.items)) }
+    ensures absent { IfErr result (IsGap (to_question question.now) asks.now (keys_of keys.now.items)) }
 {
-    keys.binary_search_by(|key| compare_question(asks, *key, question))
+    let number = question.number();
+    keys.binary_search_by(|key| compare_question(asks, *key, number, question))
 }
 
-/// How the question of the ask under a key compares to another; a key without an ask comes first.
+/// How the question of the ask under a key compares to another, which has this number: numbers that differ tell it, and
+/// only where they are equal the ask is looked at. A key without an ask comes first then.
+#[inline]
 fn compare_question<A: Allocator>(
     asks: &Slab<Keyed<A>, A>,
-    key: usize,
+    key: NumberedKey,
+    number: u32,
     question: &QuestionKey,
 ) -> Ordering
-    ensures { result ≡ compared (to_question question.now) (get asks.now key) }
+    ensures { result ≡ compared_by_number number (to_question question.now) asks.now key }
 {
-    match asks.get(key) {
+    if key.number != number {
+        return key.number.cmp(&number);
+    }
+    match asks.get(key.key()) {
         Some(keyed) => keyed.cmp_question(question),
         None => Ordering::Less,
     }

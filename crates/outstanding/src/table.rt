@@ -1,25 +1,29 @@
 //! The asks under keys, with indexes of the keys.
 
-ghost use Rattle.std.specs.Prelude.{◌≡◌, ◌<◌, ◌≤◌, ◌+◌, ◌∷◌, ◌++◌, [], length, Some, None, OnOk, OnSome, MatchOption, vec_len, vec_capacity, slice_get};
+ghost use Rattle.std.specs.Prelude.{◌≡◌, ◌<◌, ◌≤◌, ◌+◌, ◌∷◌, ◌++◌, [], length, Some, None, OnOk, OnSome, MatchOption, slice_get};
+ghost use Rattle.std.specs.VecDeque.{deque_len, deque_capacity};
 ghost use Rattle.std.specs.List.{insert, remove};
 ghost use Rattle.outstanding.specs.Lists.{of_question, on_path, without_path};
 ghost use Rattle.outstanding.specs.Tables.{asks_of, HasRoom, IsIndexed};
 
 use crate::ask::{Ask, Path};
 use crate::keyed::{Keyed, QuestionKey};
+use crate::numbered::NumberedKey;
 use crate::places::{place_of, place_on};
 use dns_message::Question;
 use keys_in_turn::KeysInTurn;
 use slab::Slab;
 use std::alloc::{AllocError, Allocator};
+use std::collections::VecDeque;
 
 /// The asks, each under a key that the slab picks, and the keys in the order of the paths, of the questions, and of
-/// asking.
+/// asking. The first two lists have the number of the path or of the question beside each key, so that a search mostly stays
+/// in its list; where a key is put or taken out there, those before it move or those behind it, whichever are fewer.
 #[derive(Drop)]
 pub(crate) struct Table<A: Allocator> {
     asks: Slab<Keyed<A>, A>,
-    by_path: Vec<usize, A>,
-    by_question: Vec<usize, A>,
+    by_path: VecDeque<NumberedKey, A>,
+    by_question: VecDeque<NumberedKey, A>,
     in_turn: KeysInTurn<A>,
 }
 
@@ -33,8 +37,8 @@ impl<A: Allocator> Table<A> {
     {
         Table {
             asks: Slab::new(alloc),
-            by_path: Vec::new(alloc),
-            by_question: Vec::new(alloc),
+            by_path: VecDeque::new(alloc),
+            by_question: VecDeque::new(alloc),
             in_turn: KeysInTurn::new(alloc),
         }
     }
@@ -62,7 +66,7 @@ impl<A: Allocator> Table<A> {
         ensures { MatchOption result (on_path path (asks_of self.now) ≡ None) (λ ask. on_path path (asks_of self.now) ≡ Some ask.now) }
     {
         match place_on(&self.asks, &self.by_path, path) {
-            Ok(place) => Some(self.asks[self.by_path[place]].ask()),
+            Ok(place) => Some(self.asks[self.by_path[place].key()].ask()),
             Err(_) => None,
         }
     }
@@ -73,12 +77,13 @@ impl<A: Allocator> Table<A> {
         ensures { MatchOption result (of_question question.now (asks_of self.now) ≡ None) (λ ask. of_question question.now (asks_of self.now) ≡ Some ask.now) }
     {
         match place_of(&self.asks, &self.by_question, &QuestionKey::of(question)) {
-            Ok(place) => Some(self.asks[self.by_question[place]].ask()),
+            Ok(place) => Some(self.asks[self.by_question[place].key()].ask()),
             Err(_) => None,
         }
     }
 
-    /// Makes room for one more ask. `Err` where memory ran out.
+    /// Makes room for one more ask. `Err` where memory ran out; that its key doesn't fit into 32 bits, as the lists want it,
+    /// counts as such.
     pub(crate) fn reserve(&mut self) -> Result<(), AllocError>
         requires { IsIndexed self.old }
         ensures indexed { IsIndexed self.new }
@@ -88,7 +93,11 @@ impl<A: Allocator> Table<A> {
         self.asks.reserve(1)?;
         self.by_path.reserve(1)?;
         self.by_question.reserve(1)?;
-        self.in_turn.reserve(self.asks.vacant_key())
+        let key = self.asks.vacant_key();
+        if key > u32::MAX as usize {
+            return Err(AllocError);
+        }
+        self.in_turn.reserve(key)
     }
 
     /// Puts an ask last, whose path and question no other has, where there is room.
@@ -107,9 +116,15 @@ impl<A: Allocator> Table<A> {
         let Err(question) = place_of(&self.asks, &self.by_question, keyed.key()) else {
             unreachable!();
         };
+        let path_number = keyed.ask().path.number();
+        let question_number = keyed.key().number();
         let key = self.asks.insert_reserved(keyed);
-        put_key(&mut self.by_path, path, key);
-        put_key(&mut self.by_question, question, key);
+        put_key(&mut self.by_path, path, NumberedKey::new(path_number, key));
+        put_key(
+            &mut self.by_question,
+            question,
+            NumberedKey::new(question_number, key),
+        );
         self.in_turn.put(key);
     }
 
@@ -125,7 +140,7 @@ impl<A: Allocator> Table<A> {
         let Ok(place) = place_on(&self.asks, &self.by_path, path) else {
             return None;
         };
-        let key = self.by_path[place];
+        let key = self.by_path[place].key();
         let Ok(question) = place_of(&self.asks, &self.by_question, self.asks[key].key()) else {
             unreachable!();
         };
@@ -149,9 +164,9 @@ impl<A: Allocator> Table<A> {
 }
 
 /// Puts a key at a place, where there is room.
-fn put_key<A: Allocator>(keys: &mut Vec<usize, A>, place: usize, key: usize)
-    requires place { place ≤ vec_len keys.old }
-    requires room { vec_len keys.old < vec_capacity keys.old }
+fn put_key<A: Allocator>(keys: &mut VecDeque<NumberedKey, A>, place: usize, key: NumberedKey)
+    requires place { place ≤ deque_len keys.old }
+    requires room { deque_len keys.old < deque_capacity keys.old }
     ensures { keys.new.items ≡ insert keys.old.items place key }
 {
     let Ok(()) = keys.insert(place, key) else {
@@ -160,10 +175,12 @@ fn put_key<A: Allocator>(keys: &mut Vec<usize, A>, place: usize, key: usize)
 }
 
 /// Takes the key at a place out, which leaves room for another one.
-fn take_key<A: Allocator>(keys: &mut Vec<usize, A>, place: usize)
-    requires { place < vec_len keys.old }
+fn take_key<A: Allocator>(keys: &mut VecDeque<NumberedKey, A>, place: usize)
+    requires { place < deque_len keys.old }
     ensures items { keys.new.items ≡ remove keys.old.items place }
-    ensures room { vec_len keys.new < vec_capacity keys.new }
+    ensures room { deque_len keys.new < deque_capacity keys.new }
 {
-    keys.remove(place);
+    let Some(_) = keys.remove(place) else {
+        unreachable!();
+    };
 }

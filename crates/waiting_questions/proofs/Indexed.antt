@@ -14,9 +14,11 @@ use Rattle.outstanding.specs.declared.keyed.QuestionKey.{QuestionKey}
 use Rattle.outstanding.specs.Orders.{question_key}
 use Rattle.step_rules.specs.State.{Waiting}
 use Rattle.step_rules.specs.Steps.{waits_for}
-use Rattle.waiting_questions.specs.Indexes.{waiting_under, passes, to_question, IsByQuestion, IsByTaken, AreKeys, AreIndexed, IsRange}
+use Rattle.waiting_questions.specs.declared.table.Table.{Table}
+use Rattle.waiting_questions.specs.Indexes.{waiting_under, keys_of, passes, to_question, IsByQuestion, IsByTaken, AreKeys, AreIndexed, IsIndexed, IsRange}
 use Rattle.waiting_questions.proofs.Lists.{filter_alike, filter_filter, filter_insert, filter_remove, filter_fails, any_counts, in_filter, from_filter, others, removed, range_grows, before_range}
 use Rattle.waiting_questions.proofs.Keys.{value_of, ArePresent, length_under, at_under, same_under, filter_under, put_under, remove_under, stay, keys_put, stay_others, keys_left, no_keys}
+use Rattle.waiting_questions.proofs.Numbered.{room_numbered}
 use Rattle.waiting_questions.proofs.Ranges.{waits_at, waits_itself, waits_among, passes_between, goes_behind, goes_before, none_behind, range_left}
 
 -- what holds of all that waits holds of what waits under each key
@@ -36,7 +38,7 @@ none_indexed s by_question in_turn questions turns =
     subst₂ (AreIndexed s) (sym questions) (sym turns) (record { questions = no_keys IsByQuestion s; turns = no_keys IsByTaken s; same = λ q. refl })
 
 -- more room changes nothing
-pub room_indexed : (s s' : Slab Waiting) (p t p' t' : List ℕ) → s' ≡ record s { capacity = s'.capacity } → p' ≡ p → t' ≡ t → AreIndexed s p t → AreIndexed s' p' t'
+room_indexed : (s s' : Slab Waiting) (p t p' t' : List ℕ) → s' ≡ record s { capacity = s'.capacity } → p' ≡ p → t' ≡ t → AreIndexed s p t → AreIndexed s' p' t'
 room_indexed s s' p t p' t' slab questions turns indexed =
     let roomy : Slab Waiting = record s { capacity = s'.capacity } in
     let more : AreIndexed roomy p t = record {
@@ -45,6 +47,12 @@ room_indexed s s' p t p' t' slab questions turns indexed =
       same = indexed.same;
     } in
     subst (λ (z : Slab Waiting). AreIndexed z p' t') (sym slab) (subst₂ (AreIndexed roomy) (sym questions) (sym turns) more)
+
+pub table_room : {A : Type 0} (t t' : Table A) → t'.waiting ≡ record t.waiting { capacity = t'.waiting.capacity } → t'.by_question.items ≡ t.by_question.items → t'.in_turn.keys ≡ t.in_turn.keys → IsIndexed t → IsIndexed t'
+table_room t t' slab questions turns indexed = record {
+  lists = room_indexed t.waiting t'.waiting _ _ _ _ slab (ap keys_of questions) turns indexed.lists;
+  numbers = room_numbered t.waiting t'.waiting _ _ slab questions indexed.numbers;
+}
 
 module _ (s : Slab Waiting) (by_question in_turn : List ℕ) (indexed : AreIndexed s by_question in_turn) where
   -- ---- what waits for a question
@@ -202,11 +210,10 @@ module _ (s : Slab Waiting) (by_question in_turn : List ℕ) (indexed : AreIndex
       by (key ∷ keys) e = omega arith
 
   -- those of a question, by its key
-  pub those_at : (q : Question) (key : QuestionKey) → key ≡ question_key q → (i j : ℕ) → IsRange (to_question key) s by_question i j → (keys : List ℕ) → keys ≡ by_question
-      → ArePresent s (between i j keys) × (waiting_under s (between i j keys) ≡ filter (waits_for q) (waiting_under s in_turn))
-  those_at q key is i j range keys same =
+  pub those_at : (q : Question) (key : QuestionKey) → key ≡ question_key q → (i j : ℕ) → IsRange (to_question key) s by_question i j
+      → ArePresent s (between i j by_question) × (waiting_under s (between i j by_question) ≡ filter (waits_for q) (waiting_under s in_turn))
+  those_at q key is i j range =
       let own = subst (λ (k : QuestionKey). IsRange (to_question k) s by_question i j) is range in
-      subst (λ (ks : List ℕ). ArePresent s (between i j ks) × (waiting_under s (between i j ks) ≡ filter (waits_for q) (waiting_under s in_turn))) (sym same)
       (those_present s by_question in_turn indexed q i j own, those_wait s by_question in_turn indexed q i j own)
 
   pub any_other : (q : Question) (key : QuestionKey) → key ≡ question_key q → (i j : ℕ) → IsRange (to_question key) s by_question i j → (items : List Waiting) → waiting_under s in_turn ≡ items

@@ -1,4 +1,5 @@
 pub mod Lists
 pub mod Keys
 pub mod Ranges
+pub mod Numbered
 pub mod Indexed

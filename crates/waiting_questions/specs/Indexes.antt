@@ -1,13 +1,15 @@
--- Waiting questions under the keys of a slab, and two lists of those keys: one in the order of taking, one by question.
-use Rattle.std.specs.Prelude.{◌≡◌, ◌≢◌, ℕ, ◌<◌, ◌≤◌, ◌+◌, ◌&&◌, Bool, true, false, nat_le, nat_lt, List, length, filter, Option, Some, None, IsSome, slice_index, vec_len, vec_capacity}
-use Rattle.std.specs.List.{All, AllPairs, filter_map}
+-- Waiting questions under the keys of a slab, and two lists of those keys: one in the order of taking, one by question, with numbers.
+use Rattle.std.specs.Prelude.{◌≡◌, ◌≢◌, ℕ, ◌<◌, ◌≤◌, ◌+◌, ◌^◌, ◌==◌, ◌&&◌, Bool, true, false, nat_le, nat_lt, if◌then◌else◌, List, length, filter, map, Option, Some, None, IsSome, slice_index}
+use Rattle.std.specs.List.{All, AllPairs, between, filter_map}
 use Rattle.std.specs.List.Sorted.{IsPartitionPoint}
-use Rattle.std.specs.Ordering.{is_lt}
+use Rattle.std.specs.Ordering.{is_lt, nat_cmp}
+use Rattle.std.specs.VecDeque.{deque_len, deque_capacity}
 use Rattle.std.specs.declared.cmp.Ordering.{Ordering}
 use Rattle.std.specs.declared.cmp.Ordering.TheVariants.{Less, Equal, Greater}
 use Rattle.slab.specs.Slab.{Slab, get, slab_len}
 use Rattle.dns_message.specs.Values.{Question}
 use Rattle.outstanding.specs.declared.keyed.QuestionKey.{QuestionKey}
+use Rattle.outstanding.specs.declared.numbered.NumberedKey.{NumberedKey}
 use Rattle.outstanding.specs.Orders.{key_cmp, question_key}
 use Rattle.step_rules.specs.State.{Waiting}
 use Rattle.step_rules.specs.Steps.{waits_for}
@@ -16,6 +18,10 @@ use Rattle.waiting_questions.specs.declared.table.Table.{Table}
 -- what waits under these keys
 abbrev pub waiting_under : Slab Waiting → List ℕ → List Waiting
 waiting_under s keys = filter_map (λ key. get s key) keys
+
+-- the keys without their numbers
+abbrev pub keys_of : List NumberedKey → List ℕ
+keys_of items = map (λ item. item.key) items
 
 -- a test of what waits under a key
 abbrev pub passes : (Waiting → Bool) → Option Waiting → Bool
@@ -31,6 +37,10 @@ abbrev pub compared : (Waiting → Ordering) → Option Waiting → Ordering
 compared f None = Less
 compared f (Some x) = f x
 
+-- the same under a key with a number, where numbers that differ tell it alone
+abbrev pub compared_item : QuestionKey → Slab Waiting → NumberedKey → Ordering
+compared_item key s item = if item.number == key.number then compared (to_question key) (get s item.key) else nat_cmp item.number key.number
+
 -- in the order of their questions
 abbrev pub IsByQuestion : Waiting → Waiting → Type 0
 IsByQuestion a b = key_cmp (question_key a.wanted) (question_key b.wanted) ≢ Greater
@@ -44,6 +54,10 @@ pub record AreKeys (L : Waiting → Waiting → Type 0) (s : Slab Waiting) (keys
   pub present : All (λ key. IsSome (get s key)) keys
   pub apart : AllPairs (λ j k. j ≢ k) keys
   pub in_order : AllPairs (λ j k. (a b : Waiting) → get s j ≡ Some a → get s k ≡ Some b → L a b) keys
+
+-- each number is that of the question under the key
+abbrev pub AreNumbered : Slab Waiting → List NumberedKey → Type 0
+AreNumbered s items = All (λ item. (a : Waiting) → get s item.key ≡ Some a → (question_key a.wanted).number ≡ item.number) items
 
 -- by question stand the same keys as in the order of taking, those for one question in that order too
 pub record AreIndexed (s : Slab Waiting) (by_question in_turn : List ℕ) : Type 0 where
@@ -63,13 +77,24 @@ pub record IsRange (f : Waiting → Ordering) (s : Slab Waiting) (keys : List �
   pub among : (k : ℕ) (a : Waiting) → i ≤ k → k < j → get s (slice_index keys k) ≡ Some a → f a ≡ Equal
   pub behind : (k : ℕ) (a : Waiting) → j ≤ k → k < length keys → get s (slice_index keys k) ≡ Some a → f a ≡ Greater
 
+-- a question waits under each of the keys from one place up to another
+pub record ArePlaces (s : Slab Waiting) (items : List NumberedKey) (start end : ℕ) : Type 0 where
+  pub low : start ≤ end
+  pub high : end ≤ length items
+  pub present : All (λ key. IsSome (get s key)) (between start end (keys_of items))
+
 -- those of a table, in the order of taking
 abbrev pub items_of : {A : Type 0} → Table A → List Waiting
 items_of t = waiting_under t.waiting t.in_turn.keys
 
-abbrev pub IsIndexed : {A : Type 0} → Table A → Type 0
-IsIndexed t = AreIndexed t.waiting t.by_question.items t.in_turn.keys
+-- both lists are in order, and have the keys and the numbers of what waits
+pub record IsIndexed {A : Type 0} (t : Table A) : Type 0 where
+  pub lists : AreIndexed t.waiting (keys_of t.by_question.items) t.in_turn.keys
+  pub numbers : AreNumbered t.waiting t.by_question.items
 
--- one more takes no memory
+-- one more takes no memory, and its key takes no more than 32 bits
 abbrev pub has_room : {A : Type 0} → Table A → Bool
-has_room t = nat_le (slab_len t.waiting + 1) t.waiting.capacity && (nat_lt (vec_len t.by_question) (vec_capacity t.by_question) && (t.in_turn.has_room && nat_lt t.waiting.vacant_key t.in_turn.known))
+has_room t =
+    nat_le (slab_len t.waiting + 1) t.waiting.capacity
+    && (nat_lt (deque_len t.by_question) (deque_capacity t.by_question)
+    && (t.in_turn.has_room && (nat_lt t.waiting.vacant_key t.in_turn.known && nat_lt t.waiting.vacant_key (2 ^ 32))))

@@ -1,24 +1,30 @@
 //! Where keys stand, found by searches.
 
 ghost use Rattle.std.specs.Prelude.{◌≡◌};
-ghost use Rattle.slab.specs.Slab.{get};
-ghost use Rattle.waiting_questions.specs.Indexes.{compared, to_question, AreKeys, BeginsAt, IsByQuestion, IsRange};
+ghost use Rattle.waiting_questions.specs.Indexes.{compared_item, keys_of, to_question, AreKeys, AreNumbered, BeginsAt, IsByQuestion, IsRange};
 
 use crate::keyed::Keyed;
-use outstanding::QuestionKey;
+use outstanding::{NumberedKey, QuestionKey};
 use slab::Slab;
 use std::alloc::Allocator;
 use std::cmp::Ordering;
+use std::collections::VecDeque;
 
-/// How the question under a key compares to another; a key without a question comes first.
+/// How the question under a key compares to another. Numbers that differ tell it alone: what waits stands far away in memory,
+/// and is looked at only where they are equal. A key without a question comes first then.
+#[inline]
 fn compare<A: Allocator>(
     waiting: &Slab<Keyed<A>, A>,
-    key: usize,
+    item: NumberedKey,
     question: &QuestionKey,
 ) -> Ordering
-    ensures { result ≡ compared (to_question question.now) (get waiting.now key) }
+    ensures { result ≡ compared_item question.now waiting.now item }
 {
-    match waiting.get(key) {
+    let number = question.number();
+    if item.number != number {
+        return item.number.cmp(&number);
+    }
+    match waiting.get(item.key()) {
         Some(keyed) => keyed.cmp_question(question),
         None => Ordering::Less,
     }
@@ -30,26 +36,28 @@ const FEW: usize = 4;
 /// From where up to where those stand that wait for a question, among keys in the order of their questions.
 pub(crate) fn range_of<A: Allocator>(
     waiting: &Slab<Keyed<A>, A>,
-    keys: &[usize],
+    keys: &VecDeque<NumberedKey, A>,
     question: &QuestionKey,
 ) -> (usize, usize)
-    requires { AreKeys IsByQuestion waiting.now keys.now }
-    ensures { IsRange (to_question question.now) waiting.now keys.now result.0 result.1 }
+    requires keys { AreKeys IsByQuestion waiting.now (keys_of keys.now.items) }
+    requires numbers { AreNumbered waiting.now keys.now.items }
+    ensures { IsRange (to_question question.now) waiting.now (keys_of keys.now.items) result.0 result.1 }
 {
-    let start = keys.partition_point(|key| compare(waiting, *key, question).is_lt());
+    let start = keys.partition_point(|item| compare(waiting, *item, question).is_lt());
     (start, end_from(waiting, keys, question, start))
 }
 
 /// Up to where those stand that wait for a question, where they begin at this place.
 fn end_from<A: Allocator>(
     waiting: &Slab<Keyed<A>, A>,
-    keys: &[usize],
+    keys: &VecDeque<NumberedKey, A>,
     question: &QuestionKey,
     start: usize,
 ) -> usize
-    requires keys { AreKeys IsByQuestion waiting.now keys.now }
-    requires start { BeginsAt (to_question question.now) waiting.now keys.now start }
-    ensures { IsRange (to_question question.now) waiting.now keys.now start result }
+    requires keys { AreKeys IsByQuestion waiting.now (keys_of keys.now.items) }
+    requires numbers { AreNumbered waiting.now keys.now.items }
+    requires start { BeginsAt (to_question question.now) waiting.now (keys_of keys.now.items) start }
+    ensures { IsRange (to_question question.now) waiting.now (keys_of keys.now.items) start result }
 {
     let near = keys.len().min(start.saturating_add(FEW));
     for place in start..near {
@@ -57,5 +65,5 @@ fn end_from<A: Allocator>(
             return place;
         }
     }
-    keys.partition_point(|key| compare(waiting, *key, question).is_le())
+    keys.partition_point(|item| compare(waiting, *item, question).is_le())
 }

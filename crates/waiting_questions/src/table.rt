@@ -1,25 +1,27 @@
 //! The waiting questions under keys, with indexes of the keys.
 
-ghost use Rattle.std.specs.Prelude.{◌≡◌, ◌<◌, ◌≤◌, ◌∷◌, ◌++◌, [], true, not, filter, length, Some, MatchOption, OnOk, slice_get, slice_index, vec_len};
+ghost use Rattle.std.specs.Prelude.{◌≡◌, ◌<◌, ◌≤◌, ◌∷◌, ◌++◌, [], true, not, filter, length, Some, MatchOption, OnOk, slice_get, slice_index};
 ghost use Rattle.std.specs.List.{remove, remove_range, AllByRecursion};
 ghost use Rattle.step_rules.specs.Steps.{waits_for};
-ghost use Rattle.waiting_questions.specs.Indexes.{has_room, items_of, to_question, IsIndexed, IsRange};
+ghost use Rattle.waiting_questions.specs.Indexes.{has_room, items_of, keys_of, to_question, IsIndexed, IsRange};
 
 use crate::keyed::Keyed;
 use crate::places::range_of;
 use dns_message::Question;
 use keys_in_turn::KeysInTurn;
-use outstanding::QuestionKey;
+use outstanding::{NumberedKey, QuestionKey};
 use slab::Slab;
 use std::alloc::{AllocError, Allocator};
+use std::collections::VecDeque;
 use step_replies::Waiting;
 
 /// The waiting questions, each under a key that the slab picks, and the keys in the order of the questions, those for equal
-/// ones in the order of taking, and of all in the order of taking.
+/// ones in the order of taking, and of all in the order of taking. Those by question have the numbers of the questions with
+/// them, so that a search seldom looks at what waits.
 #[derive(Drop)]
 pub(crate) struct Table<A: Allocator> {
     pub(crate) waiting: Slab<Keyed<A>, A>,
-    pub(crate) by_question: Vec<usize, A>,
+    pub(crate) by_question: VecDeque<NumberedKey, A>,
     pub(crate) in_turn: KeysInTurn<A>,
 }
 
@@ -33,7 +35,7 @@ impl<A: Allocator> Table<A> {
     {
         Table {
             waiting: Slab::new(alloc),
-            by_question: Vec::new(alloc),
+            by_question: VecDeque::new(alloc),
             in_turn: KeysInTurn::new(alloc),
         }
     }
@@ -58,12 +60,12 @@ impl<A: Allocator> Table<A> {
     /// From where up to where those stand by question that wait for this one.
     pub(crate) fn range(&self, question: &QuestionKey) -> (usize, usize)
         requires { IsIndexed self.now }
-        ensures { IsRange (to_question question.now) self.now.waiting self.now.by_question.items result.0 result.1 }
+        ensures { IsRange (to_question question.now) self.now.waiting (keys_of self.now.by_question.items) result.0 result.1 }
     {
         range_of(&self.waiting, &self.by_question, question)
     }
 
-    /// Makes room for one more. `Err` where memory ran out.
+    /// Makes room for one more. `Err` where memory ran out. A key that takes more than 32 bits counts as that.
     pub(crate) fn reserve(&mut self) -> Result<(), AllocError>
         requires { IsIndexed self.old }
         ensures indexed { IsIndexed self.new }
@@ -71,8 +73,12 @@ impl<A: Allocator> Table<A> {
         ensures room { OnOk result (has_room self.new ≡ true) }
     {
         self.waiting.reserve(1)?;
+        let key = self.waiting.vacant_key();
+        let Ok(_) = u32::try_from(key) else {
+            return Err(AllocError);
+        };
         self.by_question.reserve(1)?;
-        self.in_turn.reserve(self.waiting.vacant_key())
+        self.in_turn.reserve(key)
     }
 
     /// Puts a question last, which was taken no earlier than the others, where there is room.
@@ -84,9 +90,12 @@ impl<A: Allocator> Table<A> {
         ensures list { items_of self.new ≡ items_of self.old ++ waiting ∷ [] }
     {
         let keyed = Keyed::new(waiting);
-        let (_, end) = self.range(keyed.key());
+        let question = keyed.key();
+        let number = question.number();
+        let (_, end) = self.range(question);
         let key = self.waiting.insert_reserved(keyed);
-        let Ok(()) = self.by_question.insert(end, key) else {
+        let item = NumberedKey::new(number, key);
+        let Ok(()) = self.by_question.insert(end, item) else {
             unreachable!();
         };
         self.in_turn.put(key);
@@ -97,13 +106,15 @@ impl<A: Allocator> Table<A> {
         requires indexed { IsIndexed self.old }
         requires place { place < length self.old.by_question.items }
         requires turn { turn < length self.old.in_turn.keys }
-        requires one { slice_index self.old.by_question.items place ≡ slice_index self.old.in_turn.keys turn }
+        requires one { slice_index (keys_of self.old.by_question.items) place ≡ slice_index self.old.in_turn.keys turn }
         ensures indexed { IsIndexed self.new }
         ensures list { items_of self.new ≡ remove (items_of self.old) turn }
     {
-        let key = self.by_question.remove(place);
+        let Some(item) = self.by_question.remove(place) else {
+            unreachable!();
+        };
         self.in_turn.take(turn);
-        self.waiting.remove(key);
+        self.waiting.remove(item.key());
     }
 
     /// Lets those go that wait for this question, the newest of them first. Their keys leave those by question at once, when
@@ -115,7 +126,7 @@ impl<A: Allocator> Table<A> {
     {
         let (start, end) = self.range(&QuestionKey::of(question));
         for place in (start..end).rev() {
-            let key = self.by_question[place];
+            let key = self.by_question[place].key();
             let turn = self.in_turn.place_of(key);
             self.in_turn.take(turn);
             self.waiting.remove(key);
@@ -134,11 +145,20 @@ impl<A: Allocator> Table<A> {
     }
 }
 
-/// Takes the keys from one place up to another out. Those behind them move up once.
-fn take_range<A: Allocator>(keys: &mut Vec<usize, A>, start: usize, end: usize)
+/// Takes the keys from one place up to another out. Those before them or those behind them move up, whichever are fewer: once
+/// where one key goes, and twice where more do.
+fn take_range<A: Allocator>(keys: &mut VecDeque<NumberedKey, A>, start: usize, end: usize)
     requires low { start ≤ end }
-    requires high { end ≤ vec_len keys.old }
+    requires high { end ≤ length keys.old.items }
     ensures { keys.new.items ≡ remove_range keys.old.items start end }
 {
-    drop(keys.drain(start..end));
+    match end - start {
+        0 => {}
+        1 => {
+            let Some(_) = keys.remove(start) else {
+                unreachable!();
+            };
+        }
+        _ => drop(keys.drain(start..end)),
+    }
 }

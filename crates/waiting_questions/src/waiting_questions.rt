@@ -1,17 +1,18 @@
 //! The questions that wait.
 
 ghost use Rattle.std.specs.Prelude.{◌≡◌, ◌<◌, ◌≤◌, ◌∷◌, ◌++◌, [], true, not, drop, filter, length, None, Some, IsSome, MatchOption, OnErr, OnOk, slice_get, slice_index};
-ghost use Rattle.std.specs.List.{list_any, All, AllByRecursion};
+ghost use Rattle.std.specs.List.{between, list_any, AllByRecursion};
 ghost use Rattle.slab.specs.Slab.{get};
 ghost use Rattle.step_rules.specs.Steps.{waits_for};
-ghost use Rattle.waiting_questions.specs.Indexes.{waiting_under};
+ghost use Rattle.waiting_questions.specs.Indexes.{keys_of, waiting_under, ArePlaces};
 
 use crate::keyed::Keyed;
 use crate::table::Table;
 use dns_message::Question;
-use outstanding::QuestionKey;
+use outstanding::{NumberedKey, QuestionKey};
 use slab::Slab;
 use std::alloc::{AllocError, Allocator, Global};
+use std::collections::VecDeque;
 use std::marker::Model;
 use step_replies::Waiting;
 
@@ -112,7 +113,7 @@ impl<A: Allocator> WaitingQuestions<A> {
         ensures { result ≡ filter (waits_for question.now) self.now.items }
     {
         let (start, end) = self.table.range(&QuestionKey::of(question));
-        Those::new(&self.table.waiting, &self.table.by_question[start..end])
+        Those::new(&self.table.waiting, &self.table.by_question, start, end)
     }
 
     /// Whether any but the question that was taken first waits for this one. It takes no memory.
@@ -140,37 +141,50 @@ impl<A: Allocator> WaitingQuestions<A> {
 #[derive(Drop)]
 pub struct Those<'a, A: Allocator = Global> {
     waiting: &'a Slab<Keyed<A>, A>,
-    keys: &'a [usize],
+    keys: &'a VecDeque<NumberedKey, A>,
+    /// Their keys stand from here on.
+    start: usize,
+    /// They stand up to here.
+    end: usize,
 }
 
 impl<'a, A: Allocator> Model for Those<'a, A> {
-    ghost use Rattle.std.specs.Prelude.{List, IsSome};
-    ghost use Rattle.std.specs.List.{All};
-    ghost use Rattle.slab.specs.Slab.{get};
+    ghost use Rattle.std.specs.Prelude.{List};
+    ghost use Rattle.std.specs.List.{between};
     ghost use Rattle.step_rules.specs.State.{Waiting};
-    ghost use Rattle.waiting_questions.specs.Indexes.{waiting_under};
+    ghost use Rattle.waiting_questions.specs.Indexes.{keys_of, waiting_under, ArePlaces};
 
     ghost Value = { List Waiting };
 
-    ghost view = { λ t. waiting_under t.waiting.now t.keys.now };
+    ghost view = { λ t. waiting_under t.waiting.now (between t.start t.end (keys_of t.keys.now.items)) };
 
-    ghost invariant = { λ t. All (λ key. IsSome (get t.waiting.now key)) t.keys.now };
+    ghost invariant = { λ t. ArePlaces t.waiting.now t.keys.now.items t.start t.end };
 }
 
 impl<'a, A: Allocator> Those<'a, A> {
-    /// What waits under these keys.
-    fn new(waiting: &'a Slab<Keyed<A>, A>, keys: &'a [usize]) -> Those<'a, A>
-        requires { All (λ key. IsSome (get waiting.now key)) keys.now }
-        ensures { result ≡ waiting_under waiting.now keys.now }
+    /// What waits under the keys from one place up to another.
+    fn new(
+        waiting: &'a Slab<Keyed<A>, A>,
+        keys: &'a VecDeque<NumberedKey, A>,
+        start: usize,
+        end: usize,
+    ) -> Those<'a, A>
+        requires { ArePlaces waiting.now keys.now.items start end }
+        ensures { result ≡ waiting_under waiting.now (between start end (keys_of keys.now.items)) }
     {
-        Those { waiting, keys }
+        Those {
+            waiting,
+            keys,
+            start,
+            end,
+        }
     }
 
     /// How many they are. It takes no memory.
     pub fn len(&self) -> usize
         ensures { result ≡ length self.now }
     {
-        self.keys.len()
+        self.end - self.start
     }
 
     /// The one at this place, from 0. It takes no memory.
@@ -178,19 +192,19 @@ impl<'a, A: Allocator> Those<'a, A> {
         requires { place < length self.now }
         ensures { slice_get self.now place ≡ Some result.now }
     {
-        question_at(self.waiting, self.keys, place)
+        question_at(self.waiting, self.keys, self.start + place)
     }
 }
 
 /// What waits under the key at a place.
 fn question_at<'a, A: Allocator>(
     waiting: &'a Slab<Keyed<A>, A>,
-    keys: &[usize],
+    keys: &VecDeque<NumberedKey, A>,
     place: usize,
 ) -> &'a Waiting<A>
-    requires within { place < length keys.now }
-    requires present { All (λ key. IsSome (get waiting.now key)) keys.now }
-    ensures { get waiting.now (slice_index keys.now place) ≡ Some result.now }
+    requires within { place < length keys.now.items }
+    requires present { IsSome (get waiting.now (slice_index (keys_of keys.now.items) place)) }
+    ensures { get waiting.now (slice_index (keys_of keys.now.items) place) ≡ Some result.now }
 {
-    waiting[keys[place]].waiting()
+    waiting[keys[place].key()].waiting()
 }

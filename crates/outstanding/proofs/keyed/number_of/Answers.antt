@@ -11,7 +11,7 @@ loop-octet-init c = refl
 pub loop-octet-preserved : goal.loop-octet-preserved
 unfolding octets_number
 loop-octet-preserved c =
-    let step : ℕ → ℕ → ℕ = λ number octet. (number * 1099511628211 + octet) % 2 ^ 64 in
-    mod-add-mod (c.loop-octet.number * 1099511628211) (2 ^ 64) c.from.result
+    let step : ℕ → ℕ → ℕ = λ number octet. (number * 16777619 + octet) % 2 ^ 32 in
+    mod-add-mod (c.loop-octet.number * 16777619) (2 ^ 32) c.from.result
     ∙ ap₂ step c.loop-octet.invariant c.from.ensures
     ∙ sym (fold_more step 0 c.args.octets.now c.loop-octet.octet-index 0 c.loop-octet-test.true)

@@ -1,19 +1,24 @@
-use Rattle.std.proofs.Common.{rules, ℕ}
+use Rattle.std.proofs.Common.{rules, IfOk, IfErr, subst}
+use Rattle.std.specs.List.Sorted.{IsSearchInRange}
 use Rattle.std.proofs.lemmas.Fn.{always_returns_same}
-use Rattle.slab.specs.Slab.{get}
+use Rattle.outstanding.specs.declared.keyed.QuestionKey.{QuestionKey}
 use Rattle.outstanding.specs.Values.{Ask}
 use Rattle.outstanding.specs.Orders.{key_cmp, question_key}
-use Rattle.outstanding.specs.Tables.{compared, to_question}
-use Rattle.outstanding.proofs.SameOrders.{key_total}
-use Rattle.outstanding.proofs.Searches.{searched}
+use Rattle.outstanding.specs.Tables.{IsAt, IsGap, keys_of, compared_by_number, to_question}
+use Rattle.outstanding.proofs.SameOrders.{key_total, key_numbers_tell}
+use Rattle.outstanding.proofs.Searches.{searched_by_number}
+use Rattle.outstanding.proofs.places.place_of.Given as given
 use Rattle.outstanding.proofs.places.place_of.Goals as goal
 
+ends : (g : given.Over) (c : goal.After-binary_search_by g)
+    → IfOk c.binary_search_by.result (IsAt (to_question c.args.question.now) c.args.asks.now (keys_of c.args.keys.now.items)) × IfErr c.binary_search_by.result (IsGap (to_question c.args.question.now) c.args.asks.now (keys_of c.args.keys.now.items))
+ends g c =
+    searched_by_number key_cmp key_total (λ (a : Ask). question_key a.question) (λ (k : QuestionKey). k.number) key_numbers_tell c.args.asks.now c.args.keys.now.items c.requires.covered c.requires.rises c.requires.numbered c.args.question.now c.number-number.result c.number-number.ensures
+    c.binary_search_by.result (subst (IsSearchInRange c.binary_search_by.result) c.args.keys.now.ok.0 c.binary_search_by.ensures.bound)
+    (c.binary_search_by.ensures.position (compared_by_number c.number-number.result (to_question c.args.question.now) c.args.asks.now) (always_returns_same _ _ _ (λ a r h called. search rules)))
+
 pub returns-clause-found : goal.returns-clause-found
-returns-clause-found g c =
-    let by_key = c.binary_search_by.ensures.position (λ (key : ℕ). compared (to_question c.args.question.now) (get c.args.asks.now key)) (always_returns_same _ _ _ (λ a r h called. search rules)) in
-    (searched key_cmp key_total (λ (a : Ask). question_key a.question) c.args.asks.now c.args.keys.now c.requires.covered c.requires.rises c.args.question.now c.binary_search_by.result c.binary_search_by.ensures.bound by_key).0
+returns-clause-found g c = (ends g c).0
 
 pub returns-clause-absent : goal.returns-clause-absent
-returns-clause-absent g c =
-    let by_key = c.binary_search_by.ensures.position (λ (key : ℕ). compared (to_question c.args.question.now) (get c.args.asks.now key)) (always_returns_same _ _ _ (λ a r h called. search rules)) in
-    (searched key_cmp key_total (λ (a : Ask). question_key a.question) c.args.asks.now c.args.keys.now c.requires.covered c.requires.rises c.args.question.now c.binary_search_by.result c.binary_search_by.ensures.bound by_key).1
+returns-clause-absent g c = (ends g c).1

@@ -1,19 +1,21 @@
-use Rattle.std.proofs.Common.{Some, ◌≡◌, List, ℕ, sym, ap, subst, ◌∙◌}
-use Rattle.std.specs.Prelude.{slice_index}
+use Rattle.std.proofs.Common.{Some, sym, ap, ◌∙◌}
 use Rattle.slab.specs.Slab.{get}
-use Rattle.outstanding.specs.Tables.{IsAt, IsGap, to_path}
-use Rattle.outstanding.proofs.Indexed.{path_found, path_absent, read_at}
+use Rattle.outstanding.specs.Tables.{keys_of}
+use Rattle.outstanding.proofs.KeyNumbers.{read_at, present_at}
+use Rattle.outstanding.proofs.Indexed.{path_found, path_absent}
 use Rattle.outstanding.proofs.table.Table.on_path.Goals as goal
+
+pub index-requires-in-Ok : goal.index-requires-in-Ok
+index-requires-in-Ok g c =
+    present_at c.args.self.now.asks c.args.self.now.by_path.items c.in-Ok.place c.key.result c.index.result.now c.requires.keys.paths c.in-Ok.ensures.found.in_range c.index.ensures c.key.ensures.key
 
 pub returns-in-Ok : goal.returns-in-Ok
 returns-in-Ok g c =
-    let keys : List ℕ = c.args.self.now.by_path.items in
-    let at : IsAt (to_path c.args.path) c.args.self.now.asks keys c.in-Ok.place = subst (λ ks. IsAt (to_path c.args.path) c.args.self.now.asks ks c.in-Ok.place) c.deref.ensures.value c.in-Ok.ensures.found in
-    let here : get c.args.self.now.asks (slice_index keys c.in-Ok.place) ≡ Some c.index-in-Ok.result.now = ap (get c.args.self.now.asks) (read_at keys c.in-Ok.place c.index.result.now at.in_range c.index.ensures) ∙ c.index-in-Ok.ensures in
-    path_found c.args.self.now.asks keys c.args.self.now.by_question.items c.args.self.now.in_turn.keys c.requires c.args.path c.in-Ok.place at c.index-in-Ok.result.now here
+    let is = read_at c.args.self.now.by_path.items c.in-Ok.place c.key.result c.index.result.now c.in-Ok.ensures.found.in_range c.index.ensures c.key.ensures.key in
+    path_found c.args.self.now.asks (keys_of c.args.self.now.by_path.items) (keys_of c.args.self.now.by_question.items) c.args.self.now.in_turn.keys c.requires.keys c.args.path c.in-Ok.place c.in-Ok.ensures.found
+    c.index-in-Ok.result.now (ap (get c.args.self.now.asks) is ∙ c.index-in-Ok.ensures)
     ∙ ap Some (sym c.ask.ensures)
 
 pub returns-in-Err : goal.returns-in-Err
 returns-in-Err g c =
-    path_absent c.args.self.now.asks c.args.self.now.by_path.items c.args.self.now.by_question.items c.args.self.now.in_turn.keys c.requires c.args.path c.in-Err.field-0
-    (subst (λ (ks : List ℕ). IsGap (to_path c.args.path) c.args.self.now.asks ks c.in-Err.field-0) c.deref.ensures.value c.in-Err.ensures.absent)
+    path_absent c.args.self.now.asks (keys_of c.args.self.now.by_path.items) (keys_of c.args.self.now.by_question.items) c.args.self.now.in_turn.keys c.requires.keys c.args.path c.in-Err.field-0 c.in-Err.ensures.absent

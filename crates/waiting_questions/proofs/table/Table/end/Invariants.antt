@@ -1,10 +1,11 @@
 use Rattle.std.proofs.Common.{not}
 use Rattle.std.specs.Prelude.{filter}
 use Rattle.step_rules.specs.Steps.{waits_for}
-use Rattle.waiting_questions.specs.Indexes.{items_of}
+use Rattle.waiting_questions.specs.Indexes.{items_of, keys_of, AreNumbered}
 use Rattle.waiting_questions.proofs.Indexed.{IsEnding}
 use Rattle.waiting_questions.proofs.table.Table.end.Given as goal
 
 abbrev pub invariant-loop-place : goal.invariant-loop-place
 invariant-loop-place g l =
-    IsEnding l.fn.question (filter (λ x. not (waits_for l.fn.question x)) (items_of l.fn.self)) l.self.waiting l.self.by_question.items l.self.in_turn.keys l.start l.place l.end
+    IsEnding l.fn.question (filter (λ x. not (waits_for l.fn.question x)) (items_of l.fn.self)) l.self.waiting (keys_of l.self.by_question.items) l.self.in_turn.keys l.start l.place l.end
+    × AreNumbered l.self.waiting l.self.by_question.items

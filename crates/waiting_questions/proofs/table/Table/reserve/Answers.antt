@@ -1,12 +1,15 @@
 use Rattle.std.proofs.Common.{refl}
-use Rattle.waiting_questions.proofs.Indexed.{room_indexed}
+use Rattle.waiting_questions.proofs.Indexed.{table_room}
 use Rattle.waiting_questions.proofs.table.Table.reserve.Goals as goal
 
 pub returns-in_err-reserve-clause-indexed : goal.returns-in_err-reserve-clause-indexed
-returns-in_err-reserve-clause-indexed g c = room_indexed c.args.self.now.waiting c.reserve.new.self _ _ _ _ c.reserve.ensures.rest_kept refl refl c.requires
+returns-in_err-reserve-clause-indexed g c = table_room c.args.self.now _ c.reserve.ensures.rest_kept refl refl c.requires
+
+pub returns-in_default-clause-indexed : goal.returns-in_default-clause-indexed
+returns-in_default-clause-indexed g c = table_room c.args.self.now _ c.reserve.ensures.rest_kept refl refl c.requires
 
 pub returns-in_err-reserve-2-clause-indexed : goal.returns-in_err-reserve-2-clause-indexed
-returns-in_err-reserve-2-clause-indexed g c = room_indexed c.args.self.now.waiting c.reserve.new.self _ _ _ _ c.reserve.ensures.rest_kept c.reserve-2.ensures.items refl c.requires
+returns-in_err-reserve-2-clause-indexed g c = table_room c.args.self.now _ c.reserve.ensures.rest_kept c.reserve-2.ensures.items refl c.requires
 
 pub returns-clause-indexed : goal.returns-clause-indexed
-returns-clause-indexed g c = room_indexed c.args.self.now.waiting c.reserve.new.self _ _ _ _ c.reserve.ensures.rest_kept c.reserve-2.ensures.items c.reserve-3.ensures.same c.requires
+returns-clause-indexed g c = table_room c.args.self.now _ c.reserve.ensures.rest_kept c.reserve-2.ensures.items c.reserve-3.ensures.same c.requires

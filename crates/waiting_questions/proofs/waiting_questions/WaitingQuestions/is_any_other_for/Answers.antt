@@ -2,7 +2,7 @@ use Rattle.std.proofs.Common.{◌≡◌, ◌-◌, ℕ, cond, nat_lt, is_eq, Bool
 use Rattle.outstanding.specs.declared.keyed.QuestionKey.{QuestionKey}
 use Rattle.step_rules.specs.State.{Waiting}
 use Rattle.step_rules.specs.Steps.{waits_for}
-use Rattle.waiting_questions.specs.Indexes.{to_question}
+use Rattle.waiting_questions.specs.Indexes.{keys_of, to_question}
 use Rattle.waiting_questions.specs.Values.{WaitingList}
 use Rattle.waiting_questions.proofs.Ranges.{waits_by_key}
 use Rattle.waiting_questions.proofs.Indexed.{any_other, byte_is}
@@ -16,5 +16,5 @@ returns-in-Some g c =
     let one : c.from.result ≡ cond (waits_for c.args.question.now x) 1 0 = c.from.ensures ∙ byte_is c.is_eq.result ∙ ap (λ (b : Bool). cond {A = ℕ} b 1 0) waits in
     let items = ap (λ (w : WaitingList). w.items) c.self.view_is in
     ap (λ (n : ℕ). nat_lt n (c.range-start.result.1 - c.range-start.result.0)) one
-    ∙ any_other c.self.inside.table.waiting c.self.inside.table.by_question.items c.self.inside.table.in_turn.keys c.self.invariant c.args.question.now c.of-key.result c.of-key.ensures
+    ∙ any_other c.self.inside.table.waiting (keys_of c.self.inside.table.by_question.items) c.self.inside.table.in_turn.keys c.self.invariant.lists c.args.question.now c.of-key.result c.of-key.ensures
     c.range-start.result.0 c.range-start.result.1 c.range-start.ensures c.args.self.now.items items x (ap (λ (xs : List Waiting). slice_get xs 0) (sym items) ∙ c.in-Some.ensures)

@@ -1,0 +1,36 @@
+//! Keys with numbers, for searches.
+
+ghost use Rattle.std.specs.Prelude.{◌≡◌, ◌<◌, ◌^◌};
+
+/// A key of a slab, with the number of what stands under it. A search compares numbers where it looks, and goes to what
+/// stands under the keys, which is far away in memory, only where numbers are equal.
+#[derive(Clone, Copy, Debug, PartialEq, Eq)]
+pub struct NumberedKey {
+    /// The number of what stands under the key.
+    pub number: u32,
+    /// The key, in as few octets as the number.
+    pub key: u32,
+}
+
+impl NumberedKey {
+    /// A key with a number. It takes no memory. The caller sees to it that the key is below 2^32.
+    #[inline]
+    pub fn new(number: u32, key: usize) -> NumberedKey
+        requires { key < 2 ^ 32 }
+        ensures { result ≡ record { number = number; key = key } }
+    {
+        NumberedKey {
+            number,
+            key: key as u32,
+        }
+    }
+
+    /// The key, as a slab takes it. It takes no memory.
+    #[inline]
+    pub fn key(self) -> usize
+        ensures key { result ≡ self.key }
+        ensures small { result < 2 ^ 32 }
+    {
+        self.key as usize
+    }
+}
