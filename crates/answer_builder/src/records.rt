@@ -49,7 +49,7 @@ fn rows_of<'a, A: Allocator>(
     RowsRef {
         owner: &piece.owner,
         kind,
-        class: piece.slot.class,
+        class: piece.class,
         ttl,
         data: DataRef::Rows(rows),
     }
@@ -59,7 +59,7 @@ fn rows_of<'a, A: Allocator>(
 pub(crate) fn set_of<'a, A: Allocator>(piece: &'a Piece<A>, ttl: u32) -> RowsRef<'a, A>
     ensures { result ≡ set_records ttl piece.now }
 {
-    match (piece.slot.kind, &piece.body) {
+    match (piece.kind, &piece.body) {
         (Some(kind), Body::Rows(rows)) => rows_of(piece, kind, rows.as_slice(), ttl),
         _ => rows_of(piece, 0, &[], ttl),
     }

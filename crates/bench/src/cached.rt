@@ -96,7 +96,7 @@ fn answer(
     ) {
         Found::Rows(held) | Found::Denied(held) if held.accepted <= NOW => {
             write_answer(alloc, text, view.header(), question, held)?;
-            held.piece.slot
+            held.piece.slot()
         }
         _ => return Ok(false),
     };
@@ -108,7 +108,8 @@ fn answer(
 fn answer_from(alloc: Global, held: &Held, octets: &[u8], text: &mut Vec<u8>) -> Result<bool> {
     let view = MessageRef::view(octets)?;
     match view.question_ref() {
-        Some(question) if question.key() == held.piece.slot.key && held.accepted <= NOW => {
+        Some(question)
+            if question.key().octets() == held.piece.owner.octets() && held.accepted <= NOW => {
             write_answer(alloc, text, view.header(), question, held)?;
             Ok(true)
         }
@@ -179,7 +180,7 @@ fn time_of_bare<V>(
 
 /// The slot of an entry.
 fn slot_in(held: &Held) -> Slot {
-    held.piece.slot
+    held.piece.slot()
 }
 
 /// Prints what a bare `lru` of the cache's types costs.

@@ -40,14 +40,10 @@ pub fn addresses(alloc: Global, owner: Name) -> Result<Piece> {
 fn set_of(owner: Name, rows: PlainList<Rdata>) -> Piece
     requires { rows ≢ [] }
 {
-    let slot = Slot {
-        key: owner.key(),
-        class: CLASS,
-        kind: Some(ADDRESS),
-    };
     Piece {
         owner,
-        slot,
+        class: CLASS,
+        kind: Some(ADDRESS),
         body: Body::Rows(rows),
         lifetime: 86_400,
         rank: 3,
@@ -58,14 +54,10 @@ fn set_of(owner: Name, rows: PlainList<Rdata>) -> Piece
 /// A name error for a day, without SOA.
 pub fn name_error(alloc: Global, name: &str) -> Result<Piece> {
     let owner = Name::from_text(alloc, name)?;
-    let slot = Slot {
-        key: owner.key(),
-        class: CLASS,
-        kind: None,
-    };
     Ok(Piece {
         owner,
-        slot,
+        class: CLASS,
+        kind: None,
         body: Body::Denied(None),
         lifetime: 86_400,
         rank: 3,

@@ -35,7 +35,7 @@ fn each(rt: &HostRuntime, started: &Instant, calls: usize) -> Result<u128> {
 /// What answers a question from the cache, made the most recently used; whether there is something.
 fn answer(cache: &mut Cache<RandomState>, key: &NameKey, config: &Config) -> bool {
     let slot = match find_by_key(cache, key, CLASS, ADDRESS, 1000, config) {
-        Found::Rows(held) | Found::Denied(held) => held.piece.own_slot(),
+        Found::Rows(held) | Found::Denied(held) => held.piece.slot(),
         _ => return false,
     };
     cache.promote(&slot);

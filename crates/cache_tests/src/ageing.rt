@@ -17,7 +17,7 @@ fn is_copy(held: &Held, piece: &Piece) -> bool {
             .iter()
             .zip(rows.as_slice())
             .all(|(a, b)| a.octets() == b.octets());
-    same && held.piece.slot == piece.slot && held.piece.owner.same(&piece.owner)
+    same && held.piece.slot() == piece.slot() && held.piece.owner.same(&piece.owner)
 }
 
 #[test]
@@ -30,7 +30,7 @@ fn a_copied_set_is_kept_and_found(rt: HostRuntime) -> Result<(), Fail> {
     assert_eq!(rt; answer, Offered::Kept);
     assert!(rt;
         cache
-            .peek(&piece.slot)
+            .peek(&piece.slot())
             .is_some_and(|held| is_copy(held, &piece))
     );
     Ok(())

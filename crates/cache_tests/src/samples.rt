@@ -58,18 +58,14 @@ impl<'a> Denial<'a> {
 }
 
 fn piece_of<A: Allocator>(owner: Name<A>, kind: Option<u16>, lifetime: u16, rank: u8) -> Piece<A> {
-    let slot = Slot {
-        key: owner.key(),
-        class: 1,
-        kind,
-    };
     let body = match kind {
         Some(_) => Body::NoData(None),
         None => Body::Denied(None),
     };
     Piece {
         owner,
-        slot,
+        class: 1,
+        kind,
         body,
         lifetime: u32::from(lifetime),
         rank,
@@ -89,14 +85,10 @@ pub(crate) fn set<A: Allocator + Copy>(alloc: A, owner: &str) -> Result<Piece<A>
 fn set_of<A: Allocator>(owner: Name<A>, rows: PlainList<Rdata<A>, A>) -> Piece<A>
     requires { rows ≢ [] }
 {
-    let slot = Slot {
-        key: owner.key(),
-        class: 1,
-        kind: Some(1),
-    };
     Piece {
         owner,
-        slot,
+        class: 1,
+        kind: Some(1),
         body: Body::Rows(rows),
         lifetime: 300,
         rank: 3,

@@ -74,7 +74,7 @@ fn shown<A: Allocator>(piece: &Piece<A>) -> (Option<u16>, u32, u8, usize) {
         Body::Rows(rows) => rows.as_slice().len(),
         _ => 0,
     };
-    (piece.slot.kind, piece.lifetime, piece.rank, count)
+    (piece.kind, piece.lifetime, piece.rank, count)
 }
 
 #[test]

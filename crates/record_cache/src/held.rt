@@ -11,7 +11,7 @@ use std::alloc::{Allocator, Global};
 use std::marker::Model;
 use trust_rank::{Piece, Slot};
 
-/// A piece, and when it was accepted. The moment lies in memory beside what an answer needs of the piece.
+/// A piece, and when it was accepted.
 #[derive(Drop)]
 pub struct Held<A: Allocator = Global> {
     /// The moment of acceptance, in milliseconds.
@@ -61,7 +61,7 @@ impl<A: Allocator> Held<A> {
     pub(crate) fn is_name_error(&self) -> bool
         ensures { result ≡ is_name_error self.now.piece }
     {
-        self.piece.slot.kind.is_none()
+        self.piece.kind.is_none()
     }
 
     /// Whether its lifetime is 0.
@@ -83,7 +83,7 @@ impl<A: Allocator> Held<A> {
         ensures slot { result ≡ self.now.piece.slot }
         ensures formed { IsPiece self.now.piece }
     {
-        self.piece.slot
+        self.piece.slot()
     }
 
     /// How many labels the name of a name error has; `None` where the piece is of one type.

@@ -54,8 +54,8 @@ pub fn held_from<A: Allocator + Copy>(
 fn show<H: BuildHasher + Drop, A: Allocator + Copy>(cache: &mut Cache<H, A>, piece: &Piece<A>)
     ensures { cache.new ≡ record cache.old { entries = shown_by piece.now cache.old.entries } }
 {
-    if piece.slot.kind.is_some() {
-        shown(cache, &piece.owner, piece.slot.class);
+    if piece.kind.is_some() {
+        shown(cache, &piece.owner, piece.class);
     }
 }
 

@@ -90,7 +90,7 @@ impl<A: Allocator> Slots<A> {
             return Ok(Slots::none(alloc));
         };
         Ok(Slots {
-            first: Some(first.piece.own_slot()),
+            first: Some(first.piece.slot()),
             others: slots_of(alloc, more)?,
         })
     }
@@ -102,7 +102,7 @@ fn slots_of<A: Allocator>(alloc: A, entries: &[&Held<A>]) -> Result<Vec<Slot, A>
 {
     let mut slots = Vec::new(alloc);
     for held in entries {
-        slots.push(held.piece.own_slot())?;
+        slots.push(held.piece.slot())?;
     }
     Ok(slots)
 }

@@ -62,25 +62,25 @@ set_with_is_piece rank route first others kind is one all = record {
 }
 
 -- what one pass gathers is a piece
-pub gathered_is_piece : (rank route : ℕ) (first : Record) (q : Question) (others : List Record) (class kind : ℕ) (owner key : List (List ℕ)) (sets : List (List ℕ)) (lifetime : ℕ) → kind ≡ first.kind → key ≡ lowered owner
+pub gathered_is_piece : (rank route : ℕ) (first : Record) (q : Question) (others : List Record) (class kind : ℕ) (owner : List (List ℕ)) (sets : List (List ℕ)) (lifetime : ℕ) → kind ≡ first.kind
     → sets ≡ added_all q (first.rdata ∷ []) others → lifetime ≡ lowered_by_all q (min longest (seconds_of first.ttl)) others → IsShaped first.kind first.rdata → AreShaped others → first.kind ≡ q.kind
-    → IsPiece (record { owner = owner; slot = record { key = key; class = class; kind = Some kind }; body = rows sets; lifetime = lifetime; rank = rank; route = route })
-gathered_is_piece rank route first q others class kind owner key sets lifetime same_kind of_owner a b one all asked =
+    → IsPiece (record { owner = owner; slot = record { key = lowered owner; class = class; kind = Some kind }; body = rows sets; lifetime = lifetime; rank = rank; route = route })
+gathered_is_piece rank route first q others class kind owner sets lifetime same_kind a b one all asked =
     let each : AreRows q.kind (with_all_data (first.rdata ∷ []) (records_for q others)) =
     rows_with_all q.kind (first.rdata ∷ []) (records_for q others) (record { some = some_end [] first.rdata; shaped = (subst (λ (k : ℕ). IsShaped k first.rdata) asked one, tt) }) (set_shape q others all) in
     record {
-      key = of_owner;
+      key = refl;
       body = subst (λ (k : ℕ). AreRows k sets) (sym (same_kind ∙ asked)) (subst (AreRows q.kind) (sym (a ∙ added_all-is q (first.rdata ∷ []) others)) each);
       lifetime = omega (arith, b ∙ lowered_by_all-is q (min longest (seconds_of first.ttl)) others, lifetime_short (min longest (seconds_of first.ttl)) (records_for q others));
     }
 
 -- and it is the set
-pub gathered_is_set : (rank route : ℕ) (first : Record) (q : Question) (others : List Record) (class kind : ℕ) (owner key : List (List ℕ)) (sets : List (List ℕ)) (lifetime : ℕ) → class ≡ first.class → kind ≡ first.kind → key ≡ lowered owner → owner ≡ first.owner
+pub gathered_is_set : (rank route : ℕ) (first : Record) (q : Question) (others : List Record) (class kind : ℕ) (owner : List (List ℕ)) (sets : List (List ℕ)) (lifetime : ℕ) → class ≡ first.class → kind ≡ first.kind → owner ≡ first.owner
     → sets ≡ added_all q (first.rdata ∷ []) others → lifetime ≡ lowered_by_all q (min longest (seconds_of first.ttl)) others
-    → record { owner = owner; slot = record { key = key; class = class; kind = Some kind }; body = rows sets; lifetime = lifetime; rank = rank; route = route } ≡ set_with rank route first (records_for q others)
-gathered_is_set rank route first q others class kind owner key sets lifetime same_class same_kind of_owner same_owner a b = λ i. record {
+    → record { owner = owner; slot = record { key = lowered owner; class = class; kind = Some kind }; body = rows sets; lifetime = lifetime; rank = rank; route = route } ≡ set_with rank route first (records_for q others)
+gathered_is_set rank route first q others class kind owner sets lifetime same_class same_kind same_owner a b = λ i. record {
   owner = same_owner i;
-  slot = record { key = (of_owner ∙ ap lowered same_owner) i; class = same_class i; kind = Some (same_kind i) };
+  slot = record { key = lowered (same_owner i); class = same_class i; kind = Some (same_kind i) };
   body = rows ((a ∙ added_all-is q (first.rdata ∷ []) others) i);
   lifetime = (b ∙ lowered_by_all-is q (min longest (seconds_of first.ttl)) others) i;
   rank = rank;

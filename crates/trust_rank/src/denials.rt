@@ -9,7 +9,6 @@ ghost use Rattle.trust_rank.specs.Formed.{IsSoa};
 
 use crate::piece::{Body, Piece};
 use crate::sets::{SetKey, Source, seconds_from};
-use crate::slot::Slot;
 use byteorder::{BigEndian, ByteOrder};
 use dns_message::Record;
 use dns_name::Name;
@@ -102,11 +101,8 @@ pub(crate) fn no_data<A: Allocator + Copy>(
 {
     let owner = denied.name.copy(alloc)?;
     Ok(Piece {
-        slot: Slot {
-            key: owner.key(),
-            class: denied.class,
-            kind: Some(denied.kind),
-        },
+        class: denied.class,
+        kind: Some(denied.kind),
         owner,
         lifetime: lifetime_with(&soa),
         body: Body::NoData(soa),
@@ -127,11 +123,8 @@ pub(crate) fn name_error<A: Allocator + Copy>(
 {
     let owner = denied.name.copy(alloc)?;
     Ok(Piece {
-        slot: Slot {
-            key: owner.key(),
-            class: denied.class,
-            kind: None,
-        },
+        class: denied.class,
+        kind: None,
         owner,
         lifetime: lifetime_with(&soa),
         body: Body::Denied(soa),

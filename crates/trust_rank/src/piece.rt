@@ -1,6 +1,7 @@
 //! Record sets and denials, as one reply carried them.
 
 ghost use Rattle.std.specs.Prelude.{◌≡◌, IfOk};
+ghost use Rattle.trust_rank.specs.Formed.{IsPiece};
 ghost use Rattle.trust_rank.specs.Values.{body_of};
 
 use crate::slot::Slot;
@@ -22,44 +23,46 @@ pub enum Body<A: Allocator = Global> {
     Denied(Option<Record<A>>),
 }
 
-/// A record set or a denial, which lives and dies as one. Its fields lie in memory as they stand here: what an answer needs
-/// comes first, close together, and the slot, which is large, last.
+/// A record set or a denial, which lives and dies as one. Contracts see its class and type as a slot, with the owner's key.
 #[derive(Drop)]
 pub struct Piece<A: Allocator = Global> {
     /// In seconds, a week at most.
     pub lifetime: u32,
     /// 3, 2 or 1, from the most to the least trustworthy (RFC 2181 5.4.1).
     pub rank: u8,
+    /// 1 is IN.
+    pub class: u16,
+    /// The type; `None` for a name error.
+    pub kind: Option<u16>,
     /// The route of the ask that it answered.
     pub route: RouteId,
     /// The name, spelled as in the first record of a set.
     pub owner: Name<A>,
-    /// What it tells: `Denied` exactly where the slot has no type.
+    /// What it tells: `Denied` exactly where there is no type.
     pub body: Body<A>,
-    /// What it tells of; its key is the owner's.
-    pub slot: Slot,
 }
 
 impl<A: Allocator> Model for Piece<A> {
+    ghost use Rattle.dns_name.specs.Labels.{lowered};
     ghost use Rattle.trust_rank.specs.Values.{Piece, body_of};
     ghost use Rattle.trust_rank.specs.Formed.{IsPiece};
 
     ghost Value = { Piece };
 
-    ghost view = { λ p. record { owner = p.owner; slot = p.slot; body = body_of p.body; lifetime = p.lifetime; rank = p.rank; route = p.route } };
+    ghost view = { λ p. record { owner = p.owner; slot = record { class = p.class; kind = p.kind; key = lowered p.owner }; body = body_of p.body; lifetime = p.lifetime; rank = p.rank; route = p.route } };
 
-    ghost invariant = { λ p. IsPiece (record { owner = p.owner; slot = p.slot; body = body_of p.body; lifetime = p.lifetime; rank = p.rank; route = p.route }) };
+    ghost invariant = { λ p. IsPiece (record { owner = p.owner; slot = record { class = p.class; kind = p.kind; key = lowered p.owner }; body = body_of p.body; lifetime = p.lifetime; rank = p.rank; route = p.route }) };
 }
 
 impl<A: Allocator> Piece<A> {
-    /// A copy of its slot. The key is made from the owner, which an answer reads too: so the zeros behind a name are not
-    /// fetched from where the slot lies. It takes no memory.
-    pub fn own_slot(&self) -> Slot
-        ensures { result ≡ self.now.slot }
+    /// What it tells of. It takes no memory. `formed` says again what holds of each piece.
+    pub fn slot(&self) -> Slot
+        ensures slot { result ≡ self.now.slot }
+        ensures formed { IsPiece self.now }
     {
         Slot {
-            class: self.slot.class,
-            kind: self.slot.kind,
+            class: self.class,
+            kind: self.kind,
             key: self.owner.key(),
         }
     }
@@ -71,12 +74,13 @@ impl<A: Allocator + Copy> Piece<A> {
         ensures { IfOk result (λ copy. copy ≡ self.now) }
     {
         Ok(Piece {
-            owner: self.owner.copy(alloc)?,
-            slot: self.slot,
-            body: self.body.copy(alloc)?,
             lifetime: self.lifetime,
             rank: self.rank,
+            class: self.class,
+            kind: self.kind,
             route: self.route,
+            owner: self.owner.copy(alloc)?,
+            body: self.body.copy(alloc)?,
         })
     }
 }

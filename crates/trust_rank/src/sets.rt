@@ -10,7 +10,6 @@ ghost use Rattle.trust_rank.specs.Sets.{is_of, records_for, with_data, seconds_o
 ghost use Rattle.trust_rank.specs.Gathering.{Indexes, few, added, added_all, lowered_by, lowered_by_all};
 
 use crate::piece::{Body, Piece};
-use crate::slot::Slot;
 use dns_message::{Rdata, Record};
 use dns_name::Name;
 use plain_list::PlainList;
@@ -203,11 +202,8 @@ pub(crate) fn set_with<'a, A: Allocator + Copy>(
     let (rows, lifetime) = gather(alloc, first, others, key)?;
     let owner = first.owner.copy(alloc)?;
     Ok(Piece {
-        slot: Slot {
-            key: owner.key(),
-            class: first.class,
-            kind: Some(first.kind),
-        },
+        class: first.class,
+        kind: Some(first.kind),
         owner,
         body: Body::Rows(rows),
         lifetime,

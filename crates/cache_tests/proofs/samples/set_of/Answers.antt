@@ -1,4 +1,4 @@
-use Rattle.std.proofs.Common.{ℕ, List, [], ◌∷◌, arith}
+use Rattle.std.proofs.Common.{refl, ℕ, List, [], ◌∷◌, arith}
 use Rattle.std.specs.List.{AllByRecursion}
 use Rattle.message_reading.specs.Data.{IsShaped}
 use Rattle.message_reading.specs.Shapes.{shape_of}
@@ -12,7 +12,7 @@ free (row ∷ rows) = (tt, free rows)
 
 pub invariant_of-result : goal.invariant_of-result
 invariant_of-result g c = record {
-  key = c.key.ensures;
+  key = refl;
   body = record { some = c.requires; shaped = free c.args.rows };
   lifetime = omega arith;
 }
