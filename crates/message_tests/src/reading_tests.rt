@@ -401,10 +401,10 @@ fn a_view_knows_header_and_question(rt: HostRuntime) -> Result<(), Fail> {
 
 #[test]
 fn data_is_a_name_or_none(rt: HostRuntime) -> Result<(), Fail> {
-    let data = Rdata::new(decoded(rt.alloc(), "0161076578616d706c6500")?);
+    let data = Rdata::from_octets(rt.alloc(), &decoded(rt.alloc(), "0161076578616d706c6500")?)?;
     let name = data.name(rt.alloc())?.ok_or("a name")?;
     assert!(rt; name.octets() == b"\x01a\x07example".as_slice());
-    let address = Rdata::new(decoded(rt.alloc(), "c6336405")?);
+    let address = Rdata::from_octets(rt.alloc(), &decoded(rt.alloc(), "c6336405")?)?;
     assert!(rt; address.name(rt.alloc())?.is_none());
     Ok(())
 }
