@@ -1,5 +1,5 @@
 -- The data of a record, as it is held, by its parts: names written out in full, and octets.
-use Rattle.std.specs.Prelude.{ℕ, ◌+◌, List, [], ◌∷◌, length, take, drop, Option, Some, None, Result, Ok, Err, nat_lt, if◌then◌else◌}
+use Rattle.std.specs.Prelude.{ℕ, Bool, true, false, ◌+◌, List, [], ◌∷◌, length, take, drop, Option, Some, None, Result, Ok, Err, nat_lt, if◌then◌else◌}
 use Rattle.std.specs.Option.{option_map}
 use Rattle.message_names.specs.declared.fault.Fault.{Fault}
 use Rattle.message_reading.specs.declared.shape.Part.{Part}
@@ -45,6 +45,12 @@ no_more (x ∷ xs) = None
 unfoldable pub fields_of : List Part → List ℕ → Option (List Field)
 fields_of [] xs = no_more xs
 fields_of (part ∷ parts) xs = and_others (first_field part xs) (λ behind. fields_of parts behind)
+
+-- a name is among the parts
+unfoldable pub has_name : List Part → Bool
+has_name [] = false
+has_name (Name ∷ parts) = true
+has_name (part ∷ parts) = has_name parts
 
 abbrev pub if_compressed : Option Shape → List ℕ → Option (List Field)
 if_compressed None rdata = None

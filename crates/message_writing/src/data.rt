@@ -2,7 +2,7 @@
 
 ghost use Rattle.std.specs.Prelude.{◌≡◌, ◌≤◌, ◌<◌, ◌+◌, ◌++◌, [], length, OnOk, take, drop, IsTrue, is_some, MatchOption, None};
 ghost use Rattle.dns_name.specs.Labels.{IsLaidOut};
-ghost use Rattle.message_writing.specs.Fields.{fields_of, first_field};
+ghost use Rattle.message_writing.specs.Fields.{fields_of, first_field, has_name};
 ghost use Rattle.message_writing.specs.Writing.{octets16, as_is, with_length, data_text, field_text, by_fields};
 ghost use Rattle.message_writing.specs.Writer.{Writes, Puts, HoldsText, IsFirst, field_in};
 
@@ -73,7 +73,19 @@ fn put_part<'a, A: Allocator + Copy>(
     }
 }
 
-/// Writes octets that are these parts.
+/// Whether a name is among the parts.
+fn has_name(parts: &[Part]) -> bool
+    ensures { result ≡ has_name parts.now }
+{
+    for part in parts {
+        if let Part::Name = part {
+            return true;
+        }
+    }
+    false
+}
+
+/// Writes octets that are these parts: those behind the last name at once.
 fn put_parts<'a, A: Allocator + Copy>(
     writer: &mut Writer<'a, A>,
     parts: &[Part],
@@ -82,14 +94,20 @@ fn put_parts<'a, A: Allocator + Copy>(
     requires { IsTrue (is_some (fields_of parts.now octets.now)) }
     ensures { OnOk result (Writes writer.old writer.new (by_fields (fields_of parts.now octets.now) octets.now)) }
 {
+    let mut left = parts;
     let mut rest = octets;
-    for part in parts {
+    while has_name(left) {
+        let Some((part, others)) = left.split_first() else {
+            unreachable!()
+        };
         let Some((first, behind)) = split_part(*part, rest) else {
             unreachable!()
         };
         put_part(writer, *part, first)?;
+        left = others;
         rest = behind;
     }
+    writer.put(rest)?;
     Ok(())
 }
 

@@ -221,7 +221,10 @@ fn put_set<'a, A: Allocator + Copy>(
     };
     match &set.data {
         DataRef::Rows(rows) => put_rows(writer, &head, rows, limit),
-        DataRef::Row(rdata) => put_row(writer, &head, None, rdata.octets(), limit),
+        DataRef::Row(rdata) => {
+            let known = writer.known(head.owner, None);
+            put_row(writer, &head, known, rdata.octets(), limit)
+        }
     }
 }
 

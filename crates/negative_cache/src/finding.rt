@@ -4,7 +4,7 @@ ghost use Rattle.std.specs.Prelude.{◌≡◌, List, ℕ};
 ghost use Rattle.std.specs.Option.{option_copied};
 ghost use Rattle.dns_name.specs.Labels.{lowered};
 ghost use Rattle.record_cache.specs.Entries.{AreHeld};
-ghost use Rattle.negative_cache.specs.BySlot.{alias_at, found_by_slot, slots_of, typed_entry};
+ghost use Rattle.negative_cache.specs.BySlot.{alias_at, found_by_slot, slots_of};
 ghost use Rattle.negative_cache.specs.Finding.{found};
 ghost use Rattle.negative_cache.specs.Values.{found_of};
 
@@ -67,11 +67,16 @@ fn look_up<'a, H: BuildHasher + Drop, A: Allocator + Copy>(
         ≡ found_by_slot config.now.routes moment (slots_of cache.now.entries) key.now class kind }
     ensures held { AreHeld cache.now }
 {
-    let own = typed_entry(cache, key, class, kind, moment);
+    let mut slot = Slot {
+        key: *key,
+        class,
+        kind: Some(kind),
+    };
+    let own = living_entry(cache, &slot, moment);
     if let Some(held) = set_in(own) {
         return Found::Rows(held);
     }
-    if let Some(held) = alias_at(cache, key, class, kind, moment) {
+    if let Some(held) = alias_beside(cache, &mut slot, kind, moment) {
         return Found::Alias(held);
     }
     if let Some(held) = no_data_in(own) {
@@ -83,37 +88,19 @@ fn look_up<'a, H: BuildHasher + Drop, A: Allocator + Copy>(
     }
 }
 
-/// The entry of a name, class and type, where it is alive. `held` says what holds of all entries.
-fn typed_entry<'a, H: BuildHasher + Drop, A: Allocator + Copy>(
+/// The living alias at the name of a slot of this type, which becomes that of the alias: so the name is copied once. A
+/// question for CNAME follows none.
+fn alias_beside<'a, H: BuildHasher + Drop, A: Allocator + Copy>(
     cache: &'a Cache<H, A>,
-    key: &NameKey,
-    class: u16,
+    slot: &mut Slot,
     kind: u16,
     moment: u64,
 ) -> Option<&'a Held<A>>
-    ensures found { option_copied result ≡ typed_entry moment (slots_of cache.now.entries) key.now class kind }
-    ensures held { AreHeld cache.now }
-{
-    let slot = Slot {
-        key: *key,
-        class,
-        kind: Some(kind),
-    };
-    living_entry(cache, &slot, moment)
-}
-
-/// The living alias at a name. A question for CNAME follows none.
-fn alias_at<'a, H: BuildHasher + Drop, A: Allocator + Copy>(
-    cache: &'a Cache<H, A>,
-    key: &NameKey,
-    class: u16,
-    kind: u16,
-    moment: u64,
-) -> Option<&'a Held<A>>
-    ensures { option_copied result ≡ alias_at moment (slots_of cache.now.entries) key.now class kind }
+    ensures { option_copied result ≡ alias_at moment (slots_of cache.now.entries) slot.old.key slot.old.class kind }
 {
     if kind == CNAME {
         return None;
     }
-    set_in(typed_entry(cache, key, class, CNAME, moment))
+    slot.kind = Some(CNAME);
+    set_in(living_entry(cache, slot, moment))
 }

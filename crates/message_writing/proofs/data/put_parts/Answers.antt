@@ -1,30 +1,32 @@
-use Rattle.std.proofs.Common.{◌+◌, sym, ◌∙◌, drop}
-use Rattle.message_writing.specs.Writing.{Writing}
-use Rattle.message_writing.proofs.WriterLaws.{begins, goes_on, along, all_done}
-use Rattle.message_writing.proofs.WriterFields.{parts_text, more_at, none_at, left_at, nothing_at}
+use Rattle.std.proofs.Common.{sym, ◌∙◌}
+use Rattle.message_writing.specs.Writing.{Writing, as_is}
+use Rattle.message_writing.proofs.WriterLaws.{goes_on, along, ends}
+use Rattle.message_writing.proofs.WriterFields.{parts_text}
+use Rattle.message_writing.proofs.Plain.{none_of_none, none_first, more_first, left_first, plain_text}
 use Rattle.message_writing.proofs.data.put_parts.Goals as goal
 
-pub loop-part-init : goal.loop-part-init
-loop-part-init g c = record { parts = c.requires; left = begins c.args.writer.now (parts_text c.args.parts.now c.args.octets.now) }
-
 pub unreachable-requires : goal.unreachable-requires
-unreachable-requires g c =
-    let none = none_at c.args.parts.now c.loop-part.part-index _ c.loop-part.rest.now c.loop-part-test.true c.in_default.ensures in
-    absurd (cc (c.loop-part.invariant.parts, none))
+unreachable-requires g c = none_of_none c.loop-left.left.now c.in_default.ensures.cases c.loop-left-test.ensures
 
-pub loop-part-preserved : goal.loop-part-preserved
-loop-part-preserved g c =
-    let now = c.loop-part.invariant in
+pub unreachable-requires-in_default-split_part : goal.unreachable-requires-in_default-split_part
+unreachable-requires-in_default-split_part g c =
+    none_first c.loop-left.left.now c.in-Some.others.now c.in-Some.part.now c.loop-left.rest.now c.in-Some.ensures.cases.0 c.in_default-split_part.ensures c.loop-left.invariant.parts
+
+pub loop-left-preserved : goal.loop-left-preserved
+loop-left-preserved g c =
+    let now = c.loop-left.invariant in
     let whole : Writing = parts_text c.args.parts.now c.args.octets.now in
-    let left = along c.args.writer.now c.loop-part.writer (parts_text (drop c.loop-part.part-index c.args.parts.now) c.loop-part.rest.now) _ whole
-    (left_at c.args.parts.now c.loop-part.part-index _ c.loop-part.rest.now c.in-Some.first.now c.in-Some.behind.now c.loop-part-test.true c.in-Some.ensures now.parts) now.left in
+    let left = along c.args.writer.now c.loop-left.writer (parts_text c.loop-left.left.now c.loop-left.rest.now) _ whole
+    (left_first c.loop-left.left.now c.in-Some.others.now c.in-Some.part.now c.loop-left.rest.now c.in-Some-split_part.first.now c.in-Some-split_part.behind.now c.in-Some.ensures.cases.0 c.in-Some-split_part.ensures now.parts) now.left in
     record {
-      parts = sym (more_at c.args.parts.now c.loop-part.part-index _ c.loop-part.rest.now c.in-Some.first.now c.in-Some.behind.now c.loop-part-test.true c.in-Some.ensures) ∙ now.parts;
-      left = goes_on c.args.writer.now c.loop-part.writer c.put_part.new.writer _ (parts_text (drop (c.loop-part.part-index + 1) c.args.parts.now) c.in-Some.behind.now) whole left c.in_ok-put_part.ensures;
+      parts = sym (more_first c.loop-left.left.now c.in-Some.others.now c.in-Some.part.now c.loop-left.rest.now c.in-Some-split_part.first.now c.in-Some-split_part.behind.now c.in-Some.ensures.cases.0 c.in-Some-split_part.ensures) ∙ now.parts;
+      left = goes_on c.args.writer.now c.loop-left.writer c.put_part.new.writer _ (parts_text c.in-Some.others.now c.in-Some-split_part.behind.now) whole left c.in_ok-put_part.ensures;
     }
 
 pub returns : goal.returns
 returns g c =
-    let now = c.loop-part.invariant in
-    all_done c.args.writer.now c.loop-part.writer (parts_text (drop c.loop-part.part-index c.args.parts.now) c.loop-part.rest.now) (parts_text c.args.parts.now c.args.octets.now)
-    (nothing_at c.args.parts.now c.loop-part.part-index c.loop-part.rest.now c.loop-part-test.false now.parts) now.left
+    let now = c.loop-left.invariant in
+    let whole : Writing = parts_text c.args.parts.now c.args.octets.now in
+    ends c.args.writer.now c.loop-left.writer c.put.new.self (as_is c.loop-left.rest.now) whole
+    (along c.args.writer.now c.loop-left.writer (parts_text c.loop-left.left.now c.loop-left.rest.now) (as_is c.loop-left.rest.now) whole (plain_text c.loop-left.left.now c.loop-left.rest.now (sym c.loop-left-test.ensures) now.parts) now.left)
+    c.in_ok-put.ensures
