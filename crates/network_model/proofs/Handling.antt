@@ -14,7 +14,7 @@ use Rattle.step_rules.specs.Row.{Row, is_due_at, effective}
 use Rattle.step_rules.specs.Progress.{left_to_do, ServesSomething}
 use Rattle.step_soundness.specs.Runs.{Run}
 use Rattle.network_model.specs.declared.counts.Served.{Served}
-use Rattle.network_model.specs.Wire.{Told, Put, ◌then◌, TellsMore, moment_was, words_were}
+use Rattle.wires.specs.Wire.{Told, Put, ◌then◌, TellsMore, moment_was, words_were}
 use Rattle.network_model.specs.Events.{Taken, PutsItsActions, step_in, steps_in, failed_of, more_in, joined, IsChain, AreTicks}
 use Rattle.network_model.specs.Serving.{Standing, Does, Adds, left, told_of_all, lost_in, refused_in}
 use Rattle.network_model.specs.Handing.{told_of_puts, Puts, most_left, IsOwn, StepsDown, Hands, HandsOn, Ticks}

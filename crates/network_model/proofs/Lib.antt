@@ -3,5 +3,4 @@ pub mod Quiet
 pub mod Handling
 pub mod Framing
 pub mod Turns
-pub mod Storing
 pub mod Worked

@@ -5,7 +5,7 @@ use Rattle.std.proofs.lemmas.List.{map-append}
 use Rattle.outstanding.specs.declared.ask.Path.{Path}
 use Rattle.step_values.specs.Values.{SentAsk, Action}
 use Rattle.network_model.specs.declared.counts.Served.{Served}
-use Rattle.network_model.specs.Wire.{Told, Put, silence, ◌then◌, TellsMore}
+use Rattle.wires.specs.Wire.{Told, Put, silence, ◌then◌, TellsMore}
 use Rattle.network_model.specs.Events.{Taken, later, refused_path, failed_of}
 use Rattle.network_model.specs.Serving.{Adds, told_of, told_of_all, lost_in, refused_by, refused_of, refused_in}
 use Rattle.network_model.specs.Handing.{told_of_puts, Puts}

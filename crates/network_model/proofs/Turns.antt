@@ -14,7 +14,7 @@ use Rattle.step_rules.specs.State.{Running}
 use Rattle.step_soundness.specs.Runs.{Run}
 use Rattle.network_model.specs.declared.counts.Served.{Served}
 use Rattle.network_model.specs.declared.streams.Streams.{Streams}
-use Rattle.network_model.specs.Wire.{Arrival, nothing, client_datagram, client_stream, client_closed, server_datagram, server_stream, path_gone, Told, ◌then◌, TellsMore, arrived}
+use Rattle.wires.specs.Wire.{Arrival, nothing, client_datagram, client_stream, client_closed, server_datagram, server_stream, path_gone, Told, ◌then◌, TellsMore, arrived}
 use Rattle.network_model.specs.Events.{Taken, PutsItsActions, step_in, steps_in, joined, AreChains, Turn, taken_in_turn, taken_in, client_message, server_message, client_octets, server_octets, client_octets_with, server_octets_with, completed, events_of, IsTurn, IsCutShort, AreTurns}
 use Rattle.network_model.specs.Serving.{Standing, Does, Adds, capped, told_of_all, told_in_turn, told_in, lost_in, refused_in, missed_by, missed_in, Serves}
 use Rattle.network_model.specs.Handing.{Ticks}

@@ -4,7 +4,7 @@ use Rattle.tcp_frames.specs.Frames.{frames_within, frames_of}
 use Rattle.suffix_routes.specs.declared.peer.Peer.{Peer}
 use Rattle.outstanding.specs.declared.ask.Path.TheVariants.{Udp, Tcp}
 use Rattle.step_values.specs.Values.{path_failed, delivery, ask_udp, close_udp}
-use Rattle.network_model.specs.Wire.{client_stream, client_closed, server_stream, path_gone}
+use Rattle.wires.specs.Wire.{client_stream, client_closed, server_stream, path_gone}
 use Rattle.network_model.specs.Events.{client_message, events_of, failed_of}
 
 server : Peer

@@ -8,7 +8,7 @@ use Rattle.outstanding.specs.declared.ask.Path.{Path}
 use Rattle.outstanding.specs.declared.ask.Path.TheVariants.{Udp, Tcp}
 use Rattle.step_values.specs.declared.event.Client.TheVariants as client
 use Rattle.step_values.specs.Values.{Event, from_client, delivery, path_failed, tick, Action, ask_in, Handed, Outcome, Step}
-use Rattle.network_model.specs.Wire.{Arrival, nothing, client_datagram, client_stream, client_closed, server_datagram, server_stream, path_gone, Put}
+use Rattle.wires.specs.Wire.{Arrival, nothing, client_datagram, client_stream, client_closed, server_datagram, server_stream, path_gone, Put}
 
 -- ---- streams
 

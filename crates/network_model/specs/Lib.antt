@@ -1,7 +1,5 @@
 pub mod Recordings
-pub mod Wire
 pub mod Events
 pub mod Serving
 pub mod Handing
 pub mod Streams
-pub mod Scripts

@@ -7,7 +7,7 @@ use Rattle.step_rules.specs.State.{Running}
 use Rattle.step_rules.specs.Progress.{left_to_do}
 use Rattle.step_soundness.specs.Runs.{Run}
 use Rattle.network_model.specs.declared.counts.Served.{Served}
-use Rattle.network_model.specs.Wire.{Arrival, Put, Told, silence, ◌then◌, TellsMore, arrived}
+use Rattle.wires.specs.Wire.{Arrival, Put, Told, silence, ◌then◌, TellsMore, arrived}
 use Rattle.network_model.specs.Events.{Taken, PutsItsActions, steps_in, Turn, taken_in_turn, taken_in, AreTurns, IsCutShort}
 
 -- ---- what a wire is told of

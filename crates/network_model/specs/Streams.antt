@@ -10,7 +10,7 @@ use Rattle.step_values.specs.Values.{Event, from_client, delivery, path_failed}
 use Rattle.network_model.specs.declared.streams.Streams.{Streams}
 use Rattle.network_model.specs.declared.streams.Sender.{Sender}
 use Rattle.network_model.specs.declared.streams.Sender.TheVariants.{FromClient, FromServer}
-use Rattle.network_model.specs.Wire.{Arrival, nothing, client_datagram, client_stream, client_closed, server_datagram, server_stream, path_gone, TellsMore, arrived}
+use Rattle.wires.specs.Wire.{Arrival, nothing, client_datagram, client_stream, client_closed, server_datagram, server_stream, path_gone, TellsMore, arrived}
 use Rattle.network_model.specs.Events.{Taken, joined, client_message, server_message, client_octets, server_octets, AreChains, AreTicks, Turn, taken_in_turn}
 use Rattle.network_model.specs.Serving.{Standing, Does, Adds, missed_by}
 use Rattle.network_model.specs.Handing.{most_left}

@@ -6,11 +6,11 @@ ghost use Rattle.network_model.specs.Serving.{standing};
 ghost use Rattle.network_model.specs.Handing.{Puts, Hands, HandsOn, Ticks};
 
 use crate::counts::Served;
-use crate::wire::Wire;
 use forwarder_core::Forwarder;
 use std::alloc::Allocator;
 use std::hash::BuildHasher;
 use step_values::{Action, Event, Path};
+use wires::Wire;
 
 /// What came of one event.
 #[derive(Clone, Copy, Drop)]

@@ -6,14 +6,12 @@ mod counts;
 mod handing;
 mod recorded;
 mod run;
-mod script_wire;
 mod serving;
 mod streams;
-mod wire;
 
 pub use counts::Served;
 pub use recorded::Recorded;
 pub use run::run_list;
 pub use script_wire::{ScriptTurn, ScriptWire};
 pub use serving::serve;
-pub use wire::{Arrival, Wire, WireFault};
+pub use wires::{Arrival, Wire, WireFault};

@@ -1,20 +1,20 @@
 //! The loop over a wire.
 
 ghost use Rattle.std.specs.Prelude.{◌≡◌, OnOk, Some};
-ghost use Rattle.network_model.specs.Wire.{arrival_of, path_gone};
+ghost use Rattle.wires.specs.Wire.{arrival_of, path_gone};
 ghost use Rattle.network_model.specs.Serving.{standing, Serves};
 ghost use Rattle.network_model.specs.Streams.{events_by, Follows, ServesEvents, TakesArrival, TakesTurn};
 
 use crate::counts::Served;
 use crate::handing::{hand_on, tick_on};
 use crate::streams::{Sender, Streams, put_in, serve_piece, take_out};
-use crate::wire::{Arrival, Wire};
 use forwarder_core::Forwarder;
 use std::alloc::{AllocError, Allocator};
 use std::collections::BTreeMap;
 use std::hash::BuildHasher;
 use step_values::{Client, Event, Path};
 use tcp_frames::pieces_continue;
+use wires::{Arrival, Wire};
 
 /// Forgets what is left of the stream on a path that is gone.
 fn forget_path<A: Allocator + Copy>(alloc: A, streams: &mut Streams<A>, path: Path)

@@ -8,7 +8,6 @@ ghost use Rattle.network_model.specs.Streams.{left_on, message_from, ServesFrame
 
 use crate::counts::Served;
 use crate::handing::hand_on;
-use crate::wire::Wire;
 use forwarder_core::Forwarder;
 use plain_list::Octets;
 use std::alloc::{AllocError, Allocator};
@@ -17,6 +16,7 @@ use std::hash::BuildHasher;
 use step_values::{Client, Event, Path};
 use suffix_routes::Peer;
 use tcp_frames::{FrameReader, all_frames_are_taken, cut_does_not_matter};
+use wires::Wire;
 
 /// What came of the streams and is no whole frame yet, by the number of the connection.
 #[derive(Drop)]

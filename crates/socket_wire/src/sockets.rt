@@ -9,7 +9,6 @@ use crate::readiness::Readiness;
 use crate::receive_buffer::widen;
 use crate::servers::ServerStream;
 use mio::net::{TcpListener, TcpStream, UdpSocket};
-use network_model::Arrival;
 use plain_list::PlainList;
 use std::alloc::{AllocError, Allocator};
 use std::collections::{BTreeMap, VecDeque};
@@ -18,6 +17,7 @@ use std::io::ErrorKind;
 use std::net::Net;
 use step_values::{Action, Client, Path};
 use suffix_routes::Peer;
+use wires::Arrival;
 
 /// How many octets are read at once: a datagram has no more.
 const LARGEST: usize = 65_535;

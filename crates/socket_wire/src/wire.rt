@@ -4,7 +4,6 @@ ghost use Rattle.std.specs.Prelude.{◌≡◌, IfOk};
 
 use crate::moments::Moments;
 use crate::sockets::Sockets;
-use network_model::{Arrival, Wire, WireFault};
 use rand_chacha::ChaCha12Rng;
 use rand_core::SeedableRng;
 use rand_core::utils::NextWord;
@@ -16,6 +15,7 @@ use std::random::RandomSource;
 use std::rt::Clock;
 use step_values::Action;
 use suffix_routes::Peer;
+use wires::{Arrival, Wire, WireFault};
 
 /// A wire over sockets. It listens at one address by UDP and TCP, asks from a socket of its own for each ask, and waits
 /// for none of them. Contracts see how many faults it counted.

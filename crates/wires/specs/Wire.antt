@@ -3,9 +3,9 @@ use Rattle.std.specs.Prelude.{◌≡◌, ℕ, Bool, List, [], ◌∷◌, ◌++�
 use Rattle.suffix_routes.specs.declared.peer.Peer.{Peer}
 use Rattle.outstanding.specs.declared.ask.Path.{Path}
 use Rattle.step_values.specs.Values.{Action}
-use Rattle.network_model.specs.declared.wire.Arrival.{Arrival as OwnedArrival}
-use Rattle.network_model.specs.declared.wire.Arrival.TheVariants.{Nothing, ClientDatagram, ClientStream, ClientClosed, ServerDatagram, ServerStream, PathGone}
-use Rattle.network_model.specs.declared.wire.WireFault.{WireFault}
+use Rattle.wires.specs.declared.wire.Arrival.{Arrival as OwnedArrival}
+use Rattle.wires.specs.declared.wire.Arrival.TheVariants.{Nothing, ClientDatagram, ClientStream, ClientClosed, ServerDatagram, ServerStream, PathGone}
+use Rattle.wires.specs.declared.wire.WireFault.{WireFault}
 
 -- What comes: nothing, a client's datagram, a piece of a client's stream, the end of a client's connection; a datagram
 -- at the port of an ask, a piece of the stream from a server, the end of a path to a server.

@@ -1,9 +1,9 @@
 -- A wire in memory stores one thing more of what it tells.
 use Rattle.std.proofs.Common.{◌≡◌, ◌∙◌, refl, sym, subst, ap, ℕ, ◌+◌, List, ◌++◌, Option, Some, None, Bool, true, false}
 use Rattle.std.specs.Prelude.{IfSome, [], ◌∷◌, map, slice_get}
-use Rattle.network_model.specs.declared.script_wire.ScriptTurn.{ScriptTurn}
-use Rattle.network_model.specs.Wire.{Arrival, Put, Told, TellsMore}
-use Rattle.network_model.specs.Scripts.{stored, Script, standing, no_turn, turn_of, begun, calls_once, faults_once, refuses}
+use Rattle.script_wire.specs.declared.script_wire.ScriptTurn.{ScriptTurn}
+use Rattle.wires.specs.Wire.{Arrival, Put, Told, TellsMore}
+use Rattle.script_wire.specs.Scripts.{stored, Script, standing, no_turn, turn_of, begun, calls_once, faults_once, refuses}
 
 pub tells_by_none : (o : Option Told) (more : Told) (new : Option Told) → new ≡ None → TellsMore o more new
 tells_by_none o more new silent now is = absurd (cc)

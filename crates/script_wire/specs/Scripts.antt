@@ -3,9 +3,9 @@ use Rattle.std.specs.Prelude.{◌≡◌, ℕ, ◌+◌, ◌-◌, ◌^◌, ◌==�
 use Rattle.std.specs.List.{list_any}
 use Rattle.step_values.specs.declared.action.Action.{Action as OwnedAction}
 use Rattle.step_values.specs.Values.{action_of}
-use Rattle.network_model.specs.declared.script_wire.ScriptTurn.{ScriptTurn}
-use Rattle.network_model.specs.Wire.{Arrival, Put, Told, arrival_of}
-use Rattle.network_model.specs.Wire.Arrival.{nothing}
+use Rattle.script_wire.specs.declared.script_wire.ScriptTurn.{ScriptTurn}
+use Rattle.wires.specs.Wire.{Arrival, Put, Told, arrival_of}
+use Rattle.wires.specs.Wire.Arrival.{nothing}
 
 abbrev pub put_of : {A : Type 0} → OwnedAction A × Bool → Put
 put_of p = record { action = action_of p.0; sent = p.1 }

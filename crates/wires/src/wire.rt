@@ -2,7 +2,7 @@
 
 ghost use Rattle.std.specs.Prelude.{◌≡◌, ℕ, ◌<◌, Option, IfOk, OnErr, is_ok};
 ghost use Rattle.step_values.specs.Values.{action_of};
-ghost use Rattle.network_model.specs.Wire.{Told, TellsMore, arrival_of, given, arrived, was_put, moment_was, words_were};
+ghost use Rattle.wires.specs.Wire.{Told, TellsMore, arrival_of, given, arrived, was_put, moment_was, words_were};
 
 use plain_list::{Octets, PlainList};
 use std::alloc::{AllocError, Allocator, Global};

@@ -1,6 +1,6 @@
 use Rattle.std.proofs.Common.{◌∙◌, sym}
-use Rattle.network_model.proofs.Storing.{counted_so, refused_so}
-use Rattle.network_model.proofs.script_wire.ScriptWireWire.arrival.Goals as goal
+use Rattle.script_wire.proofs.Storing.{counted_so, refused_so}
+use Rattle.script_wire.proofs.script_wire.ScriptWireWire.arrival.Goals as goal
 
 pub returns-then-is_refused-clause-refuses : goal.returns-then-is_refused-clause-refuses
 returns-then-is_refused-clause-refuses g c =

@@ -2,15 +2,15 @@
 
 ghost use Rattle.std.specs.Prelude.{◌≡◌, ◌+◌, ◌-◌, ◌<◌, ◌^◌, None, Some, false, true, OnOk, OnErr, IfSome, is_ok, map};
 ghost use Rattle.step_values.specs.Values.{action_of};
-ghost use Rattle.network_model.specs.Wire.{silence, TellsMore, arrival_of, given, arrived, was_put, moment_was, words_were};
-ghost use Rattle.network_model.specs.Wire.Arrival.{nothing};
-ghost use Rattle.network_model.specs.Scripts.{put_of, turn_of, next_turn, begun, calls_once, faults_once, refuses, standing, AllButTold};
+ghost use Rattle.wires.specs.Wire.{silence, TellsMore, arrival_of, given, arrived, was_put, moment_was, words_were};
+ghost use Rattle.wires.specs.Wire.Arrival.{nothing};
+ghost use Rattle.script_wire.specs.Scripts.{put_of, turn_of, next_turn, begun, calls_once, faults_once, refuses, standing, AllButTold};
 
-use crate::wire::{Arrival, Wire, WireFault};
 use std::alloc::{AllocError, Allocator, Global};
 use std::collections::VecDeque;
 use std::marker::Model;
 use step_values::Action;
+use wires::{Arrival, Wire, WireFault};
 
 /// What a turn of a `ScriptWire` gives.
 #[derive(Drop)]
@@ -35,8 +35,8 @@ struct Stored<A: Allocator> {
 
 impl<A: Allocator> Model for Stored<A> {
     ghost use Rattle.std.specs.Prelude.{Option, map};
-    ghost use Rattle.network_model.specs.Wire.{Told, given};
-    ghost use Rattle.network_model.specs.Scripts.{put_of, stored};
+    ghost use Rattle.wires.specs.Wire.{Told, given};
+    ghost use Rattle.script_wire.specs.Scripts.{put_of, stored};
 
     ghost Value = { Option Told };
 
@@ -202,7 +202,7 @@ pub struct ScriptWire<A: Allocator = Global> {
 
 impl<A: Allocator> Model for ScriptWire<A> {
     ghost use Rattle.std.specs.Prelude.{map};
-    ghost use Rattle.network_model.specs.Scripts.{Script, turn_of};
+    ghost use Rattle.script_wire.specs.Scripts.{Script, turn_of};
 
     ghost Value = { Script };
 
