@@ -4,6 +4,7 @@
 mod address;
 mod asks;
 mod clients;
+mod listeners;
 mod moments;
 mod numbers;
 mod origin;

@@ -3,10 +3,10 @@
 use crate::address::{address_of, peer_of};
 use crate::asks::ask_socket;
 use crate::clients::{Clients, Heard};
+use crate::listeners::{connections_at, datagrams_at};
 use crate::numbers::Numbers;
 use crate::origin::Origin;
 use crate::readiness::Readiness;
-use crate::receive_buffer::widen;
 use crate::servers::ServerStream;
 use mio::net::{TcpListener, TcpStream, UdpSocket};
 use plain_list::PlainList;
@@ -27,6 +27,10 @@ const PAUSE: u64 = 5;
 
 /// How many sockets of each kind are tried then.
 const AT_ONCE: u8 = 20;
+
+/// In how many such rounds the listener for connections is tried once: the system makes a socket before it finds that no
+/// client is there, which takes as long as all else of a round.
+const ROUNDS: u8 = 8;
 
 /// How many sockets a turn tries at most.
 const TRIES: u8 = 64;
@@ -64,8 +68,9 @@ pub(crate) struct Sockets<'a, R: Net, A: Allocator> {
     buffer: Vec<u8, A>,
     /// How long a question may wait for its reply, in milliseconds.
     deadline: u64,
-    /// When sockets were tried that no event told of.
+    /// When sockets were tried that no event told of, and in how many rounds.
     tried: u64,
+    rounds: u8,
     next_client: u64,
     next_ask: u16,
     next_server: u64,
@@ -75,11 +80,8 @@ impl<'a, R: Net, A: Allocator + Copy> Sockets<'a, R, A> {
     /// Listens at the peer's address by UDP and TCP. `Err` where the system refuses, or memory ran out.
     pub fn new(rt: &'a R, alloc: A, listen: Peer, deadline: u64) -> io::Result<Sockets<'a, R, A>> {
         let readiness = Readiness::new(rt, alloc)?;
-        let mut datagrams = UdpSocket::bind(rt, address_of(listen))?;
-        widen(&datagrams);
-        readiness.watch_reads(&mut datagrams, Origin::Datagrams)?;
-        let mut connections = TcpListener::bind(rt, address_of(listen))?;
-        readiness.watch_reads(&mut connections, Origin::Connections)?;
+        let datagrams = datagrams_at(rt, &readiness, listen)?;
+        let connections = connections_at(rt, &readiness, listen)?;
         let buffer = vec![in alloc; 0u8; LARGEST]?;
         Ok(Sockets {
             rt,
@@ -95,6 +97,7 @@ impl<'a, R: Net, A: Allocator + Copy> Sockets<'a, R, A> {
             buffer,
             deadline,
             tried: 0,
+            rounds: 0,
             next_client: 0,
             next_ask: 0,
             next_server: 0,
@@ -122,11 +125,14 @@ impl<'a, R: Net, A: Allocator + Copy> Sockets<'a, R, A> {
         Ok(self.try_ready(now)?.unwrap_or(Arrival::Nothing))
     }
 
-    /// Looks what is ready; waits where nothing is. True where it waited.
+    /// Looks what is ready; waits where nothing is. True where it waited. Before sockets are tried that no event told of,
+    /// events are taken only where something may be ready: else the turn waits for them once these turn out empty.
     fn look(&mut self, now: u64) -> bool {
         if now.saturating_sub(self.tried) >= PAUSE {
             self.tried = now;
-            self.readiness.wait(0);
+            if !self.readiness.is_empty() {
+                self.readiness.wait(0);
+            }
             self.try_others(now);
             return false;
         }
@@ -159,10 +165,14 @@ impl<'a, R: Net, A: Allocator + Copy> Sockets<'a, R, A> {
         !self.asks.is_empty() || !self.servers.is_empty()
     }
 
-    /// Has the listeners and some of the other sockets tried in turn, whatever events told.
+    /// Has the socket for datagrams, the listener in every eighth round, and some of the other sockets tried in turn,
+    /// whatever events told.
     fn try_others(&mut self, now: u64) {
         self.readiness.add(Origin::Datagrams);
-        self.readiness.add(Origin::Connections);
+        self.rounds = self.rounds.wrapping_add(1);
+        if self.rounds % ROUNDS == 0 {
+            self.readiness.add(Origin::Connections);
+        }
         for _ in 0..AT_ONCE {
             if !self.try_client(now) {
                 break;
@@ -428,22 +438,18 @@ impl<'a, R: Net, A: Allocator + Copy> Sockets<'a, R, A> {
     /// Begins a connection, and sends a query as soon as it stands.
     fn ask_tcp(&mut self, conn: u64, server: Peer, query: &[u8]) -> io::Result<()> {
         self.keep_room()?;
-        let opened = match ServerStream::open(
-            self.rt,
-            self.alloc,
-            &self.readiness,
-            conn,
-            server,
-            query,
-        ) {
-            Err(error) if self.makes_room(&error) => {
-                ServerStream::open(self.rt, self.alloc, &self.readiness, conn, server, query)
-            }
-            opened => opened,
+        let stream = match self.begin(conn, server, query) {
+            Err(error) if self.makes_room(&error) => self.begin(conn, server, query)?,
+            begun => begun?,
         };
-        self.servers.insert(conn, opened?)?;
+        self.servers.insert(conn, stream)?;
         self.readiness.add(Origin::Server(conn));
         Ok(())
+    }
+
+    /// A connection that is begun, with a query for it.
+    fn begin(&self, conn: u64, server: Peer, query: &[u8]) -> io::Result<ServerStream<A>> {
+        ServerStream::open(self.rt, self.alloc, &self.readiness, conn, server, query)
     }
 
     /// Where no descriptor was left, closes the oldest connection of a client that waits for nothing. True where one
