@@ -16,27 +16,27 @@ use std::process::ExitCode;
 const USAGE: &str =
     "usage: bench many_wait QUESTION REPLY, bench carried REPLY, bench messages, bench look_ups, or bench open_queries";
 
-/// Measures what the arguments ask for; `None` where they ask for nothing.
-fn run(rt: &HostRuntime) -> Result<Option<()>> {
-    let mut args = env::args(rt)?;
-    let _program = args.next();
-    let Some(what) = args.next() else {
-        return Ok(None);
-    };
-    match (what.as_str(), args.next(), args.next()) {
-        ("many_wait", Some(question), Some(reply)) => {
-            many_wait::measure(rt, question.as_str(), reply.as_str())?;
-        }
-        ("carried", Some(reply), None) => carried::measure(rt, reply.as_str())?,
-        ("messages", None, None) => messages::measure(rt)?,
-        ("look_ups", None, None) => {
+/// Measures what these words ask for; `None` where they ask for nothing.
+fn measure(rt: &HostRuntime, words: &[&str]) -> Result<Option<()>> {
+    match words {
+        ["many_wait", question, reply] => many_wait::measure(rt, question, reply)?,
+        ["carried", reply] => carried::measure(rt, reply)?,
+        ["messages"] => messages::measure(rt)?,
+        ["look_ups"] => {
             cached::measure(rt)?;
             look_ups::measure(rt)?;
         }
-        ("open_queries", None, None) => open_queries::measure(rt)?,
+        ["open_queries"] => open_queries::measure(rt)?,
         _ => return Ok(None),
     }
     Ok(Some(()))
+}
+
+/// Measures what the arguments ask for; `None` where they ask for nothing.
+fn run(rt: &HostRuntime) -> Result<Option<()>> {
+    let args: Vec<String> = env::args(rt)?.skip(1).collect(rt.alloc())?;
+    let words: Vec<&str> = args.iter().map(String::as_str).collect(rt.alloc())?;
+    measure(rt, words.as_slice())
 }
 
 fn main(rt: HostRuntime) -> ExitCode {

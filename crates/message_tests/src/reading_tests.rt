@@ -1,6 +1,7 @@
 //! Messages that are read, their faults, and each growth refused in turn.
 
-use dns_message::{Fault, Header, Message, MessageRef, Question, Rdata, Span};
+use dns_message::{Fault, Header, Message, MessageRef, Question, Rdata, Record, Span};
+use dns_name::Name;
 use refusing_allocator::Refusing;
 use std::alloc::{AllocError, Allocator, Global};
 use std::test::Fail;
@@ -69,6 +70,12 @@ fn decoded(alloc: Global, digits: &str) -> Result<Vec<u8>, Fail> {
     Ok(hex::decode(alloc, digits)?)
 }
 
+/// The first question of a message.
+fn question_of(alloc: Global, digits: &str) -> Result<Question, Fail> {
+    let octets = decoded(alloc, digits)?;
+    Ok(MessageRef::view(&octets)?.question(alloc)?)
+}
+
 #[test]
 fn a_header_is_read(rt: HostRuntime) -> Result<(), Fail> {
     let octets = decoded(rt.alloc(), REPLY)?;
@@ -93,16 +100,12 @@ fn a_header_is_read(rt: HostRuntime) -> Result<(), Fail> {
 fn the_first_question_is_read(rt: HostRuntime) -> Result<(), Fail> {
     let octets = decoded(rt.alloc(), REPLY)?;
     let view = MessageRef::view(&octets)?;
-    let question = view.question(rt.alloc())?;
+    let mut question = view.question(rt.alloc())?;
     assert!(rt; question.name.octets() == b"\x01a\x07example".as_slice());
     assert_eq!(rt; (question.kind, question.class), (1, 1));
     assert!(rt; view.question_is(&question));
-    let of_another_class = Question {
-        name: question.name,
-        kind: 1,
-        class: 3,
-    };
-    assert!(rt; !view.question_is(&of_another_class));
+    question.class = 3;
+    assert!(rt; !view.question_is(&question));
     Ok(())
 }
 
@@ -219,23 +222,17 @@ fn the_spans_behind_many_pointers_are_told(rt: HostRuntime) -> Result<(), Fail> 
 
 #[test]
 fn questions_are_the_same_letter_case_aside(rt: HostRuntime) -> Result<(), Fail> {
-    let lower = decoded(
+    let question = question_of(
         rt.alloc(),
         "0001010000010000000000000161076578616d706c650000010001",
     )?;
-    let upper = decoded(
+    let mut other = question_of(
         rt.alloc(),
         "0002010000010000000000000141076578616d706c650000010001",
     )?;
-    let question = MessageRef::view(&lower)?.question(rt.alloc())?;
-    let other = MessageRef::view(&upper)?.question(rt.alloc())?;
     assert!(rt; question.is_same(&other));
-    let of_another_type = Question {
-        name: other.name,
-        kind: 28,
-        class: 1,
-    };
-    assert!(rt; !question.is_same(&of_another_type));
+    other.kind = 28;
+    assert!(rt; !question.is_same(&other));
     Ok(())
 }
 
@@ -361,6 +358,18 @@ fn behind_127_labels(alloc: Global, count: u16, last: &[u8]) -> Result<Vec<u8>, 
     Ok(octets)
 }
 
+/// Whether the owner of each answer has 254 octets, and the data of each but the last, which has none, two such names.
+fn has_long_names(alloc: Global, octets: &[u8]) -> Result<bool, Fault> {
+    let message = MessageRef::view(octets)?.read_whole(alloc)?;
+    for record in message.answers.as_slice() {
+        let is_long = record.kind == 10 || record.rdata.octets().len() == 510;
+        if record.owner.octets().len() != 254 || !is_long {
+            return Ok(false);
+        }
+    }
+    Ok(true)
+}
+
 #[test]
 fn messages_up_to_65535_octets_are_read(rt: HostRuntime) -> Result<(), Fail> {
     for (count, len) in [(64u16, 1309usize), (4078, 65533)] {
@@ -372,11 +381,14 @@ fn messages_up_to_65535_octets_are_read(rt: HostRuntime) -> Result<(), Fail> {
             view.records().count(),
             usize::from(count).saturating_add(1)
         );
-        let message = view.read_whole(rt.alloc())?;
-        for record in message.answers.as_slice() {
-            assert_eq!(rt; record.owner.octets().len(), 254);
-            assert!(rt; record.kind == 10 || record.rdata.octets().len() == 510);
-        }
+        assert!(rt; has_long_names(rt.alloc(), &octets)?);
+    }
+    Ok(())
+}
+
+#[test]
+fn a_name_too_long_behind_many_records_is_told(rt: HostRuntime) -> Result<(), Fail> {
+    for count in [64u16, 4078] {
         let octets = behind_127_labels(rt.alloc(), count, b"\x01a\xc0\x0c".as_slice())?;
         assert!(rt; !MessageRef::view(&octets)?.is_whole());
         assert_eq!(rt; fault_of(rt.alloc(), &octets), Some(Fault::NameLong));
@@ -399,28 +411,57 @@ fn a_view_knows_header_and_question(rt: HostRuntime) -> Result<(), Fail> {
     Ok(())
 }
 
+/// The name that these data are.
+fn name_in(alloc: Global, digits: &str) -> Result<Option<Name>, Fail> {
+    let data = Rdata::new(decoded(alloc, digits)?);
+    Ok(data.name(alloc)?)
+}
+
 #[test]
 fn data_is_a_name_or_none(rt: HostRuntime) -> Result<(), Fail> {
-    let data = Rdata::new(decoded(rt.alloc(), "0161076578616d706c6500")?);
-    let name = data.name(rt.alloc())?.ok_or("a name")?;
+    let name = name_in(rt.alloc(), "0161076578616d706c6500")?.ok_or("a name")?;
     assert!(rt; name.octets() == b"\x01a\x07example".as_slice());
-    let address = Rdata::new(decoded(rt.alloc(), "c6336405")?);
-    assert!(rt; address.name(rt.alloc())?.is_none());
+    assert!(rt; name_in(rt.alloc(), "c6336405")?.is_none());
+    Ok(())
+}
+
+/// The first question, read and copied.
+fn copy_question<A: Allocator + Copy>(alloc: A, view: &MessageRef<'_>) -> Result<(), Fault> {
+    let question = view.question(alloc)?;
+    question.copy(alloc)?;
+    Ok(())
+}
+
+/// Copies of a record and of its data, and the name in that.
+fn copy_record<A: Allocator + Copy>(alloc: A, record: &Record<A>) -> Result<(), AllocError> {
+    let copy = record.copy(alloc)?;
+    let data = copy.rdata.copy(alloc)?;
+    data.name(alloc)?;
     Ok(())
 }
 
 /// Every call that takes memory, over this message. `Err` where a growth was refused.
 fn every_call<A: Allocator + Copy>(alloc: A, octets: &[u8]) -> Result<(), Fault> {
     let view = MessageRef::view(octets)?;
-    let question = view.question(alloc)?;
-    question.copy(alloc)?;
+    copy_question(alloc, &view)?;
     let message = view.read_whole(alloc)?;
     for record in message.answers.as_slice() {
-        let copy = record.copy(alloc)?;
-        let data = copy.rdata.copy(alloc)?;
-        data.name(alloc)?;
+        copy_record(alloc, record)?;
     }
     Ok(())
+}
+
+/// How many growths these calls take; 64 where that isn't enough, or where something else than want of memory is told.
+fn growths_of_every_call(heap: &Refusing<Global>, octets: &[u8]) -> u64 {
+    for growths in 0..64u64 {
+        heap.allow(growths);
+        match every_call(heap, octets) {
+            Ok(()) => return growths,
+            Err(Fault::Memory) => {}
+            Err(_) => return 64,
+        }
+    }
+    64
 }
 
 #[test]
@@ -430,15 +471,6 @@ fn each_refused_growth_is_want_of_memory(rt: HostRuntime) -> Result<(), Fail> {
         "0008850000010001000000000161076578616d706c650000010001c00c000500010000003c00040162c00e",
     )?;
     let heap = Refusing::new(rt.alloc());
-    let mut refused = 0u64;
-    for count in 0..64u64 {
-        heap.allow(count);
-        match every_call(&heap, &octets) {
-            Ok(()) => break,
-            Err(fault) => assert_eq!(rt; fault, Fault::Memory, "after {count} growths"),
-        }
-        refused = count + 1;
-    }
-    assert_eq!(rt; refused, 11, "growths in all");
+    assert_eq!(rt; growths_of_every_call(&heap, &octets), 11);
     Ok(())
 }

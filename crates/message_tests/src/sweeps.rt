@@ -52,17 +52,47 @@ fn every_prefix_is_judged_as_it_is_read(rt: HostRuntime) -> Result<(), Fail> {
     Ok(())
 }
 
+/// Whether what is written of the message that these octets spell is written so again.
+fn is_settled(alloc: Global, octets: &[u8]) -> Result<bool, Fault> {
+    let written = rewritten(alloc, octets)?;
+    let again = rewritten(alloc, written.as_slice())?;
+    Ok(again.as_slice() == written.as_slice())
+}
+
+/// Whether the octets are a whole message.
+fn is_whole(octets: &[u8]) -> bool {
+    MessageRef::view(octets).is_ok_and(|view| view.is_whole())
+}
+
 #[test]
 fn messages_with_every_shape_are_whole(rt: HostRuntime) -> Result<(), Fail> {
     for digits in &SHAPES {
         let octets = octets_of(rt.alloc(), digits)?;
-        let view = MessageRef::view(&octets)?;
-        assert!(rt; view.is_whole(), "{digits}");
-        let written = rewritten(rt.alloc(), &octets)?;
-        let again = rewritten(rt.alloc(), written.as_slice())?;
-        assert!(rt; again.as_slice() == written.as_slice(), "{digits}");
+        assert!(rt; is_whole(&octets), "{digits}");
+        assert!(rt; is_settled(rt.alloc(), &octets)?, "{digits}");
     }
     Ok(())
+}
+
+/// A right message with up to three octets changed.
+fn changed(alloc: Global, words: &mut Pcg32, turn: u32) -> Result<Vec<u8>, Fail> {
+    let at = turn as usize % (MESSAGES.len() + SHAPES.len());
+    let digits = match MESSAGES.get(at) {
+        Some(digits) => digits,
+        None => SHAPES[at - MESSAGES.len()],
+    };
+    let mut octets = octets_of(alloc, digits)?;
+    for _ in 0..=turn % 3 {
+        let place = words.next_word() as usize % (octets.len() + 1);
+        let choice = words.next_word() as usize;
+        if let Some(octet) = octets.get_mut(place) {
+            *octet = match TELLING.get(choice % 24) {
+                Some(telling) => *telling,
+                None => (choice / 24 % 256) as u8,
+            };
+        }
+    }
+    Ok(octets)
 }
 
 #[test]
@@ -70,30 +100,11 @@ fn changed_messages_are_read_and_written_again(rt: HostRuntime) -> Result<(), Fa
     let mut words = Pcg32::new(42, 54);
     let mut whole = 0u32;
     for turn in 0..CHANGED {
-        let at = turn as usize % (MESSAGES.len() + SHAPES.len());
-        let digits = match MESSAGES.get(at) {
-            Some(digits) => digits,
-            None => SHAPES[at - MESSAGES.len()],
-        };
-        let mut octets = octets_of(rt.alloc(), digits)?;
-        for _ in 0..=turn % 3 {
-            let place = words.next_word() as usize % (octets.len() + 1);
-            let choice = words.next_word() as usize;
-            if let Some(octet) = octets.get_mut(place) {
-                *octet = match TELLING.get(choice % 24) {
-                    Some(telling) => *telling,
-                    None => (choice / 24 % 256) as u8,
-                };
-            }
-        }
+        let octets = changed(rt.alloc(), &mut words, turn)?;
         assert!(rt; judging_agrees(rt.alloc(), &octets)?, "turn {turn}");
-        if let Ok(view) = MessageRef::view(&octets)
-            && view.is_whole()
-        {
+        if is_whole(&octets) {
             whole = whole.saturating_add(1);
-            let written = rewritten(rt.alloc(), &octets)?;
-            let again = rewritten(rt.alloc(), written.as_slice())?;
-            assert!(rt; again.as_slice() == written.as_slice(), "turn {turn}");
+            assert!(rt; is_settled(rt.alloc(), &octets)?, "turn {turn}");
         }
     }
     // Both outcomes were met often.

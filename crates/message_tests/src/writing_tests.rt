@@ -28,13 +28,20 @@ fn written<A: Allocator + Copy>(
     write(alloc, message, limit)
 }
 
-/// The message that these hexadecimal digits spell, written within the limit.
+/// The message that these octets spell, written within the limit.
+fn written_again(alloc: Global, octets: &[u8], limit: usize) -> Result<Octets<Global>, Fault>
+    requires { limit ≤ 65535 }
+{
+    let message = MessageRef::view(octets)?.read_whole(alloc)?;
+    written(alloc, &message, limit)
+}
+
+/// The same in hexadecimal digits.
 fn rewritten(alloc: Global, digits: &str, limit: usize) -> Result<String, Fail>
     requires { limit ≤ 65535 }
 {
     let octets = hex::decode(alloc, digits)?;
-    let message = MessageRef::view(&octets)?.read_whole(alloc)?;
-    let text = written(alloc, &message, limit)?;
+    let text = written_again(alloc, &octets, limit)?;
     Ok(hex::encode(alloc, text.as_slice())?)
 }
 
@@ -47,10 +54,9 @@ fn a_reply_is_written_back(rt: HostRuntime) -> Result<(), Fail> {
         "the limit itself"
     );
     let octets = hex::decode(rt.alloc(), REPLY)?;
-    let message = MessageRef::view(&octets)?.read_whole(rt.alloc())?;
     for limit in [0, 11, 12, 26, 27, 42] {
         assert_eq!(rt;
-            written(rt.alloc(), &message, limit).err(),
+            written_again(rt.alloc(), &octets, limit).err(),
             Some(Fault::TooLarge),
             "at {limit}"
         );
@@ -139,11 +145,11 @@ fn reply<A: Allocator + Copy>(alloc: A, answers: Vec<Record<A>, A>) -> Result<Me
 }
 
 /// A filler of so many octets, and two records of one owner behind it, the first at the offset 28 and the filler's length.
-fn behind_a_filler(alloc: Global, length: usize) -> Result<Vec<u8>, Fail> {
+fn behind_a_filler(alloc: Global, length: usize) -> Result<Vec<u8>, Fault> {
     let mut answers = Vec::new(alloc);
-    answers.push(entry(alloc, b"", 16, vec![in alloc; 0u8; length]?)?)?;
-    answers.push(entry(alloc, b"x", 16, Vec::new(alloc))?)?;
-    answers.push(entry(alloc, b"x", 16, Vec::new(alloc))?)?;
+    for (label, length) in [(b"".as_slice(), length), (b"x", 0), (b"x", 0)] {
+        answers.push(entry(alloc, label, 16, vec![in alloc; 0u8; length]?)?)?;
+    }
     Ok(written(alloc, &reply(alloc, answers)?, 65535)?.into_vec())
 }
 
@@ -166,32 +172,49 @@ fn the_last_place_is_at_16383(rt: HostRuntime) -> Result<(), Fail> {
     Ok(())
 }
 
+/// How many octets the data of each answer have.
+fn lengths_of(alloc: Global, octets: &[u8]) -> Result<Vec<usize>, Fault> {
+    let message = MessageRef::view(octets)?.read_whole(alloc)?;
+    let mut lengths = Vec::new(alloc);
+    for record in message.answers.as_slice() {
+        lengths.push(record.rdata.octets().len())?;
+    }
+    Ok(lengths)
+}
+
 #[test]
 fn the_longest_text_is_written_and_read(rt: HostRuntime) -> Result<(), Fail> {
     let text = behind_a_filler(rt.alloc(), 65481)?;
     assert_eq!(rt; text.len(), 65535);
-    let message = MessageRef::view(&text)?.read_whole(rt.alloc())?;
-    for record in message.answers.as_slice() {
-        let copy = record.rdata.copy(rt.alloc())?;
-        let len = copy.octets().len();
-        assert!(rt; len == 65481 || len == 0);
-    }
-    assert!(rt; written(rt.alloc(), &message, 65535)?.as_slice() == text.as_slice());
+    assert!(rt; lengths_of(rt.alloc(), &text)?.as_slice() == [65481, 0, 0].as_slice());
+    assert!(rt; written_again(rt.alloc(), &text, 65535)?.as_slice() == text.as_slice());
     Ok(())
+}
+
+/// Records with these labels as their owners, which are of type CNAME and have these data.
+fn aliases(alloc: Global, labels_and_data: &[(&[u8], &str)]) -> Result<Vec<Record>, Fail> {
+    let mut answers = Vec::new(alloc);
+    for (label, digits) in labels_and_data {
+        answers.push(entry(alloc, label, 5, hex::decode(alloc, digits)?)?)?;
+    }
+    Ok(answers)
 }
 
 #[test]
 fn data_of_another_shape_stands_as_it_is(rt: HostRuntime) -> Result<(), Fail> {
-    let alloc = rt.alloc();
-    let mut answers = Vec::new(alloc);
     // An alias to a name that doesn't end, and one to a name with an octet behind it.
-    answers.push(entry(alloc, b"", 5, hex::decode(alloc, "0178")?)?)?;
-    answers.push(entry(alloc, b"", 5, hex::decode(alloc, "01780000")?)?)?;
-    answers.push(entry(alloc, b"x", 5, hex::decode(alloc, "017800")?)?)?;
-    answers.push(entry(alloc, b"x", 5, hex::decode(alloc, "00")?)?)?;
-    let text = written(alloc, &reply(alloc, answers)?, 512)?;
+    let answers = aliases(
+        rt.alloc(),
+        &[
+            (b"", "0178"),
+            (b"", "01780000"),
+            (b"x", "017800"),
+            (b"x", "00"),
+        ],
+    )?;
+    let text = written(rt.alloc(), &reply(rt.alloc(), answers)?, 512)?;
     assert_eq!(rt;
-        hex::encode(alloc, text.as_slice())?.as_str(),
+        hex::encode(rt.alloc(), text.as_slice())?.as_str(),
         "1234850000010004000000000000010001\
          00000500010000000000020178\
          000005000100000000000401780000\
@@ -201,47 +224,56 @@ fn data_of_another_shape_stands_as_it_is(rt: HostRuntime) -> Result<(), Fail> {
     Ok(())
 }
 
+/// What a reply with these answers, written as far as may be, is refused with.
+fn refusal_of(alloc: Global, answers: Vec<Record>) -> Result<Option<Fault>, Fault> {
+    Ok(written(alloc, &reply(alloc, answers)?, 65535).err())
+}
+
 #[test]
-fn more_than_a_limit_is_refused(rt: HostRuntime) -> Result<(), Fail> {
-    let alloc = rt.alloc();
-    let mut answers = Vec::new(alloc);
-    answers.push(entry(alloc, b"", 16, vec![in alloc; 0u8; 65536]?)?)?;
-    assert_eq!(rt;
-        written(alloc, &reply(alloc, answers)?, 65535).err(),
-        Some(Fault::TooLarge),
-        "too many octets of data"
-    );
-    let mut answers = Vec::new(alloc);
-    for _ in 0..65536u32 {
-        answers.push(entry(alloc, b"", 16, Vec::new(alloc))?)?;
-    }
-    assert_eq!(rt;
-        written(alloc, &reply(alloc, answers)?, 65535).err(),
-        Some(Fault::TooLarge),
-        "too many records"
-    );
+fn more_data_than_a_limit_is_refused(rt: HostRuntime) -> Result<(), Fail> {
+    let mut answers = Vec::new(rt.alloc());
+    let data = vec![in rt.alloc(); 0u8; 65536]?;
+    answers.push(entry(rt.alloc(), b"", 16, data)?)?;
+    assert_eq!(rt; refusal_of(rt.alloc(), answers)?, Some(Fault::TooLarge));
     Ok(())
+}
+
+#[test]
+fn more_records_than_a_limit_are_refused(rt: HostRuntime) -> Result<(), Fail> {
+    let mut answers = Vec::new(rt.alloc());
+    for _ in 0..65536u32 {
+        answers.push(entry(rt.alloc(), b"", 16, Vec::new(rt.alloc()))?)?;
+    }
+    assert_eq!(rt; refusal_of(rt.alloc(), answers)?, Some(Fault::TooLarge));
+    Ok(())
+}
+
+/// Whether the message is written as these octets, which it came from, where so many growths are granted. `Memory` where one
+/// was refused.
+fn is_written(heap: &Refusing<Global>, octets: &[u8], growths: u64) -> Result<bool, Fault> {
+    heap.allow(u64::MAX);
+    let message = MessageRef::view(octets)?.read_whole(heap)?;
+    heap.allow(growths);
+    Ok(written(heap, &message, 512)?.as_slice() == octets)
+}
+
+/// How many growths it takes to write the message; 64 where that isn't enough, or where something else than want of memory
+/// is told.
+fn growths_of_writing(heap: &Refusing<Global>, octets: &[u8]) -> u64 {
+    for growths in 0..64u64 {
+        match is_written(heap, octets, growths) {
+            Ok(true) => return growths,
+            Err(Fault::Memory) => {}
+            _ => return 64,
+        }
+    }
+    64
 }
 
 #[test]
 fn each_refused_growth_of_writing_is_want_of_memory(rt: HostRuntime) -> Result<(), Fail> {
     let heap = Refusing::new(rt.alloc());
     let octets = hex::decode(rt.alloc(), REPLY)?;
-    let message = MessageRef::view(&octets)?.read_whole(&heap)?;
-    let mut refused = 0u64;
-    for count in 0..64u64 {
-        heap.allow(count);
-        let text = written(&heap, &message, 512);
-        heap.allow(u64::MAX);
-        match text {
-            Ok(whole) => {
-                assert!(rt; whole.as_slice() == octets.as_slice());
-                break;
-            }
-            Err(fault) => assert_eq!(rt; fault, Fault::Memory),
-        }
-        refused = count + 1;
-    }
-    assert_eq!(rt; refused, 3);
+    assert_eq!(rt; growths_of_writing(&heap, &octets), 3);
     Ok(())
 }
