@@ -1,10 +1,10 @@
 -- What a client's message calls for where no entry answers it.
-use Rattle.std.proofs.Common.{◌≡◌, ◌≢◌, ℕ, ◌^◌, ◌<◌, length, arith, List, [], true, false, sym, ap, ◌∙◌, subst, Option, Some, None}
+use Rattle.std.proofs.Common.{◌≡◌, ◌≢◌, ℕ, ◌^◌, ◌<◌, ◌≤◌, length, arith, List, [], true, false, refl, sym, ap, ◌∙◌, subst, Option, Some, None}
 use Rattle.std.specs.Prelude.{nat_le, ◌==◌, Result, IfOk}
 use Rattle.std.specs.declared.alloc.AllocError.{AllocError}
 use Rattle.std.proofs.lemmas.Result.{IfOk-weaker}
 use Rattle.std.specs.List.{AllByRecursion}
-use Rattle.std.proofs.lemmas.Bool.{cond-true, cond-false, lt-leb, ne_eqb}
+use Rattle.std.proofs.lemmas.Bool.{cond-true, cond-false, le-leb, lt-leb, ne_eqb}
 use Rattle.dns_message.specs.Values.{Question}
 use Rattle.suffix_routes.specs.Values.{Config}
 use Rattle.trust_rank.specs.declared.slot.Slot.{Slot}
@@ -19,9 +19,12 @@ use Rattle.outstanding.specs.Lists.{of_question}
 use Rattle.outstanding.specs.Values.{Ask}
 use Rattle.step_rules.specs.State.{Waiting, State}
 use Rattle.step_rules.specs.Attempts.{preferred_on, peer_at, over_udp, ask_by, first_ask, first_ask_on}
-use Rattle.step_rules.specs.Steps.{Done, using, idle_step, reply_step, failed, taking_step}
+use Rattle.step_rules.specs.Steps.{Done, using, idle_step, reply_step, failed, gives_up, taking_step}
+use Rattle.step_replies.specs.Onward.{Onward, waits_on}
 use Rattle.step_rules.specs.Row.{row_of_request, row_of_opening, row_of_new_inquiry, row_of_inquiry, row_of_waiting}
-use Rattle.step_values.specs.declared.action.Why.TheVariants.{BadOpcode}
+use Rattle.step_values.specs.Values.{Action}
+use Rattle.step_values.specs.declared.action.Why.{Why}
+use Rattle.step_values.specs.declared.action.Why.TheVariants.{BadOpcode, QuestionsFull}
 use Rattle.step_values.specs.declared.event.Client.{Client}
 use Rattle.step_changes.specs.declared.next.Next.{Next}
 use Rattle.step_changes.specs.Next.{pieces_of, FitsChange, IsRouted, CanChange}
@@ -63,6 +66,18 @@ new_row c n words x s r d is d_is = d_is ∙ sym (ap (row_of_inquiry c n words x
 -- there is room for it
 pub waiting_row : (c : Config) (n : ℕ) (words : List ℕ) (x : Waiting) (s : State) (d : Done) → length s.waiting < c.limits.questions → d ≡ row_of_inquiry c n words x s (of_question x.wanted s.asks) → d ≡ row_of_waiting c n words x s
 waiting_row c n words x s d room d_is = d_is ∙ sym (cond-false (nat_le c.limits.questions (length s.waiting)) _ _ (lt-leb c.limits.questions (length s.waiting) room))
+
+-- a question that is sent on fails as it would by itself
+fails_alike : (why : Why) (o : Option Onward) (x : Waiting) → gives_up why x ≡ gives_up why (waits_on o x)
+fails_alike why None x = refl
+fails_alike why (Some s) x = refl
+
+-- without room among the questions
+pub full_row : (c : Config) (n : ℕ) (words : List ℕ) (o : Option Onward) (x : Waiting) (s : State) (d : Done) → c.limits.questions ≤ length s.waiting → d ≡ reply_step n (gives_up QuestionsFull x) s → d ≡ row_of_waiting c n words (waits_on o x) s
+full_row c n words o x s d full d_is =
+    d_is
+    ∙ ap (λ (a : Action). reply_step n a s) (fails_alike QuestionsFull o x)
+    ∙ sym (cond-true (nat_le c.limits.questions (length s.waiting)) _ _ (le-leb c.limits.questions (length s.waiting) full))
 
 -- the first ask goes to the server that its route prefers
 pub asked_first : (c : Config) (n : ℕ) (words : List ℕ) (q : Question) (route : ℕ) (s : State) (server : ℕ) (draw : Option (ℕ × ℕ)) (drawn : Option (ℕ × Path)) (ask : Option Ask) → server ≡ preferred_on s route → draw ≡ udp_draw words s.asks None

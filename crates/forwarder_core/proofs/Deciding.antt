@@ -1,7 +1,7 @@
 -- What was decided is what the row has.
 use Rattle.std.proofs.Common.{◌≡◌, ℕ, ◌+◌, List, [], ◌∷◌, ◌++◌, Bool, true, false, cond, refl, sym, ap, ◌∙◌, subst, Option, Some, None, arith}
-use Rattle.std.specs.Prelude.{filter, map, not, drop, nat_lt, Ok, IsSome, Box}
-use Rattle.std.specs.List.{cons_option, AllByRecursion}
+use Rattle.std.specs.Prelude.{filter, map, not, drop, slice_set, nat_lt, Ok, IsSome, Box}
+use Rattle.std.specs.List.{cons_option, filter_map, AllByRecursion}
 use Rattle.std.proofs.lemmas.Bool.{cond-true, cond-false}
 use Rattle.dns_message.specs.Values.{Question}
 use Rattle.suffix_routes.specs.declared.peer.Peer.{Peer}
@@ -18,17 +18,19 @@ use Rattle.outstanding.specs.Lists.{on_path as ask_on, without_path}
 use Rattle.outstanding.specs.Values.{Ask}
 use Rattle.step_rules.specs.LookingUp.{promoted_all}
 use Rattle.step_rules.specs.Offering.{put_all, unkept_of}
-use Rattle.step_rules.specs.Steps.{Done, Fate, gets, waits, reply_in, waiting_in, replies, still_waiting, closes, closing, closing_step, taking_step, idle_step, offering_step, asks, gives_up, sends, transport_of, waits_for, fails, using, with_entries}
+use Rattle.step_rules.specs.Steps.{Done, Fate, gets, waits, reply_in, waiting_in, replies, still_waiting, closes, closing, closing_step, taking_step, idle_step, offering_step, ask_list, asks, gives_up, preferring, tcp_count, waits_for, fails, using, with_entries}
 use Rattle.step_rules.specs.Row.{expiry_step, timeout_of, row_of_verdict, row_of_delivery, verdict_on, Happens, HandsOctets, effective, Row}
-use Rattle.answer_builder.specs.Transports.{answer_of}
 use Rattle.step_replies.specs.Spelling.{Source}
 use Rattle.reply_match.specs.Verdicts.{judge}
 use Rattle.forwarder_core.proofs.Clients.{carries_nothing}
 use Rattle.step_changes.specs.declared.next.Preferred.{Preferred}
 use Rattle.step_changes.specs.declared.next.Change.{Change}
-use Rattle.step_changes.specs.declared.next.Change.TheVariants.{Nothing, Join, Open, Close, AskAgain, Expire}
+use Rattle.step_changes.specs.declared.next.Change.TheVariants.{Nothing, Join, Open, Close, SendOn, AskAgain, Expire}
 use Rattle.step_changes.specs.declared.next.Next.{Next}
-use Rattle.step_changes.specs.Next.{left_waiting, with_preferred, without_closed, closed_path, closing_path, changed, pieces_of, next_of, FitsChange, CanChange, IsDecided, IsDecidedQuietly, IsOutcome, gives_from, with_reply, with_replies}
+use Rattle.step_changes.specs.declared.next.Sending.{Sending}
+use Rattle.step_sending.specs.Sending.{Becomes, reply_of, onward_in, Become}
+use Rattle.step_sending.proofs.CallerLemmas.{replies_are, waiting_are}
+use Rattle.step_changes.specs.Next.{left_waiting, with_preferred, without_closed, closed_path, closing_path, changed, pieces_of, next_of, FitsChange, CanChange, IsDecided, IsDecidedQuietly, IsOutcome, gives_from, told_from, left_or_sent, with_reply, with_replies}
 use Rattle.step_soundness.proofs.CallerLemmas.{ask_on-is, append_nil}
 
 -- one more action
@@ -68,6 +70,7 @@ by_change n rooms s actions used ps Nothing = refl
 by_change n rooms s actions used ps (Join b) = refl
 by_change n rooms s actions used ps (Open b) = refl
 by_change n rooms s actions used ps (Close path preferred) = refl
+by_change n rooms s actions used ps (SendOn b) = refl
 by_change n rooms s actions used ps (AskAgain path b) = refl
 by_change n rooms s actions used ps (Expire closed) = refl
 
@@ -115,6 +118,10 @@ always : (xs : List Ask) → AllByRecursion (λ a. Unit {0}) xs
 always [] = tt
 always (a ∷ xs) = (tt, always xs)
 
+-- an ask is listed on its own path
+pub on_own : (path : Path) (asks : List Ask) (a : Ask) → ask_on path asks ≡ Some a → ask_on a.path asks ≡ Some a
+on_own path asks a on = ap (λ (p : Path). ask_on p asks) (ask_on-is (λ b. Unit {0}) path asks a on (always asks)).0 ∙ on
+
 pub closed_is : (A : Type 0) (n : ℕ) (path : Path) (s : State) (a : Ask) (fate : Waiting → Fate) (preferred : Option Preferred) (actions : List Action) → ask_on path s.asks ≡ Some a → actions ≡ with_replies fate (closes a.path ∷ []) s.waiting → Frees a.question fate
     → record { actions = actions; unkept = 0; state = changed {A = A} n s (Close path preferred) } ≡ closing_step n a fate None (record s { preferred = with_preferred preferred s.preferred })
 closed_is A n path s a fate preferred actions on told frees = λ i. record {
@@ -143,7 +150,34 @@ pub fails_frees : (why : Why) (q : Question) → Frees q (fails why q)
 fails_frees why q = λ x. one_fate (waits_for q x) (gives_up why x) x
 
 pub given_frees : (d : Source) (q : Question) → Frees q (gives_from d q)
-given_frees d q = λ x. one_fate (waits_for q x) (sends x (answer_of x.asked d.chain d.moment (transport_of x.client))) x
+given_frees d q = λ x. one_fate (waits_for q x) (told_from d x) x
+
+-- ---- those that waited for an ask are sent on
+
+pub sending_row : (A : Type 0) (n : ℕ) (s : State) (a : Ask) (fate : Waiting → Fate) (each : List Becomes) (next : Option Ask) (used : List Slot) (boxed : Box (Sending A) A) (actions : List Action) → ask_on a.path s.asks ≡ Some a → Become a.question fate s.waiting each
+    → boxed.value.path ≡ a.path → boxed.value.preferred.route ≡ a.route → boxed.value.preferred.server ≡ a.server → boxed.value.onward.items ≡ map onward_in each → boxed.value.ask ≡ next
+    → actions ≡ closes a.path ∷ (filter_map reply_of each ++ map asks (ask_list next))
+    → record { actions = actions; unkept = 0; state = changed {A = A} n (using used s) (SendOn boxed) } ≡ closing_step n a fate next (using used (preferring a s))
+sending_row A n s a fate each next used boxed actions on become path route server onward ask told = λ i. record {
+  actions = actions_are i;
+  unkept = 0;
+  state = record {
+    cache = (using used s).cache;
+    asks = without_path (path i) s.asks ++ ask_list (ask i);
+    waiting = waiting_is i;
+    preferred = slice_set s.preferred (route i) (server i);
+    moment = n;
+    tcp_asks = s.tcp_asks + tcp_count (ask i);
+  };
+}
+  where
+    actions_are : actions ≡ closes a.path ∷ (replies (map fate s.waiting) ++ map asks (ask_list next))
+    actions_are = told ∙ ap (λ (ys : List Action). closes a.path ∷ (ys ++ map asks (ask_list next))) (sym (replies_are a.question fate s.waiting each become))
+
+    waiting_is : left_or_sent (ask_on boxed.value.path s.asks) boxed.value.onward.items s.waiting ≡ still_waiting (map fate s.waiting)
+    waiting_is = (λ i. left_or_sent (ask_on (path i) s.asks) (onward i) s.waiting)
+        ∙ ap (λ (r : Option Ask). left_or_sent r (map onward_in each) s.waiting) on
+        ∙ waiting_are a.question fate s.waiting each become
 
 -- ---- one ask after another
 

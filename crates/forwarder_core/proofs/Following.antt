@@ -37,8 +37,8 @@ below c m k asks all = All-weaker (IsKeptAsk c m k) (λ a. IsBelow k a.path) (λ
 -- ---- the first ask
 
 pub first_follows : (c : Config) (n : ℕ) (words : List ℕ) (q : Question) (route : ℕ) (s : State) (i : Inquiries) (preferred : List ℕ) (a : Ask) → IsKept c s.cache i s.waiting preferred s.moment s.tcp_asks → i.asks ≡ s.asks
-    → route_of c q.name ≡ Some route → AreListed (record { capacity = c.limits.inquiries; asks = s.asks }) → s.moment ≤ n → n ≤ 2 ^ 62 → of_question q s.asks ≡ None → length s.asks < c.limits.inquiries → Some a ≡ first_ask c n words q route s → CanFollow c n s s.asks a
-first_follows c n words q route s i preferred a kept asks_are on are later small new room is = record {
+    → route_of c q.name ≡ Some route → s.moment ≤ n → n ≤ 2 ^ 62 → of_question q s.asks ≡ None → length s.asks < c.limits.inquiries → Some a ≡ first_ask c n words q route s → CanFollow c n s s.asks a
+first_follows c n words q route s i preferred a kept asks_are on later small new room is = record {
   begins = record {
     path = ap (λ (p : Path). ask_on p s.asks) draw.1 ∙ free_now draw.0 s.asks fresh.free;
     question = ap (λ (z : Question). of_question z s.asks) facts.question ∙ new;

@@ -1,6 +1,6 @@
 -- What a client's question meets among the entries, and the rows that it takes then.
-use Rattle.std.proofs.Common.{◌≡◌, ℕ, zero, suc, ◌≤◌, arith, List, [], ◌∷◌, ◌++◌, true, false, inl, inr, refl, sym, ap, ◌∙◌, subst, Option, Some, None}
-use Rattle.std.specs.Prelude.{map, ◌&&◌, ◌==◌}
+use Rattle.std.proofs.Common.{◌≡◌, ℕ, zero, suc, ◌≤◌, arith, List, [], ◌∷◌, ◌++◌, true, ◌⊎◌, inl, inr, refl, sym, ap, ◌∙◌, subst, Option, Some, None}
+use Rattle.std.specs.Prelude.{map, is_some, ◌&&◌, ◌==◌}
 use Rattle.std.specs.List.{AllByRecursion}
 use Rattle.std.proofs.lemmas.Bool.{and_parts, false≢true}
 use Rattle.dns_name.specs.Labels.{IsSame, same}
@@ -19,14 +19,19 @@ use Rattle.negative_cache.specs.Laws.{Fits, IsTyped}
 use Rattle.negative_cache.proofs.CallerLemmas.{found_fits}
 use Rattle.step_history.specs.Names.{route_of}
 use Rattle.step_history.specs.Answers.{asked_at}
-use Rattle.step_rules.specs.LookingUp.{Met, ends, too_long, missed, Looked, missing, led, followed, one_too_many, through, look_up, if_ended, asked_look_up}
+use Rattle.step_rules.specs.LookingUp.{Met, ends, too_long, missed, Looked, missing, led, followed, one_too_many, through, look_up}
 use Rattle.step_rules.specs.State.{Waiting, State}
-use Rattle.step_rules.specs.Steps.{Done, using, reply_step, sends, transport_of, answered}
-use Rattle.step_rules.specs.Row.{row_of_fate, fate_missed, row_of_look_up, row_of_route}
+use Rattle.step_rules.specs.Steps.{Done, using, reply_step, sends, transport_of, gives_up}
+use Rattle.step_rules.specs.Row.{row_of_fate, fate_missed, row_of_look_up, row_of_route, row_of_waiting}
 use Rattle.step_rules.specs.Progress.{IsOnRoute}
-use Rattle.step_soundness.proofs.CallerLemmas.{All-append, All-weaker, append_nil}
-use Rattle.step_look_ups.specs.Seen.{Seen, seen_at, seen_of, is_ended}
-use Rattle.step_look_ups.specs.declared.looked.Met.TheVariants.{Missed}
+use Rattle.step_soundness.proofs.CallerLemmas.{All-append, All-weaker}
+use Rattle.step_replies.specs.Onward.{Onward, waits_on}
+use Rattle.step_look_ups.specs.Seen.{Seen, seen_at, seen_of, last_target}
+use Rattle.step_look_ups.specs.Laws.{led_to}
+use Rattle.step_look_ups.specs.declared.looked.Met.{Met as SeenMet}
+use Rattle.step_look_ups.specs.declared.looked.Met.TheVariants.{Ends, TooLong, Missed}
+use Rattle.step_look_ups.proofs.CallerLemmas.{missed_wants, uses_what_is_seen}
+use Rattle.step_values.specs.declared.action.Why.TheVariants.{NoRoute, ChainLong}
 use Rattle.answer_builder.specs.Answers.{IsEarlier}
 use Rattle.answer_builder.specs.Transports.{answer_of}
 use Rattle.step_values.specs.Values.{Action}
@@ -123,86 +128,132 @@ earlier_used routes m n entries q all le =
 abbrev pub slots_in : List Held → List Slot
 slots_in held = map (λ h. h.piece.slot) held
 
-slots_more : (held : List Held) (h : Held) (slots : List Slot) → slots_in (held ++ h ∷ []) ++ slots ≡ slots_in held ++ h.piece.slot ∷ slots
-slots_more [] h slots = refl
-slots_more (e ∷ held) h slots = ap (λ (ys : List Slot). e.piece.slot ∷ ys) (slots_more held h slots)
+-- ---- a look-up that misses
 
-slots_end : (held : List Held) (h : Held) → slots_in (held ++ h ∷ []) ≡ slots_in held ++ h.piece.slot ∷ []
-slots_end held h = sym (append_nil (slots_in (held ++ h ∷ []))) ∙ slots_more held h []
+last_put : (held : List Held) (e : Held) → last_target (held ++ e ∷ []) ≡ target_of e.piece.body
+last_put [] e = refl
+last_put (f ∷ []) e = refl
+last_put (f ∷ g ∷ held) e = last_put (g ∷ held) e
 
--- a look-up tells the slots of the entries that it used, those of the aliases that were held left out
-abbrev TellsSlots : List Held → Looked → Type 0
-TellsSlots held l = slots_in (seen_of l).used ≡ slots_in held ++ l.used
+-- it holds what it did, or the last alias leads to a name
+abbrev LeadsOn : List Held → Looked → Type 0
+LeadsOn held l = l.met ≡ missed → (l.held ≡ held) ⊎ (is_some (last_target l.held) ≡ true)
 
-slots_step : (held : List Held) (q : Question) (onward : Held → List (List ℕ) → Looked) → ((h : Held) (target : List (List ℕ)) → TellsSlots held (onward h target))
-    → (f : Found) → TellsSlots held (followed held q onward f)
-slots_step held q onward go (rows h) = slots_end held h
-slots_step held q onward go (alias h) = by (target_of h.piece.body)
+leads_by : (held : List Held) (q : Question) (onward : Held → List (List ℕ) → Looked) → ((h : Held) (target : List (List ℕ)) → LeadsOn (held ++ h ∷ []) (onward h target)) → (f : Found) → LeadsOn held (followed held q onward f)
+leads_by held q onward go (rows h) = λ met. absurd (cc)
+leads_by held q onward go (alias h) = by (target_of h.piece.body) refl
   where
-    by : (t : Option (List (List ℕ))) → TellsSlots held (led held q onward h t)
-    by None = sym (append_nil (slots_in held))
-    by (Some target) = go h target
-slots_step held q onward go (no_data h) = slots_end held h
-slots_step held q onward go (denied h) = slots_end held h
-slots_step held q onward go miss = sym (append_nil (slots_in held))
+    by : (t : Option (List (List ℕ))) → target_of h.piece.body ≡ t → LeadsOn held (led held q onward h t)
+    by None to = λ met. inl refl
+    by (Some target) to = λ met. at (go h target met)
+      where
+        at : ((onward h target).held ≡ held ++ h ∷ []) ⊎ (is_some (last_target (onward h target).held) ≡ true) → ((onward h target).held ≡ held) ⊎ (is_some (last_target (onward h target).held) ≡ true)
+        at (inl put) = inr (ap (λ (hs : List Held). is_some (last_target hs)) put ∙ ap (λ (o : Option (List (List ℕ))). is_some o) (last_put held h ∙ to))
+        at (inr there) = inr there
+leads_by held q onward go (no_data h) = λ met. absurd (cc)
+leads_by held q onward go (denied h) = λ met. absurd (cc)
+leads_by held q onward go miss = λ met. inl refl
 
-slots_used : (routes : List Route) (n : ℕ) (entries : List Held) (more : ℕ) (held : List Held) (q : Question) → TellsSlots held (look_up routes n entries more held q)
-slots_used routes n entries zero held q = slots_step held q (one_too_many held q) (λ h target. slots_end held h) (found routes n entries q)
-slots_used routes n entries (suc more) held q =
-    slots_step held q (λ h target. through h (look_up routes n entries more (held ++ h ∷ []) (asked_at q target)))
-    (λ h target. slots_used routes n entries more (held ++ h ∷ []) (asked_at q target) ∙ slots_more held h (look_up routes n entries more (held ++ h ∷ []) (asked_at q target)).used)
-    (found routes n entries q)
+leads_somewhere : (routes : List Route) (n : ℕ) (entries : List Held) (more : ℕ) (held : List Held) (q : Question) → LeadsOn held (look_up routes n entries more held q)
+leads_somewhere routes n entries zero held q = leads_by held q (one_too_many held q) (λ h target. λ met. absurd (cc)) (found routes n entries q)
+leads_somewhere routes n entries (suc more) held q =
+    leads_by held q (λ h target. through h (look_up routes n entries more (held ++ h ∷ []) (asked_at q target))) (λ h target. leads_somewhere routes n entries more (held ++ h ∷ []) (asked_at q target)) (found routes n entries q)
+
+-- without a name that the last alias leads to there is none
+nothing_held : (routes : List Route) (n : ℕ) (entries : List Held) (more : ℕ) (q : Question) → (look_up routes n entries more [] q).met ≡ missed → last_target (look_up routes n entries more [] q).held ≡ None → (look_up routes n entries more [] q).held ≡ []
+nothing_held routes n entries more q met nowhere = by (leads_somewhere routes n entries more [] q met)
+  where
+    by : ((look_up routes n entries more [] q).held ≡ []) ⊎ (is_some (last_target (look_up routes n entries more [] q).held) ≡ true) → (look_up routes n entries more [] q).held ≡ []
+    by (inl none) = none
+    by (inr there) = absurd (false≢true (sym (ap (λ (o : Option (List (List ℕ))). is_some o) nowhere) ∙ there))
+
+missed_so : (held : List Held) (m : Met) → Missed ≡ (seen_at held m).met → (m ≡ missed) × ((seen_at held m).used ≡ held)
+missed_so held (ends e) is = absurd (cc)
+missed_so held too_long is = absurd (cc)
+missed_so held missed is = (refl, refl)
 
 -- ---- the rows
 
-row_of_end : (c : Config) (n : ℕ) (words : List ℕ) (x : Waiting) (s : State) (held : List Held) (wanted : Question) (m : Met) (used : List Slot) → is_ended (seen_at held m).met ≡ true → slots_in (seen_at held m).used ≡ used
-    → reply_step n (sends x (answer_of x.asked (seen_at held m).used n (transport_of x.client))) (using (slots_in (seen_at held m).used) s) ≡ row_of_look_up c n words x s (if_ended x.wanted (record { held = held; wanted = wanted; met = m; used = used }) m)
-row_of_end c n words x s held wanted (ends e) used ended is = ap (λ (slots : List Slot). reply_step n (answered n x held e) (using slots s)) is
-row_of_end c n words x s held wanted too_long used ended is = absurd (false≢true ended)
-row_of_end c n words x s held wanted missed used ended is = absurd (false≢true ended)
+module _ (c : Config) (n : ℕ) (words : List ℕ) (x : Waiting) (s : State) (held : List Held) (wanted : Question) (used : List Slot) where
+  abbrev looked : Met → Looked
+  looked m = record { held = held; wanted = wanted; met = m; used = used }
 
--- the answer comes from the entries that the look-up used, and these are promoted
-pub hit_row : (c : Config) (n : ℕ) (words : List ℕ) (x : Waiting) (s : State) (seen : Seen) (slots : List Slot) (reply : Action) (d : Done) → is_ended seen.met ≡ true
-    → seen ≡ seen_of (look_up c.routes n s.cache.entries most_aliases [] x.wanted) → slots ≡ slots_in seen.used → reply ≡ sends x (answer_of x.asked seen.used n (transport_of x.client)) → d ≡ reply_step n reply (using slots s)
-    → d ≡ row_of_look_up c n words x s (asked_look_up c.routes n s.cache.entries x.wanted)
-hit_row c n words x s seen slots reply d ended is slots_are reply_is d_is =
-    let l : Looked = look_up c.routes n s.cache.entries most_aliases [] x.wanted in
-    let told : reply_step n reply (using slots s) ≡ reply_step n (sends x (answer_of x.asked (seen_of l).used n (transport_of x.client))) (using (slots_in (seen_of l).used) s) =
-    (λ i. reply_step n (reply_is i) (using (slots_are i) s)) ∙ ap (λ (v : Seen). reply_step n (sends x (answer_of x.asked v.used n (transport_of x.client))) (using (slots_in v.used) s)) is in
-    d_is ∙ told ∙ row_of_end c n words x s l.held l.wanted l.met l.used (subst (λ (v : Seen). is_ended v.met ≡ true) is ended) (slots_used c.routes n s.cache.entries most_aliases [] x.wanted)
+  ends_row : (m : Met) → Ends ≡ (seen_at held m).met → reply_step n (sends x (answer_of x.asked (seen_at held m).used n (transport_of x.client))) (using used s) ≡ row_of_look_up c n words x s (looked m)
+  ends_row (ends e) is = refl
+  ends_row too_long is = absurd (cc)
+  ends_row missed is = absurd (cc)
 
--- where it came to no end, the question is asked as it came
-row_of_no_end : (c : Config) (n : ℕ) (words : List ℕ) (x : Waiting) (s : State) (held : List Held) (wanted : Question) (m : Met) (used : List Slot) → is_ended (seen_at held m).met ≡ false
-    → row_of_look_up c n words x s (record { held = []; wanted = x.wanted; met = missed; used = used }) ≡ row_of_look_up c n words x s (if_ended x.wanted (record { held = held; wanted = wanted; met = m; used = used }) m)
-row_of_no_end c n words x s held wanted (ends e) used ended = absurd (false≢true (sym ended))
-row_of_no_end c n words x s held wanted too_long used ended = refl
-row_of_no_end c n words x s held wanted missed used ended = refl
+  too_long_row : (m : Met) → TooLong ≡ (seen_at held m).met → reply_step n (gives_up ChainLong x) (using used s) ≡ row_of_look_up c n words x s (looked m)
+  too_long_row (ends e) is = absurd (cc)
+  too_long_row too_long is = refl
+  too_long_row missed is = absurd (cc)
 
-module _ (c : Config) (n : ℕ) (words : List ℕ) (x : Waiting) (s : State) (on : AllByRecursion (IsOnRoute c) s.cache.entries) (seen : Seen) (is : seen ≡ seen_of (look_up c.routes n s.cache.entries most_aliases [] x.wanted)) where
-  -- a name without a route meets nothing
-  off_route : route_of c x.wanted.name ≡ None → seen ≡ record { used = []; met = Missed }
-  off_route none = is ∙ ap (λ (l : Looked). seen_of l) (nothing_met c n s.cache.entries on x.wanted none)
+-- what was missed behind these aliases has no route, or is asked for
+abbrev pub missed_at : List Held → Question → List Slot → Looked
+missed_at held wanted slots = record { held = held; wanted = wanted; met = missed; used = slots }
 
-  abbrev pub as_missed : List Slot → Looked
-  as_missed slots = record { held = []; wanted = x.wanted; met = missed; used = slots }
+module _ (c : Config) (n : ℕ) (words : List ℕ) (x : Waiting) (s : State) (held : List Held) (wanted : Question) (slots : List Slot) where
+  by_route : (r : Option ℕ) → route_of c wanted.name ≡ r → row_of_fate c n words (using slots s) (fate_missed x (missed_at held wanted slots) r) ≡ row_of_look_up c n words x s (missed_at held wanted slots)
+  by_route r is = ap (λ (o : Option ℕ). row_of_fate c n words (using slots s) (fate_missed x (missed_at held wanted slots) o)) (sym is)
 
-  pub missed_row : (slots : List Slot) (d : Done) → is_ended seen.met ≡ false → slots ≡ slots_in seen.used → d ≡ row_of_look_up c n words x s (as_missed slots) → d ≡ row_of_route c n words x s (route_of c x.wanted.name)
-  missed_row slots d ended slots_are d_is = d_is ∙ by (route_of c x.wanted.name) refl
-    where
-      l : Looked
-      l = look_up c.routes n s.cache.entries most_aliases [] x.wanted
+  pub unrouted_row : (used : List Slot) (d : Done) → route_of c wanted.name ≡ None → used ≡ slots → d ≡ reply_step n (gives_up NoRoute x) (using used s) → d ≡ row_of_look_up c n words x s (missed_at held wanted slots)
+  unrouted_row used d none same d_is = d_is ∙ ap (λ (ss : List Slot). reply_step n (gives_up NoRoute x) (using ss s)) same ∙ by_route None none
 
-      by : (r : Option ℕ) → route_of c x.wanted.name ≡ r → row_of_look_up c n words x s (as_missed slots) ≡ row_of_route c n words x s r
-      by None none =
-          ap (λ (ys : List Slot). row_of_look_up c n words x s (as_missed ys)) (slots_are ∙ ap (λ (v : Seen). slots_in v.used) (off_route none))
-          ∙ ap (λ (r : Option ℕ). row_of_fate c n words s (fate_missed x (as_missed []) r)) none
-      by (Some route) there =
-          ap (λ (ys : List Slot). row_of_look_up c n words x s (as_missed ys)) (slots_are ∙ ap (λ (v : Seen). slots_in v.used) is ∙ slots_used c.routes n s.cache.entries most_aliases [] x.wanted)
-          ∙ row_of_no_end c n words x s l.held l.wanted l.met l.used (subst (λ (v : Seen). is_ended v.met ≡ false) is ended)
+  pub waits_row : (used : List Slot) (o : Onward) (route : ℕ) (d : Done) → route_of c wanted.name ≡ Some route → o ≡ record { held = held; wanted = wanted } → used ≡ slots
+      → d ≡ row_of_waiting c n words (waits_on (Some o) x) (using used s) → d ≡ row_of_look_up c n words x s (missed_at held wanted slots)
+  waits_row used o route d on o_is same d_is = d_is ∙ (λ i. row_of_waiting c n words (waits_on (Some (o_is i)) x) (using (same i) s)) ∙ by_route (Some route) on
 
-  pub ended_row : (d : Done) → is_ended seen.met ≡ true → d ≡ row_of_look_up c n words x s (asked_look_up c.routes n s.cache.entries x.wanted) → d ≡ row_of_route c n words x s (route_of c x.wanted.name)
-  ended_row d ended d_is = d_is ∙ by (route_of c x.wanted.name) refl
-    where
-      by : (r : Option ℕ) → route_of c x.wanted.name ≡ r → row_of_look_up c n words x s (asked_look_up c.routes n s.cache.entries x.wanted) ≡ row_of_route c n words x s r
-      by None none = absurd (false≢true (sym (ap (λ (v : Seen). is_ended v.met) (off_route none)) ∙ ended))
-      by (Some route) there = refl
+module _ (c : Config) (n : ℕ) (words : List ℕ) (x : Waiting) (s : State) (seen : Seen) (is : seen ≡ seen_of (look_up c.routes n s.cache.entries most_aliases [] x.wanted)) where
+  abbrev l : Looked
+  l = look_up c.routes n s.cache.entries most_aliases [] x.wanted
+
+  -- the slots that it used are those of what is seen
+  slots_are : slots_in seen.used ≡ l.used
+  slots_are = ap (λ (v : Seen). slots_in v.used) is ∙ sym (uses_what_is_seen c.routes n s.cache.entries most_aliases x.wanted)
+
+  met_is : (m : SeenMet) → seen.met ≡ m → m ≡ (seen_of l).met
+  met_is m met = sym met ∙ ap (λ (v : Seen). v.met) is
+
+  -- the answer comes from the entries that it used, and these are promoted
+  pub hit_row : (slots : List Slot) (reply : Action) (d : Done) → seen.met ≡ Ends → slots ≡ slots_in seen.used → reply ≡ sends x (answer_of x.asked seen.used n (transport_of x.client)) → d ≡ reply_step n reply (using slots s) → d ≡ row_of_look_up c n words x s l
+  hit_row slots reply d met told reply_is d_is =
+      d_is ∙ (λ i. reply_step n (reply_is i) (using ((told ∙ slots_are) i) s))
+      ∙ ap (λ (v : Seen). reply_step n (sends x (answer_of x.asked v.used n (transport_of x.client))) (using l.used s)) is
+      ∙ ends_row c n words x s l.held l.wanted l.used l.met (met_is Ends met)
+
+  pub many_row : (slots : List Slot) (d : Done) → seen.met ≡ TooLong → slots ≡ slots_in seen.used → d ≡ reply_step n (gives_up ChainLong x) (using slots s) → d ≡ row_of_look_up c n words x s l
+  many_row slots d met told d_is = d_is ∙ ap (λ (ss : List Slot). reply_step n (gives_up ChainLong x) (using ss s)) (told ∙ slots_are) ∙ too_long_row c n words x s l.held l.wanted l.used l.met (met_is TooLong met)
+
+  module _ (met : seen.met ≡ Missed) where
+    it_missed : (l.met ≡ missed) × ((seen_of l).used ≡ l.held)
+    it_missed = missed_so l.held l.met (met_is Missed met)
+
+    held_is : seen.used ≡ l.held
+    held_is = ap (λ (v : Seen). v.used) is ∙ it_missed.1
+
+    looked_is : (held : List Held) (wanted : Question) → held ≡ l.held → wanted ≡ l.wanted → missed_at held wanted (slots_in seen.used) ≡ l
+    looked_is held wanted held_are wanted_is = λ i. record { held = held_are i; wanted = wanted_is i; met = sym it_missed.0 i; used = slots_are i }
+
+    -- what it wants is where the last alias leads
+    wants : (o : Option (List (List ℕ))) → last_target seen.used ≡ o → led_to x.wanted o ≡ l.wanted
+    wants o leads = sym (missed_wants c.routes n s.cache.entries most_aliases x.wanted it_missed.0 ∙ ap (λ (hs : List Held). led_to x.wanted (last_target hs)) (sym held_is) ∙ ap (led_to x.wanted) leads)
+
+    pub behind_row : (name : List (List ℕ)) (d : Done) → last_target seen.used ≡ Some name → d ≡ row_of_look_up c n words x s (missed_at seen.used (asked_at x.wanted name) (slots_in seen.used)) → d ≡ row_of_look_up c n words x s l
+    behind_row name d leads d_is = d_is ∙ ap (row_of_look_up c n words x s) (looked_is seen.used (asked_at x.wanted name) held_is (wants (Some name) leads))
+
+    none_held : last_target seen.used ≡ None → [] ≡ l.held
+    none_held nowhere = sym (nothing_held c.routes n s.cache.entries most_aliases x.wanted it_missed.0 (ap (λ (hs : List Held). last_target hs) (sym held_is) ∙ nowhere))
+
+    pub own_row : (slots : List Slot) (d : Done) → last_target seen.used ≡ None → slots ≡ slots_in seen.used → d ≡ row_of_look_up c n words x s (missed_at [] x.wanted slots) → d ≡ row_of_look_up c n words x s l
+    own_row slots d nowhere told d_is =
+        d_is ∙ ap (λ (ss : List Slot). row_of_look_up c n words x s (missed_at [] x.wanted ss)) told
+        ∙ ap (row_of_look_up c n words x s) (looked_is [] x.wanted (none_held nowhere) (wants None nowhere))
+
+-- no route is looked for before the look-up: a name without one meets nothing
+pub looked_row : (c : Config) (n : ℕ) (words : List ℕ) (x : Waiting) (s : State) → AllByRecursion (IsOnRoute c) s.cache.entries
+    → row_of_look_up c n words x s (look_up c.routes n s.cache.entries most_aliases [] x.wanted) ≡ row_of_route c n words x s (route_of c x.wanted.name)
+looked_row c n words x s on = by (route_of c x.wanted.name) refl
+  where
+    by : (r : Option ℕ) → route_of c x.wanted.name ≡ r → row_of_look_up c n words x s (look_up c.routes n s.cache.entries most_aliases [] x.wanted) ≡ row_of_route c n words x s r
+    by None none = ap (row_of_look_up c n words x s) (nothing_met c n s.cache.entries on x.wanted none) ∙ ap (λ (o : Option ℕ). row_of_fate c n words s (fate_missed x (missing [] x.wanted) o)) none
+    by (Some route) there = refl

@@ -1,7 +1,7 @@
 -- What a forwarder keeps still holds after each change.
 use Rattle.std.proofs.Common.{Vec, ◌≡◌, ℕ, zero, suc, ◌+◌, ◌^◌, ◌<◌, ◌≤◌, List, [], ◌∷◌, ◌++◌, length, Bool, true, false, cond, refl, sym, ap, ◌∙◌, subst, arith, Option, Some, None}
 use Rattle.std.specs.Prelude.{filter, not, option_map, min, take, drop, map, slice_set, slice_get, nat_le}
-use Rattle.std.specs.List.{AllByRecursion, list_any}
+use Rattle.std.specs.List.{cons_option, AllByRecursion, list_any}
 use Rattle.std.proofs.lemmas.List.{length-append, with_items_is}
 use Rattle.std.specs.Vec.{with_items}
 use Rattle.std.proofs.lemmas.Bool.{cond_both, leb-true, leb-false, cond-true, cond-false}
@@ -11,19 +11,22 @@ use Rattle.outstanding.specs.declared.ask.Path.TheVariants.{Udp, Tcp}
 use Rattle.outstanding.specs.Lists.{same_path, without_path, AreInTurn, AreListed}
 use Rattle.outstanding.specs.Due as due
 use Rattle.outstanding.specs.Values.{Ask, Inquiries}
-use Rattle.step_rules.specs.State.{Waiting}
+use Rattle.step_rules.specs.State.{Waiting, State}
 use Rattle.step_rules.specs.Attempts.{servers_in}
-use Rattle.step_rules.specs.Steps.{waits_for}
+use Rattle.step_rules.specs.Steps.{ask_list, tcp_count, waits_for}
 use Rattle.step_rules.specs.Row.{deadline_of, timeout_of}
 use Rattle.record_cache.specs.Values.{Held, Cache}
 use Rattle.answer_builder.specs.Answers.{IsEarlier}
 use Rattle.step_rules.specs.Progress.{AreTakenInTurn, IsTry, IsOnRoute, lesser, least, IsInOrder}
 use Rattle.step_rules.proofs.CallerLemmas.{first_due, first_late, first_deadline}
 use Rattle.step_soundness.specs.Explains.{IsBelow, ArePreferred}
-use Rattle.step_soundness.proofs.CallerLemmas.{All-append, All-filter, All-weaker, preferred_first, preferred_put}
+use Rattle.step_soundness.proofs.CallerLemmas.{All-append, All-filter, All-weaker, append_nil, preferred_first, preferred_put}
 use Rattle.step_changes.specs.declared.next.Preferred.{Preferred}
-use Rattle.step_changes.specs.Kept.{IsKeptAsk, IsKept}
-use Rattle.step_changes.specs.Next.{left_waiting, with_preferred, without_closed, IsServed}
+use Rattle.step_changes.specs.Kept.{IsKeptAsk, HoldsEarlier, IsKept}
+use Rattle.step_changes.specs.Next.{left_waiting, left_or_sent, with_preferred, without_closed, IfFollows, IsSentEarlier, IsServed}
+use Rattle.step_replies.specs.Onward.{Onward, sent_on}
+use Rattle.waiting_questions.specs.Settling.{left_by, settled}
+use Rattle.dns_message.specs.Values.{Question}
 
 -- ---- asks, later
 
@@ -39,7 +42,7 @@ later_same c m n k asks le all = All-weaker (IsKeptAsk c m k) (IsKeptAsk c n k) 
 
 -- ---- entries, later
 
-later_entries : (m n : ℕ) (es : List Held) → m ≤ n → AllByRecursion (IsEarlier m) es → AllByRecursion (IsEarlier n) es
+pub later_entries : (m n : ℕ) (es : List Held) → m ≤ n → AllByRecursion (IsEarlier m) es → AllByRecursion (IsEarlier n) es
 later_entries m n es le all = All-weaker (IsEarlier m) (IsEarlier n) (λ h was. let at : h.accepted ≤ m = was in omega (arith, at, le)) es all
 
 -- ---- questions, later
@@ -63,6 +66,9 @@ fewer : {X : Type 0} (test : X → Bool) (xs : List X) → length (filter test x
 fewer test [] = omega arith
 fewer test (x ∷ xs) = cond_both (test x) (x ∷ filter test xs) (filter test xs) (λ ys. length ys ≤ length (x ∷ xs)) (λ _. let rest = fewer test xs in omega (arith, rest)) (λ _. let rest = fewer test xs in omega (arith, rest))
 
+pub later_held : (m n : ℕ) (xs : List Waiting) → m ≤ n → AllByRecursion (HoldsEarlier m) xs → AllByRecursion (HoldsEarlier n) xs
+later_held m n xs le all = All-weaker (HoldsEarlier m) (HoldsEarlier n) (λ x h. later_entries m n x.held le h) xs all
+
 -- ---- changes
 
 pub kept_later : (c : Config) (e : Cache) (i : Inquiries) (ws : List Waiting) (ps : List ℕ) (m n k : ℕ) → IsKept c e i ws ps m k → m ≤ n → n ≤ 2 ^ 62 → IsKept c e i ws ps n k
@@ -75,15 +81,15 @@ kept_later c e i ws ps m n k kept le small = record {
   few = kept.few;
   in_turn = kept.in_turn;
   taken = later_taken m n ws le kept.taken;
-  plain = kept.plain;
+  aliases = later_held m n ws le kept.aliases;
   places = kept.places;
   in_time = small;
   counted = kept.counted;
 }
 
 -- one question more
-pub kept_joined : (c : Config) (e : Cache) (i : Inquiries) (ws ws' : List Waiting) (ps : List ℕ) (m n k : ℕ) (x : Waiting) → IsKept c e i ws ps m k → m ≤ n → n ≤ 2 ^ 62 → length ws < c.limits.questions → x.taken ≡ n → x.held ≡ [] → ws' ≡ ws ++ x ∷ [] → IsKept c e i ws' ps n k
-kept_joined c e i ws ws' ps m n k x kept le small room at plain is = subst (λ (xs : List Waiting). IsKept c e i xs ps n k) (sym is) (record {
+pub kept_joined : (c : Config) (e : Cache) (i : Inquiries) (ws ws' : List Waiting) (ps : List ℕ) (m n k : ℕ) (x : Waiting) → IsKept c e i ws ps m k → m ≤ n → n ≤ 2 ^ 62 → length ws < c.limits.questions → x.taken ≡ n → HoldsEarlier n x → ws' ≡ ws ++ x ∷ [] → IsKept c e i ws' ps n k
+kept_joined c e i ws ws' ps m n k x kept le small room at earlier is = subst (λ (xs : List Waiting). IsKept c e i xs ps n k) (sym is) (record {
   config = kept.config;
   cache = kept.cache;
   accepted = later_entries m n e.entries le kept.accepted;
@@ -92,7 +98,7 @@ kept_joined c e i ws ws' ps m n k x kept le small room at plain is = subst (λ (
   few = let longer = length-append ws (x ∷ []) in omega (arith, longer, room);
   in_turn = in_turn_put m ws x kept.in_turn kept.taken (omega (arith, at, le));
   taken = All-append (λ (y : Waiting). y.taken ≤ n) ws (x ∷ []) (later_taken m n ws le kept.taken) (omega (arith, at), tt);
-  plain = All-append (λ (y : Waiting). y.held ≡ []) ws (x ∷ []) kept.plain (plain, tt);
+  aliases = All-append (HoldsEarlier n) ws (x ∷ []) (later_held m n ws le kept.aliases) (earlier, tt);
   places = kept.places;
   in_time = small;
   counted = kept.counted;
@@ -110,7 +116,7 @@ kept_asked c e i i' ws ps m n k j listed a kept le small all one fits is = subst
   few = kept.few;
   in_turn = kept.in_turn;
   taken = later_taken m n ws le kept.taken;
-  plain = kept.plain;
+  aliases = later_held m n ws le kept.aliases;
   places = kept.places;
   in_time = small;
   counted = fits;
@@ -130,7 +136,7 @@ kept_without c e i i' ws ps m k closed kept is = subst (λ (q : Inquiries). IsKe
   few = kept.few;
   in_turn = kept.in_turn;
   taken = kept.taken;
-  plain = kept.plain;
+  aliases = kept.aliases;
   places = kept.places;
   in_time = kept.in_time;
   counted = kept.counted;
@@ -155,11 +161,94 @@ kept_left c e i ws ws' ps m k r kept is = subst (λ (xs : List Waiting). IsKept 
       few = let less = fewer (λ (x : Waiting). not (waits_for a.question x)) ws in let few = kept.few in omega (arith, less, few);
       in_turn = in_turn_left (λ x. not (waits_for a.question x)) ws kept.in_turn;
       taken = All-filter (λ (x : Waiting). x.taken ≤ m) (λ x. not (waits_for a.question x)) ws kept.taken;
-      plain = All-filter (λ (x : Waiting). x.held ≡ []) (λ x. not (waits_for a.question x)) ws kept.plain;
+      aliases = All-filter (HoldsEarlier m) (λ x. not (waits_for a.question x)) ws kept.aliases;
       places = kept.places;
       in_time = kept.in_time;
       counted = kept.counted;
     }
+
+-- ---- questions that are sent on
+
+any_fate : (fates : List (Option Onward)) → AllByRecursion (λ o. Unit {0}) fates
+any_fate [] = tt
+any_fate (fate ∷ fates) = (tt, any_fate fates)
+
+-- what a fate leaves of a question, where it meets the condition still, before others that do
+one_settled : (P : Waiting → Type 0) (Fits : Option Onward → Type 0) → ((s : Onward) (x : Waiting) → Fits (Some s) → P x → P (sent_on s x)) → (x : Waiting) (rest : List Waiting) → P x → AllByRecursion P rest
+    → (o : Option Onward) → Fits o → AllByRecursion P (cons_option (left_by o x) rest)
+one_settled P Fits still x rest was all None h = all
+one_settled P Fits still x rest was all (Some s) h = (still s x h was, all)
+
+-- what fates leave of questions, where each that is sent on meets the condition still
+all_settled : (P : Waiting → Type 0) (Fits : Option Onward → Type 0) → ((s : Onward) (x : Waiting) → Fits (Some s) → P x → P (sent_on s x)) → (q : Question) (fates : List (Option Onward)) (xs : List Waiting)
+    → AllByRecursion Fits fates → AllByRecursion P xs → AllByRecursion P (settled q fates xs)
+all_settled P Fits still q fates [] fit all = tt
+all_settled P Fits still q [] (x ∷ xs) fit all = all
+all_settled P Fits still q (fate ∷ fates) (x ∷ xs) fit all =
+    cond_both (waits_for q x) (cons_option (left_by fate x) (settled q fates xs)) (x ∷ settled q (fate ∷ fates) xs) (AllByRecursion P)
+    (λ _. one_settled P Fits still x (settled q fates xs) all.0 (all_settled P Fits still q fates xs fit.1 all.1) fate fit.0) (λ _. (all.0, all_settled P Fits still q (fate ∷ fates) xs fit all.1))
+
+-- sending on changes no moment of taking
+same_taken : (P : ℕ → Type 0) (q : Question) (fates : List (Option Onward)) (xs : List Waiting) → AllByRecursion (λ x. P x.taken) xs → AllByRecursion (λ x. P x.taken) (settled q fates xs)
+same_taken P q fates xs all = all_settled (λ (x : Waiting). P x.taken) (λ o. Unit {0}) (λ s x any h. h) q fates xs (any_fate fates) all
+
+one_in_turn : (x : Waiting) (rest : List Waiting) → AllByRecursion (λ y. x.taken ≤ y.taken) rest → AreTakenInTurn rest → (o : Option Onward) → AreTakenInTurn (cons_option (left_by o x) rest)
+one_in_turn x rest after turn None = turn
+one_in_turn x rest after turn (Some s) = (after, turn)
+
+in_turn_settled : (q : Question) (fates : List (Option Onward)) (xs : List Waiting) → AreTakenInTurn xs → AreTakenInTurn (settled q fates xs)
+in_turn_settled q fates [] turn = tt
+in_turn_settled q [] (x ∷ xs) turn = turn
+in_turn_settled q (fate ∷ fates) (x ∷ xs) turn =
+    cond_both (waits_for q x) (cons_option (left_by fate x) (settled q fates xs)) (x ∷ settled q (fate ∷ fates) xs) AreTakenInTurn
+    (λ _. one_in_turn x (settled q fates xs) (same_taken (λ t. x.taken ≤ t) q fates xs turn.0) (in_turn_settled q fates xs turn.1) fate)
+    (λ _. (same_taken (λ t. x.taken ≤ t) q (fate ∷ fates) xs turn.0, in_turn_settled q (fate ∷ fates) xs turn.1))
+
+one_no_more : (x : Waiting) (rest xs : List Waiting) → length rest ≤ length xs → (o : Option Onward) → length (cons_option (left_by o x) rest) ≤ length (x ∷ xs)
+one_no_more x rest xs less None = omega (arith, less)
+one_no_more x rest xs less (Some s) = omega (arith, less)
+
+no_more_settled : (q : Question) (fates : List (Option Onward)) (xs : List Waiting) → length (settled q fates xs) ≤ length xs
+no_more_settled q fates [] = omega arith
+no_more_settled q [] (x ∷ xs) = omega arith
+no_more_settled q (fate ∷ fates) (x ∷ xs) =
+    cond_both (waits_for q x) (cons_option (left_by fate x) (settled q fates xs)) (x ∷ settled q (fate ∷ fates) xs) (λ ys. length ys ≤ length (x ∷ xs))
+    (λ _. one_no_more x (settled q fates xs) xs (no_more_settled q fates xs) fate) (λ _. let rest = no_more_settled q (fate ∷ fates) xs in omega (arith, rest))
+
+-- questions are sent on
+pub kept_sent : (c : Config) (e : Cache) (i : Inquiries) (ws ws' : List Waiting) (ps : List ℕ) (m k : ℕ) (r : Option Ask) (onward : List (Option Onward)) → IsKept c e i ws ps m k → AllByRecursion (IsSentEarlier m) onward → ws' ≡ left_or_sent r onward ws → IsKept c e i ws' ps m k
+kept_sent c e i ws ws' ps m k r onward kept earlier is = subst (λ (xs : List Waiting). IsKept c e i xs ps m k) (sym is) (by r)
+  where
+    by : (o : Option Ask) → IsKept c e i (left_or_sent o onward ws) ps m k
+    by None = kept
+    by (Some a) = record {
+      config = kept.config;
+      cache = kept.cache;
+      accepted = kept.accepted;
+      capacity = kept.capacity;
+      asks = kept.asks;
+      few = let less = no_more_settled a.question onward ws in let few = kept.few in omega (arith, less, few);
+      in_turn = in_turn_settled a.question onward ws kept.in_turn;
+      taken = same_taken (λ t. t ≤ m) a.question onward ws kept.taken;
+      aliases = all_settled (HoldsEarlier m) (IsSentEarlier m) (λ s x h was. h) a.question onward ws earlier kept.aliases;
+      places = kept.places;
+      in_time = kept.in_time;
+      counted = kept.counted;
+    }
+
+-- the ask on a path is closed, and another is listed, where there is one
+pub kept_next : (c : Config) (e : Cache) (i i' : Inquiries) (ws : List Waiting) (ps : List ℕ) (m n k : ℕ) (path : Path) (s : State) (listed : List Ask) (next : Option Ask) → IsKept c e i ws ps m k → m ≤ n → n ≤ 2 ^ 62 → s.tcp_asks ≡ k → IfFollows c n s listed next
+    → i' ≡ record i { asks = without_path path i.asks ++ ask_list next } → IsKept c e i' ws ps n (k + tcp_count next)
+kept_next c e i i' ws ps m n k path s listed None kept le small same follows is =
+    let later = kept_later c e i ws ps m n k kept le small in
+    let fewer = kept_without c e i i' ws ps n k (Some path) later (is ∙ (λ j. record i { asks = append_nil (without_path path i.asks) j })) in
+    let count : k ≡ k + 0 = omega arith in
+    subst (λ (j : ℕ). IsKept c e i' ws ps n j) count fewer
+kept_next c e i i' ws ps m n k path s listed (Some a) kept le small same follows is =
+    kept_asked c e i i' ws ps m n k (tcp_count (Some a)) (without_path path i.asks) a kept le small (kept_rest c m k path i.asks kept.asks)
+    (subst (λ (j : ℕ). IsKeptAsk c n (j + tcp_count (Some a)) a) same follows.kept)
+    (subst (λ (j : ℕ). j + tcp_count (Some a) < 2 ^ 64) same follows.counted)
+    is
 
 pub kept_dropped : (c : Config) (e : Cache) (i : Inquiries) (ws ws' : List Waiting) (ps : List ℕ) (m k : ℕ) → IsKept c e i ws ps m k → ws' ≡ drop 1 ws → IsKept c e i ws' ps m k
 kept_dropped c e i [] ws' ps m k kept is = subst (λ (xs : List Waiting). IsKept c e i xs ps m k) (sym is) kept
@@ -172,7 +261,7 @@ kept_dropped c e i (x ∷ ws) ws' ps m k kept is = subst (λ (xs : List Waiting)
   few = let few = kept.few in omega (arith, few);
   in_turn = kept.in_turn.1;
   taken = kept.taken.1;
-  plain = kept.plain.1;
+  aliases = kept.aliases.1;
   places = kept.places;
   in_time = kept.in_time;
   counted = kept.counted;
@@ -193,7 +282,7 @@ kept_preferred c e i ws ps ps' m k preferred kept served is = subst (λ (qs : Li
       few = kept.few;
       in_turn = kept.in_turn;
       taken = kept.taken;
-      plain = kept.plain;
+      aliases = kept.aliases;
       places = preferred_put c.routes ps p.route p.server kept.places (λ r there. subst (λ (o : Option Route). p.server < length (servers_in o)) there h);
       in_time = kept.in_time;
       counted = kept.counted;
@@ -211,7 +300,7 @@ kept_entries c e e' entries i ws ps m k kept on earlier is = subst (λ (q : Cach
   few = kept.few;
   in_turn = kept.in_turn;
   taken = kept.taken;
-  plain = kept.plain;
+  aliases = kept.aliases;
   places = kept.places;
   in_time = kept.in_time;
   counted = kept.counted;
@@ -231,7 +320,7 @@ kept_first c e i ws ps config empty is none places =
       few = omega arith;
       in_turn = tt;
       taken = tt;
-      plain = tt;
+      aliases = tt;
       places = subst (ArePreferred c.routes) (sym places) (preferred_first c.routes config.each);
       in_time = omega arith;
       counted = omega arith;

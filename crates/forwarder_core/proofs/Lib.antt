@@ -6,3 +6,5 @@ pub mod Clients
 pub mod Hits
 pub mod Ticks
 pub mod Accepting
+mod SendingOn
+mod Beside

@@ -1,10 +1,10 @@
 -- The walk of a reply that was read.
-use Rattle.std.specs.Prelude.{◌≡◌, ◌<◌, length}
+use Rattle.std.specs.Prelude.{◌≡◌, ◌<◌, Bool, true, false, length}
 use Rattle.plain_list.specs.Octets.{AreOctets}
 use Rattle.dns_message.specs.Values.{Message}
 use Rattle.dns_message.specs.Messages.{HasShapes}
 use Rattle.suffix_routes.specs.Values.{Config}
-use Rattle.trust_rank.specs.Values.{Walk}
+use Rattle.trust_rank.specs.Values.{End, found, ends_no_data, ends_denied, elsewhere, lame, Walk}
 use Rattle.trust_rank.specs.Walks.{walk_of}
 use Rattle.outstanding.specs.Values.{Ask}
 use Rattle.reply_match.specs.declared.verdict.Judged.{Judged}
@@ -25,3 +25,11 @@ pub record IsWalkFor (c : Config) (a : Ask) (w : Walk) : Type 0 where
   pub message : Message
   pub read : IsRead message
   pub is : w ≡ walk_of c message a.question a.route
+
+-- it ends at a name that is to be asked for
+abbrev pub leads_on : End → Bool
+leads_on (elsewhere name) = true
+leads_on found = false
+leads_on ends_no_data = false
+leads_on ends_denied = false
+leads_on lame = false

@@ -1,14 +1,15 @@
 -- Replies put one behind another, to those alone that get one.
-use Rattle.std.proofs.Common.{◌≡◌, ℕ, zero, suc, ◌+◌, List, [], ◌∷◌, ◌++◌, drop, slice_get, Bool, true, false, cond, true≢false, Option, None, Some, refl, sym, ap, ◌∙◌, arith}
+use Rattle.std.proofs.Common.{◌≡◌, ℕ, zero, suc, ◌+◌, List, [], ◌∷◌, ◌++◌, drop, slice_get, Bool, true, false, cond, true≢false, Option, None, Some, refl, sym, ap, ◌∙◌, subst, arith}
 use Rattle.std.specs.Prelude.{filter}
+use Rattle.std.specs.List.{AllByRecursion}
+use Rattle.step_soundness.proofs.CallerLemmas.{All-filter}
 use Rattle.dns_message.specs.Values.{Question}
-use Rattle.answer_builder.specs.Transports.{answer_of}
 use Rattle.step_values.specs.declared.action.Why.{Why}
 use Rattle.step_values.specs.Values.{Action}
 use Rattle.step_replies.specs.Spelling.{Source}
 use Rattle.step_rules.specs.State.{Waiting}
-use Rattle.step_rules.specs.Steps.{Fate, gets, waits, reply_in, waits_for, fails, gives_up, sends, transport_of}
-use Rattle.step_changes.specs.Next.{with_reply, with_replies, gives_from}
+use Rattle.step_rules.specs.Steps.{Fate, gets, waits, reply_in, waits_for, fails, gives_up}
+use Rattle.step_changes.specs.Next.{with_reply, with_replies, gives_from, told_from}
 
 -- ---- those who get no reply may be left out
 
@@ -31,7 +32,18 @@ pub failures_filter : (why : Why) (q : Question) (actions : List Action) (xs : L
 failures_filter why q = with_replies_filter (fails why q) (waits_for q) (λ x e. waits_on (waits_for q x) (gives_up why x) x e)
 
 pub answers_filter : (d : Source) (q : Question) (actions : List Action) (xs : List Waiting) → with_replies (gives_from d q) actions (filter (waits_for q) xs) ≡ with_replies (gives_from d q) actions xs
-answers_filter d q = with_replies_filter (gives_from d q) (waits_for q) (λ x e. waits_on (waits_for q x) (sends x (answer_of x.asked d.chain d.moment (transport_of x.client))) x e)
+answers_filter d q = with_replies_filter (gives_from d q) (waits_for q) (λ x e. waits_on (waits_for q x) (told_from d x) x e)
+
+-- ---- one of them
+
+all_at : (P : Waiting → Type 0) (xs : List Waiting) (i : ℕ) (x : Waiting) → AllByRecursion P xs → slice_get xs i ≡ Some x → P x
+all_at P [] i x all there = absurd (cc)
+all_at P (y ∷ xs) zero x all there = let same : y ≡ x = cc in subst P same all.0
+all_at P (y ∷ xs) (suc i) x all there = all_at P xs i x all.1 there
+
+-- what holds of all holds of one that waits for a question
+pub one_of_those : (P : Waiting → Type 0) (q : Question) (xs those : List Waiting) (i : ℕ) (x : Waiting) → AllByRecursion P xs → those ≡ filter (waits_for q) xs → slice_get those i ≡ Some x → P x
+one_of_those P q xs those i x all are there = all_at P (filter (waits_for q) xs) i x (All-filter P (waits_for q) xs all) (ap (λ (ys : List Waiting). slice_get ys i) (sym are) ∙ there)
 
 -- ---- one reply more
 
@@ -67,7 +79,7 @@ one_failed why q actions xs those i x are there =
     one_more (fails why q) actions those i x (gives_up why x) there (gets_on (waits_for q x) (gives_up why x) x (passes_at (waits_for q) xs i x (ap (λ (ys : List Waiting). slice_get ys i) (sym are) ∙ there)))
 
 pub one_answered : (d : Source) (q : Question) (actions : List Action) (xs those : List Waiting) (i : ℕ) (x : Waiting) → those ≡ filter (waits_for q) xs → slice_get those i ≡ Some x
-    → with_replies (gives_from d q) (actions ++ sends x (answer_of x.asked d.chain d.moment (transport_of x.client)) ∷ []) (drop (i + 1) those) ≡ with_replies (gives_from d q) actions (drop i those)
+    → with_replies (gives_from d q) (actions ++ told_from d x ∷ []) (drop (i + 1) those) ≡ with_replies (gives_from d q) actions (drop i those)
 one_answered d q actions xs those i x are there =
-    let a = sends x (answer_of x.asked d.chain d.moment (transport_of x.client)) in
+    let a = told_from d x in
     one_more (gives_from d q) actions those i x a there (gets_on (waits_for q x) a x (passes_at (waits_for q) xs i x (ap (λ (ys : List Waiting). slice_get ys i) (sym are) ∙ there)))

@@ -1,5 +1,5 @@
 -- What holds of a forwarder without any history.
-use Rattle.std.specs.Prelude.{◌≡◌, ℕ, ◌^◌, ◌<◌, ◌≤◌, List, [], length, Some}
+use Rattle.std.specs.Prelude.{◌≡◌, ℕ, ◌^◌, ◌<◌, ◌≤◌, List, length, Some}
 use Rattle.std.specs.List.{AllByRecursion}
 use Rattle.suffix_routes.specs.Values.{Config, IsConfig}
 use Rattle.outstanding.specs.Values.{Ask, Inquiries}
@@ -20,8 +20,12 @@ pub record IsKeptAsk (c : Config) (moment count : ℕ) (a : Ask) : Type 0 where
   pub tries : IsTry c a
   pub path : IsBelow count a.path
 
+-- no alias that the question holds was accepted later
+abbrev pub HoldsEarlier : ℕ → Waiting → Type 0
+HoldsEarlier moment x = AllByRecursion (IsEarlier moment) x.held
+
 -- the cache has the configured capacity and what it holds is on its routes, both lists are within their limits and in the
--- order of time, no moment is past the effective one, no question that waits holds aliases, and each preferred server is one
+-- order of time, no moment is past the effective one, that of an alias that is held neither, and each preferred server is one
 -- of its group
 pub record IsKept (c : Config) (store : Cache) (inquiries : Inquiries) (waiting : List Waiting) (preferred : List ℕ) (moment count : ℕ)
     : Type 0 where
@@ -33,7 +37,7 @@ pub record IsKept (c : Config) (store : Cache) (inquiries : Inquiries) (waiting 
   pub few : length waiting ≤ c.limits.questions
   pub in_turn : AreTakenInTurn waiting
   pub taken : AllByRecursion (λ x. x.taken ≤ moment) waiting
-  pub plain : AllByRecursion (λ x. x.held ≡ []) waiting
+  pub aliases : AllByRecursion (HoldsEarlier moment) waiting
   pub places : ArePreferred c.routes preferred
   pub in_time : moment ≤ 2 ^ 62
   pub counted : count < 2 ^ 64

@@ -1,25 +1,31 @@
 -- What a step is about to do, before it is put in place.
-use Rattle.std.specs.Prelude.{◌≡◌, ℕ, ◌+◌, ◌^◌, ◌<◌, ◌≤◌, Bool, if◌then◌else◌, not, List, [], ◌∷◌, ◌++◌, length, map, drop, filter, slice_set, Option, Some, None, Result, Ok, Err}
+use Rattle.std.specs.Prelude.{◌≡◌, ℕ, suc, ◌+◌, ◌^◌, ◌<◌, ◌≤◌, Bool, if◌then◌else◌, not, nat_le, List, [], ◌∷◌, ◌++◌, length, map, drop, filter, slice_set, Option, Some, None, Result, Ok, Err}
 use Rattle.std.specs.declared.alloc.AllocError.{AllocError}
 use Rattle.suffix_routes.specs.Values.{Config}
 use Rattle.dns_message.specs.Values.{Question}
 use Rattle.outstanding.specs.declared.ask.Path.{Path}
 use Rattle.step_changes.specs.declared.next.Preferred.{Preferred}
 use Rattle.step_changes.specs.declared.next.Change.{Change}
-use Rattle.step_changes.specs.declared.next.Change.TheVariants.{Nothing, Join, Open, Close, AskAgain, Expire}
+use Rattle.step_changes.specs.declared.next.Change.TheVariants.{Nothing, Join, Open, Close, SendOn, AskAgain, Expire}
 use Rattle.step_changes.specs.declared.next.Next.{Next}
 use Rattle.step_values.specs.Values.{Event, restart, Action, actions_of, Outcome}
 use Rattle.step_rules.specs.State.{Waiting, State}
 use Rattle.outstanding.specs.Lists.{on_path as ask_on, without_path, MayBegin}
 use Rattle.outstanding.specs.Values.{Ask}
-use Rattle.step_rules.specs.Steps.{Done, Fate, gets, waits, closes, reply_in, waits_for, using, offering_step, sends, transport_of}
+use Rattle.step_rules.specs.Steps.{Done, Fate, gets, waits, gives_up, ask_list, tcp_count, closes, reply_in, waits_for, using, offering_step, sends, transport_of}
 use Rattle.step_rules.specs.Row.{is_due_at, Happens}
 use Rattle.answer_builder.specs.Transports.{answer_of}
 use Rattle.trust_rank.specs.Values.{Piece}
 use Rattle.record_cache.specs.Values.{Held}
 use Rattle.step_replies.specs.Spelling.{Source}
 use Rattle.step_history.specs.History.{is_tcp}
-use Rattle.step_changes.specs.Kept.{IsKeptAsk}
+use Rattle.step_changes.specs.Kept.{IsKeptAsk, HoldsEarlier}
+use Rattle.answer_builder.specs.Answers.{IsEarlier}
+use Rattle.std.specs.List.{AllByRecursion}
+use Rattle.trust_rank.specs.Walks.{most_aliases}
+use Rattle.step_replies.specs.Onward.{Onward}
+use Rattle.step_values.specs.declared.action.Why.TheVariants.{ChainLong}
+use Rattle.waiting_questions.specs.Settling.{settled}
 
 -- one more ask by TCP, where the path is a connection
 abbrev pub tcp_count_of : Path → ℕ
@@ -29,6 +35,11 @@ tcp_count_of p = if is_tcp p then 1 else 0
 abbrev pub left_waiting : Option Ask → List Waiting → List Waiting
 left_waiting None xs = xs
 left_waiting (Some a) xs = filter (λ x. not (waits_for a.question x)) xs
+
+-- those that waited for the ask, as their fates have it: each waits no more, or waits on with what it is sent on with
+abbrev pub left_or_sent : Option Ask → List (Option Onward) → List Waiting → List Waiting
+left_or_sent None onward xs = xs
+left_or_sent (Some a) onward xs = settled a.question onward xs
 
 abbrev pub with_preferred : Option Preferred → List ℕ → List ℕ
 with_preferred None places = places
@@ -52,6 +63,7 @@ changed n s Nothing = record s { moment = n }
 changed n s (Join b) = record s { waiting = s.waiting ++ b.value ∷ []; moment = n }
 changed n s (Open b) = record s { asks = s.asks ++ b.value.ask ∷ []; waiting = s.waiting ++ b.value.waiting ∷ []; moment = n; tcp_asks = s.tcp_asks + tcp_count_of b.value.ask.path }
 changed n s (Close path preferred) = record s { asks = without_path path s.asks; waiting = left_waiting (ask_on path s.asks) s.waiting; preferred = with_preferred preferred s.preferred; moment = n }
+changed n s (SendOn b) = record s { asks = without_path b.value.path s.asks ++ ask_list b.value.ask; waiting = left_or_sent (ask_on b.value.path s.asks) b.value.onward.items s.waiting; preferred = with_preferred (Some b.value.preferred) s.preferred; moment = n; tcp_asks = s.tcp_asks + tcp_count b.value.ask }
 changed n s (AskAgain path b) = record s { asks = without_path path s.asks ++ b.value ∷ []; moment = n; tcp_asks = s.tcp_asks + tcp_count_of b.value.path }
 changed n s (Expire closed) = record s { asks = without_closed closed s.asks; waiting = drop 1 s.waiting; moment = n }
 
@@ -66,17 +78,39 @@ pub record CanFollow (c : Config) (n : ℕ) (s : State) (listed : List Ask) (a :
 pub record CanWait (c : Config) (n : ℕ) (s : State) (x : Waiting) : Type 0 where
   pub room : length s.waiting < c.limits.questions
   pub taken : x.taken ≡ n
-  pub plain : x.held ≡ []
+  pub aliases : HoldsEarlier n x
 
 abbrev pub IsServed : Config → Option Preferred → Type 0
 IsServed c None = Unit {0}
 IsServed c (Some p) = p.server < length (Rattle.step_rules.specs.Attempts.servers_in (Rattle.step_rules.specs.Attempts.group_of c p.route))
+
+-- the aliases that it is sent on with were accepted by now
+abbrev pub IsSentEarlier : ℕ → Option Onward → Type 0
+IsSentEarlier n None = Unit {0}
+IsSentEarlier n (Some s) = AllByRecursion (IsEarlier n) s.held
+
+-- as many fates as questions wait for the ask
+abbrev pub AreForThose : Option Ask → List (Option Onward) → List Waiting → Type 0
+AreForThose None onward xs = ⊥
+AreForThose (Some a) onward xs = length onward ≡ length (filter (waits_for a.question) xs)
+
+abbrev pub IfFollows : Config → ℕ → State → List Ask → Option Ask → Type 0
+IfFollows c n s listed None = Unit {0}
+IfFollows c n s listed (Some a) = CanFollow c n s listed a
+
+-- those that wait for the ask on this path may be sent on now
+pub record CanSendOn (c : Config) (n : ℕ) (s : State) (path : Path) (preferred : Preferred) (onward : List (Option Onward)) (next : Option Ask) : Type 0 where
+  pub those : AreForThose (ask_on path s.asks) onward s.waiting
+  pub earlier : AllByRecursion (IsSentEarlier n) onward
+  pub served : IsServed c (Some preferred)
+  pub follows : IfFollows c n s (without_path path s.asks) next
 
 abbrev pub FitsChange : {A : Type 0} → Config → ℕ → State → Change A → Type 0
 FitsChange c n s Nothing = Unit {0}
 FitsChange c n s (Join b) = CanWait c n s b.value
 FitsChange c n s (Open b) = CanWait c n s b.value.waiting × CanFollow c n s s.asks b.value.ask
 FitsChange c n s (Close path preferred) = IsServed c preferred
+FitsChange c n s (SendOn b) = CanSendOn c n s b.value.path b.value.preferred b.value.onward.items b.value.ask
 FitsChange c n s (AskAgain path b) = Rattle.std.specs.Prelude.IsSome (ask_on path s.asks) × CanFollow c n s (without_path path s.asks) b.value
 FitsChange c n s (Expire closed) = Unit {0}
 
@@ -120,9 +154,16 @@ pub record IsOutcome (c : Config) (d : Done) (o : Outcome) (s' : State) : Type 0
   pub done : record { actions = o.actions; unkept = o.unkept; state = s' } ≡ d
   pub more : o.more ≡ is_due_at c s'.moment s'
 
+-- the answer from the aliases that a question holds and this chain, unless these are more aliases than it may hold
+abbrev pub told_from : Source → Waiting → Action
+told_from d x =
+    if nat_le (length x.held + length d.chain) (suc most_aliases)
+    then sends x (answer_of x.asked (x.held ++ d.chain) d.moment (transport_of x.client))
+    else gives_up ChainLong x
+
 -- those that wait for this question get their answers from a chain of pieces, all others wait on
 abbrev pub gives_from : Source → Question → Waiting → Fate
-gives_from d q x = if waits_for q x then gets (sends x (answer_of x.asked d.chain d.moment (transport_of x.client))) else waits x
+gives_from d q x = if waits_for q x then gets (told_from d x) else waits x
 
 -- replies put one behind another
 abbrev pub with_reply : List Action → Option Action → List Action

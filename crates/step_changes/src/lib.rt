@@ -10,7 +10,8 @@ mod replies;
 pub use attempts::{Try, by_tcp, by_udp, draw_connection, freed_port, new_ask, plan};
 pub use lists::{
     close_inquiry, comes_first, end_closed, forget_all, is_late, is_live, is_overdue, list_ask,
+    send_on,
 };
-pub use next::{Change, Next, Opening, Preferred};
+pub use next::{Change, Next, Opening, Preferred, Sending};
 pub use offers::{held_from, offer_all};
 pub use replies::{answers_to, close_path, close_paths, failures};

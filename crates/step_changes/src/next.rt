@@ -9,7 +9,7 @@ use plain_list::PlainList;
 use record_cache::Held;
 use std::alloc::{Allocator, Global};
 use step_look_ups::SlotsRef;
-use step_replies::Waiting;
+use step_replies::{SentOn, Waiting};
 use step_values::Action;
 use suffix_routes::RouteId;
 
@@ -27,6 +27,16 @@ pub struct Opening<A: Allocator = Global> {
     pub ask: Ask<A>,
 }
 
+/// Those that waited for the ask on a path wait no more, or wait on: each, in the order of taking, with the aliases and the
+/// question that it is sent on with, if it is. The ask is closed, and the first ask for that question is listed, where none is.
+#[derive(Drop)]
+pub struct Sending<A: Allocator = Global> {
+    pub path: Path,
+    pub preferred: Preferred,
+    pub onward: Vec<Option<SentOn<A>>, A>,
+    pub ask: Option<Ask<A>>,
+}
+
 /// What changes beside the moment and the cache. What it lists stands in a box: most steps list nothing, and hand a change
 /// on that is small.
 #[derive(Drop)]
@@ -38,6 +48,8 @@ pub enum Change<A: Allocator = Global> {
     Open(Box<Opening<A>, A>),
     /// The ask on this path is closed, and those that waited for it wait no more.
     Close(Path, Option<Preferred>),
+    /// The ask on a path is closed, and those that waited for it are sent on.
+    SendOn(Box<Sending<A>, A>),
     /// The ask on this path is closed, and another one for its question is listed.
     AskAgain(Path, Box<Ask<A>, A>),
     /// The oldest question waits no more, and the ask on this path, where there is one, is closed.

@@ -1,6 +1,6 @@
 //! The actions that end a query: its path is closed, and those that wait for it get their replies.
 
-ghost use Rattle.std.specs.Prelude.{◌≡◌, ◌∷◌, ◌++◌, [], IfOk};
+ghost use Rattle.std.specs.Prelude.{◌≡◌, ◌∷◌, ◌++◌, [], length, IfOk};
 ghost use Rattle.std.specs.List.{AllByRecursion};
 ghost use Rattle.answer_builder.specs.Answers.{IsEarlier};
 ghost use Rattle.answer_builder.specs.Building.{lent};
@@ -8,7 +8,8 @@ ghost use Rattle.answer_builder.specs.Transports.{answer_of};
 ghost use Rattle.step_replies.specs.Spelling.{Source};
 ghost use Rattle.step_values.specs.Values.{action_of, actions_of};
 ghost use Rattle.step_rules.specs.Steps.{closes, fails, gives_up, sends, transport_of};
-ghost use Rattle.step_changes.specs.Next.{closing_path, gives_from, with_replies};
+ghost use Rattle.step_changes.specs.Kept.{HoldsEarlier};
+ghost use Rattle.step_changes.specs.Next.{closing_path, gives_from, told_from, with_replies};
 
 use dns_message::Question;
 use outstanding::{Ask, Path};
@@ -74,31 +75,61 @@ pub fn failures<A: Allocator + Copy>(
     Ok(actions)
 }
 
+/// No question takes more aliases.
+const MOST_ALIASES: usize = 8;
+
+/// The answer of a question from the aliases that it holds and the chain of these answers, which has so many pieces, or that it
+/// would hold too many aliases.
+fn answer_or_fail<'a, A: Allocator + Copy>(
+    alloc: A,
+    answers: &mut Answers<'a, A>,
+    pieces: usize,
+    waiting: &'a Waiting<A>,
+) -> Result<Action<A>, AllocError>
+    requires pieces { pieces ≡ length answers.old.chain }
+    requires earlier { AllByRecursion (IsEarlier answers.old.moment) waiting.now.held }
+    ensures same { answers.new ≡ answers.old }
+    ensures told { IfOk result (λ action. action_of action ≡ told_from answers.old waiting.now) }
+{
+    if waiting.aliases().len().saturating_add(pieces) > MOST_ALIASES + 1 {
+        return failure(alloc, &waiting.request(), Why::ChainLong);
+    }
+    answers.reply(waiting)
+}
+
 /// Puts the answer of a question last.
 fn put_answer<'a, A: Allocator + Copy>(
+    alloc: A,
     actions: &mut PlainList<Action<A>, A>,
     answers: &mut Answers<'a, A>,
+    pieces: usize,
     waiting: &'a Waiting<A>,
 ) -> Result<(), AllocError>
+    requires pieces { pieces ≡ length answers.old.chain }
+    requires earlier { AllByRecursion (IsEarlier answers.old.moment) waiting.now.held }
     ensures same { answers.new ≡ answers.old }
-    ensures put { IfOk result (λ _. actions_of actions.new ≡ actions_of actions.old ++ sends waiting.now (answer_of waiting.now.asked answers.old.chain answers.old.moment (transport_of waiting.now.client)) ∷ []) }
+    ensures put { IfOk result (λ _. actions_of actions.new ≡ actions_of actions.old ++ told_from answers.old waiting.now ∷ []) }
 {
-    let action = answers.reply(waiting)?;
+    let action = answer_or_fail(alloc, answers, pieces, waiting)?;
     actions.push(action)
 }
 
 /// Puts the answers of those questions last that wait for this one, in their order.
 fn put_answers<'a, A: Allocator + Copy>(
+    alloc: A,
     actions: &mut PlainList<Action<A>, A>,
     question: &Question<A>,
     answers: &mut Answers<'a, A>,
+    pieces: usize,
     waiting: &'a WaitingQuestions<A>,
 ) -> Result<(), AllocError>
+    requires pieces { pieces ≡ length answers.old.chain }
+    requires earlier { AllByRecursion (HoldsEarlier answers.old.moment) waiting.now.items }
     ensures { IfOk result (λ _. actions_of actions.new ≡ with_replies (gives_from answers.old question.now) (actions_of actions.old) waiting.now.items) }
 {
     let those = waiting.for_question(question);
     for place in 0..those.len() {
-        put_answer(actions, answers, those.get(place))?;
+        put_answer(alloc, actions, answers, pieces, those.get(place))?;
     }
     Ok(())
 }
@@ -110,8 +141,8 @@ fn borrowed<A: Allocator + Copy>(alloc: A, held: &[Held<A>]) -> Result<Vec<&Held
     held.iter().collect(alloc)
 }
 
-/// The query is closed, and each question that waits for it is answered from these pieces, none accepted after the moment,
-/// in milliseconds. `Err` where memory ran out.
+/// The query is closed, and each question that waits for it is answered from the aliases that it holds and these pieces, none
+/// accepted after the moment, in milliseconds, or fails where these are too many aliases. `Err` where memory ran out.
 pub fn answers_to<A: Allocator + Copy>(
     alloc: A,
     query: &Ask<A>,
@@ -119,13 +150,21 @@ pub fn answers_to<A: Allocator + Copy>(
     moment: u64,
     waiting: &WaitingQuestions<A>,
 ) -> Result<PlainList<Action<A>, A>, AllocError>
-    requires { AllByRecursion (IsEarlier moment) held.now }
+    requires pieces { AllByRecursion (IsEarlier moment) held.now }
+    requires aliases { AllByRecursion (HoldsEarlier moment) waiting.now.items }
     ensures { IfOk result (λ actions. actions_of actions ≡ with_replies (gives_from (record { chain = held.now; moment = moment }) query.now.question) (closes query.now.path ∷ []) waiting.now.items) }
 {
     let chain = borrowed(alloc, held)?;
     let mut answers = Answers::new(alloc, &chain, moment);
     let mut actions = PlainList::new(alloc);
     actions.push(close_path(query.path))?;
-    put_answers(&mut actions, &query.question, &mut answers, waiting)?;
+    put_answers(
+        alloc,
+        &mut actions,
+        &query.question,
+        &mut answers,
+        held.len(),
+        waiting,
+    )?;
     Ok(actions)
 }

@@ -13,7 +13,7 @@ use Rattle.record_cache.specs.Ageing.{end_of, seconds_left}
 use Rattle.record_cache.specs.Laws.{Among}
 use Rattle.step_values.specs.declared.action.Why.TheVariants.{ChainLong}
 use Rattle.step_history.specs.Names.{route_of}
-use Rattle.step_history.specs.History.{moment_at, Look, counts_as_lame}
+use Rattle.step_history.specs.History.{moment_at, Look, is_lame}
 use Rattle.step_history.specs.Carried.{then_carried, NotReplaced, Justified}
 use Rattle.step_history.specs.Answers.{has_slot, EndsChain}
 use Rattle.step_history.specs.Replies.{asked_in, answer_text, failure_text}
@@ -37,8 +37,8 @@ at moment p = record { piece = p; accepted = moment }
 
 -- ---- what a reply carries
 
--- a reply that leads on to another name counts as lame
-lame_ends : (counts_as_lame lame ≡ true) × (counts_as_lame (elsewhere a) ≡ true) × (counts_as_lame found ≡ false) × (counts_as_lame ends_no_data ≡ false) × (counts_as_lame ends_denied ≡ false)
+-- a reply that leads on to another name is not lame
+lame_ends : (is_lame lame ≡ true) × (is_lame (elsewhere a) ≡ false) × (is_lame found ≡ false) × (is_lame ends_no_data ≡ false) × (is_lame ends_denied ≡ false)
 lame_ends = (refl, refl, refl, refl, refl)
 
 -- what comes last is the newest

@@ -130,13 +130,13 @@ pub record Matches (c : Config) (s : Step) (past : List Step) (ask : ShownAsk) (
   pub reads : Reads octets question
   pub same_question_as_ask : same_question question asked ≡ true
 
--- a reply that ends so counts as lame: one that is lame, or one whose aliases lead to a name that has to be asked for
-abbrev pub counts_as_lame : End → Bool
-counts_as_lame lame = true
-counts_as_lame (elsewhere name) = true
-counts_as_lame found = false
-counts_as_lame ends_no_data = false
-counts_as_lame ends_denied = false
+-- a reply that ends so tells nothing of what was asked
+abbrev pub is_lame : End → Bool
+is_lame lame = true
+is_lame (elsewhere name) = false
+is_lame found = false
+is_lame ends_no_data = false
+is_lame ends_denied = false
 
 -- the newest step is accepted: whole, neither truncated nor a failure, and not lame
 pub record Accepts (c : Config) (s : Step) (past : List Step) (ask : ShownAsk) (asked : Question) (route : ℕ) (m : Message) : Type 0 where
@@ -146,7 +146,7 @@ pub record Accepts (c : Config) (s : Step) (past : List Step) (ask : ShownAsk) (
   pub untruncated : m.header.tc ≡ false
   pub rcode : (m.header.rcode ≡ 0) ⊎ (m.header.rcode ≡ 3)
   pub route_is : route_of c asked.name ≡ Some route
-  pub not_lame : counts_as_lame (walk_of c m asked route).end ≡ false
+  pub not_lame : is_lame (walk_of c m asked route).end ≡ false
 
 -- the newest step is accepted and carried these pieces: those of the walk, then the name servers of the authority section
 pub record Carries (c : Config) (s : Step) (past : List Step) (ps : List Piece) : Type 0 where

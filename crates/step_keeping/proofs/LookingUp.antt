@@ -166,6 +166,28 @@ look_up_sized routes n entries (suc more) held q is =
     sized_step held q (λ h name. through h (look_up routes n entries more (held ++ h ∷ []) (asked_at q name))) (omega (arith, is))
     (λ h name. look_up_sized routes n entries more (held ++ h ∷ []) (asked_at q name) (ap (λ (k : ℕ). more + k) (length-append held (h ∷ [])) ∙ (omega (arith, is)))) (found_in routes n entries q)
 
+-- ---- what is held stays held
+
+more_held : (held : List Held) (q : Question) (onward : Held → List (List ℕ) → Looked) → 1 ≤ length held → ((h : Held) (name : List (List ℕ)) → 1 ≤ length (onward h name).held) → (f : Found) → 1 ≤ length (followed held q onward f).held
+more_held held q onward some go (found.rows h) = some
+more_held held q onward some go (found.alias h) = by (target_of h.piece.body)
+  where
+    by : (t : Option (List (List ℕ))) → 1 ≤ length (led held q onward h t).held
+    by None = some
+    by (Some name) = go h name
+more_held held q onward some go (found.no_data h) = some
+more_held held q onward some go (found.denied h) = some
+more_held held q onward some go miss = some
+
+one_held : (held : List Held) (h : Held) → 1 ≤ length (held ++ h ∷ [])
+one_held held h = let longer = length-append held (h ∷ []) in omega (arith, longer)
+
+pub still_held : (routes : List Route) (n : ℕ) (entries : List Held) (more : ℕ) (held : List Held) (q : Question) → 1 ≤ length held → 1 ≤ length (look_up routes n entries more held q).held
+still_held routes n entries zero held q some = more_held held q (one_too_many held q) some (λ h name. one_held held h) (found_in routes n entries q)
+still_held routes n entries (suc more) held q some =
+    more_held held q (λ h name. through h (look_up routes n entries more (held ++ h ∷ []) (asked_at q name))) some
+    (λ h name. still_held routes n entries more (held ++ h ∷ []) (asked_at q name) (one_held held h)) (found_in routes n entries q)
+
 -- ---- the same again
 
 -- where one name finds the same, so do all that it leads to

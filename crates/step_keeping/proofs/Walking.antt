@@ -1,5 +1,5 @@
 -- The walk of an accepted reply answers each question that waited for it.
-use Rattle.std.proofs.Common.{◌≡◌, ℕ, List, [], ◌∷◌, true, false, refl, sym, ap, ◌∙◌, subst, inl, inr, Option, Some}
+use Rattle.std.proofs.Common.{◌≡◌, ℕ, ◌≤◌, length, arith, List, [], ◌∷◌, true, refl, sym, ap, ◌∙◌, subst, inl, inr, Option, Some}
 use Rattle.std.specs.Prelude.{map}
 use Rattle.dns_name.specs.Labels.{lowered, IsSame, is_under}
 use Rattle.dns_name.proofs.CallerLemmas.{is_under_decides, under_itself, under_respects_same, lowered_is_same}
@@ -9,15 +9,16 @@ use Rattle.suffix_routes.specs.Values.{Config}
 use Rattle.suffix_routes.proofs.CallerLemmas.{route_of_respects_same}
 use Rattle.trust_rank.specs.Values.{Body, rows, no_data, denied, Piece, End, found, ends_no_data, ends_denied, elsewhere, lame, Walk, Reply, reply_of}
 use Rattle.trust_rank.specs.Walks.{walk_of, most_aliases}
-use Rattle.trust_rank.specs.Laws.{IsCarriedFor, IsAliasTo, Lead, last_kind, IsLastBody, Closes}
+use Rattle.trust_rank.specs.Laws.{IsCarriedFor, IsAliasTo, Lead, last_kind, IsLastBody, Closes, EndsSo}
 use Rattle.trust_rank.proofs.CallerLemmas.{walk_leads}
 use Rattle.record_cache.specs.Values.{Held}
 use Rattle.record_cache.specs.Laws.{Among}
 use Rattle.step_history.specs.Names.{route_of}
-use Rattle.step_history.specs.History.{Look, counts_as_lame}
+use Rattle.step_history.specs.History.{Look}
 use Rattle.step_history.specs.Carried.{Justified}
 use Rattle.step_history.specs.Answers.{FollowsAliases, EndsChain}
 use Rattle.step_rules.specs.Row.{held_at}
+use Rattle.step_keeping.specs.Chains.{has_last}
 use Rattle.step_keeping.proofs.Slots.{slot_carried_over}
 
 -- ---- what a walk gives that was accepted
@@ -26,19 +27,19 @@ use Rattle.step_keeping.proofs.Slots.{slot_carried_over}
 abbrev pub ClosesAt : Reply → List Piece → End → Type 0
 ClosesAt r pieces end = Closes r most_aliases r.question.name end pieces
 
-pub walk_closes : (c : Config) (m : Message) (q : Question) (route : ℕ) → HasShapes m → route_of c q.name ≡ Some route → counts_as_lame (walk_of c m q route).end ≡ false
+pub walk_closes : (c : Config) (m : Message) (q : Question) (route : ℕ) → HasShapes m → route_of c q.name ≡ Some route → has_last (walk_of c m q route).end ≡ true
     → ClosesAt (reply_of c m q route) (walk_of c m q route).pieces (walk_of c m q route).end
-walk_closes c m q route shapes on fine = by (walk_of c m q route) (walk_leads c m q route shapes on) fine
+walk_closes c m q route shapes on fine = by (walk_of c m q route).end (walk_leads c m q route shapes on) fine
   where
-    by : (w : Walk) → Rattle.trust_rank.specs.Laws.EndsSo (reply_of c m q route) w.pieces w.authority w.end → counts_as_lame w.end ≡ false → ClosesAt (reply_of c m q route) w.pieces w.end
-    by w h fine = at w.end h fine
-      where
-        at : (e : End) → Rattle.trust_rank.specs.Laws.EndsSo (reply_of c m q route) w.pieces w.authority e → counts_as_lame e ≡ false → ClosesAt (reply_of c m q route) w.pieces e
-        at found h fine = h
-        at ends_no_data h fine = h
-        at ends_denied h fine = h
-        at (elsewhere name) h fine = absurd (cc)
-        at lame h fine = absurd (cc)
+    w : Walk
+    w = walk_of c m q route
+
+    by : (e : End) → EndsSo (reply_of c m q route) w.pieces w.authority e → has_last e ≡ true → ClosesAt (reply_of c m q route) w.pieces e
+    by found h fine = h
+    by ends_no_data h fine = h
+    by ends_denied h fine = h
+    by (elsewhere name) h fine = absurd (cc)
+    by lame h fine = absurd (cc)
 
 -- ---- they serve an equal question
 
@@ -66,8 +67,26 @@ lead_follows l r t config name other last (p ∷ aliases) lead alike serve =
     let route : route_of l.config other ≡ Some p.route = subst (λ (c : Config). route_of c other ≡ Some p.route) config (on_its_route r name other (Some 5) p alias.carried alike) in
     (rest.0, rest.1, (alias.follows, serve (held_at t p) other (inl refl) route, slot_carried_over p name other r.question.class (Some 5) alias.carried.slot alike, target, alias.leads, rest.2))
 
+-- to the last name as it is spelled there, from the first as it is spelled there
+lead_goes : (l : Look) (r : Reply) (t : ℕ) → r.config ≡ l.config → (name last : List (List ℕ)) (aliases : List Piece) → Lead r name aliases last → Serve l t (map (held_at t) aliases)
+    → FollowsAliases l (at_name name r.question.kind r.question.class) (map (held_at t) aliases) (at_name last r.question.kind r.question.class)
+lead_goes l r t config name last [] lead serve = λ i. at_name (sym lead i) r.question.kind r.question.class
+lead_goes l r t config name last (p ∷ aliases) lead serve =
+    let alias : IsAliasTo r name lead.0 p = lead.1 in
+    let route : route_of l.config name ≡ Some p.route = subst (λ (c : Config). route_of c name ≡ Some p.route) config (on_its_route r name name (Some 5) p alias.carried refl) in
+    (alias.follows, serve (held_at t p) name (inl refl) route, slot_carried_over p name name r.question.class (Some 5) alias.carried.slot refl, lead.0, alias.leads, lead_goes l r t config lead.0 last aliases lead.2 (λ o n among. serve o n (inr among)))
+
+-- or, where there is an alias, from each name that is the same
+pub lead_follows_to : (l : Look) (r : Reply) (t : ℕ) → r.config ≡ l.config → (name other last : List (List ℕ)) (aliases : List Piece) → Lead r name aliases last → IsSame other name → 1 ≤ length aliases
+    → Serve l t (map (held_at t) aliases) → FollowsAliases l (at_name other r.question.kind r.question.class) (map (held_at t) aliases) (at_name last r.question.kind r.question.class)
+lead_follows_to l r t config name other last [] lead alike some serve = absurd (omega (arith, some))
+lead_follows_to l r t config name other last (p ∷ aliases) lead alike some serve =
+    let alias : IsAliasTo r name lead.0 p = lead.1 in
+    let route : route_of l.config other ≡ Some p.route = subst (λ (c : Config). route_of c other ≡ Some p.route) config (on_its_route r name other (Some 5) p alias.carried alike) in
+    (alias.follows, serve (held_at t p) other (inl refl) route, slot_carried_over p name other r.question.class (Some 5) alias.carried.slot alike, lead.0, alias.leads, lead_goes l r t config lead.0 last aliases lead.2 (λ o n among. serve o n (inr among)))
+
 -- the piece that closes ends the look-up of each question at a name that is the same
-pub closes_ends : (r : Reply) (end : End) (last other : List (List ℕ)) (p : Piece) → counts_as_lame end ≡ false → IsCarriedFor r last (last_kind r end) p → IsLastBody end p.body → IsSame other last
+pub closes_ends : (r : Reply) (end : End) (last other : List (List ℕ)) (p : Piece) → has_last end ≡ true → IsCarriedFor r last (last_kind r end) p → IsLastBody end p.body → IsSame other last
     → EndsChain (at_name other r.question.kind r.question.class) p p.body
 closes_ends r end last other p fine carried body alike = by end fine carried p.body body
   where
@@ -75,7 +94,7 @@ closes_ends r end last other p fine carried body alike = by end fine carried p.b
     under = (is_under_decides other p.slot.key).1
         (under_respects_same other other other p.slot.key refl (sym (ap (λ (s : Rattle.trust_rank.specs.declared.slot.Slot.Slot). lowered s.key) carried.slot ∙ lowered_is_same last ∙ sym alike)) (under_itself other))
 
-    by : (e : End) → counts_as_lame e ≡ false → IsCarriedFor r last (last_kind r e) p → (b : Body) → IsLastBody e b → EndsChain (at_name other r.question.kind r.question.class) p b
+    by : (e : End) → has_last e ≡ true → IsCarriedFor r last (last_kind r e) p → (b : Body) → IsLastBody e b → EndsChain (at_name other r.question.kind r.question.class) p b
     by found fine k (rows each) is = slot_carried_over p last other r.question.class (Some r.question.kind) k.slot alike
     by found fine k (no_data soa) is = absurd is
     by found fine k (denied soa) is = absurd is

@@ -1,14 +1,14 @@
 -- Chains that a history justifies: those of a look-up, and those of an accepted reply.
-use Rattle.std.specs.Prelude.{◌≡◌, ℕ, ◌≤◌, false, List, [], ◌∷◌, ◌++◌, length, map, ◌⊎◌}
+use Rattle.std.specs.Prelude.{◌≡◌, ℕ, ◌≤◌, Bool, true, false, List, [], ◌∷◌, ◌++◌, length, map, ◌⊎◌}
 use Rattle.std.specs.List.{AllByRecursion}
 use Rattle.dns_message.specs.Values.{Question}
 use Rattle.suffix_routes.specs.Values.{Config}
-use Rattle.trust_rank.specs.Values.{Piece}
+use Rattle.trust_rank.specs.Values.{Piece, End, found, ends_no_data, ends_denied, elsewhere, lame}
 use Rattle.record_cache.specs.Values.{Held}
 use Rattle.step_values.specs.Values.{Step}
 use Rattle.step_history.specs.History.{is_restart, Look, Carries, NothingAccepted}
 use Rattle.step_history.specs.Carried.{Justified}
-use Rattle.step_history.specs.Answers.{FollowsAliases, EndsChain}
+use Rattle.step_history.specs.Answers.{asked_at, FollowsAliases, EndsChain}
 use Rattle.step_rules.specs.LookingUp.{Met, ends, too_long, missed, Looked}
 use Rattle.step_rules.specs.Row.{held_at}
 use Rattle.step_keeping.specs.Kept.{CanBeTold}
@@ -47,6 +47,14 @@ pub record IsRight (l : Look) (t : ℕ) (q : Question) (v : Looked) : Type 0 whe
 
 -- ---- of an accepted reply
 
+-- a walk that ends so has a last piece, which ends the look-up
+abbrev pub has_last : End → Bool
+has_last found = true
+has_last ends_no_data = true
+has_last ends_denied = true
+has_last (elsewhere name) = false
+has_last lame = false
+
 -- pieces that came at the moment t: aliases that lead on from the question, and the one that ends its look-up
 pub record LeadToEnd (l : Look) (t : ℕ) (q : Question) (ps : List Piece) : Type 0 where
   pub aliases : List Piece
@@ -56,3 +64,9 @@ pub record LeadToEnd (l : Look) (t : ℕ) (q : Question) (ps : List Piece) : Typ
   pub follows : FollowsAliases l q (map (held_at t) aliases) to
   pub justified : Justified l to.name (held_at t last)
   pub right_end : EndsChain to last last.body
+
+-- pieces that came at the moment t: one to eight aliases that lead on from the question to the same at this name
+pub record LeadOn (l : Look) (t : ℕ) (q : Question) (ps : List Piece) (name : List (List ℕ)) : Type 0 where
+  pub some : 1 ≤ length ps
+  pub few : length ps ≤ 8
+  pub follows : FollowsAliases l q (map (held_at t) ps) (asked_at q name)

@@ -1,27 +1,27 @@
 -- What the definitions are good for, as statements: they hold along the table's steps.
-use Rattle.std.specs.Prelude.{◌≡◌, ℕ, false, Bool, List, [], ◌∷◌, ◌++◌, Some}
+use Rattle.std.specs.Prelude.{◌≡◌, ℕ, ◌+◌, true, false, length, Bool, List, [], ◌∷◌, ◌++◌, Some}
 use Rattle.std.specs.List.{AllByRecursion}
 use Rattle.dns_message.specs.Values.{Question, Message}
 use Rattle.dns_message.specs.Messages.{IsSameQuestion, HasShapes}
 use Rattle.dns_message.specs.Written.{IsQuestion, IsMessage}
 use Rattle.suffix_routes.specs.Values.{Config}
 use Rattle.trust_rank.specs.declared.slot.Slot.{Slot}
-use Rattle.trust_rank.specs.Values.{Piece}
-use Rattle.trust_rank.specs.Walks.{walk_of}
+use Rattle.trust_rank.specs.Values.{Piece, elsewhere}
+use Rattle.trust_rank.specs.Walks.{walk_of, most_aliases}
 use Rattle.record_cache.specs.Values.{Held, Cache}
 use Rattle.answer_builder.specs.Values.{Asked}
 use Rattle.step_values.specs.declared.event.Client.{Client}
 use Rattle.step_values.specs.Values.{Step}
 use Rattle.step_history.specs.Names.{route_of}
-use Rattle.step_history.specs.History.{is_restart, moment_at, InEra, counts_as_lame, Carries, NothingAccepted}
+use Rattle.step_history.specs.History.{is_restart, moment_at, InEra, is_lame, Carries, NothingAccepted}
 use Rattle.step_history.specs.Carried.{CarriedInEra}
-use Rattle.step_history.specs.Answers.{Leads}
+use Rattle.step_history.specs.Answers.{FollowsAliases, Leads}
 use Rattle.step_history.specs.Replies.{answer_text, cut_text, sized_for, FitsTransport}
 use Rattle.step_history.specs.Sound.{FromCache, SameAsEarlierFromCache}
-use Rattle.step_rules.specs.LookingUp.{promoted_all}
+use Rattle.step_rules.specs.LookingUp.{look_up, promoted_all}
 use Rattle.step_rules.specs.Offering.{put_all}
 use Rattle.step_keeping.specs.Kept.{CanBeKept, CanBeTold, CanBeRepeated, SpellsAnswer, looked, IsStillFound, IsCached}
-use Rattle.step_keeping.specs.Chains.{look_from, GoesOn, IsRight, LeadToEnd}
+use Rattle.step_keeping.specs.Chains.{look_from, GoesOn, IsRight, has_last, LeadToEnd, LeadOn}
 
 -- ---- what is kept
 
@@ -43,14 +43,21 @@ OffersKeep = (c : Config) (past : List Step) (m n : ℕ) (cache : Cache) (s : St
 
 -- The pieces of a reply that isn't lame can be kept.
 abbrev pub AcceptedPiecesCanBeKept : Type 0
-AcceptedPiecesCanBeKept = (c : Config) (m : Message) (q : Question) (route : ℕ) → IsMessage m → HasShapes m → IsQuestion q → route_of c q.name ≡ Some route → counts_as_lame (walk_of c m q route).end ≡ false
+AcceptedPiecesCanBeKept = (c : Config) (m : Message) (q : Question) (route : ℕ) → IsMessage m → HasShapes m → IsQuestion q → route_of c q.name ≡ Some route → is_lame (walk_of c m q route).end ≡ false
     → AllByRecursion (CanBeKept c) ((walk_of c m q route).pieces ++ (walk_of c m q route).authority)
 
--- They answer each question of the era that is equal to the one that was asked.
+-- Where the walk has a last piece, they answer each question of the era that is equal to the one that was asked.
 abbrev pub AcceptedPiecesAnswer : Type 0
 AcceptedPiecesAnswer = (c : Config) (asked s : Step) (before past : List Step) (os : List Held) (m : Message) (q other : Question) (route : ℕ) → InEra (asked ∷ before) past → is_restart s ≡ false → CarriedInEra c past os
-    → Carries c s past ((walk_of c m q route).pieces ++ (walk_of c m q route).authority) → HasShapes m → route_of c q.name ≡ Some route → counts_as_lame (walk_of c m q route).end ≡ false → IsSameQuestion other q
+    → Carries c s past ((walk_of c m q route).pieces ++ (walk_of c m q route).authority) → HasShapes m → route_of c q.name ≡ Some route → has_last (walk_of c m q route).end ≡ true → IsSameQuestion other q
     → LeadToEnd (look_from c asked before (s ∷ past)) (moment_at (s ∷ past)) other (walk_of c m q route).pieces
+
+-- Where it leads to a name that it doesn't answer, they are aliases that lead each such question on to that name.
+abbrev pub AcceptedPiecesLeadOn : Type 0
+AcceptedPiecesLeadOn = (c : Config) (asked s : Step) (before past : List Step) (os : List Held) (m : Message) (q other : Question) (route : ℕ) (name : List (List ℕ)) → InEra (asked ∷ before) past → is_restart s ≡ false
+    → CarriedInEra c past os → Carries c s past ((walk_of c m q route).pieces ++ (walk_of c m q route).authority) → HasShapes m → route_of c q.name ≡ Some route
+    → (walk_of c m q route).end ≡ elsewhere name → IsSameQuestion other q
+    → LeadOn (look_from c asked before (s ∷ past)) (moment_at (s ∷ past)) other (walk_of c m q route).pieces name
 
 -- ---- a look-up
 
@@ -58,6 +65,13 @@ AcceptedPiecesAnswer = (c : Config) (asked s : Step) (before past : List Step) (
 abbrev pub LookUpsAreRight : Type 0
 LookUpsAreRight = (c : Config) (past : List Step) (m n : ℕ) (cache : Cache) (s : Step) (q : Question) → IsCached c past m cache → m ≡ moment_at past → (is_restart s ≡ false) × NothingAccepted c s past → n ≡ moment_at (s ∷ past)
     → IsRight (look_from c s past (s ∷ past)) n q (looked c n cache.entries q)
+
+-- A look-up that goes on for a question that waits, with the aliases that it holds, in the cache as it was before the step,
+-- is right too, whatever the step accepts.
+abbrev pub LookUpsThatGoOnAreRight : Type 0
+LookUpsThatGoOnAreRight = (c : Config) (asked s : Step) (before past : List Step) (m n : ℕ) (cache : Cache) (q wanted : Question) (held : List Held) (more : ℕ) → IsCached c past m cache → m ≡ moment_at past
+    → InEra (asked ∷ before) past → GoesOn c s past → n ≡ moment_at (s ∷ past) → AllByRecursion (CanBeTold n) held → FollowsAliases (look_from c asked before (s ∷ past)) q held wanted → more + length held ≡ most_aliases
+    → IsRight (look_from c asked before (s ∷ past)) n q (look_up c.routes n cache.entries more held wanted)
 
 -- ---- answers
 

@@ -1,6 +1,6 @@
 //! What is kept and found, over plain values: no code is mentioned.
 
-ghost use Rattle.step_keeping.specs.Laws.{AcceptedPiecesAnswer, AcceptedPiecesCanBeKept, AnswersAreSpelled, AnswersFromCacheAgree, LeadsStayLeads, LookUpsAreRight, OffersKeep, PromotionsFindTheSame, PromotionsKeep, QuietStepsKeep};
+ghost use Rattle.step_keeping.specs.Laws.{AcceptedPiecesAnswer, AcceptedPiecesCanBeKept, AcceptedPiecesLeadOn, AnswersAreSpelled, AnswersFromCacheAgree, LeadsStayLeads, LookUpsAreRight, LookUpsThatGoOnAreRight, OffersKeep, PromotionsFindTheSame, PromotionsKeep, QuietStepsKeep};
 
 /// What the history explains of the cache stays explained: by a step that accepts nothing, where what it answers from
 /// cache is found now; by a promotion; and by the offers of what an accepted reply carried, whatever memory there is.
@@ -10,15 +10,19 @@ pub fn what_is_kept_stays_explained()
     ensures offered { OffersKeep }
 {}
 
-/// The pieces of an accepted reply can be kept, and answer each question of the era that is equal to the one asked.
+/// The pieces of an accepted reply can be kept; and they answer each question of the era that is equal to the one asked, or
+/// lead it on to the name that the walk ends at.
 pub fn accepted_pieces_serve()
     ensures kept { AcceptedPiecesCanBeKept }
     ensures answered { AcceptedPiecesAnswer }
+    ensures led { AcceptedPiecesLeadOn }
 {}
 
-/// A client's question is led by justified aliases, eight at most, to what ends its look-up; or by nine.
+/// A client's question, and one that waits and holds aliases, is led by justified aliases, eight at most, to what ends its
+/// look-up or is not known; or by nine.
 pub fn look_ups_are_right()
-    ensures { LookUpsAreRight }
+    ensures asked { LookUpsAreRight }
+    ensures waiting { LookUpsThatGoOnAreRight }
 {}
 
 /// An answer from cache has the result code and sections of each earlier one to an equal question at its moment, as far

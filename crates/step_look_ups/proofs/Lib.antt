@@ -1,2 +1,5 @@
 pub mod Seeing
 pub mod Targets
+pub mod Few
+pub mod Behind
+pub mod CallerLemmas

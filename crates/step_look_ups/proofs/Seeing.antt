@@ -96,20 +96,20 @@ lent_put [] e = refl
 lent_put (u ∷ used) e = ap (λ (es : List Held). u.now ∷ es) (lent_put used e)
 
 -- with these aliases used, what follows on what is found now is the whole
-pub record IsOnWay (routes : List Route) (n : ℕ) (entries : List Held) (class kind : ℕ) (used : List (Bor Held)) (f : Found) (all : Seen) : Type 0 where
-  pub few : length used ≤ 8
-  pub left : (more : ℕ) → length used + more ≡ 8 → seen_from routes n entries class kind more (lent used) f ≡ all
+pub record IsOnWay (routes : List Route) (n : ℕ) (entries : List Held) (class kind most : ℕ) (used : List (Bor Held)) (f : Found) (all : Seen) : Type 0 where
+  pub few : length used ≤ most
+  pub left : (more : ℕ) → length used + more ≡ most → seen_from routes n entries class kind more (lent used) f ≡ all
 
-module _ (routes : List Route) (n : ℕ) (entries : List Held) (class kind : ℕ) (all : Seen) where
+module _ (routes : List Route) (n : ℕ) (entries : List Held) (class kind most : ℕ) (all : Seen) where
   -- it begins with what is found first
-  pub on_way : (f : Found) → seen_from routes n entries class kind 8 [] f ≡ all → IsOnWay routes n entries class kind [] f all
-  on_way f is = record { few = omega arith; left = λ more e. let eight : more ≡ 8 = omega (arith, e) in ap (λ (m : ℕ). seen_from routes n entries class kind m [] f) eight ∙ is }
+  pub on_way : (f : Found) → seen_from routes n entries class kind most [] f ≡ all → IsOnWay routes n entries class kind most [] f all
+  on_way f is = record { few = omega arith; left = λ more e. let whole : more ≡ most = omega (arith, e) in ap (λ (m : ℕ). seen_from routes n entries class kind m [] f) whole ∙ is }
 
   -- one alias more is used, and leads on
-  pub on_alias : (used after : List (Bor Held)) (e : Bor Held) (key : List (List ℕ)) (f : Found) → IsOnWay routes n entries class kind used (alias e.now) all
+  pub on_alias : (used after : List (Bor Held)) (e : Bor Held) (key : List (List ℕ)) (f : Found) → IsOnWay routes n entries class kind most used (alias e.now) all
       → after ≡ used ++ e ∷ [] → IsKeyOf (target_of e.now.piece.body) key
       → ((name : List (List ℕ)) → lowered name ≡ key → f ≡ found routes n entries (record { name = name; kind = kind; class = class }))
-      → length after ≤ 8 → IsOnWay routes n entries class kind after f all
+      → length after ≤ most → IsOnWay routes n entries class kind most after f all
   on_alias used after e key f way put target is few =
       let count : length after ≡ length used + 1 = ap length put ∙ length-append used (e ∷ []) in
       record {
@@ -122,14 +122,14 @@ module _ (routes : List Route) (n : ℕ) (entries : List Held) (class kind : ℕ
       }
 
   -- it ends at an alias that leads to no name
-  pub at_no_target : (used : List (Bor Held)) (e : Held) → IsOnWay routes n entries class kind used (alias e) all → target_of e.piece.body ≡ None
+  pub at_no_target : (used : List (Bor Held)) (e : Held) → IsOnWay routes n entries class kind most used (alias e) all → target_of e.piece.body ≡ None
       → record { used = lent used; met = Missed } ≡ all
   at_no_target used e way none =
-      sym (no_target_seen routes n entries class kind (8 - length used) (lent used) e none) ∙ way.left (8 - length used) (let few = way.few in omega (arith, few))
+      sym (no_target_seen routes n entries class kind (most - length used) (lent used) e none) ∙ way.left (most - length used) (let few = way.few in omega (arith, few))
 
   -- at one alias too many
-  pub at_ninth : (used after : List (Bor Held)) (e : Bor Held) (key : List (List ℕ)) → IsOnWay routes n entries class kind used (alias e.now) all → after ≡ used ++ e ∷ []
-      → IsKeyOf (target_of e.now.piece.body) key → 8 < length after → record { used = lent after; met = TooLong } ≡ all
+  pub at_ninth : (used after : List (Bor Held)) (e : Bor Held) (key : List (List ℕ)) → IsOnWay routes n entries class kind most used (alias e.now) all → after ≡ used ++ e ∷ []
+      → IsKeyOf (target_of e.now.piece.body) key → most < length after → record { used = lent after; met = TooLong } ≡ all
   at_ninth used after e key way put target many =
       let count : length after ≡ length used + 1 = ap length put ∙ length-append used (e ∷ []) in
       let few = way.few in
@@ -138,23 +138,23 @@ module _ (routes : List Route) (n : ℕ) (entries : List Held) (class kind : ℕ
       ∙ way.left 0 (omega (arith, few, many, count))
 
   -- where nothing is found
-  pub at_miss : (used : List (Bor Held)) → IsOnWay routes n entries class kind used miss all → record { used = lent used; met = Missed } ≡ all
+  pub at_miss : (used : List (Bor Held)) → IsOnWay routes n entries class kind most used miss all → record { used = lent used; met = Missed } ≡ all
   at_miss used way =
-      sym (no_alias_seen routes n entries class kind (8 - length used) (lent used) miss _ (λ on. refl)) ∙ way.left (8 - length used) (let few = way.few in omega (arith, few))
+      sym (no_alias_seen routes n entries class kind (most - length used) (lent used) miss _ (λ on. refl)) ∙ way.left (most - length used) (let few = way.few in omega (arith, few))
 
   -- and at a set or a denial
   at_end : (used after : List (Bor Held)) (e : Bor Held) (f : Found) → ((on : List Held → List (List ℕ) → Seen) (held : List Held) → goes_on on held f ≡ record { used = held ++ e.now ∷ []; met = Ends })
-      → IsOnWay routes n entries class kind used f all → after ≡ used ++ e ∷ [] → record { used = lent after; met = Ends } ≡ all
+      → IsOnWay routes n entries class kind most used f all → after ≡ used ++ e ∷ [] → record { used = lent after; met = Ends } ≡ all
   at_end used after e f is way put =
       ap (λ (hs : List Held). record { used = hs; met = Ends }) (ap (λ (us : List (Bor Held)). lent us) put ∙ lent_put used e)
-      ∙ sym (no_alias_seen routes n entries class kind (8 - length used) (lent used) f _ (λ on. is on (lent used)))
-      ∙ way.left (8 - length used) (let few = way.few in omega (arith, few))
+      ∙ sym (no_alias_seen routes n entries class kind (most - length used) (lent used) f _ (λ on. is on (lent used)))
+      ∙ way.left (most - length used) (let few = way.few in omega (arith, few))
 
-  pub at_rows : (used after : List (Bor Held)) (e : Bor Held) → IsOnWay routes n entries class kind used (rows e.now) all → after ≡ used ++ e ∷ [] → record { used = lent after; met = Ends } ≡ all
+  pub at_rows : (used after : List (Bor Held)) (e : Bor Held) → IsOnWay routes n entries class kind most used (rows e.now) all → after ≡ used ++ e ∷ [] → record { used = lent after; met = Ends } ≡ all
   at_rows used after e way put = at_end used after e (rows e.now) (λ on held. refl) way put
 
-  pub at_no_data : (used after : List (Bor Held)) (e : Bor Held) → IsOnWay routes n entries class kind used (no_data e.now) all → after ≡ used ++ e ∷ [] → record { used = lent after; met = Ends } ≡ all
+  pub at_no_data : (used after : List (Bor Held)) (e : Bor Held) → IsOnWay routes n entries class kind most used (no_data e.now) all → after ≡ used ++ e ∷ [] → record { used = lent after; met = Ends } ≡ all
   at_no_data used after e way put = at_end used after e (no_data e.now) (λ on held. refl) way put
 
-  pub at_denied : (used after : List (Bor Held)) (e : Bor Held) → IsOnWay routes n entries class kind used (denied e.now) all → after ≡ used ++ e ∷ [] → record { used = lent after; met = Ends } ≡ all
+  pub at_denied : (used after : List (Bor Held)) (e : Bor Held) → IsOnWay routes n entries class kind most used (denied e.now) all → after ≡ used ++ e ∷ [] → record { used = lent after; met = Ends } ≡ all
   at_denied used after e way put = at_end used after e (denied e.now) (λ on held. refl) way put

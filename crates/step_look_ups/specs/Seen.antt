@@ -1,5 +1,5 @@
 -- What a look-up's caller sees of it.
-use Rattle.std.specs.Prelude.{ℕ, zero, suc, Bool, true, false, List, [], ◌∷◌, ◌++◌, Option, Some, None}
+use Rattle.std.specs.Prelude.{◌≡◌, ℕ, zero, suc, ◌+◌, ◌<◌, ◌≤◌, List, [], ◌∷◌, ◌++◌, length, Option, Some, None}
 use Rattle.suffix_routes.specs.Values.{Route}
 use Rattle.trust_rank.specs.declared.slot.Slot.{Slot}
 use Rattle.trust_rank.specs.Walks.{target_of}
@@ -40,10 +40,20 @@ IsAlias miss = ⊥
 abbrev pub seen_of : Looked → Seen
 seen_of l = seen_at l.held l.met
 
-abbrev pub is_ended : Met → Bool
-is_ended Ends = true
-is_ended TooLong = false
-is_ended Missed = false
+-- where so many aliases may be taken: an end behind at most so many, one alias more, or at most so many
+abbrev pub is_few : ℕ → ℕ → Met → Type 0
+is_few most count Ends = (0 < count) × (count ≤ most + 1)
+is_few most count TooLong = count ≡ most + 1
+is_few most count Missed = count ≤ most
+
+abbrev pub UsesFew : ℕ → Seen → Type 0
+UsesFew most s = is_few most (length s.used) s.met
+
+-- the name that the last of these leads to
+abbrev pub last_target : List Held → Option (List (List ℕ))
+last_target [] = None
+last_target (e ∷ []) = target_of e.piece.body
+last_target (e ∷ f ∷ held) = last_target (f ∷ held)
 
 -- the first of a list where there is one, and the others
 abbrev pub first_and_others : Option Slot → List Slot → List Slot

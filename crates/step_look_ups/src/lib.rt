@@ -2,11 +2,16 @@
 //! used.
 #![tactic(auto)]
 
+mod laws;
 mod looked;
 mod looking;
 mod slots;
 mod used;
 
+pub use laws::{
+    look_ups_begin_with_held, look_ups_use_what_is_seen, missed_look_ups_want_the_target,
+    same_questions_are_looked_up_alike,
+};
 pub use looked::{Looked, Met};
 pub use looking::look_up;
 pub use slots::{Slots, SlotsRef, promote_all};

@@ -1,14 +1,17 @@
 //! What a look-up along aliases comes to.
 
-ghost use Rattle.std.specs.Prelude.{◌≡◌, map};
-ghost use Rattle.step_look_ups.specs.Seen.{is_ended};
+ghost use Rattle.std.specs.Prelude.{◌≡◌, map, IfOk};
+ghost use Rattle.trust_rank.specs.Walks.{target_of};
+ghost use Rattle.step_look_ups.specs.Seen.{last_target};
 ghost use Rattle.answer_builder.specs.Building.{lent};
 
 use crate::slots::SlotsRef;
 use crate::used::Used;
+use dns_name::Name;
 use record_cache::Held;
-use std::alloc::{Allocator, Global};
+use std::alloc::{AllocError, Allocator, Global};
 use std::marker::Model;
+use trust_rank::Body;
 
 /// How a look-up ends.
 #[derive(Clone, Copy, Debug, PartialEq, Eq)]
@@ -45,18 +48,22 @@ impl<'a, A: Allocator + Copy> Looked<'a, A> {
         self.met
     }
 
-    /// It came to a set or a denial.
-    pub fn is_ended(&self) -> bool
-        ensures { result ≡ is_ended self.now.met }
-    {
-        matches!(self.met, Met::Ends)
-    }
-
     /// The entries that it used, in order.
     pub fn used(&self) -> &[&'a Held<A>]
         ensures { lent result.now ≡ self.now.used }
     {
         self.used.as_slice()
+    }
+
+    /// The name that the last entry that it used leads to: what is wanted where it missed behind aliases. `None` where it
+    /// used no entry, or where the last one has not one record alone whose data is a name. `Err` where memory ran out.
+    pub fn target(&self, alloc: A) -> Result<Option<Name<A>>, AllocError>
+        ensures { IfOk result (λ name. name ≡ last_target self.now.used) }
+    {
+        match self.used() {
+            [] => Ok(None),
+            [.., last] => name_behind(alloc, last),
+        }
     }
 
     /// The slots of the entries that it used, in order.
@@ -65,5 +72,21 @@ impl<'a, A: Allocator + Copy> Looked<'a, A> {
     {
         let Looked { used, met: _ } = self;
         SlotsRef { entries: used }
+    }
+}
+
+/// The name that an alias leads to: that of its one record. `Err` where memory ran out.
+fn name_behind<A: Allocator + Copy>(
+    alloc: A,
+    alias: &Held<A>,
+) -> Result<Option<Name<A>>, AllocError>
+    ensures { IfOk result (λ name. name ≡ target_of alias.now.piece.body) }
+{
+    let Body::Rows(rows) = &alias.piece.body else {
+        return Ok(None);
+    };
+    match rows.as_slice() {
+        [row] => row.name(alloc),
+        _ => Ok(None),
     }
 }

@@ -1,14 +1,16 @@
 //! A question, looked up along the aliases that are met: RFC 1034 3.6.2.
 
 ghost use Rattle.std.specs.Prelude.{◌≡◌, ℕ, List, [], option_map, IfOk, OnErr};
+ghost use Rattle.std.specs.List.{AllByRecursion};
 ghost use Rattle.answer_builder.specs.Building.{lent};
+ghost use Rattle.record_cache.specs.Laws.{Among};
 ghost use Rattle.negative_cache.specs.Finding.{found};
 ghost use Rattle.negative_cache.specs.Values.{alias as alias_found};
 ghost use Rattle.dns_name.specs.Labels.{lowered};
 ghost use Rattle.dns_message.specs.Data.{name_of_rdata};
-ghost use Rattle.trust_rank.specs.Walks.{most_aliases, target_of};
+ghost use Rattle.trust_rank.specs.Walks.{target_of};
 ghost use Rattle.step_rules.specs.LookingUp.{look_up};
-ghost use Rattle.step_look_ups.specs.Seen.{seen_from, seen_of, IsAlias};
+ghost use Rattle.step_look_ups.specs.Seen.{seen_from, seen_of, IsAlias, UsesFew};
 
 use crate::looked::{Looked, Met};
 use crate::used::Used;
@@ -21,12 +23,10 @@ use std::hash::BuildHasher;
 use suffix_routes::Config;
 use trust_rank::Body;
 
-/// No question takes more aliases.
-const MOST_ALIASES: usize = 8;
-
 /// The look-up of the question whose name has this key, at a moment in milliseconds: what is found at the name, and where
-/// that is an alias, what is found at the name that it leads to, and so on, until a set or a denial, a ninth alias, or a
-/// name of which nothing is known. Only aliases take memory; `Err` where it ran out.
+/// that is an alias, what is found at the name that it leads to, and so on, until a set or a denial, one alias more
+/// than may be taken, or a name of which nothing is known. A question that holds aliases already may take fewer. Only aliases
+/// take memory; `Err` where it ran out. All that is used lies in the cache.
 pub fn look_up<'a, H: BuildHasher + Drop, A: Allocator + Copy>(
     alloc: A,
     cache: &'a Cache<H, A>,
@@ -35,9 +35,12 @@ pub fn look_up<'a, H: BuildHasher + Drop, A: Allocator + Copy>(
     kind: u16,
     moment: u64,
     config: &Config<A>,
+    most: usize,
 ) -> Result<Looked<'a, A>, AllocError>
     ensures exact { (name : List (List ℕ)) → lowered name ≡ key.now → IfOk result (λ looked. looked
-        ≡ seen_of (look_up config.now.routes moment cache.now.entries most_aliases [] (record { name = name; kind = kind; class = class }))) }
+        ≡ seen_of (look_up config.now.routes moment cache.now.entries most [] (record { name = name; kind = kind; class = class }))) }
+    ensures few { IfOk result (λ looked. UsesFew most looked) }
+    ensures from_cache { (name : List (List ℕ)) → lowered name ≡ key.now → IfOk result (λ looked. AllByRecursion (λ h. Among h cache.now.entries) looked.used) }
     ensures no_alias { (name : List (List ℕ)) → lowered name ≡ key.now → OnErr result
         (IsAlias (found config.now.routes moment cache.now.entries (record { name = name; kind = kind; class = class }))) }
 {
@@ -46,7 +49,7 @@ pub fn look_up<'a, H: BuildHasher + Drop, A: Allocator + Copy>(
             used: Used::One(held),
             met: Met::Ends,
         }),
-        Found::Alias(held) => follow(alloc, cache, held, class, kind, moment, config),
+        Found::Alias(held) => follow(alloc, cache, held, class, kind, moment, config, most),
         Found::Miss => Ok(Looked {
             used: Used::none(alloc),
             met: Met::Missed,
@@ -54,7 +57,7 @@ pub fn look_up<'a, H: BuildHasher + Drop, A: Allocator + Copy>(
     }
 }
 
-/// The look-up that meets this alias first.
+/// The look-up that meets this alias first and may take so many.
 fn follow<'a, H: BuildHasher + Drop, A: Allocator + Copy>(
     alloc: A,
     cache: &'a Cache<H, A>,
@@ -63,9 +66,10 @@ fn follow<'a, H: BuildHasher + Drop, A: Allocator + Copy>(
     kind: u16,
     moment: u64,
     config: &Config<A>,
+    most: usize,
 ) -> Result<Looked<'a, A>, AllocError>
     ensures { IfOk result (λ looked. looked
-        ≡ seen_from config.now.routes moment cache.now.entries class kind most_aliases [] (alias_found first.now)) }
+        ≡ seen_from config.now.routes moment cache.now.entries class kind most [] (alias_found first.now)) }
 {
     let mut used = Vec::new(alloc);
     let mut alias = first;
@@ -74,7 +78,7 @@ fn follow<'a, H: BuildHasher + Drop, A: Allocator + Copy>(
             return Ok(ended(used, Met::Missed));
         };
         used.push(alias)?;
-        if used.len() > MOST_ALIASES {
+        if used.len() > most {
             return Ok(ended(used, Met::TooLong));
         }
         match find_by_key(cache, &target, class, kind, moment, config) {

@@ -37,6 +37,15 @@ impl<'a, A: Allocator + Copy> SlotsRef<'a, A> {
         }
     }
 
+    /// The slots of these entries. It takes no memory.
+    pub fn of(entries: Vec<&'a Held<A>, A>) -> SlotsRef<'a, A>
+        ensures { result ≡ map (λ h. h.piece.slot) (lent entries.entry.items) }
+    {
+        SlotsRef {
+            entries: Used::More(entries),
+        }
+    }
+
     /// A copy that stands on its own. Only where there are more than one does it take memory; `Err` where that ran out.
     // A slot is large: called, it would be moved on its way out.
     #[inline(always)]

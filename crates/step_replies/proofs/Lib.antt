@@ -1,3 +1,4 @@
+pub mod Aliases
 pub mod Fronts
 pub mod Room
 pub mod Texts

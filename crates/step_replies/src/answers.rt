@@ -1,7 +1,7 @@
 //! Answers from borrowed pieces. From the second reply on a text is written once for questions that are spelled alike and
 //! came over one transport, since the answers to them differ in identifier, opcode and RD alone (RFC 1035 4.1.1).
 
-ghost use Rattle.std.specs.Prelude.{◌≡◌, ◌<◌, ◌≤◌, IfOk, MatchOption, Some, None, length, option_map};
+ghost use Rattle.std.specs.Prelude.{◌≡◌, ◌<◌, ◌≤◌, ◌++◌, IfOk, MatchOption, Some, None, length, option_map};
 ghost use Rattle.std.specs.List.{AllByRecursion, find};
 ghost use Rattle.std.specs.Option.{IfSome};
 ghost use Rattle.answer_builder.specs.Answers.{IsEarlier};
@@ -222,8 +222,8 @@ impl<'a, A: Allocator + Copy> Answers<'a, A> {
         Ok(own)
     }
 
-    /// The reply to a question. `Err` where memory ran out.
-    pub fn reply(&mut self, waiting: &'a Waiting<A>) -> Result<Action<A>, AllocError>
+    /// The reply to a question that holds no aliases.
+    fn plain_reply(&mut self, waiting: &'a Waiting<A>) -> Result<Action<A>, AllocError>
         ensures same { self.new ≡ self.old }
         ensures reply { IfOk result (λ action. action_of action ≡ sends waiting.now (answer_of waiting.now.asked self.old.chain self.old.moment (transport_of waiting.now.client))) }
     {
@@ -235,6 +235,38 @@ impl<'a, A: Allocator + Copy> Answers<'a, A> {
         let text = self.text_for(waiting, transport_of(waiting.client))?;
         reply(self.alloc, &request, text)
     }
+
+    /// The reply to a question, from the aliases that it holds and then the chain. The caller sees to it that none of the
+    /// aliases was accepted after the moment. `Err` where memory ran out.
+    pub fn reply(&mut self, waiting: &'a Waiting<A>) -> Result<Action<A>, AllocError>
+        requires earlier { AllByRecursion (IsEarlier self.old.moment) waiting.now.held }
+        ensures same { self.new ≡ self.old }
+        ensures reply { IfOk result (λ action. action_of action ≡ sends waiting.now (answer_of waiting.now.asked (waiting.now.held ++ self.old.chain) self.old.moment (transport_of waiting.now.client))) }
+    {
+        let aliases = waiting.aliases();
+        if aliases.is_empty() {
+            return self.plain_reply(waiting);
+        }
+        let whole = behind(self.alloc, aliases, self.chain)?;
+        answer(self.alloc, &waiting.request(), &whole, self.moment)
+    }
+}
+
+/// Aliases and the chain behind them, borrowed. `Err` where memory ran out.
+fn behind<'a, A: Allocator + Copy>(
+    alloc: A,
+    aliases: &'a [Held<A>],
+    chain: &[&'a Held<A>],
+) -> Result<Vec<&'a Held<A>, A>, AllocError>
+    ensures { IfOk result (λ whole. lent whole.items ≡ aliases.now ++ lent chain.now) }
+{
+    let count = aliases.len().saturating_add(chain.len());
+    let mut whole = Vec::with_capacity(alloc, count)?;
+    for held in aliases {
+        whole.push(held)?;
+    }
+    whole.extend_from_slice(chain)?;
+    Ok(whole)
 }
 
 /// The text that was written, under the front of the answer to this question.

@@ -9,4 +9,4 @@ mod waiting;
 pub use answers::{Answers, answer};
 pub use failures::{failure, refusal};
 pub use queries::ask;
-pub use waiting::{Request, Waiting};
+pub use waiting::{Request, SentOn, Waiting};

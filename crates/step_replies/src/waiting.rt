@@ -1,9 +1,13 @@
 //! A question of a client, where it lies and where it waits.
 
-ghost use Rattle.std.specs.Prelude.{◌≡◌, ◌<◌, IfOk};
+ghost use Rattle.std.specs.Prelude.{◌≡◌, ◌<◌, ◌≤◌, length, IfOk};
+ghost use Rattle.step_values.specs.declared.action.Why.{Why};
+ghost use Rattle.step_rules.specs.Steps.{gives_up};
+ghost use Rattle.step_replies.specs.Onward.{waits_on};
 
 use answer_builder::AskedRef;
 use dns_message::{Header, Question, QuestionRef};
+use record_cache::Held;
 use std::alloc::{AllocError, Allocator, Global};
 use std::marker::Model;
 use step_values::Client;
@@ -45,9 +49,14 @@ impl<'a> Request<'a> {
         }
     }
 
-    /// The same as a question that waits: its name is copied. `Err` where memory ran out.
-    pub fn to_waiting<A: Allocator>(&self, alloc: A) -> Result<Waiting<A>, AllocError>
-        ensures { IfOk result (λ waiting. waiting ≡ self.now) }
+    /// The same as a question that waits, with the aliases that it holds and the question that it is sent on with, or for its
+    /// own question: its name is copied. `Err` where memory ran out.
+    pub fn to_waiting<A: Allocator>(
+        &self,
+        alloc: A,
+        sent_on: Option<SentOn<A>>,
+    ) -> Result<Waiting<A>, AllocError>
+        ensures { IfOk result (λ waiting. waiting ≡ waits_on sent_on self.now) }
     {
         let question = self.question.copy(alloc)?;
         Ok(Waiting {
@@ -55,8 +64,28 @@ impl<'a> Request<'a> {
             header: self.header,
             question,
             taken: self.taken,
+            sent_on,
         })
     }
+}
+
+/// The aliases that a question holds, at most eight, and the question that it wants to know now: its own at the name that they
+/// lead to.
+#[derive(Drop)]
+pub struct SentOn<A: Allocator = Global> {
+    pub aliases: Vec<Held<A>, A>,
+    pub wanted: Question<A>,
+}
+
+impl<A: Allocator> Model for SentOn<A> {
+    ghost use Rattle.std.specs.Prelude.{◌≤◌, length};
+    ghost use Rattle.step_replies.specs.Onward.{Onward};
+
+    ghost Value = { Onward };
+
+    ghost view = { λ s. record { held = s.aliases.items; wanted = s.wanted } };
+
+    ghost invariant = { λ s. length s.aliases.items ≤ 8 };
 }
 
 /// A question that waits for its reply.
@@ -68,24 +97,30 @@ pub struct Waiting<A: Allocator = Global> {
     pub question: Question<A>,
     /// The moment at which it was taken, in milliseconds.
     pub taken: u64,
+    /// `None` where it waits for its own question.
+    pub sent_on: Option<SentOn<A>>,
 }
 
 impl<A: Allocator> Model for Waiting<A> {
-    ghost use Rattle.std.specs.Prelude.{◌<◌, [], Some};
+    ghost use Rattle.std.specs.Prelude.{◌<◌, Some};
     ghost use Rattle.step_history.specs.Replies.{asked_in};
     ghost use Rattle.step_rules.specs.State.{Waiting};
+    ghost use Rattle.step_replies.specs.Onward.{held_of, wanted_of};
 
     ghost Value = { Waiting };
 
-    ghost view = { λ w. record { client = w.client; asked = asked_in w.header (Some w.question); taken = w.taken; held = []; wanted = w.question } };
+    ghost view = { λ w. record { client = w.client; asked = asked_in w.header (Some w.question); taken = w.taken; held = held_of w.sent_on; wanted = wanted_of w.question w.sent_on } };
 
     ghost invariant = { λ w. w.header.opcode < 16 };
 }
 
 impl<A: Allocator> Waiting<A> {
-    /// The same, borrowed. It takes no memory.
+    /// What the client asked, borrowed. It takes no memory.
     pub fn request(&self) -> Request<'_>
-        ensures { result ≡ self.now }
+        ensures client { result.client ≡ self.now.client }
+        ensures asked { result.asked ≡ self.now.asked }
+        ensures taken { result.taken ≡ self.now.taken }
+        ensures fails { (why : Why) → gives_up why result ≡ gives_up why self.now }
     {
         Request {
             client: self.client,
@@ -93,5 +128,34 @@ impl<A: Allocator> Waiting<A> {
             question: QuestionRef::of(&self.question),
             taken: self.taken,
         }
+    }
+
+    /// The aliases that it holds, in order: at most eight. It takes no memory.
+    pub fn aliases(&self) -> &[Held<A>]
+        ensures aliases { result.now ≡ self.now.held }
+        ensures few { length self.now.held ≤ 8 }
+    {
+        match &self.sent_on {
+            None => &[],
+            Some(sent_on) => sent_on.aliases.as_slice(),
+        }
+    }
+
+    /// The question that it wants to know now. It takes no memory.
+    pub fn wanted(&self) -> &Question<A>
+        ensures { result.now ≡ self.now.wanted }
+    {
+        match &self.sent_on {
+            None => &self.question,
+            Some(sent_on) => &sent_on.wanted,
+        }
+    }
+
+    /// It holds these aliases from now on, in the place of those that it held, and waits for the question that they lead to. It
+    /// takes no memory.
+    pub fn send_on(&mut self, sent_on: SentOn<A>)
+        ensures { self.new ≡ record self.old { held = sent_on.held; wanted = sent_on.wanted } }
+    {
+        self.sent_on = Some(sent_on);
     }
 }

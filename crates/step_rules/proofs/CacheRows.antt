@@ -136,21 +136,19 @@ chain : played config ((1000, asks_for 1 (address b)) ∷ (1020, hears 1032 (ali
 unfolding walk_from servers_from route_of name_of_rdata name_within walk_in name_step
 chain = refl
 
--- where a look-up misses behind an alias, the question is asked for as it came
-missed_behind_alias : played config ((1000, asks_for 1 (address b)) ∷ (1020, hears 1032 (alias_reply 1)) ∷ (2020, asks_for 2 (address b)) ∷ [])
+-- where a look-up misses behind an alias, the name that it leads to is asked for, and the alias is held
+missed_behind_alias : played config ((1000, asks_for 1 (address b)) ∷ (1020, hears 1032 (alias_reply 1)) ∷ (2020, asks_for 2 (address b)) ∷ (3020, hears 1048 (one_host a)) ∷ [])
     ≡ (sends_query 1032 server 8 (address b) ∷ []) ∷ (close_udp 1032 ∷ answers 1 (address b) (alias_of_b 60 ∷ host a 1 9 ∷ []) ∷ [])
-    ∷ (sends_query 1048 server 24 (address b) ∷ []) ∷ []
+    ∷ (sends_query 1048 server 24 (address a) ∷ []) ∷ (close_udp 1048 ∷ answers 2 (address b) (alias_of_b 58 ∷ host a 300 5 ∷ []) ∷ []) ∷ []
 unfolding walk_from servers_from route_of name_of_rdata name_within walk_in name_step
 missed_behind_alias = refl
 
--- a reply whose aliases lead to a name that it doesn't tell of is a failed attempt: an alias of itself, one of another name;
--- the server that sent it is not preferred
-leads_on : played config (first ∷ (1020, hears 1032 (reply true 0 (rr a 5 60 (name_data 97) ∷ []) [])) ∷ (1030, hears 1040 (reply true 0 (rr a 5 60 (name_data 98) ∷ []) []))
-    ∷ (1040, asks_for 1 (address b)) ∷ [])
+-- a referral is a failed attempt, and the server that sent it is not preferred
+referral : played config (first ∷ (2500, ticking) ∷ (2510, hears 1040 (reply false 0 [] (rr example 2 3600 (name_data 110) ∷ []))) ∷ (2520, asks_for 1 (address b)) ∷ [])
     ≡ query ∷ (close_udp 1032 ∷ sends_query 1040 other_server 16 (address a) ∷ []) ∷ (close_udp 1040 ∷ sends_query 1048 server 24 (address a) ∷ [])
     ∷ (sends_query 1056 server 32 (address b) ∷ []) ∷ []
-unfolding walk_from servers_from route_of name_of_rdata name_within walk_in name_step
-leads_on = refl
+unfolding walk_from servers_from route_of
+referral = refl
 
 -- name servers of the authority section are kept
 name_servers : played config (first ∷ (1020, hears 1032 (reply true 0 (host a 300 5 ∷ []) (rr example 2 3600 (name_data 110) ∷ []))) ∷ (2020, asks_for 1 (record { name = example; kind = 2; class = 1 })) ∷ [])
@@ -182,7 +180,7 @@ eviction = refl
 used_for_a_miss : played (with_cache 2) ((1000, asks_for 1 (address b)) ∷ (1000, hears 1032 (alias_reply 1)) ∷ (2000, asks_for 2 (address b)) ∷ (2000, asks_for 3 (address d)) ∷ (2000, hears 1056 (one_host d))
     ∷ (2000, asks_for 4 (record { name = b; kind = 5; class = 1 })) ∷ [])
     ≡ (sends_query 1032 server 8 (address b) ∷ []) ∷ (close_udp 1032 ∷ answers 1 (address b) (alias_of_b 60 ∷ host a 1 9 ∷ []) ∷ [])
-    ∷ (sends_query 1048 server 24 (address b) ∷ []) ∷ (sends_query 1056 server 32 (address d) ∷ []) ∷ (close_udp 1056 ∷ answers 3 (address d) (host d 300 5 ∷ []) ∷ [])
+    ∷ (sends_query 1048 server 24 (address a) ∷ []) ∷ (sends_query 1056 server 32 (address d) ∷ []) ∷ (close_udp 1056 ∷ answers 3 (address d) (host d 300 5 ∷ []) ∷ [])
     ∷ (answers 4 (record { name = b; kind = 5; class = 1 }) (alias_of_b 59 ∷ []) ∷ []) ∷ []
 unfolding walk_from servers_from route_of name_of_rdata name_within walk_in name_step
 used_for_a_miss = refl

@@ -1,9 +1,13 @@
 -- What the table is for, as statements.
-use Rattle.std.specs.Prelude.{◌≡◌, ℕ, ◌+◌, ◌*◌, ◌<◌, ◌≤◌, Bool, true, false, nat_le, Option, Some, None}
+use Rattle.std.specs.Prelude.{◌≡◌, ℕ, ◌+◌, ◌*◌, ◌<◌, ◌≤◌, Bool, true, false, nat_le, List, Option, Some, None}
 use Rattle.suffix_routes.specs.Values.{Config}
+use Rattle.outstanding.specs.Values.{Ask}
+use Rattle.trust_rank.specs.Values.{elsewhere, Walk}
+use Rattle.record_cache.specs.Values.{Held}
 use Rattle.step_values.specs.Values.{tick, Handed, Outcome}
-use Rattle.step_rules.specs.State.{State}
-use Rattle.step_rules.specs.Row.{is_due_at, effective, Row}
+use Rattle.step_rules.specs.State.{Waiting, State}
+use Rattle.step_rules.specs.Steps.{waits, waits_for}
+use Rattle.step_rules.specs.Row.{fate_by, is_due_at, effective, Row}
 use Rattle.step_rules.specs.Progress.{left_to_do, ServesSomething, next_due, IsInOrder}
 
 -- A step that serves something leaves less to do.
@@ -26,3 +30,8 @@ has_come n (Some m) = nat_le m n
 -- Something is due exactly from the next due moment on.
 abbrev pub NextDueTells : Type 0
 NextDueTells = (c : Config) (s : State) (n : ℕ) → is_due_at c n s ≡ has_come n (next_due c s)
+
+-- Where a reply leads elsewhere, all that wait on behind it want one and the same question, which is what is asked.
+abbrev pub SentOnQuestionsWantOne : Type 0
+SentOnQuestionsWantOne = (c : Config) (n : ℕ) (entries : List Held) (a : Ask) (w : Walk) (name : List (List ℕ)) (x y x' y' : Waiting) → w.end ≡ elsewhere name
+    → waits_for a.question x ≡ true → waits_for a.question y ≡ true → fate_by c n entries a w x ≡ waits x' → fate_by c n entries a w y ≡ waits y' → x'.wanted ≡ y'.wanted

@@ -3,7 +3,7 @@ use Rattle.std.specs.Prelude.{ℕ, zero, suc, List, [], ◌∷◌, ◌++◌, Opt
 use Rattle.dns_message.specs.Values.{Question}
 use Rattle.suffix_routes.specs.Values.{Route}
 use Rattle.trust_rank.specs.declared.slot.Slot.{Slot}
-use Rattle.trust_rank.specs.Walks.{target_of, most_aliases}
+use Rattle.trust_rank.specs.Walks.{target_of}
 use Rattle.record_cache.specs.Values.{Held}
 use Rattle.record_cache.specs.Entries.{promoted}
 use Rattle.negative_cache.specs.Values.{Found, rows, alias, no_data, denied, miss}
@@ -57,21 +57,3 @@ look_up routes n entries (suc more) held q =
 abbrev pub promoted_all : List Slot → List Held → List Held
 promoted_all [] entries = entries
 promoted_all (slot ∷ used) entries = promoted_all used (promoted slot entries)
-
--- ---- a client's question
-
--- what is wanted is to be asked for as the client asked it, whatever the look-up met
-abbrev pub missed_as_asked : Question → Looked → Looked
-missed_as_asked q l = record { held = []; wanted = q; met = missed; used = l.used }
-
--- a look-up counts only where it came to an end
-abbrev pub if_ended : Question → Looked → Met → Looked
-if_ended q l (ends e) = l
-if_ended q l too_long = missed_as_asked q l
-if_ended q l missed = missed_as_asked q l
-
--- the look-up of a client's question
-abbrev pub asked_look_up : List Route → ℕ → List Held → Question → Looked
-asked_look_up routes n entries q =
-    let l = look_up routes n entries most_aliases [] q in
-    if_ended q l l.met

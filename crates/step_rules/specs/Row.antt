@@ -27,13 +27,13 @@ use Rattle.step_values.specs.declared.event.Client.{Client}
 use Rattle.step_values.specs.declared.action.Why.TheVariants.{BadFormat, BadOpcode, NotServed, NoRoute, QuestionsFull, InquiriesFull, NoPort, Exhausted, Deadline, ChainLong}
 use Rattle.step_values.specs.Values.{Event, from_client, delivery, path_failed, tick, restart, Handed, Outcome}
 use Rattle.step_history.specs.Names.{route_of}
-use Rattle.step_history.specs.History.{is_taken, counts_as_lame}
+use Rattle.step_history.specs.History.{is_taken, is_lame}
 use Rattle.step_history.specs.Answers.{asked_at}
 use Rattle.step_history.specs.Replies.{asked_in}
 use Rattle.step_history.specs.Causes.{is_unserved}
 use Rattle.step_rules.specs.State.{Waiting, State}
 use Rattle.step_rules.specs.Attempts.{first_ask_for, plan_of, next_ask}
-use Rattle.step_rules.specs.LookingUp.{Met, ends, too_long, missed, Looked, look_up, asked_look_up}
+use Rattle.step_rules.specs.LookingUp.{Met, ends, too_long, missed, Looked, look_up}
 use Rattle.step_rules.specs.Steps.{Done, Fate, gets, waits, start, preferring, using, idle_step, reply_step, taking_step, still_waiting, settling_step, closing_step, offering_step, failed, gives_up, answered, waits_for, fails}
 
 -- ---- a question after its look-up
@@ -89,7 +89,7 @@ row_of_look_up c n words x s l = row_of_fate c n words (using l.used s) (fate_of
 
 abbrev pub row_of_route : Config → ℕ → List ℕ → Waiting → State → Option ℕ → Done
 row_of_route c n words x s None = reply_step n (gives_up NoRoute x) s
-row_of_route c n words x s (Some route) = row_of_look_up c n words x s (asked_look_up c.routes n s.cache.entries x.wanted)
+row_of_route c n words x s (Some route) = row_of_look_up c n words x s (look_up c.routes n s.cache.entries most_aliases [] x.wanted)
 
 abbrev pub row_of_service : Config → ℕ → List ℕ → Waiting → State → Done
 row_of_service c n words x s =
@@ -221,7 +221,7 @@ row_of_acceptance c n words rooms a w s =
 
 abbrev pub row_of_walk : Config → ℕ → List ℕ → List Bool → Ask → State → Walk → Done
 row_of_walk c n words rooms a s w =
-    if counts_as_lame w.end
+    if is_lame w.end
     then row_of_failure c n words a failure.Lame s
     else row_of_acceptance c n words rooms a w s
 

@@ -3,7 +3,7 @@
 ghost use Rattle.std.specs.Prelude.{ℕ, ◌^◌, ◌≤◌};
 ghost use Rattle.step_rules.specs.State.{State};
 ghost use Rattle.step_rules.specs.Row.{effective};
-ghost use Rattle.step_rules.specs.Laws.{LessIsLeft, LeftIsBounded, MoreIsServed, NextDueTells};
+ghost use Rattle.step_rules.specs.Laws.{LessIsLeft, LeftIsBounded, MoreIsServed, NextDueTells, SentOnQuestionsWantOne};
 
 /// The effective moment of a step is not below that of the state, and at most 2^62 milliseconds where that is.
 pub fn moments_do_not_fall()
@@ -23,4 +23,9 @@ pub fn what_is_left_falls()
 /// Something is due exactly from the next due moment on.
 pub fn next_due_tells()
     ensures { NextDueTells }
+{}
+
+/// Where a reply leads elsewhere, all that wait on behind it want one and the same question.
+pub fn sent_on_questions_want_one()
+    ensures { SentOnQuestionsWantOne }
 {}

@@ -4,4 +4,6 @@
 
 mod laws;
 
-pub use laws::{moments_do_not_fall, next_due_tells, what_is_left_falls};
+pub use laws::{
+    moments_do_not_fall, next_due_tells, sent_on_questions_want_one, what_is_left_falls,
+};

@@ -2,7 +2,7 @@
 use Rattle.std.proofs.Common.{◌≡◌, ℕ, zero, suc, ◌≤◌, List, [], ◌∷◌, ◌++◌, length, take, true, false, refl, sym, ap, ◌∙◌, subst, inr, arith, Some, None}
 use Rattle.std.specs.Prelude.{map, nat_le}
 use Rattle.std.specs.List.{AllByRecursion}
-use Rattle.std.proofs.lemmas.Bool.{cond_both, leb-true, leb-false, true≢false}
+use Rattle.std.proofs.lemmas.Bool.{cond_both, leb-true, leb-false, false≢true}
 use Rattle.dns_message.specs.Values.{Question, Message}
 use Rattle.dns_message.specs.Messages.{HasShapes}
 use Rattle.dns_message.specs.Questions.{same_question}
@@ -14,18 +14,18 @@ use Rattle.record_cache.specs.Values.{Held}
 use Rattle.step_values.specs.declared.action.Why.TheVariants.{ChainLong}
 use Rattle.step_values.specs.Values.{Step}
 use Rattle.step_history.specs.Names.{route_of}
-use Rattle.step_history.specs.History.{is_restart, moment_at, Look, counts_as_lame, Carries}
+use Rattle.step_history.specs.History.{is_restart, moment_at, Look, Carries}
 use Rattle.step_history.specs.Carried.{CarriedInEra}
 use Rattle.step_history.specs.Answers.{FollowsAliases, Leads, Chain}
 use Rattle.step_history.specs.Replies.{failure_text}
 use Rattle.step_history.proofs.CallerLemmas.{moment_later}
 use Rattle.outstanding.specs.Values.{Ask}
 use Rattle.step_rules.specs.State.{Waiting, State}
-use Rattle.step_rules.specs.Steps.{Fate, closing_step}
+use Rattle.step_rules.specs.Steps.{Fate, gives_up, closing_step}
 use Rattle.step_rules.specs.LookingUp.{ends, Looked}
 use Rattle.step_rules.specs.Row.{held_at, last_of, before_last, ends_at, unless_many, looked_by, fate_of, row_of_end}
 use Rattle.step_keeping.specs.Kept.{CanBeKept, CanBeTold}
-use Rattle.step_keeping.specs.Chains.{look_from, LeadToEnd}
+use Rattle.step_keeping.specs.Chains.{look_from, has_last, LeadToEnd}
 use Rattle.step_soundness.specs.Explains.{Comes, Waits}
 use Rattle.step_keeping.proofs.CallerLemmas.{All-append, All-weaker}
 use Rattle.step_soundness.proofs.Fates.{Fated}
@@ -53,21 +53,21 @@ last_is p (q ∷ ps) (x ∷ aliases) last e =
     let more = last_is q ps aliases last rest in
     ((λ i. head i ∷ more.0 i), more.1)
 
--- ---- what the table does with an end that isn't lame
+-- ---- what the table does with the end of a walk that has a last piece
 
-pub looked_at_end : (c : Config) (n : ℕ) (entries : List Held) (w : Walk) (y : Waiting) (e : End) → counts_as_lame e ≡ false → looked_by c n entries w y e ≡ unless_many (ends_at n y.held y.wanted w.pieces)
+pub looked_at_end : (c : Config) (n : ℕ) (entries : List Held) (w : Walk) (y : Waiting) (e : End) → has_last e ≡ true → looked_by c n entries w y e ≡ unless_many (ends_at n y.held y.wanted w.pieces)
 looked_at_end c n entries w y found fine = refl
 looked_at_end c n entries w y ends_no_data fine = refl
 looked_at_end c n entries w y ends_denied fine = refl
-looked_at_end c n entries w y (elsewhere name) fine = absurd (true≢false fine)
-looked_at_end c n entries w y lame fine = absurd (true≢false fine)
+looked_at_end c n entries w y (elsewhere name) fine = absurd (false≢true fine)
+looked_at_end c n entries w y lame fine = absurd (false≢true fine)
 
-pub closed_at_end : (c : Config) (n : ℕ) (words : List ℕ) (a : Ask) (w : Walk) (fate : Waiting → Fate) (s : State) (e : End) → counts_as_lame e ≡ false → row_of_end c n words a w fate s e ≡ closing_step n a fate None s
+pub closed_at_end : (c : Config) (n : ℕ) (words : List ℕ) (a : Ask) (w : Walk) (fate : Waiting → Fate) (s : State) (e : End) → has_last e ≡ true → row_of_end c n words a w fate s e ≡ closing_step n a fate None s
 closed_at_end c n words a w fate s found fine = refl
 closed_at_end c n words a w fate s ends_no_data fine = refl
 closed_at_end c n words a w fate s ends_denied fine = refl
-closed_at_end c n words a w fate s (elsewhere name) fine = absurd (true≢false fine)
-closed_at_end c n words a w fate s lame fine = absurd (true≢false fine)
+closed_at_end c n words a w fate s (elsewhere name) fine = absurd (false≢true fine)
+closed_at_end c n words a w fate s lame fine = absurd (false≢true fine)
 
 ends_at_last : (n : ℕ) (held : List Held) (q : Question) (aliases : List Piece) (last : Piece)
     → ends_at n held q (aliases ++ last ∷ []) ≡ record { held = held ++ map (held_at n) aliases; wanted = q; met = ends (held_at n last); used = [] }
@@ -78,8 +78,24 @@ ends_at_last n held q (p ∷ ps) last =
 
 -- ---- each question that waited for it
 
+-- what comes now can be told
+pub pieces_told : (c : Config) (n : ℕ) (ps : List Piece) → AllByRecursion (CanBeKept c) ps → AllByRecursion (CanBeTold n) (map (held_at n) ps)
+pieces_told c n [] all = tt
+pieces_told c n (p ∷ ps) all = (record { formed = all.0.formed; writable = all.0.writable; earlier = omega arith }, pieces_told c n ps all.1)
+
+-- more than eight aliases that lead on are too many
+pub owns_too_many : (c : Config) (n : ℕ) (now : List Step) (y : Waiting) (i : ℕ) (comes : Comes now y.client y.asked i) (held : List Held) (last : Question)
+    → FollowsAliases (look_from c comes.asked comes.before now) comes.question held last → nat_le (length held) 8 ≡ false → OwnsReply c now i (gives_up ChainLong y)
+owns_too_many c n now y i comes held last follows f =
+    let nine : 9 ≤ length held = leb-false (length held) 8 f in
+    let first = follows_first (look_from c comes.asked comes.before now) 9 comes.question last held follows in
+    owns c now y.client y.asked i comes ChainLong (failure_text y.asked ChainLong) (λ waiting. (
+      failure_told now y.client y.asked i comes ChainLong,
+      record { question = comes.question; reads = comes.reads; aliases = take 9 held; last = first.0; many = take_whole 9 held nine; follows = first.1 },
+    ))
+
 module _ (c : Config) (past : List Step) (step : Step) (n : ℕ) (os : List Held) (a : Ask) (m : Message) (runs : is_restart step ≡ false) (is_now : n ≡ moment_at (step ∷ past)) (carried : CarriedInEra c past os)
-    (on : route_of c a.question.name ≡ Some a.route) (shapes : HasShapes m) (fine : counts_as_lame (walk_of c m a.question a.route).end ≡ false)
+    (on : route_of c a.question.name ≡ Some a.route) (shapes : HasShapes m) (fine : has_last (walk_of c m a.question a.route).end ≡ true)
     (kept : AllByRecursion (CanBeKept c) ((walk_of c m a.question a.route).pieces ++ (walk_of c m a.question a.route).authority))
     (carries : Carries c step past ((walk_of c m a.question a.route).pieces ++ (walk_of c m a.question a.route).authority)) where
   abbrev w : Walk
@@ -87,10 +103,6 @@ module _ (c : Config) (past : List Step) (step : Step) (n : ℕ) (os : List Held
 
   abbrev now : List Step
   now = step ∷ past
-
-  can_be_told : (ps : List Piece) → AllByRecursion (CanBeKept c) ps → AllByRecursion (CanBeTold n) (map (held_at n) ps)
-  can_be_told [] all = tt
-  can_be_told (p ∷ ps) all = (record { formed = all.0.formed; writable = all.0.writable; earlier = omega arith }, can_be_told ps all.1)
 
   module _ (y : Waiting) (i : ℕ) (was : Waits c past y i) (same : same_question y.wanted a.question ≡ true) where
     abbrev comes : Comes now y.client y.asked i
@@ -115,7 +127,7 @@ module _ (c : Config) (past : List Step) (step : Step) (n : ℕ) (os : List Held
     own_told =
         let pieces = (All-first (CanBeKept c) w.pieces w.authority kept).0 in
         let parts = All-first (CanBeKept c) led.aliases (led.last ∷ []) (subst (AllByRecursion (CanBeKept c)) led.whole pieces) in
-        (can_be_told led.aliases parts.0, can_be_told (led.last ∷ []) parts.1)
+        (pieces_told c n led.aliases parts.0, pieces_told c n (led.last ∷ []) parts.1)
 
     looked_is : ends_at n y.held y.wanted w.pieces ≡ record { held = y.held ++ more; wanted = y.wanted; met = ends end; used = [] }
     looked_is = ap (ends_at n y.held y.wanted) led.whole ∙ ends_at_last n y.held y.wanted led.aliases led.last
@@ -143,13 +155,7 @@ module _ (c : Config) (past : List Step) (step : Step) (n : ℕ) (os : List Held
     fated_by : IsFated (unless_many (record { held = y.held ++ more; wanted = y.wanted; met = ends end; used = [] }))
     fated_by = cond_both (nat_le (length (y.held ++ more)) 8) _ _ IsFated
         (λ t. answer_owned c n now y i comes is_now (y.held ++ more) end (chain (leb-true (length (y.held ++ more)) 8 t)) told)
-        (λ f.
-        let nine : 9 ≤ length (y.held ++ more) = leb-false (length (y.held ++ more)) 8 f in
-        let first = follows_first look 9 was.comes.question led.to (y.held ++ more) follows in
-        owns c now y.client y.asked i comes ChainLong (failure_text y.asked ChainLong) (λ waiting. (
-          failure_told now y.client y.asked i comes ChainLong,
-          record { question = was.comes.question; reads = was.comes.reads; aliases = take 9 (y.held ++ more); last = first.0; many = take_whole 9 (y.held ++ more) nine; follows = first.1 },
-        )))
+        (λ f. owns_too_many c n now y i comes (y.held ++ more) led.to follows f)
 
     -- it gets its answer, or fails by its aliases
     pub fate_accepted : (entries : List Held) → IsFated (looked_by c n entries w y w.end)

@@ -9,6 +9,7 @@ use Rattle.dns_message.specs.Header.{header_in}
 use Rattle.suffix_routes.specs.declared.peer.Peer.{Peer}
 use Rattle.suffix_routes.specs.Values.{Config}
 use Rattle.dns_message.specs.Questions.{one_question}
+use Rattle.dns_message.specs.Written.{IsQuestion}
 use Rattle.outstanding.specs.declared.ask.Path.{Path}
 use Rattle.outstanding.specs.declared.ask.Path.TheVariants.{Udp, Tcp}
 use Rattle.outstanding.specs.Draws.{is_freed, udp_draw}
@@ -16,7 +17,7 @@ use Rattle.outstanding.specs.Lists.{of_question, on_path as ask_on}
 use Rattle.outstanding.specs.Values.{Ask}
 use Rattle.step_values.specs.declared.event.Client.{Client}
 use Rattle.step_values.specs.declared.action.Why.{Why}
-use Rattle.step_values.specs.declared.action.Why.TheVariants.{Answered, BadFormat, BadOpcode, NotServed, NoRoute, QuestionsFull, InquiriesFull, NoPort}
+use Rattle.step_values.specs.declared.action.Why.TheVariants.{Answered, BadFormat, BadOpcode, NotServed, NoRoute, QuestionsFull, InquiriesFull, NoPort, ChainLong}
 use Rattle.step_values.specs.Values.{from_client, Action, ask_udp, ask_tcp, close_udp, close_tcp, send_reply, Handed, Step}
 use Rattle.plain_list.specs.Octets.{AreOctets}
 use Rattle.step_history.specs.Names.{route_of}
@@ -29,8 +30,8 @@ use Rattle.step_history.specs.Sound.{unanswered, RightReply, Replies, FromCache,
 use Rattle.step_rules.specs.State.{Waiting, State}
 use Rattle.step_rules.specs.Attempts.{peer_at, over_udp, preferred_on, first_ask, first_ask_on}
 use Rattle.step_rules.specs.Steps.{Done, reply_step, gives_up, answered, asks, ask_list, tcp_count}
-use Rattle.step_rules.specs.LookingUp.{Met, ends, too_long, missed, Looked, missed_as_asked, if_ended, promoted_all}
-use Rattle.step_rules.specs.Row.{is_due_at, taken_now, fate_missed, fate_at, row_of_opening, row_of_inquiry, row_of_waiting, row_of_fate, row_of_look_up, row_of_route, row_of_question, row_of_request}
+use Rattle.step_rules.specs.LookingUp.{Met, ends, too_long, missed, Looked, promoted_all}
+use Rattle.step_rules.specs.Row.{is_due_at, waits_with, taken_now, fate_missed, fate_at, row_of_opening, row_of_inquiry, row_of_waiting, row_of_fate, row_of_route, row_of_question, row_of_request}
 use Rattle.record_cache.specs.Values.{Held, Cache}
 use Rattle.step_keeping.specs.Kept.{CanBeTold, looked, IsStillFound, IsCached}
 use Rattle.step_keeping.specs.Chains.{look_from, IsRightEnd, EndsRight, IsSized, IsRight}
@@ -39,6 +40,7 @@ use Rattle.step_keeping.proofs.CallerLemmas.{quiet_steps_keep, promotions_keep_c
 use Rattle.step_soundness.proofs.Answering.{IsTold, answered_told, answer_owned}
 use Rattle.step_soundness.proofs.Actions.{OwnsReply, asks_answer_none}
 use Rattle.step_keeping.proofs.CallerLemmas.{All-append}
+use Rattle.step_soundness.proofs.SendingOn.{question_led}
 use Rattle.step_soundness.proofs.AskText.{read_well}
 use Rattle.step_soundness.proofs.Asking.{still_earlier}
 use Rattle.step_soundness.proofs.Attempts.{IsAskBy, ask_by-some, ask_by-none, udp-some, udp-none, preferred_peer}
@@ -115,112 +117,12 @@ module _ (c : Config) (past : List Step) (w : List (List ℕ)) (s : State) (x : 
       served = served;
     }
 
-    waits_now : (actions : List Action) → Waits c (step actions ∷ past) y (length past)
-    waits_now actions = record { comes = comes actions; moment = moment; leads = record { few = omega arith; follows = refl }; told = tt }
-
     -- what a failure repeats
     told : (why : Why) → (z : Question) × Reads request z × (failure_text y.asked why ≡ failure_text (asked_in (header_in request) (Some z)) why)
     told why = (q, reads, refl)
 
     all_below_one : AllByRecursion (λ a. IsBelow (s.tcp_asks + 0) a.path) s.asks
     all_below_one = all_below s.tcp_asks 0 s.asks x.connections
-
-    opened : (cache : Cache) → IsCached c past s.moment cache → (route : ℕ) → route_of c q.name ≡ Some route → length s.waiting + 1 ≤ c.limits.questions → length s.asks + 1 ≤ c.limits.inquiries → of_question q s.asks ≡ None
-        → (r : Option Ask) → first_ask c n words q route s ≡ r → P (row_of_opening n y (record s { cache = cache }) r)
-    opened cache was route on room room_asked new None none = refused cache was _ NoPort takes (λ e. cc) (told NoPort, inl no_draw)
-      where
-        peer : (p : Peer) × (peer_at c route (preferred_on s route) ≡ Some p)
-        peer = preferred_peer c q route s.preferred on x.preferred
-
-        no_draw : drawn words (listed past) (gives_up NoPort y ∷ []) ≡ None
-        no_draw =
-            ap (λ ls. drawn words ls (gives_up NoPort y ∷ [])) (sym x.asks)
-            ∙ drawn-shown words s.asks (gives_up NoPort y ∷ []) None (λ p. refl)
-            ∙ udp-none (udp_draw words s.asks None) (ask_by-none n q route (preferred_on s route) 1 (peer_at c route (preferred_on s route)) peer.0 (over_udp (udp_draw words s.asks None)) peer.1 none)
-    opened cache was route on room room_asked new (Some a) is = λ more_is. (
-      [],
-      taken_explained c past w s x handed unkept more n y (Some a) cache after refl (refl, moment) takes (no_delivery (asks a ∷ [])) (waits_now (asks a ∷ [])) room facts.asked
-          (listed_next c s.asks (Some a) x.asks_are (record { path = free; question = ap (λ (z : Question). of_question z s.asks) facts.question ∙ new; later = later; in_time = in_time }, omega (arith, room_asked)))
-          (next_tried c (step (asks a ∷ []) ∷ past) q a next, tt)
-          below
-          (next_right c (step (asks a ∷ [])) past (step (asks a ∷ []) ∷ past) q a next drawn_so)
-          (cached (asks a ∷ []) cache was (λ z octets f. absurd (asks_answer_none (Some a) octets f.1)))
-          more_is,
-    )
-      where
-        facts : IsAskBy n q route (preferred_on s route) 1 (peer_at c route (preferred_on s route)) (over_udp (udp_draw words s.asks None)) a
-        facts = ask_by-some n q route (preferred_on s route) 1 (peer_at c route (preferred_on s route)) (over_udp (udp_draw words s.asks None)) a is
-
-        draw : (port : ℕ) × (a.path ≡ Udp port) × (udp_draw words s.asks None ≡ Some (a.id, port))
-        draw = udp-some (udp_draw words s.asks None) a.id a.path facts.drawn_is
-
-        fresh : IsFresh s.asks None a.id draw.0
-        fresh = drawn_fresh words s.asks None a.id draw.0 draw.2
-
-        after : State
-        after = record s { cache = cache; asks = s.asks ++ a ∷ []; waiting = s.waiting ++ y ∷ []; moment = n; tcp_asks = s.tcp_asks + tcp_count (Some a) }
-
-        next : IsNext c (step (asks a ∷ []) ∷ past) q a
-        next = record {
-          question = facts.question;
-          is_question = read_well request q are_octets reads;
-          small = fresh.small;
-          on_route = on ∙ ap Some (sym facts.route_is);
-          server = (λ i. peer_at c (facts.route_is i) (facts.server_is i)) ∙ facts.peer_is;
-          before = 0;
-          used = facts.used_is;
-          failed = tt;
-        }
-
-        free : ask_on a.path s.asks ≡ None
-        free = ap (λ (p : Path). ask_on p s.asks) draw.1 ∙ free_now draw.0 s.asks fresh.free
-
-        earlier_moment : s.moment ≤ n
-        earlier_moment = omega arith
-
-        later : AllByRecursion (λ b. b.asked ≤ a.asked) s.asks
-        later = still_earlier s.moment a.asked s.asks (let at : a.asked ≡ n = facts.asked in let le = earlier_moment in omega (arith, at, le)) x.earlier
-
-        in_time : a.asked ≤ 2 ^ 62
-        in_time = let at : a.asked ≡ n = facts.asked in let small = moment_small past in let was : s.moment ≡ moment_at past = x.moment in omega (arith, at, small, was)
-
-        closes_nothing : (port : ℕ) → Rattle.step_history.specs.History.closes_path (Udp port) (asks a ∷ []) ≡ is_freed port None
-        closes_nothing port = by a.path
-          where
-            by : (p : Path) → Rattle.step_history.specs.History.closes_path (Udp port) (Rattle.step_rules.specs.Steps.asks_by p a ∷ []) ≡ false
-            by (Udp k) = refl
-            by (Tcp k) = refl
-
-        drawn_so : Rattle.step_history.specs.Asked.IsDrawn (step (asks a ∷ [])) past a.id a.path
-        drawn_so = subst (λ (p : Path). Rattle.step_history.specs.Asked.IsDrawn (step (asks a ∷ [])) past a.id p) (sym draw.1)
-            (ap (λ ls. drawn words ls (asks a ∷ [])) (sym x.asks) ∙ drawn-shown words s.asks (asks a ∷ []) None closes_nothing ∙ draw.2)
-
-        new_below : (p : Path) → a.path ≡ p → p ≡ Udp draw.0 → IsBelow (s.tcp_asks + tcp_count (Some a)) p
-        new_below p e udp = subst (IsBelow (s.tcp_asks + tcp_count (Some a))) (sym udp) tt
-
-        below : AllByRecursion (λ b. IsBelow (s.tcp_asks + tcp_count (Some a)) b.path) (s.asks ++ a ∷ [])
-        below = All-append (λ b. IsBelow (s.tcp_asks + tcp_count (Some a)) b.path) s.asks (a ∷ []) (all_below s.tcp_asks (tcp_count (Some a)) s.asks x.connections) (new_below a.path refl draw.1, tt)
-
-    inquired : (cache : Cache) → IsCached c past s.moment cache → (route : ℕ) → route_of c q.name ≡ Some route → length s.waiting + 1 ≤ c.limits.questions → (r : Option Ask) → of_question q s.asks ≡ r
-        → P (row_of_inquiry c n words y (record s { cache = cache }) r)
-    inquired cache was route on room (Some a) there = λ more_is. (
-      [],
-      taken_explained c past w s x handed unkept more n y None cache (record s { cache = cache; asks = s.asks ++ []; waiting = s.waiting ++ y ∷ []; moment = n; tcp_asks = s.tcp_asks + 0 }) refl (refl, moment) takes (no_delivery []) (waits_now []) room tt
-          (listed_next c s.asks None x.asks_are tt) tt (subst (λ (as' : List Ask). AllByRecursion (λ b. IsBelow (s.tcp_asks + 0) b.path) as') (sym (append_nil s.asks)) all_below_one) tt
-          (cached [] cache was (λ z octets f. absurd f.1)) more_is,
-    )
-    inquired cache was route on room None new =
-        cond_both (nat_le c.limits.inquiries (length s.asks)) _ _ P
-        (λ t. refused cache was _ InquiriesFull takes (λ e. cc) (told InquiriesFull, (refl, asks_number ∙ is_full c.limits.inquiries (length s.asks) t x.asks_are.few)))
-        (λ f. subst (λ (r : Option Ask). P (row_of_opening n y (record s { cache = cache }) r)) (sym (ap (first_ask_on c n words q s) on))
-        (opened cache was route on room (has_room c.limits.inquiries (length s.asks) f) new (first_ask c n words q route s) refl))
-
-    -- the cache has no answer
-    waited : (cache : Cache) → IsCached c past s.moment cache → (route : ℕ) → route_of c q.name ≡ Some route → P (row_of_waiting c n words y (record s { cache = cache }))
-    waited cache was route on =
-        cond_both (nat_le c.limits.questions (length s.waiting)) _ _ P
-        (λ t. refused cache was _ QuestionsFull takes (λ e. cc) (told QuestionsFull, (refl, sym waiting_number ∙ is_full c.limits.questions (length s.waiting) t x.few)))
-        (λ f. inquired cache was route on (has_room c.limits.questions (length s.waiting) f) (of_question q s.asks) refl)
 
     -- ---- its look-up
 
@@ -234,11 +136,125 @@ module _ (c : Config) (past : List Step) (w : List (List ℕ)) (s : State) (x : 
     used_is : IsCached c past s.moment used
     used_is = promotions_keep_cached c past s.moment s.cache l.used x.cache
 
+    right : (actions : List Action) → IsRight (look_from c (step actions) past (step actions ∷ past)) n q l
+    right actions = look_ups_are_right c past s.moment n s.cache (step actions) q x.cache x.moment (refl, no_delivery actions) moment
+
+    -- a question of which the cache tells no more than aliases
+    module _ (met : l.met ≡ missed) (route : ℕ) (on : route_of c l.wanted.name ≡ Some route) where
+      -- as it waits
+      abbrev z : Waiting
+      z = waits_with y l
+
+      is_question : IsQuestion l.wanted
+      is_question = question_led (look_from c (step []) past (step [] ∷ past)) q l.wanted l.held (read_well request q are_octets reads) (right []).follows
+
+      waits_now : (actions : List Action) → Waits c (step actions ∷ past) z (length past)
+      waits_now actions = record {
+        comes = comes actions;
+        moment = moment;
+        leads = record { few = subst (λ (m : Met). IsSized m (length l.held)) met (right actions).sized; follows = (right actions).follows };
+        told = subst (λ (t : ℕ). AllByRecursion (CanBeTold t) l.held) moment (right actions).told;
+      }
+
+      opened : length s.waiting + 1 ≤ c.limits.questions → length s.asks + 1 ≤ c.limits.inquiries → of_question l.wanted s.asks ≡ None
+          → (r : Option Ask) → first_ask c n words l.wanted route s ≡ r → P (row_of_opening n z (record s { cache = used }) r)
+      opened room room_asked new None none = refused used used_is _ NoPort takes (λ e. cc) (told NoPort, inl no_draw)
+        where
+          peer : (p : Peer) × (peer_at c route (preferred_on s route) ≡ Some p)
+          peer = preferred_peer c l.wanted route s.preferred on x.preferred
+
+          no_draw : drawn words (listed past) (gives_up NoPort z ∷ []) ≡ None
+          no_draw =
+              ap (λ ls. drawn words ls (gives_up NoPort z ∷ [])) (sym x.asks)
+              ∙ drawn-shown words s.asks (gives_up NoPort z ∷ []) None (λ p. refl)
+              ∙ udp-none (udp_draw words s.asks None) (ask_by-none n l.wanted route (preferred_on s route) 1 (peer_at c route (preferred_on s route)) peer.0 (over_udp (udp_draw words s.asks None)) peer.1 none)
+      opened room room_asked new (Some a) is = λ more_is. (
+        [],
+        taken_explained c past w s x handed unkept more n z (Some a) used after refl (refl, moment) takes (no_delivery (asks a ∷ [])) (waits_now (asks a ∷ [])) room facts.asked
+            (listed_next c s.asks (Some a) x.asks_are (record { path = free; question = ap (λ (v : Question). of_question v s.asks) facts.question ∙ new; later = later; in_time = in_time }, omega (arith, room_asked)))
+            (next_tried c (step (asks a ∷ []) ∷ past) l.wanted a next, tt)
+            below
+            (next_right c (step (asks a ∷ [])) past (step (asks a ∷ []) ∷ past) l.wanted a next drawn_so)
+            (cached (asks a ∷ []) used used_is (λ v octets f. absurd (asks_answer_none (Some a) octets f.1)))
+            more_is,
+      )
+        where
+          facts : IsAskBy n l.wanted route (preferred_on s route) 1 (peer_at c route (preferred_on s route)) (over_udp (udp_draw words s.asks None)) a
+          facts = ask_by-some n l.wanted route (preferred_on s route) 1 (peer_at c route (preferred_on s route)) (over_udp (udp_draw words s.asks None)) a is
+
+          draw : (port : ℕ) × (a.path ≡ Udp port) × (udp_draw words s.asks None ≡ Some (a.id, port))
+          draw = udp-some (udp_draw words s.asks None) a.id a.path facts.drawn_is
+
+          fresh : IsFresh s.asks None a.id draw.0
+          fresh = drawn_fresh words s.asks None a.id draw.0 draw.2
+
+          after : State
+          after = record s { cache = used; asks = s.asks ++ a ∷ []; waiting = s.waiting ++ z ∷ []; moment = n; tcp_asks = s.tcp_asks + tcp_count (Some a) }
+
+          next : IsNext c (step (asks a ∷ []) ∷ past) l.wanted a
+          next = record {
+            question = facts.question;
+            is_question = is_question;
+            small = fresh.small;
+            on_route = on ∙ ap Some (sym facts.route_is);
+            server = (λ i. peer_at c (facts.route_is i) (facts.server_is i)) ∙ facts.peer_is;
+            before = 0;
+            used = facts.used_is;
+            failed = tt;
+          }
+
+          free : ask_on a.path s.asks ≡ None
+          free = ap (λ (p : Path). ask_on p s.asks) draw.1 ∙ free_now draw.0 s.asks fresh.free
+
+          earlier_moment : s.moment ≤ n
+          earlier_moment = omega arith
+
+          later : AllByRecursion (λ b. b.asked ≤ a.asked) s.asks
+          later = still_earlier s.moment a.asked s.asks (let at : a.asked ≡ n = facts.asked in let le = earlier_moment in omega (arith, at, le)) x.earlier
+
+          in_time : a.asked ≤ 2 ^ 62
+          in_time = let at : a.asked ≡ n = facts.asked in let small = moment_small past in let was : s.moment ≡ moment_at past = x.moment in omega (arith, at, small, was)
+
+          closes_nothing : (port : ℕ) → Rattle.step_history.specs.History.closes_path (Udp port) (asks a ∷ []) ≡ is_freed port None
+          closes_nothing port = by a.path
+            where
+              by : (p : Path) → Rattle.step_history.specs.History.closes_path (Udp port) (Rattle.step_rules.specs.Steps.asks_by p a ∷ []) ≡ false
+              by (Udp k) = refl
+              by (Tcp k) = refl
+
+          drawn_so : Rattle.step_history.specs.Asked.IsDrawn (step (asks a ∷ [])) past a.id a.path
+          drawn_so = subst (λ (p : Path). Rattle.step_history.specs.Asked.IsDrawn (step (asks a ∷ [])) past a.id p) (sym draw.1)
+              (ap (λ ls. drawn words ls (asks a ∷ [])) (sym x.asks) ∙ drawn-shown words s.asks (asks a ∷ []) None closes_nothing ∙ draw.2)
+
+          new_below : (p : Path) → a.path ≡ p → p ≡ Udp draw.0 → IsBelow (s.tcp_asks + tcp_count (Some a)) p
+          new_below p e udp = subst (IsBelow (s.tcp_asks + tcp_count (Some a))) (sym udp) tt
+
+          below : AllByRecursion (λ b. IsBelow (s.tcp_asks + tcp_count (Some a)) b.path) (s.asks ++ a ∷ [])
+          below = All-append (λ b. IsBelow (s.tcp_asks + tcp_count (Some a)) b.path) s.asks (a ∷ []) (all_below s.tcp_asks (tcp_count (Some a)) s.asks x.connections) (new_below a.path refl draw.1, tt)
+
+      inquired : length s.waiting + 1 ≤ c.limits.questions → (r : Option Ask) → of_question l.wanted s.asks ≡ r
+          → P (row_of_inquiry c n words z (record s { cache = used }) r)
+      inquired room (Some a) there = λ more_is. (
+        [],
+        taken_explained c past w s x handed unkept more n z None used (record s { cache = used; asks = s.asks ++ []; waiting = s.waiting ++ z ∷ []; moment = n; tcp_asks = s.tcp_asks + 0 }) refl (refl, moment) takes (no_delivery []) (waits_now []) room tt
+            (listed_next c s.asks None x.asks_are tt) tt (subst (λ (as' : List Ask). AllByRecursion (λ b. IsBelow (s.tcp_asks + 0) b.path) as') (sym (append_nil s.asks)) all_below_one) tt
+            (cached [] used used_is (λ v octets f. absurd f.1)) more_is,
+      )
+      inquired room None new =
+          cond_both (nat_le c.limits.inquiries (length s.asks)) _ _ P
+          (λ t. refused used used_is _ InquiriesFull takes (λ e. cc) (told InquiriesFull, (refl, asks_number ∙ is_full c.limits.inquiries (length s.asks) t x.asks_are.few)))
+          (λ f. subst (λ (r : Option Ask). P (row_of_opening n z (record s { cache = used }) r)) (sym (ap (first_ask_on c n words l.wanted s) on))
+          (opened room (has_room c.limits.inquiries (length s.asks) f) new (first_ask c n words l.wanted route s) refl))
+
+      -- the cache has no answer
+      waited : P (row_of_waiting c n words z (record s { cache = used }))
+      waited =
+          cond_both (nat_le c.limits.questions (length s.waiting)) _ _ P
+          (λ t. refused used used_is _ QuestionsFull takes (λ e. cc) (told QuestionsFull, (refl, sym waiting_number ∙ is_full c.limits.questions (length s.waiting) t x.few)))
+          (λ f. inquired (has_room c.limits.questions (length s.waiting) f) (of_question l.wanted s.asks) refl)
+
     -- a question that the cache answers
     module _ (end : Held) (met : l.met ≡ ends end) where
-      right : (actions : List Action) → IsRight (look_from c (step actions) past (step actions ∷ past)) n q l
-      right actions = look_ups_are_right c past s.moment n s.cache (step actions) q x.cache x.moment (refl, no_delivery actions) moment
-
       right_end : (actions : List Action) → IsRightEnd (look_from c (step actions) past (step actions ∷ past)) n l.wanted end
       right_end actions = subst (EndsRight (look_from c (step actions) past (step actions ∷ past)) n l.wanted) met (right actions).right_end
 
@@ -293,14 +309,45 @@ module _ (c : Config) (past : List Step) (w : List (List ℕ)) (s : State) (x : 
       hit : P (reply_step n (answered n y l.held end) (record s { cache = used }))
       hit = hit_by (answered n y l.held end) refl
 
-    looked_up : (route : ℕ) → route_of c q.name ≡ Some route → (m : Met) → l.met ≡ m → P (row_of_look_up c n words y s (if_ended q l m))
-    looked_up route on (ends end) met = subst (λ (m : Met). P (row_of_fate c n words (record s { cache = used }) (fate_at c n y l m))) (sym met) (hit end met)
-    looked_up route on too_long met = subst (λ (r : Option ℕ). P (row_of_fate c n words (record s { cache = used }) (fate_missed y (missed_as_asked q l) r))) (sym on) (waited used used_is route on)
-    looked_up route on missed met = subst (λ (r : Option ℕ). P (row_of_fate c n words (record s { cache = used }) (fate_missed y (missed_as_asked q l) r))) (sym on) (waited used used_is route on)
+    -- what its look-up missed is asked for, where its name has a route
+    missed_row : l.met ≡ missed → (r : Option ℕ) → route_of c l.wanted.name ≡ r → P (row_of_fate c n words (record s { cache = used }) (fate_missed y l r))
+    missed_row met None none = refused used used_is _ NoRoute takes (λ e. cc) (
+      told NoRoute,
+      record {
+        opcode = opcode;
+        question = q;
+        reads = reads;
+        served = served;
+        aliases = l.held;
+        last = l.wanted;
+        leads = record { few = subst (λ (m : Met). IsSized m (length l.held)) met (right (gives_up NoRoute y ∷ [])).sized; follows = (right (gives_up NoRoute y ∷ [])).follows };
+        none = none;
+        at_once = λ e. refl;
+      },
+    )
+    missed_row met (Some route) on = waited met route on
+
+    too_long_row : l.met ≡ too_long → P (reply_step n (gives_up ChainLong y) (record s { cache = used }))
+    too_long_row met = refused used used_is _ ChainLong takes (λ e. cc) (
+      told ChainLong,
+      record {
+        question = q;
+        reads = reads;
+        aliases = l.held;
+        last = l.wanted;
+        many = subst (λ (m : Met). IsSized m (length l.held)) met (right (gives_up ChainLong y ∷ [])).sized;
+        follows = (right (gives_up ChainLong y ∷ [])).follows;
+      },
+    )
+
+    looked_up : (m : Met) → l.met ≡ m → P (row_of_fate c n words (record s { cache = used }) (fate_at c n y l m))
+    looked_up (ends end) met = hit end met
+    looked_up too_long met = too_long_row met
+    looked_up missed met = missed_row met (route_of c l.wanted.name) refl
 
     routed : (r : Option ℕ) → route_of c q.name ≡ r → P (row_of_route c n words y s r)
     routed None none = refused s.cache x.cache _ NoRoute takes (λ e. cc) (told NoRoute, record { opcode = opcode; question = q; reads = reads; served = served; aliases = []; last = q; leads = record { few = omega arith; follows = refl }; none = none; at_once = λ e. refl })
-    routed (Some route) on = looked_up route on l.met refl
+    routed (Some route) on = looked_up l.met refl
 
   asked : is_taken request ≡ true → (header_in request).opcode ≡ 0 → (r : Option Question) → one_question request ≡ r → P (row_of_question c n words client (header_in request) s r)
   asked takes opcode None none = refused s.cache x.cache _ BadFormat takes (λ e. cc) (refl, (refl, opcode, λ q reads. let e : None ≡ Some q = sym none ∙ reads in absurd (cc)))

@@ -142,6 +142,18 @@ module _ (c : Config) (past : List Step) (w : List (List ℕ)) (s : State) (x : 
         (λ q k. same_question-sym a.question q (closes_one c (step (actions_by fates next)) past a (only_it fates next speak) shown_on tried_a.reads q k))
         others_left (All-filter (Tried c past) (λ b. Rattle.std.specs.Prelude.not (same_path b.path a.path)) s.asks x.tried)
 
+    -- the port that is given up is closed, and no other
+    frees : (fates : List Fate) (next : Option Ask) → AllByRecursion Speaks fates → (port : ℕ) → closes_path (Udp port) (actions_by fates next) ≡ is_freed port (freed_by a.path)
+    frees fates next speak port = closes_settled (Udp port) (Some a) fates next speak ∙ by a.path
+      where
+        by : (p : Path) → same_path (Udp port) p ≡ is_freed port (freed_by p)
+        by (Udp k) = refl
+        by (Tcp k) = refl
+
+    -- so the words draw what the history says
+    pub udp_drawn : (fates : List Fate) (next : Option Ask) → AllByRecursion Speaks fates → drawn words (listed past) (actions_by fates next) ≡ udp_draw words s.asks (freed_by a.path)
+    udp_drawn fates next speak = ap (λ ls. drawn words ls (actions_by fates next)) (sym x.asks) ∙ drawn-shown words s.asks (actions_by fates next) (freed_by a.path) (frees fates next speak)
+
     -- an ask is closed, with a fate by the question
     pub closed_row : (fate : Waiting → Fate) (next : Option Ask) (preferred : List ℕ) (cache : Cache) (count : ℕ)
         → AllByRecursion Speaks (map fate s.waiting)
@@ -262,16 +274,6 @@ module _ (c : Config) (past : List Step) (w : List (List ℕ)) (s : State) (x : 
             used = facts.used_is ∙ (let was : a.used ≡ suc tried_a.before = tried_a.used in omega (arith, was));
             failed = (runs, inl (closes_ask (map (λ y. waits y) s.waiting) (Some next) (waits_speak s.waiting) a.question ((Rattle.dns_message.proofs.CallerLemmas.same_question_decides a.question a.question).1 (record { name = refl; kind = refl; class = refl })), quiet (actions_by (map (λ y. waits y) s.waiting) (Some next)), tried_a.failed));
           }
-
-      frees : (fates : List Fate) (next : Option Ask) → AllByRecursion Speaks fates → (port : ℕ) → closes_path (Udp port) (actions_by fates next) ≡ is_freed port (freed_by a.path)
-      frees fates next speak port = closes_settled (Udp port) (Some a) fates next speak ∙ by a.path
-        where
-          by : (p : Path) → same_path (Udp port) p ≡ is_freed port (freed_by p)
-          by (Udp k) = refl
-          by (Tcp k) = refl
-
-      udp_drawn : (fates : List Fate) (next : Option Ask) → AllByRecursion Speaks fates → drawn words (listed past) (actions_by fates next) ≡ udp_draw words s.asks (freed_by a.path)
-      udp_drawn fates next speak = ap (λ ls. drawn words ls (actions_by fates next)) (sym x.asks) ∙ drawn-shown words s.asks (actions_by fates next) (freed_by a.path) (frees fates next speak)
 
       udp_row : (server : ℕ) (p : Peer) → peer_at c a.route server ≡ Some p → (r : Option Ask) → next_ask c n words a s (AskUdp server) ≡ r → P (row_of_attempt n a s r)
       udp_row server p there None none = no_path_row refl (inl (udp_drawn (map (fails NoPort a.question) s.waiting) None (fails_speak NoPort a.question s.waiting)

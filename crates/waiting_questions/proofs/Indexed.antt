@@ -58,7 +58,7 @@ module _ (s : Slab Waiting) (by_question in_turn : List ℕ) (indexed : AreIndex
   -- ---- what waits for a question
 
   module _ (q : Question) (i j : ℕ) (range : IsRange (to_question (question_key q)) s by_question i j) where
-    in_range : filter (waits_at s q) in_turn ≡ between i j by_question
+    pub in_range : filter (waits_at s q) in_turn ≡ between i j by_question
     in_range = sym (indexed.same q) ∙ passes_between s by_question indexed.questions.present q i j range
 
     pub those_wait : waiting_under s (between i j by_question) ≡ filter (waits_for q) (waiting_under s in_turn)

@@ -1,5 +1,10 @@
 pub mod Lists
+pub mod Counts
+pub mod Settled
 pub mod Keys
 pub mod Ranges
 pub mod Numbered
 pub mod Indexed
+pub mod SentOn
+pub mod Fates
+pub mod CallerLemmas

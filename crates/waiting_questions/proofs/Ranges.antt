@@ -141,6 +141,9 @@ module _ (s : Slab Waiting) (keys : List ℕ) (present : ArePresent s keys) (q :
   pub waits_among : (k : ℕ) → i ≤ k → k < j → waits_at s q (slice_index keys k) ≡ true
   waits_among k from less = test k Equal (omega (arith, range.high)) (λ a. range.among k a from less)
 
+  pub waits_not_before : (k : ℕ) → k < i → waits_at s q (slice_index keys k) ≡ false
+  waits_not_before k less = test k Less (omega (arith, less, range.low, range.high)) (λ a. range.before k a less)
+
   pub passes_between : filter (waits_at s q) keys ≡ between i j keys
   passes_between =
       filter_between (waits_at s q) keys i j 0 range.low range.high
@@ -164,6 +167,17 @@ module _ (s : Slab Waiting) (keys : List ℕ) (present : ArePresent s keys) (x :
       let o : key_cmp (question_key a.wanted) (question_key x.wanted) ≡ Greater = range.behind k a from within e in
       let back : key_cmp (question_key x.wanted) (question_key a.wanted) ≡ Less = question_keys_are_ordered.antisymm (question_key x.wanted) (question_key a.wanted) ∙ ap ordering_reverse o in
       cc
+
+  -- also where it goes among those of its question
+  pub goes_before_those : (k : ℕ) (a : Waiting) → i ≤ k → k < length keys → get s (slice_index keys k) ≡ Some a → IsByQuestion x a
+  goes_before_those k a from within e is = by (cases_lt k j)
+    where
+      by : (k < j) ⊎ (j ≤ k) → ⊥
+      by (inl less) =
+          let o : key_cmp (question_key a.wanted) (question_key x.wanted) ≡ Equal = range.among k a from less e in
+          let back : key_cmp (question_key x.wanted) (question_key a.wanted) ≡ Equal = question_keys_are_ordered.antisymm (question_key x.wanted) (question_key a.wanted) ∙ ap ordering_reverse o in
+          cc
+      by (inr behind) = goes_before k a behind within e is
 
   -- what waits for the same does not stand behind it
   pub none_behind : (q : Question) → waits_for q x ≡ true → (k : ℕ) → j ≤ k → k < length keys → waits_at s q (slice_index keys k) ≡ false

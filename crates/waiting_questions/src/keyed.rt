@@ -2,16 +2,17 @@
 
 ghost use Rattle.std.specs.Prelude.{◌≡◌};
 ghost use Rattle.outstanding.specs.Orders.{question_key};
+ghost use Rattle.step_replies.specs.Onward.{sent_on};
 ghost use Rattle.waiting_questions.specs.Indexes.{to_question};
 
 use outstanding::QuestionKey;
 use std::alloc::Allocator;
 use std::cmp::Ordering;
 use std::marker::Model;
-use step_replies::Waiting;
+use step_replies::{SentOn, Waiting};
 
-/// A waiting question, and the key of its question, which is made once. It is seen as the waiting question. The key stands
-/// first, where a search looks.
+/// A waiting question, and the key of the question that it wants to know, which is made once. It is seen as the waiting
+/// question. The key stands first, where a search looks.
 #[derive(Drop)]
 pub(crate) struct Keyed<A: Allocator> {
     key: QuestionKey,
@@ -34,8 +35,16 @@ impl<A: Allocator> Keyed<A> {
     pub(crate) fn new(waiting: Waiting<A>) -> Keyed<A>
         ensures { result ≡ waiting }
     {
-        let key = QuestionKey::of(&waiting.question);
+        let key = QuestionKey::of(waiting.wanted());
         Keyed { key, waiting }
+    }
+
+    /// It holds these aliases from now on, and waits for the question that they lead to.
+    pub(crate) fn send_on(&mut self, onward: SentOn<A>)
+        ensures { self.new ≡ sent_on onward self.old }
+    {
+        self.key = QuestionKey::of(&onward.wanted);
+        self.waiting.send_on(onward);
     }
 
     pub(crate) fn waiting(&self) -> &Waiting<A>
@@ -44,14 +53,14 @@ impl<A: Allocator> Keyed<A> {
         &self.waiting
     }
 
-    /// The key of its question.
+    /// The key of the question that it wants to know.
     pub(crate) fn key(&self) -> &QuestionKey
         ensures { result.now ≡ question_key self.now.wanted }
     {
         &self.key
     }
 
-    /// How its question compares to another.
+    /// How that question compares to another.
     pub(crate) fn cmp_question(&self, key: &QuestionKey) -> Ordering
         ensures { result ≡ to_question key.now self.now }
     {

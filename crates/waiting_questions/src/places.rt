@@ -1,9 +1,12 @@
 //! Where keys stand, found by searches.
 
-ghost use Rattle.std.specs.Prelude.{◌≡◌};
+ghost use Rattle.std.specs.Prelude.{◌≡◌, ◌≢◌, ℕ, ◌+◌, ◌≤◌, Bool, filter, length};
+ghost use Rattle.std.specs.List.{between, All, AllPairs, Contains};
 ghost use Rattle.waiting_questions.specs.Indexes.{compared_item, keys_of, to_question, AreKeys, AreNumbered, BeginsAt, IsByQuestion, IsRange};
+ghost use Rattle.waiting_questions.specs.Settling.{earlier};
 
 use crate::keyed::Keyed;
+use keys_in_turn::KeysInTurn;
 use outstanding::{NumberedKey, QuestionKey};
 use slab::Slab;
 use std::alloc::Allocator;
@@ -66,4 +69,32 @@ fn end_from<A: Allocator>(
         }
     }
     keys.partition_point(|item| compare(waiting, *item, question).is_le())
+}
+
+/// Where a key of this turn belongs among the keys from one place up to another, which stand in turn: behind those of an earlier
+/// turn. Found by halves.
+pub(crate) fn place_by_turn<A: Allocator>(
+    keys: &VecDeque<NumberedKey, A>,
+    in_turn: &KeysInTurn<A>,
+    start: usize,
+    end: usize,
+    turn: usize,
+) -> usize
+    requires low { start ≤ end }
+    requires high { end ≤ length keys.now.items }
+    requires listed { All (Contains in_turn.now.keys) (between start end (keys_of keys.now.items)) }
+    requires apart { AllPairs (λ j k. j ≢ k) in_turn.now.keys }
+    ensures { (p : ℕ → Bool) → filter p in_turn.now.keys ≡ between start end (keys_of keys.now.items) → result ≡ start + earlier p in_turn.now.keys turn }
+{
+    let mut low = start;
+    let mut high = end;
+    while low < high {
+        let middle = low + (high - low) / 2;
+        if in_turn.place_of(keys[middle].key()) < turn {
+            low = middle + 1;
+        } else {
+            high = middle;
+        }
+    }
+    low
 }

@@ -1,19 +1,23 @@
 //! The waiting questions under keys, with indexes of the keys.
 
-ghost use Rattle.std.specs.Prelude.{◌≡◌, ◌<◌, ◌≤◌, ◌∷◌, ◌++◌, [], true, not, filter, length, Some, MatchOption, OnOk, slice_get, slice_index};
+ghost use Rattle.std.specs.Prelude.{◌≡◌, ◌<◌, ◌≤◌, ◌∷◌, ◌++◌, [], true, not, filter, length, Option, Some, MatchOption, OnOk, slice_get, slice_index};
 ghost use Rattle.std.specs.List.{remove, remove_range, AllByRecursion};
+ghost use Rattle.slab.specs.Slab.{ContainsKey, Updates};
+ghost use Rattle.step_rules.specs.State.{Waiting as Asking};
 ghost use Rattle.step_rules.specs.Steps.{waits_for};
+ghost use Rattle.step_replies.specs.Onward.{sent_on};
 ghost use Rattle.waiting_questions.specs.Indexes.{has_room, items_of, keys_of, to_question, IsIndexed, IsRange};
+ghost use Rattle.waiting_questions.specs.Settling.{left_by, settled, with_at};
 
 use crate::keyed::Keyed;
-use crate::places::range_of;
+use crate::places::{place_by_turn, range_of};
 use dns_message::Question;
 use keys_in_turn::KeysInTurn;
 use outstanding::{NumberedKey, QuestionKey};
 use slab::Slab;
 use std::alloc::{AllocError, Allocator};
 use std::collections::VecDeque;
-use step_replies::Waiting;
+use step_replies::{SentOn, Waiting};
 
 /// The waiting questions, each under a key that the slab picks, and the keys in the order of the questions, those for equal
 /// ones in the order of taking, and of all in the order of taking. Those by question have the numbers of the questions with
@@ -117,6 +121,63 @@ impl<A: Allocator> Table<A> {
         self.waiting.remove(item.key());
     }
 
+    /// Sends the question on whose key stands at this place by question, and in this turn, which it keeps.
+    fn send_on(&mut self, place: usize, turn: usize, onward: SentOn<A>)
+        requires indexed { IsIndexed self.old }
+        requires place { place < length self.old.by_question.items }
+        requires turn { turn < length self.old.in_turn.keys }
+        requires one { slice_index (keys_of self.old.by_question.items) place ≡ slice_index self.old.in_turn.keys turn }
+        ensures indexed { IsIndexed self.new }
+        ensures list { (x : Asking) → slice_get (items_of self.old) turn ≡ Some x → items_of self.new ≡ with_at (items_of self.old) turn (Some (sent_on onward x)) }
+    {
+        let Some(old) = self.by_question.remove(place) else {
+            unreachable!();
+        };
+        let mut keyed = self.waiting.remove(old.key());
+        keyed.send_on(onward);
+        let question = keyed.key();
+        let number = question.number();
+        let (start, end) = range_of(&self.waiting, &self.by_question, question);
+        let at = place_by_turn(&self.by_question, &self.in_turn, start, end, turn);
+        self.waiting.insert_reserved(keyed);
+        let item = NumberedKey::new(number, old.key());
+        let Ok(()) = self.by_question.insert(at, item) else {
+            unreachable!();
+        };
+    }
+
+    /// Gives its fate to the question whose key stands at this place by question, and in this turn: it is sent on, or goes.
+    fn settle_one(&mut self, place: usize, turn: usize, fate: Option<SentOn<A>>)
+        requires indexed { IsIndexed self.old }
+        requires place { place < length self.old.by_question.items }
+        requires turn { turn < length self.old.in_turn.keys }
+        requires one { slice_index (keys_of self.old.by_question.items) place ≡ slice_index self.old.in_turn.keys turn }
+        ensures indexed { IsIndexed self.new }
+        ensures list { (x : Asking) → slice_get (items_of self.old) turn ≡ Some x → items_of self.new ≡ with_at (items_of self.old) turn (left_by fate x) }
+    {
+        match fate {
+            None => self.take(place, turn),
+            Some(onward) => self.send_on(place, turn, onward),
+        }
+    }
+
+    /// Gives their fates to those that wait for this question, the newest of them first, so that those before it stay where they
+    /// stand.
+    pub(crate) fn settle(&mut self, question: &Question<A>, mut fates: Vec<Option<SentOn<A>>, A>)
+        requires indexed { IsIndexed self.old }
+        requires one_each { length fates.items ≡ length (filter (waits_for question.now) (items_of self.old)) }
+        ensures indexed { IsIndexed self.new }
+        ensures list { items_of self.new ≡ settled question.now fates.items (items_of self.old) }
+    {
+        let key = QuestionKey::of(question);
+        while let Some(fate) = fates.pop() {
+            let (start, _) = self.range(&key);
+            let place = start + fates.len();
+            let turn = self.in_turn.place_of(self.by_question[place].key());
+            self.settle_one(place, turn, fate);
+        }
+    }
+
     /// Lets those go that wait for this question, the newest of them first. Their keys leave those by question at once, when
     /// all are gone.
     pub(crate) fn end(&mut self, question: &Question<A>)
@@ -129,7 +190,7 @@ impl<A: Allocator> Table<A> {
             let key = self.by_question[place].key();
             let turn = self.in_turn.place_of(key);
             self.in_turn.take(turn);
-            self.waiting.remove(key);
+            let_go(&mut self.waiting, key);
         }
         take_range(&mut self.by_question, start, end);
     }
@@ -143,6 +204,14 @@ impl<A: Allocator> Table<A> {
         self.by_question.clear();
         self.in_turn.clear();
     }
+}
+
+/// Lets go what waits under a key.
+fn let_go<A: Allocator>(waiting: &mut Slab<Keyed<A>, A>, key: usize)
+    requires { ContainsKey waiting.old key }
+    ensures { Updates waiting.old waiting.new key None }
+{
+    waiting.remove(key);
 }
 
 /// Takes the keys from one place up to another out. Those before them or those behind them move up, whichever are fewer: once

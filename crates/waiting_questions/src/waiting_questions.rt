@@ -5,6 +5,7 @@ ghost use Rattle.std.specs.List.{between, list_any, AllByRecursion};
 ghost use Rattle.slab.specs.Slab.{get};
 ghost use Rattle.step_rules.specs.Steps.{waits_for};
 ghost use Rattle.waiting_questions.specs.Indexes.{keys_of, waiting_under, ArePlaces};
+ghost use Rattle.waiting_questions.specs.Settling.{settled};
 
 use crate::keyed::Keyed;
 use crate::table::Table;
@@ -14,7 +15,7 @@ use slab::Slab;
 use std::alloc::{AllocError, Allocator, Global};
 use std::collections::VecDeque;
 use std::marker::Model;
-use step_replies::Waiting;
+use step_replies::{SentOn, Waiting};
 
 /// The questions that wait, in the order in which they were taken.
 #[derive(Drop)]
@@ -106,6 +107,15 @@ impl<A: Allocator> WaitingQuestions<A> {
         ensures { self.new.items ≡ filter (λ x. not (waits_for question.now x)) self.old.items }
     {
         self.table.end(question);
+    }
+
+    /// Those that wait for this question wait no more, or wait on: in the order of taking, each has a fate, the aliases and the
+    /// question that it is sent on with, or none. It takes no memory, and each keeps its place in the order of taking.
+    pub fn send_on(&mut self, question: &Question<A>, fates: Vec<Option<SentOn<A>>, A>)
+        requires { length fates.items ≡ length (filter (waits_for question.now) self.old.items) }
+        ensures { self.new.items ≡ settled question.now fates.items self.old.items }
+    {
+        self.table.settle(question, fates);
     }
 
     /// Those that wait for this question, in the order of taking. It takes no memory.

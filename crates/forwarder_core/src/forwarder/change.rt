@@ -1,13 +1,13 @@
 //! What was decided is put in place. All memory is taken before anything changes.
 
 ghost use Rattle.outstanding.specs.Lists.{MayBegin, on_path as ask_on, without_path};
-ghost use Rattle.std.specs.Prelude.{◌≡◌, ◌^◌, ◌<◌, ◌≤◌, ◌+◌, ◌∷◌, ◌++◌, [], Bool, List, drop, slice_set, length, nat_le, IfOk, OnOk, OnErr, IsOk, IsSome};
+ghost use Rattle.std.specs.Prelude.{◌≡◌, ◌^◌, ◌<◌, ◌≤◌, ◌+◌, ◌∷◌, ◌++◌, [], Bool, List, drop, slice_set, length, nat_le, IfOk, OnOk, OnErr, IsOk, IsSome, Some};
 ghost use Rattle.std.specs.List.{AllByRecursion, list_any};
 ghost use Rattle.step_rules.specs.LookingUp.{promoted_all};
 ghost use Rattle.step_rules.specs.Offering.{put_all, unkept_of};
-ghost use Rattle.step_rules.specs.Steps.{with_entries};
+ghost use Rattle.step_rules.specs.Steps.{ask_list, tcp_count, with_entries};
 ghost use Rattle.step_rules.specs.Row.{is_due_at, deadline_of, timeout_of};
-ghost use Rattle.step_changes.specs.Next.{tcp_count_of, left_waiting, with_preferred, without_closed, changed, next_of, pieces_of, IsOutcome, IsRouted, CanWait, CanFollow, CanChange, FitsChange, IsServed};
+ghost use Rattle.step_changes.specs.Next.{tcp_count_of, left_or_sent, left_waiting, with_preferred, without_closed, changed, next_of, pieces_of, IsOutcome, IsRouted, CanWait, CanFollow, CanSendOn, CanChange, FitsChange, IsServed};
 
 use crate::forwarder::Forwarder;
 use outstanding::{Ask, Path};
@@ -16,7 +16,8 @@ use record_cache::Held;
 use std::alloc::{AllocError, Allocator};
 use std::hash::BuildHasher;
 use step_changes::{
-    Change, Opening, Preferred, close_inquiry, end_closed, is_late, is_overdue, list_ask, offer_all,
+    Change, Opening, Preferred, Sending, close_inquiry, end_closed, is_late, is_overdue, list_ask,
+    offer_all, send_on,
 };
 use step_look_ups::{Slots, promote_all};
 use step_replies::Waiting;
@@ -30,6 +31,17 @@ fn count_tcp(count: u64, path: Path) -> u64
     match path {
         Path::Udp(_) => count,
         Path::Tcp(_) => count + 1,
+    }
+}
+
+/// One more ask by TCP, where there is one and its path is a connection.
+fn count_next<A: Allocator>(count: u64, ask: &Option<Ask<A>>) -> u64
+    requires { count + tcp_count ask.now < 2 ^ 64 }
+    ensures { result ≡ count + tcp_count ask.now }
+{
+    match ask {
+        Some(next) => count_tcp(count, next.path),
+        None => count,
     }
 }
 
@@ -104,6 +116,25 @@ impl<H: BuildHasher + Drop, A: Allocator + Copy> Forwarder<H, A> {
         self.moment = moment;
     }
 
+    /// The ask on a path is closed, and the first ask for what those want that are sent on is listed, where there is one.
+    fn send_all_on(&mut self, moment: u64, sending: Sending<A>)
+        requires later { self.old.state.moment ≤ moment }
+        requires in_time { moment ≤ 2 ^ 62 }
+        requires fits { CanSendOn self.old.config moment self.old.state sending.path sending.preferred sending.onward.items sending.ask }
+        ensures { self.new ≡ record { config = self.old.config; state = record self.old.state { asks = without_path sending.path self.old.state.asks ++ ask_list sending.ask; waiting = left_or_sent (ask_on sending.path self.old.state.asks) sending.onward.items self.old.state.waiting; preferred = with_preferred (Some sending.preferred) self.old.state.preferred; moment = moment; tcp_asks = self.old.state.tcp_asks + tcp_count sending.ask } } }
+    {
+        let Sending {
+            path,
+            preferred,
+            onward,
+            ask,
+        } = sending;
+        self.tcp_asks = count_next(self.tcp_asks, &ask);
+        send_on(&mut self.inquiries, &mut self.waiting, path, ask, onward);
+        prefer(&mut self.preferred, Some(preferred));
+        self.moment = moment;
+    }
+
     /// The ask on the path is closed, and another one for its question is listed.
     fn replace(&mut self, moment: u64, path: Path, ask: Ask<A>)
         requires later { self.old.state.moment ≤ moment }
@@ -150,6 +181,10 @@ impl<H: BuildHasher + Drop, A: Allocator + Copy> Forwarder<H, A> {
             }
             Change::Close(path, preferred) => {
                 self.close(moment, path, preferred);
+                Ok(())
+            }
+            Change::SendOn(sending) => {
+                self.send_all_on(moment, Box::into_inner(sending));
                 Ok(())
             }
             Change::AskAgain(path, ask) => {

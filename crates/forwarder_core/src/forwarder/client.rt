@@ -1,6 +1,6 @@
 //! What a client's message calls for.
 
-ghost use Rattle.std.specs.Prelude.{◌≡◌, ◌^◌, ℕ, ◌<◌, ◌≤◌, [], false, true, length, Bool, List, IfOk, Some, None};
+ghost use Rattle.std.specs.Prelude.{◌≡◌, ◌^◌, ℕ, ◌<◌, ◌≤◌, [], false, true, length, map, Bool, List, IfOk, Some, None};
 ghost use Rattle.std.specs.List.{AllByRecursion};
 ghost use Rattle.answer_builder.specs.Answers.{IsEarlier};
 ghost use Rattle.dns_message.specs.Messages.{first_question};
@@ -8,9 +8,13 @@ ghost use Rattle.dns_message.specs.Questions.{question_read};
 ghost use Rattle.outstanding.specs.Lists.{of_question, AreListed};
 ghost use Rattle.step_history.specs.Names.{route_of};
 ghost use Rattle.step_history.specs.History.{is_taken};
-ghost use Rattle.step_look_ups.specs.Seen.{is_ended, seen_of};
+ghost use Rattle.step_look_ups.specs.Seen.{seen_of, UsesFew};
+ghost use Rattle.step_look_ups.specs.declared.looked.Met.{Met};
+ghost use Rattle.step_history.specs.Answers.{asked_at};
+ghost use Rattle.step_changes.specs.Kept.{HoldsEarlier};
+ghost use Rattle.step_replies.specs.Onward.{waits_on};
 ghost use Rattle.step_rules.specs.Attempts.{first_ask};
-ghost use Rattle.step_rules.specs.LookingUp.{asked_look_up, look_up, missed};
+ghost use Rattle.step_rules.specs.LookingUp.{look_up, missed};
 ghost use Rattle.step_history.specs.Replies.{asked_in};
 ghost use Rattle.step_rules.specs.Steps.{using, idle_step, reply_step, taking_step, gives_up, failed};
 ghost use Rattle.step_rules.specs.Row.{row_of_opening, row_of_new_inquiry, row_of_inquiry, row_of_waiting, row_of_look_up, row_of_route, row_of_service, row_of_question, row_of_request};
@@ -21,15 +25,20 @@ ghost use Rattle.step_changes.specs.Next.{next_of, IsQuiet, CanWait, CanFollow, 
 use crate::forwarder::Forwarder;
 use crate::request::{is_not_served, owned_question, route_for, taken_header, with_one_question};
 use dns_message::{Header, MessageRef, Question, QuestionRef};
+use dns_name::Name;
 use outstanding::{Ask, draw};
 use plain_list::PlainList;
 use std::alloc::{AllocError, Allocator};
 use std::hash::BuildHasher;
 use step_changes::{Change, Next, Opening, Try, by_udp, new_ask};
-use step_look_ups::{Looked, SlotsRef, look_up};
-use step_replies::{Request, Waiting, answer, ask as ask_action, failure, refusal};
+use step_look_ups::{Looked, Met, SlotsRef, look_up};
+use step_replies::{Request, SentOn, Waiting, answer, ask as ask_action, failure, refusal};
+use step_sending::copies;
 use step_values::{Action, Client, Why};
 use suffix_routes::RouteId;
+
+/// No question takes more aliases.
+const MOST_ALIASES: usize = 8;
 
 impl<H: BuildHasher + Drop, A: Allocator + Copy> Forwarder<H, A> {
     /// Nothing is done.
@@ -161,6 +170,7 @@ impl<H: BuildHasher + Drop, A: Allocator + Copy> Forwarder<H, A> {
         requires later { self.now.state.moment ≤ moment }
         requires in_time { moment ≤ 2 ^ 62 }
         requires taken { waiting.taken ≡ moment }
+        requires aliases { HoldsEarlier moment waiting }
         requires room { length self.now.state.waiting < self.now.config.limits.questions }
         ensures row { IfOk result (λ next. (rooms : List Bool) → next_of moment rooms self.now.state next ≡ row_of_new_inquiry self.now.config moment words waiting (using used.entry self.now.state)) }
         ensures fits { IfOk result (λ next. CanChange self.now.config moment self.now.state next) }
@@ -168,7 +178,7 @@ impl<H: BuildHasher + Drop, A: Allocator + Copy> Forwarder<H, A> {
         if self.asks_under_way() >= self.config.limits.inquiries {
             return self.refuse(&waiting.request(), Why::InquiriesFull, used);
         }
-        match self.first_ask(moment, words, &waiting.question, route)? {
+        match self.first_ask(moment, words, waiting.wanted(), route)? {
             Some(ask) => self.open(moment, waiting, ask, used),
             None => self.refuse(&waiting.request(), Why::NoPort, used),
         }
@@ -187,36 +197,39 @@ impl<H: BuildHasher + Drop, A: Allocator + Copy> Forwarder<H, A> {
         requires later { self.now.state.moment ≤ moment }
         requires in_time { moment ≤ 2 ^ 62 }
         requires taken { waiting.taken ≡ moment }
+        requires aliases { HoldsEarlier moment waiting }
         requires room { length self.now.state.waiting < self.now.config.limits.questions }
         ensures row { IfOk result (λ next. (rooms : List Bool) → next_of moment rooms self.now.state next ≡ row_of_inquiry self.now.config moment words waiting (using used.entry self.now.state) (of_question waiting.wanted self.now.state.asks)) }
         ensures fits { IfOk result (λ next. CanChange self.now.config moment self.now.state next) }
     {
-        match self.inquiries.by_question(&waiting.question) {
+        match self.inquiries.by_question(waiting.wanted()) {
             Some(_) => self.join(moment, waiting, used),
             None => self.ask_anew(moment, words, waiting, route, used),
         }
     }
 
-    /// A question that has a route, and to which the cache has no answer.
+    /// A question of which the cache has no answer, and which wants to know what has a route: its own, or what it is sent on to.
     fn wait<'a>(
         &'a self,
         moment: u64,
         words: [u32; 8],
         request: &Request<'_>,
+        sent_on: Option<SentOn<A>>,
         route: RouteId,
         used: SlotsRef<'a, A>,
     ) -> Result<Next<'a, A>, AllocError>
-        requires on { route_of self.now.config request.now.wanted.name ≡ Some route }
+        requires on { route_of self.now.config (waits_on sent_on request.now).wanted.name ≡ Some route }
+        requires aliases { HoldsEarlier moment (waits_on sent_on request.now) }
         requires later { self.now.state.moment ≤ moment }
         requires in_time { moment ≤ 2 ^ 62 }
         requires taken { request.now.taken ≡ moment }
-        ensures row { IfOk result (λ next. (rooms : List Bool) → next_of moment rooms self.now.state next ≡ row_of_waiting self.now.config moment words request.now (using used.entry self.now.state)) }
+        ensures row { IfOk result (λ next. (rooms : List Bool) → next_of moment rooms self.now.state next ≡ row_of_waiting self.now.config moment words (waits_on sent_on request.now) (using used.entry self.now.state)) }
         ensures fits { IfOk result (λ next. CanChange self.now.config moment self.now.state next) }
     {
         if self.waiting.len() >= self.config.limits.questions {
             return self.refuse(request, Why::QuestionsFull, used);
         }
-        let waiting = request.to_waiting(self.alloc)?;
+        let waiting = request.to_waiting(self.alloc, sent_on)?;
         self.admit(moment, words, waiting, route, used)
     }
 
@@ -227,17 +240,67 @@ impl<H: BuildHasher + Drop, A: Allocator + Copy> Forwarder<H, A> {
         request: &Request<'_>,
         looked: Looked<'a, A>,
     ) -> Result<Next<'a, A>, AllocError>
-        requires ended { is_ended looked.met ≡ true }
+        requires ended { looked.met ≡ Met.Ends }
         requires earlier { AllByRecursion (IsEarlier moment) looked.used }
         requires found { looked ≡ seen_of (look_up self.now.config.routes moment self.now.state.cache.entries most_aliases [] request.now.wanted) }
-        ensures row { (words : List ℕ) → IfOk result (λ next. (rooms : List Bool) → next_of moment rooms self.now.state next ≡ row_of_look_up self.now.config moment words request.now self.now.state (asked_look_up self.now.config.routes moment self.now.state.cache.entries request.now.wanted)) }
+        ensures row { (words : List ℕ) → IfOk result (λ next. (rooms : List Bool) → next_of moment rooms self.now.state next ≡ row_of_look_up self.now.config moment words request.now self.now.state (look_up self.now.config.routes moment self.now.state.cache.entries most_aliases [] request.now.wanted)) }
         ensures fits { IfOk result (λ next. CanChange self.now.config moment self.now.state next) }
     {
         let action = answer(self.alloc, request, looked.used(), moment)?;
         self.reply(action, looked.into_slots())
     }
 
-    /// A question to which the cache has no answer, where a look-up used these entries.
+    /// What a question is sent on with whose look-up missed behind these aliases at this name.
+    fn onward(
+        &self,
+        request: &Request<'_>,
+        looked: &Looked<'_, A>,
+        name: Name<A>,
+    ) -> Result<SentOn<A>, AllocError>
+        requires few { length looked.now.used ≤ 8 }
+        ensures { IfOk result (λ sent_on. sent_on ≡ record { held = looked.now.used; wanted = asked_at request.now.wanted name }) }
+    {
+        let aliases = copies(self.alloc, looked.used())?;
+        let wanted = Question {
+            name,
+            kind: request.question.kind(),
+            class: request.question.class(),
+        };
+        Ok(SentOn { aliases, wanted })
+    }
+
+    /// A question whose look-up missed behind aliases, at this name.
+    fn miss_behind<'a>(
+        &'a self,
+        moment: u64,
+        words: [u32; 8],
+        request: &Request<'_>,
+        looked: Looked<'a, A>,
+        name: Name<A>,
+    ) -> Result<Next<'a, A>, AllocError>
+        requires few { length looked.used ≤ 8 }
+        requires earlier { AllByRecursion (IsEarlier moment) looked.used }
+        requires later { self.now.state.moment ≤ moment }
+        requires in_time { moment ≤ 2 ^ 62 }
+        requires taken { request.now.taken ≡ moment }
+        ensures row { IfOk result (λ next. (rooms : List Bool) → next_of moment rooms self.now.state next ≡ row_of_look_up self.now.config moment words request.now self.now.state (record { held = looked.entry.used; wanted = asked_at request.now.wanted name; met = missed; used = map (λ h. h.piece.slot) looked.entry.used })) }
+        ensures fits { IfOk result (λ next. CanChange self.now.config moment self.now.state next) }
+    {
+        let Some(route) = self.config.route_of(&name) else {
+            return self.refuse(request, Why::NoRoute, looked.into_slots());
+        };
+        let sent_on = self.onward(request, &looked, name)?;
+        self.wait(
+            moment,
+            words,
+            request,
+            Some(sent_on),
+            route,
+            looked.into_slots(),
+        )
+    }
+
+    /// A question of whose own name nothing is known.
     fn miss<'a>(
         &'a self,
         moment: u64,
@@ -252,8 +315,35 @@ impl<H: BuildHasher + Drop, A: Allocator + Copy> Forwarder<H, A> {
         ensures fits { IfOk result (λ next. CanChange self.now.config moment self.now.state next) }
     {
         match route_for(&self.config, &request.question) {
-            Some(route) => self.wait(moment, words, request, route, used),
+            Some(route) => self.wait(moment, words, request, None, route, used),
             None => self.refuse(request, Why::NoRoute, used),
+        }
+    }
+
+    /// What becomes of a question by its look-up.
+    fn decide_look_up<'a>(
+        &'a self,
+        moment: u64,
+        words: [u32; 8],
+        request: &Request<'_>,
+        looked: Looked<'a, A>,
+    ) -> Result<Next<'a, A>, AllocError>
+        requires found { looked ≡ seen_of (look_up self.now.config.routes moment self.now.state.cache.entries most_aliases [] request.now.wanted) }
+        requires few { UsesFew 8 looked }
+        requires earlier { AllByRecursion (IsEarlier moment) looked.used }
+        requires later { self.now.state.moment ≤ moment }
+        requires in_time { moment ≤ 2 ^ 62 }
+        requires taken { request.now.taken ≡ moment }
+        ensures row { IfOk result (λ next. (rooms : List Bool) → next_of moment rooms self.now.state next ≡ row_of_look_up self.now.config moment words request.now self.now.state (look_up self.now.config.routes moment self.now.state.cache.entries most_aliases [] request.now.wanted)) }
+        ensures fits { IfOk result (λ next. CanChange self.now.config moment self.now.state next) }
+    {
+        match looked.met() {
+            Met::Ends => self.hit(moment, request, looked),
+            Met::TooLong => self.refuse(request, Why::ChainLong, looked.into_slots()),
+            Met::Missed => match looked.target(self.alloc)? {
+                Some(name) => self.miss_behind(moment, words, request, looked, name),
+                None => self.miss(moment, words, request, looked.into_slots()),
+            },
         }
     }
 
@@ -279,11 +369,9 @@ impl<H: BuildHasher + Drop, A: Allocator + Copy> Forwarder<H, A> {
             question.kind(),
             moment,
             &self.config,
+            MOST_ALIASES,
         )?;
-        if looked.is_ended() {
-            return self.hit(moment, request, looked);
-        }
-        self.miss(moment, words, request, looked.into_slots())
+        self.decide_look_up(moment, words, request, looked)
     }
 
     /// A question that was read.

@@ -1,18 +1,19 @@
 //! What a message on a path to a server calls for.
 
-ghost use Rattle.std.specs.Prelude.{◌≡◌, ◌^◌, ◌≤◌, ℕ, false, Bool, List, IfOk, Some};
+ghost use Rattle.std.specs.Prelude.{◌≡◌, ◌^◌, ◌≤◌, ℕ, true, false, Bool, List, IfOk, Some};
 ghost use Rattle.dns_message.specs.Messages.{message_of};
 ghost use Rattle.dns_message.specs.Reading.{wants_memory};
 ghost use Rattle.trust_rank.specs.Values.{end_of};
 ghost use Rattle.trust_rank.specs.Walks.{walk_of};
 ghost use Rattle.reply_match.specs.Judged.{IsViewOf, verdict_of};
 ghost use Rattle.reply_match.specs.declared.verdict.Verdict.TheVariants as Verdict;
-ghost use Rattle.step_history.specs.History.{counts_as_lame};
+ghost use Rattle.step_history.specs.History.{is_lame};
+ghost use Rattle.step_keeping.specs.Chains.{has_last};
 ghost use Rattle.step_rules.specs.Row.{row_of_verdict, row_of_delivery, row_of_acceptance, row_of_walk, row_of_message, verdict_on};
 ghost use Rattle.outstanding.specs.Lists.{on_path as ask_on};
 ghost use Rattle.step_changes.specs.Next.{next_of, IsQuiet, CanChange};
 ghost use Rattle.plain_list.specs.Octets.{AreOctets};
-ghost use Rattle.forwarder_core.specs.Walked.{IsRead, IsWalkFor, ShowsOctets};
+ghost use Rattle.forwarder_core.specs.Walked.{leads_on, IsRead, IsWalkFor, ShowsOctets};
 
 use crate::forwarder::Forwarder;
 use dns_message::{Fault, Message, MessageRef};
@@ -26,11 +27,18 @@ use step_look_ups::SlotsRef;
 use suffix_routes::Peer;
 use trust_rank::{End, Walk, pieces};
 
-/// The reply is a failed attempt, since its walk is lame, or ends at a name that has to be asked for.
-fn counts_as_lame<A: Allocator>(end: &End<A>) -> bool
-    ensures { result ≡ counts_as_lame (end_of end.now) }
+/// The reply is a failed attempt, since its walk is lame.
+fn is_lame<A: Allocator>(end: &End<A>) -> bool
+    ensures { result ≡ is_lame (end_of end.now) }
 {
-    matches!(end, End::Lame | End::Elsewhere(_))
+    matches!(end, End::Lame)
+}
+
+/// Its aliases lead on to a name that is to be asked for.
+fn leads_on<A: Allocator>(end: &End<A>) -> bool
+    ensures { result ≡ leads_on (end_of end.now) }
+{
+    matches!(end, End::Elsewhere(_))
 }
 
 /// The fault is none of the octets: memory ran out.
@@ -41,7 +49,7 @@ fn wants_memory(fault: Fault) -> bool
 }
 
 impl<H: BuildHasher + Drop, A: Allocator + Copy> Forwarder<H, A> {
-    /// A reply is accepted: all that wait for it are answered, and what it carries is kept.
+    /// A reply is accepted that answers: all that wait for it are answered, and what it carries is kept.
     fn accept(
         &self,
         moment: u64,
@@ -52,7 +60,7 @@ impl<H: BuildHasher + Drop, A: Allocator + Copy> Forwarder<H, A> {
         requires on { ask_on path self.now.state.asks ≡ Some ask.now }
         requires later { self.now.state.moment ≤ moment }
         requires in_time { moment ≤ 2 ^ 62 }
-        requires taken { counts_as_lame walk.end ≡ false }
+        requires ends { has_last walk.end ≡ true }
         requires carried { IsWalkFor self.now.config ask.now walk }
         ensures row { (words : List ℕ) → IfOk result (λ next. (rooms : List Bool) → next_of moment rooms self.now.state next ≡ row_of_acceptance self.now.config moment words rooms ask.now walk self.now.state) }
         ensures fits { IfOk result (λ next. CanChange self.now.config moment self.now.state next) }
@@ -94,8 +102,11 @@ impl<H: BuildHasher + Drop, A: Allocator + Copy> Forwarder<H, A> {
         ensures fits { IfOk result (λ next. CanChange self.now.config moment self.now.state next) }
     {
         let walk = pieces(self.alloc, message, &ask.question, ask.route, &self.config)?;
-        if counts_as_lame(&walk.end) {
+        if is_lame(&walk.end) {
             return self.fail(moment, words, path, ask, Failure::Lame);
+        }
+        if leads_on(&walk.end) {
+            return self.send_on(moment, words, ask, walk);
         }
         self.accept(moment, path, ask, walk)
     }

@@ -15,6 +15,7 @@ mod attempt;
 mod change;
 mod client;
 mod delivery;
+mod sending;
 mod tick;
 
 use outstanding::Inquiries;

@@ -21,10 +21,10 @@ impl<H: BuildHasher + Drop, A: Allocator + Copy> Forwarder<H, A> {
     fn left_alone(&self, oldest: &Waiting<A>) -> Option<Path>
         ensures { result ≡ closed_path (left_alone oldest.now.wanted (drop 1 self.now.state.waiting) self.now.state.asks) }
     {
-        if self.waiting.is_any_other_for(&oldest.question) {
+        if self.waiting.is_any_other_for(oldest.wanted()) {
             return None;
         }
-        match self.inquiries.by_question(&oldest.question) {
+        match self.inquiries.by_question(oldest.wanted()) {
             Some(ask) => Some(ask.path),
             None => None,
         }

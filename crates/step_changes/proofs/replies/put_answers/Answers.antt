@@ -1,11 +1,10 @@
-use Rattle.std.proofs.Common.{◌∙◌, ◌+◌, ◌∷◌, [], ◌++◌, List, drop, ap, sym, arith}
+use Rattle.std.proofs.Common.{◌∙◌, ◌+◌, ◌∷◌, [], ◌++◌, List, drop, ap, sym, subst, arith}
 use Rattle.std.proofs.lemmas.List.{at_drop_all}
-use Rattle.answer_builder.specs.Transports.{answer_of}
 use Rattle.step_replies.specs.Spelling.{Source}
 use Rattle.step_values.specs.Values.{Action, actions_of}
-use Rattle.step_rules.specs.Steps.{sends, transport_of}
-use Rattle.step_changes.specs.Next.{with_replies, gives_from}
-use Rattle.step_changes.proofs.Folds.{answers_filter, one_answered}
+use Rattle.step_changes.specs.Next.{with_replies, gives_from, told_from}
+use Rattle.step_changes.specs.Kept.{HoldsEarlier}
+use Rattle.step_changes.proofs.Folds.{answers_filter, one_answered, one_of_those}
 use Rattle.step_changes.proofs.replies.put_answers.Goals as goal
 
 pub loop-place-preserved : goal.loop-place-preserved
@@ -14,7 +13,7 @@ loop-place-preserved g c = record {
   replies =
       ap (λ (actions : List Action). with_replies (gives_from c.args.answers.now c.args.question.now) actions (drop (c.loop-place.place + 1) c.for_question-those.result))
       (c.in_ok-put_answer.ensures.put
-      ∙ ap (λ (d : Source). actions_of c.loop-place.actions ++ sends c.get.result.now (answer_of c.get.result.now.asked d.chain d.moment (transport_of c.get.result.now.client)) ∷ []) c.loop-place.invariant.same)
+      ∙ ap (λ (d : Source). actions_of c.loop-place.actions ++ told_from d c.get.result.now ∷ []) c.loop-place.invariant.same)
       ∙ one_answered c.args.answers.now c.args.question.now (actions_of c.loop-place.actions) c.args.waiting.now.items c.for_question-those.result c.loop-place.place c.get.result.now c.for_question-those.ensures c.get.ensures
       ∙ c.loop-place.invariant.replies;
 }
@@ -27,3 +26,8 @@ returns g c =
     ∙ c.loop-place.invariant.replies
     ∙ ap (with_replies (gives_from c.args.answers.now c.args.question.now) (actions_of c.args.actions.now)) c.for_question-those.ensures
     ∙ answers_filter c.args.answers.now c.args.question.now (actions_of c.args.actions.now) c.args.waiting.now.items
+
+pub put_answer-requires-clause-earlier : goal.put_answer-requires-clause-earlier
+put_answer-requires-clause-earlier g c =
+    subst (λ (d : Source). HoldsEarlier d.moment c.get.result.now) (sym c.loop-place.invariant.same)
+    (one_of_those (HoldsEarlier c.args.answers.now.moment) c.args.question.now c.args.waiting.now.items c.for_question-those.result c.loop-place.place c.get.result.now c.requires.earlier c.for_question-those.ensures c.get.ensures)

@@ -8,19 +8,19 @@ use Rattle.step_look_ups.proofs.looking.follow.Goals as goal
 pub returns-in_default : goal.returns-in_default
 returns-in_default g c =
     c.ended.ensures
-    ∙ at_no_target c.args.config.now.routes c.args.moment c.args.cache.now.entries c.args.class c.args.kind _ c.loop-target.used.items c.loop-target.alias.now c.loop-target.invariant
+    ∙ at_no_target c.args.config.now.routes c.args.moment c.args.cache.now.entries c.args.class c.args.kind c.args.most _ c.loop-target.used.items c.loop-target.alias.now c.loop-target.invariant
     (key_of_none (target_of c.loop-target.alias.now.piece.body) c.in_default.ensures)
 
-pub returns-then-len-gt-MOST_ALIASES : goal.returns-then-len-gt-MOST_ALIASES
-returns-then-len-gt-MOST_ALIASES g c =
-    c.ended-then-len-gt-MOST_ALIASES.ensures
-    ∙ at_ninth c.args.config.now.routes c.args.moment c.args.cache.now.entries c.args.class c.args.kind _ c.loop-target.used.items _ c.loop-target.alias c.in-Some.target c.loop-target.invariant c.in_ok-push.ensures.items
+pub returns-then-len-most : goal.returns-then-len-most
+returns-then-len-most g c =
+    c.ended-then-len-most.ensures
+    ∙ at_ninth c.args.config.now.routes c.args.moment c.args.cache.now.entries c.args.class c.args.kind c.args.most _ c.loop-target.used.items _ c.loop-target.alias c.in-Some.target c.loop-target.invariant c.in_ok-push.ensures.items
     (key_of_some (target_of c.loop-target.alias.now.piece.body) c.in-Some.target c.in-Some.ensures)
     (omega arith)
 
 pub loop-target-preserved : goal.loop-target-preserved
 loop-target-preserved g c =
-    on_alias c.args.config.now.routes c.args.moment c.args.cache.now.entries c.args.class c.args.kind _ c.loop-target.used.items _ c.loop-target.alias c.in-Some.target _ c.loop-target.invariant c.in_ok-push.ensures.items
+    on_alias c.args.config.now.routes c.args.moment c.args.cache.now.entries c.args.class c.args.kind c.args.most _ c.loop-target.used.items _ c.loop-target.alias c.in-Some.target _ c.loop-target.invariant c.in_ok-push.ensures.items
     (key_of_some (target_of c.loop-target.alias.now.piece.body) c.in-Some.target c.in-Some.ensures)
     c.in-Alias.ensures
     (omega arith)
@@ -28,8 +28,8 @@ loop-target-preserved g c =
 pub returns-in-Miss : goal.returns-in-Miss
 returns-in-Miss g c =
     c.ended-in-Miss.ensures
-    ∙ at_miss c.args.config.now.routes c.args.moment c.args.cache.now.entries c.args.class c.args.kind _ _
-    (on_alias c.args.config.now.routes c.args.moment c.args.cache.now.entries c.args.class c.args.kind _ c.loop-target.used.items _ c.loop-target.alias c.in-Some.target _ c.loop-target.invariant c.in_ok-push.ensures.items
+    ∙ at_miss c.args.config.now.routes c.args.moment c.args.cache.now.entries c.args.class c.args.kind c.args.most _ _
+    (on_alias c.args.config.now.routes c.args.moment c.args.cache.now.entries c.args.class c.args.kind c.args.most _ c.loop-target.used.items _ c.loop-target.alias c.in-Some.target _ c.loop-target.invariant c.in_ok-push.ensures.items
     (key_of_some (target_of c.loop-target.alias.now.piece.body) c.in-Some.target c.in-Some.ensures)
     c.in-Miss.ensures
     (omega arith))
@@ -38,20 +38,20 @@ pub returns-in-Rows : goal.returns-in-Rows
 returns-in-Rows g c = elim c.in-Rows-1.branch [
   | in-Rows w ↦
       c.ended-in-Rows.ensures
-      ∙ at_rows c.args.config.now.routes c.args.moment c.args.cache.now.entries c.args.class c.args.kind _ _ _ w.in-Rows.held
-      (on_alias c.args.config.now.routes c.args.moment c.args.cache.now.entries c.args.class c.args.kind _ c.loop-target.used.items _ c.loop-target.alias c.in-Some.target _ c.loop-target.invariant c.in_ok-push.ensures.items
+      ∙ at_rows c.args.config.now.routes c.args.moment c.args.cache.now.entries c.args.class c.args.kind c.args.most _ _ _ w.in-Rows.held
+      (on_alias c.args.config.now.routes c.args.moment c.args.cache.now.entries c.args.class c.args.kind c.args.most _ c.loop-target.used.items _ c.loop-target.alias c.in-Some.target _ c.loop-target.invariant c.in_ok-push.ensures.items
       (key_of_some (target_of c.loop-target.alias.now.piece.body) c.in-Some.target c.in-Some.ensures) w.in-Rows.ensures (omega arith))
       (rw w.held-is at c.in_ok-push-in-Rows.ensures.items)
   | in-Rows-2 w ↦
       c.ended-in-Rows.ensures
-      ∙ at_no_data c.args.config.now.routes c.args.moment c.args.cache.now.entries c.args.class c.args.kind _ _ _ w.in-Rows.held
-      (on_alias c.args.config.now.routes c.args.moment c.args.cache.now.entries c.args.class c.args.kind _ c.loop-target.used.items _ c.loop-target.alias c.in-Some.target _ c.loop-target.invariant c.in_ok-push.ensures.items
+      ∙ at_no_data c.args.config.now.routes c.args.moment c.args.cache.now.entries c.args.class c.args.kind c.args.most _ _ _ w.in-Rows.held
+      (on_alias c.args.config.now.routes c.args.moment c.args.cache.now.entries c.args.class c.args.kind c.args.most _ c.loop-target.used.items _ c.loop-target.alias c.in-Some.target _ c.loop-target.invariant c.in_ok-push.ensures.items
       (key_of_some (target_of c.loop-target.alias.now.piece.body) c.in-Some.target c.in-Some.ensures) w.in-Rows.ensures (omega arith))
       (rw w.held-is at c.in_ok-push-in-Rows.ensures.items)
   | in-Rows-3 w ↦
       c.ended-in-Rows.ensures
-      ∙ at_denied c.args.config.now.routes c.args.moment c.args.cache.now.entries c.args.class c.args.kind _ _ _ w.in-Rows.held
-      (on_alias c.args.config.now.routes c.args.moment c.args.cache.now.entries c.args.class c.args.kind _ c.loop-target.used.items _ c.loop-target.alias c.in-Some.target _ c.loop-target.invariant c.in_ok-push.ensures.items
+      ∙ at_denied c.args.config.now.routes c.args.moment c.args.cache.now.entries c.args.class c.args.kind c.args.most _ _ _ w.in-Rows.held
+      (on_alias c.args.config.now.routes c.args.moment c.args.cache.now.entries c.args.class c.args.kind c.args.most _ c.loop-target.used.items _ c.loop-target.alias c.in-Some.target _ c.loop-target.invariant c.in_ok-push.ensures.items
       (key_of_some (target_of c.loop-target.alias.now.piece.body) c.in-Some.target c.in-Some.ensures) w.in-Rows.ensures (omega arith))
       (rw w.held-is at c.in_ok-push-in-Rows.ensures.items)
 ]

@@ -1,5 +1,4 @@
-use Rattle.std.proofs.Common.{◌-◌, [], length}
-use Rattle.trust_rank.specs.Walks.{most_aliases}
+use Rattle.std.proofs.Common.{suc, ◌-◌, [], length}
 use Rattle.negative_cache.specs.Values.{alias}
 use Rattle.step_look_ups.specs.Seen.{seen_from}
 use Rattle.step_look_ups.proofs.Seeing.{IsOnWay}
@@ -7,8 +6,8 @@ use Rattle.step_look_ups.proofs.looking.follow.Given as goal
 
 abbrev pub invariant-loop-target : goal.invariant-loop-target
 invariant-loop-target g l =
-    IsOnWay l.config.routes l.moment l.cache.entries l.class l.kind l.used.items (alias l.alias)
-    (seen_from l.config.routes l.moment l.cache.entries l.class l.kind most_aliases [] (alias l.fn.first))
+    IsOnWay l.config.routes l.moment l.cache.entries l.class l.kind l.most l.used.items (alias l.alias)
+    (seen_from l.config.routes l.moment l.cache.entries l.class l.kind l.most [] (alias l.fn.first))
 
 abbrev pub decreases-loop-target : goal.decreases-loop-target
-decreases-loop-target g l = 9 - length l.used.items
+decreases-loop-target g l = suc l.most - length l.used.items

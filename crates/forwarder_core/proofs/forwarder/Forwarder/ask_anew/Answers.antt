@@ -1,8 +1,10 @@
 use Rattle.std.proofs.Common.{◌≡◌, ◌∙◌, ◌≤◌, length, sym, ap, subst, refl, Some, None, arith}
 use Rattle.std.proofs.lemmas.Result.{IfOk-weaker}
-use Rattle.outstanding.specs.Lists.{of_question, AreListed}
+use Rattle.outstanding.specs.Lists.{of_question}
+use Rattle.step_values.specs.declared.action.Why.TheVariants.{NoPort}
 use Rattle.step_history.specs.Names.{route_of}
-use Rattle.step_rules.specs.State.{Running, Waiting}
+use Rattle.dns_message.specs.Values.{Question}
+use Rattle.step_rules.specs.State.{Running}
 use Rattle.step_rules.specs.Attempts.{first_ask}
 use Rattle.step_changes.specs.Next.{next_of, CanFollow}
 use Rattle.forwarder_core.proofs.Clients.{fits_at, opened_row}
@@ -17,23 +19,23 @@ returns-clause-fits g c = fits_at c.refuse-in-None.result c.args.self.now.config
 
 pub returns-clause-row : goal.returns-clause-row
 returns-clause-row g c = IfOk-weaker c.refuse-in-None.result _ _ (λ next told rooms.
-    opened_row c.args.self.now.config c.args.moment c.args.words c.args.waiting c.args.self.now.state c.args.used c.args.route c.waiting.inside.question None (next_of c.args.moment rooms c.args.self.now.state next)
+    opened_row c.args.self.now.config c.args.moment c.args.words c.args.waiting c.args.self.now.state c.args.used c.args.route c.wanted.result.now None (next_of c.args.moment rooms c.args.self.now.state next)
     (let count = c.asks_under_way.ensures.count in let limit : c.self-inside.inside.0.1.0.limits.inquiries ≡ c.args.self.now.config.limits.inquiries = (λ i. (c.self-inside.view_is i).config.limits.inquiries) ∙ ap (λ (r : Running). r.config.limits.inquiries) c.self.view_is in let test = c.if-asks_under_way-self.false in omega (arith, count, test, limit))
-    c.requires.on (ap (λ (x : Waiting). x.wanted) c.waiting.view_is) (sym c.in-None.is ∙ c.in_ok-ask.ensures) (told c.args.moment rooms)) (rw c.request-in-None.ensures at c.refuse-in-None.ensures.row)
+    c.requires.on c.wanted.ensures (sym c.in-None.is ∙ c.in_ok-ask.ensures) (told c.args.moment rooms)) (rw (c.request-in-None.ensures.fails NoPort) at c.refuse-in-None.ensures.row)
 
 pub returns-in-Some-clause-row : goal.returns-in-Some-clause-row
 returns-in-Some-clause-row g c = IfOk-weaker c.open.result _ _ (λ next told rooms.
-    opened_row c.args.self.now.config c.args.moment c.args.words c.args.waiting c.args.self.now.state c.args.used c.args.route c.waiting.inside.question (Some c.in-Some.ask) (next_of c.args.moment rooms c.args.self.now.state next)
+    opened_row c.args.self.now.config c.args.moment c.args.words c.args.waiting c.args.self.now.state c.args.used c.args.route c.wanted.result.now (Some c.in-Some.ask) (next_of c.args.moment rooms c.args.self.now.state next)
     (let count = c.asks_under_way.ensures.count in let limit : c.self-inside.inside.0.1.0.limits.inquiries ≡ c.args.self.now.config.limits.inquiries = (λ i. (c.self-inside.view_is i).config.limits.inquiries) ∙ ap (λ (r : Running). r.config.limits.inquiries) c.self.view_is in let test = c.if-asks_under_way-self.false in omega (arith, count, test, limit))
-    c.requires.on (ap (λ (x : Waiting). x.wanted) c.waiting.view_is) (sym c.in-Some.is ∙ c.in_ok-ask.ensures) (told rooms)) c.open.ensures.row
+    c.requires.on c.wanted.ensures (sym c.in-Some.is ∙ c.in_ok-ask.ensures) (told rooms)) c.open.ensures.row
 
 pub open-requires-clause-follows : goal.open-requires-clause-follows
 open-requires-clause-follows g c =
     subst (λ (r : Running). CanFollow r.config c.args.moment r.state r.state.asks c.in-Some.ask) c.self.view_is
-    (first_follows c.self.inside.config c.args.moment c.args.words c.waiting.inside.question c.args.route (record { cache = c.self.inside.cache; asks = c.self.inside.inquiries.asks; waiting = c.self.inside.waiting.items; preferred = c.self.inside.preferred.items; moment = c.self.inside.moment; tcp_asks = c.self.inside.tcp_asks }) c.self.inside.inquiries c.self.inside.preferred.items c.in-Some.ask
+    (first_follows c.self.inside.config c.args.moment c.args.words c.wanted.result.now c.args.route (record { cache = c.self.inside.cache; asks = c.self.inside.inquiries.asks; waiting = c.self.inside.waiting.items; preferred = c.self.inside.preferred.items; moment = c.self.inside.moment; tcp_asks = c.self.inside.tcp_asks }) c.self.inside.inquiries c.self.inside.preferred.items c.in-Some.ask
     c.self.invariant refl
-    (subst (λ (x : Waiting). route_of c.self.inside.config x.wanted.name ≡ Some c.args.route) (sym c.waiting.view_is) (subst (λ (r : Running). route_of r.config c.args.waiting.wanted.name ≡ Some c.args.route) (sym c.self.view_is) c.requires.on))
-    (subst (λ (r : Running). AreListed (record { capacity = r.config.limits.inquiries; asks = r.state.asks })) (sym c.self.view_is) c.asks_under_way.ensures.listed) (subst (λ (r : Running). r.state.moment ≤ c.args.moment) (sym c.self.view_is) c.requires.later) c.requires.in_time
-    (subst (λ (x : Waiting). of_question x.wanted c.self.inside.inquiries.asks ≡ None) (sym c.waiting.view_is) (subst (λ (r : Running). of_question c.args.waiting.wanted r.state.asks ≡ None) (sym c.self.view_is) c.requires.new))
+    (subst (λ (q : Question). route_of c.self.inside.config q.name ≡ Some c.args.route) (sym c.wanted.ensures) (subst (λ (r : Running). route_of r.config c.args.waiting.wanted.name ≡ Some c.args.route) (sym c.self.view_is) c.requires.on))
+    (subst (λ (r : Running). r.state.moment ≤ c.args.moment) (sym c.self.view_is) c.requires.later) c.requires.in_time
+    (subst (λ (q : Question). of_question q c.self.inside.inquiries.asks ≡ None) (sym c.wanted.ensures) (subst (λ (r : Running). of_question c.args.waiting.wanted r.state.asks ≡ None) (sym c.self.view_is) c.requires.new))
     (let count = c.asks_under_way.ensures.count in let asks : length c.self.inside.inquiries.asks ≡ length c.args.self.now.state.asks = ap (λ (r : Running). length r.state.asks) c.self.view_is in let limit : c.self-inside.inside.0.1.0.limits.inquiries ≡ c.self.inside.config.limits.inquiries = λ i. (c.self-inside.view_is i).config.limits.inquiries in let test = c.if-asks_under_way-self.false in omega (arith, count, asks, test, limit))
-    (sym c.in-Some.is ∙ c.in_ok-ask.ensures ∙ ap (λ (r : Running). first_ask r.config c.args.moment c.args.words c.waiting.inside.question c.args.route r.state) (sym c.self.view_is)))
+    (sym c.in-Some.is ∙ c.in_ok-ask.ensures ∙ ap (λ (r : Running). first_ask r.config c.args.moment c.args.words c.wanted.result.now c.args.route r.state) (sym c.self.view_is)))

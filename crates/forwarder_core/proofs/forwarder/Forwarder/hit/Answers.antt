@@ -11,8 +11,8 @@ use Rattle.forwarder_core.proofs.forwarder.Forwarder.hit.Goals as goal
 
 pub returns-clause-row : goal.returns-clause-row
 returns-clause-row g c = λ words. IfOk-weaker c.reply.result _ _ (λ next told rooms.
-    hit_row c.args.self.now.config c.args.moment words c.args.request.now c.args.self.now.state c.args.looked _ (action_of c.in_ok-action.action) (next_of c.args.moment rooms c.args.self.now.state next)
-    c.requires.ended c.requires.found c.into_slots.ensures
+    hit_row c.args.self.now.config c.args.moment words c.args.request.now c.args.self.now.state c.args.looked c.requires.found _ (action_of c.in_ok-action.action) (next_of c.args.moment rooms c.args.self.now.state next)
+    c.requires.ended c.into_slots.ensures
     (c.in_ok-action.ensures ∙ ap (λ (es : List Held). sends c.args.request.now (answer_of c.args.request.now.asked es c.args.moment (transport_of c.args.request.now.client))) c.used.ensures)
     (told c.args.moment rooms)) c.reply.ensures.row
 

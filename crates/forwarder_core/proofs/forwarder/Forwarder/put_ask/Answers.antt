@@ -19,7 +19,7 @@ invariant_of-self-2 g c =
     let one = subst (λ (r : Running). IsKeptAsk r.config c.args.moment (r.state.tcp_asks + tcp_count_of c.args.ask.path) c.args.ask) (sym c.self.view_is) c.requires.follows.kept in
     let joined = kept_joined c.self.inside.config c.self.inside.cache c.self.inside.inquiries c.self.inside.waiting.items _ c.self.inside.preferred.items c.self.inside.moment c.args.moment c.self.inside.tcp_asks c.args.waiting c.self.invariant
     (subst (λ (r : Running). r.state.moment ≤ c.args.moment) (sym c.self.view_is) c.requires.later) c.requires.in_time
-    (subst (λ (r : Running). length r.state.waiting < r.config.limits.questions) (sym c.self.view_is) c.requires.waits.room) c.requires.waits.taken c.requires.waits.plain
+    (subst (λ (r : Running). length r.state.waiting < r.config.limits.questions) (sym c.self.view_is) c.requires.waits.room) c.requires.waits.taken c.requires.waits.aliases
     (c.push_reserved.ensures ∙ ap (λ (xs : List Waiting). xs ++ c.args.waiting ∷ []) c.in_ok-reserve_one.ensures.same) in
     subst (λ (k : ℕ). IsKept c.self.inside.config c.self.inside.cache c.list_ask.new.inquiries c.push_reserved.new.self.items c.self.inside.preferred.items c.args.moment k) (sym c.count_tcp-count.ensures)
     (subst (λ (a : Ask). IsKept c.self.inside.config c.self.inside.cache c.list_ask.new.inquiries c.push_reserved.new.self.items c.self.inside.preferred.items c.args.moment (c.self.inside.tcp_asks + tcp_count_of a.path)) (sym c.ask.view_is)

@@ -12,4 +12,4 @@ pub invariant_of-self-2 : goal.invariant_of-self-2
 invariant_of-self-2 g c =
     kept_joined c.self.inside.config c.self.inside.cache c.self.inside.inquiries c.self.inside.waiting.items _ c.self.inside.preferred.items c.self.inside.moment c.args.moment c.self.inside.tcp_asks c.args.waiting c.self.invariant
     (subst (λ (r : Running). r.state.moment ≤ c.args.moment) (sym c.self.view_is) c.requires.later) c.requires.in_time
-    (subst (λ (r : Running). length r.state.waiting < r.config.limits.questions) (sym c.self.view_is) c.requires.fits.room) c.requires.fits.taken c.requires.fits.plain c.in_ok-push.ensures.ok
+    (subst (λ (r : Running). length r.state.waiting < r.config.limits.questions) (sym c.self.view_is) c.requires.fits.room) c.requires.fits.taken c.requires.fits.aliases c.in_ok-push.ensures.ok

@@ -1,9 +1,10 @@
-use Rattle.std.proofs.Common.{◌≡◌, ◌∙◌, ◌<◌, length, ap, arith}
+use Rattle.std.proofs.Common.{◌≡◌, ◌∙◌, ◌<◌, ◌≤◌, length, ap, arith}
 use Rattle.std.proofs.lemmas.Result.{IfOk-weaker}
 use Rattle.step_rules.specs.State.{Running}
+use Rattle.step_replies.specs.Onward.{waits_on}
 use Rattle.step_rules.specs.Steps.{using}
 use Rattle.step_changes.specs.Next.{next_of}
-use Rattle.forwarder_core.proofs.Clients.{fits_at, waiting_row}
+use Rattle.forwarder_core.proofs.Clients.{fits_at, full_row, waiting_row}
 use Rattle.forwarder_core.proofs.forwarder.Forwarder.wait.Goals as goal
 
 pub returns-then-len-self-clause-fits : goal.returns-then-len-self-clause-fits
@@ -14,5 +15,13 @@ returns-clause-row g c =
     let room : length c.args.self.now.state.waiting < c.args.self.now.config.limits.questions =
     (let count = c.len.ensures in let waiting : length c.self.inside.waiting.items ≡ length c.args.self.now.state.waiting = ap (λ (r : Running). length r.state.waiting) c.self.view_is in let limit : c.self-inside.inside.0.1.0.limits.questions ≡ c.args.self.now.config.limits.questions = (λ i. (c.self-inside.view_is i).config.limits.questions) ∙ ap (λ (r : Running). r.config.limits.questions) c.self.view_is in let test = c.if-len-self.false in grind (arith, count, waiting, test, limit)) in
     IfOk-weaker c.admit.result _ _ (λ next told rooms.
-    waiting_row c.args.self.now.config c.args.moment c.args.words c.args.request.now (using c.args.used c.args.self.now.state) (next_of c.args.moment rooms c.args.self.now.state next) room (told rooms))
+    waiting_row c.args.self.now.config c.args.moment c.args.words (waits_on c.args.sent_on c.args.request.now) (using c.args.used c.args.self.now.state) (next_of c.args.moment rooms c.args.self.now.state next) room (told rooms))
     (rw c.in_ok-waiting.ensures at c.admit.ensures.row)
+
+pub returns-then-len-self-clause-row : goal.returns-then-len-self-clause-row
+returns-then-len-self-clause-row g c =
+    let full : c.args.self.now.config.limits.questions ≤ length c.args.self.now.state.waiting =
+    (let count = c.len.ensures in let waiting : length c.self.inside.waiting.items ≡ length c.args.self.now.state.waiting = ap (λ (r : Running). length r.state.waiting) c.self.view_is in let limit : c.self-inside.inside.0.1.0.limits.questions ≡ c.args.self.now.config.limits.questions = (λ i. (c.self-inside.view_is i).config.limits.questions) ∙ ap (λ (r : Running). r.config.limits.questions) c.self.view_is in let test = c.if-len-self.true in grind (arith, count, waiting, test, limit)) in
+    IfOk-weaker c.refuse.result _ _ (λ next told rooms.
+    full_row c.args.self.now.config c.args.moment c.args.words c.args.sent_on c.args.request.now (using c.args.used c.args.self.now.state) (next_of c.args.moment rooms c.args.self.now.state next) full (told c.args.moment rooms))
+    c.refuse.ensures.row

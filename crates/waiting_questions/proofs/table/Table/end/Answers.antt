@@ -21,8 +21,8 @@ loop-place-preserved g c =
     let item : NumberedKey = c.index.result.now in (
       newest_ends c.args.question.now _ table.waiting (keys_of table.by_question.items) table.in_turn.keys c.range-start.result.0 c.loop-place.place c.range-start.result.1 ending
           c.key-key.result c.loop-place-test.true (subst (λ (k : ℕ). k ≡ slice_index_or (keys_of table.by_question.items) (c.loop-place.place - 1) k) (sym c.key-key.ensures.key) (key_read table.by_question.items (c.loop-place.place - 1) item (omega (arith, c.loop-place-test.true, ending.low, ending.high, length_keys table.by_question.items)) c.index.ensures))
-          c.remove.new.self c.remove.ensures.updates c.place_of-turn.result c.place_of-turn.ensures.within c.place_of-turn.ensures.stands c.take.new.self.keys c.take.ensures.keys,
-      numbers_left table.waiting c.remove.new.self table.by_question.items c.key-key.result c.remove.ensures.updates c.loop-place.invariant.1,
+          c.let_go.new.waiting c.let_go.ensures c.place_of-turn.result c.place_of-turn.ensures.within c.place_of-turn.ensures.stands c.take.new.self.keys c.take.ensures.keys,
+      numbers_left table.waiting c.let_go.new.waiting table.by_question.items c.key-key.result c.let_go.ensures c.loop-place.invariant.1,
     )
 
 pub returns-clause-indexed : goal.returns-clause-indexed

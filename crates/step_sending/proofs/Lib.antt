@@ -1,0 +1,6 @@
+pub mod Chains
+pub mod Going
+pub mod Parts
+mod Becoming
+mod Earlier
+pub mod CallerLemmas

@@ -1,0 +1,24 @@
+use Rattle.std.proofs.Common.{◌≡◌, ◌∙◌, ◌+◌, ◌++◌, ℕ, List, [], length, sym, ap, subst, arith}
+use Rattle.std.specs.List.{AllByRecursion}
+use Rattle.std.proofs.lemmas.List.{length-append}
+use Rattle.record_cache.specs.Values.{Held}
+use Rattle.record_cache.specs.Laws.{Among}
+use Rattle.dns_message.specs.Values.{Question}
+use Rattle.step_history.specs.Answers.{asked_at}
+use Rattle.step_rules.specs.LookingUp.{look_up}
+use Rattle.step_look_ups.specs.Seen.{seen_of}
+use Rattle.step_sending.proofs.looking_on.look_on.Goals as goal
+
+pub returns : goal.returns
+returns g c = record {
+  more = c.in-Some.more;
+  count =
+      let both = length-append c.args.waiting.now.held c.args.lead.now.aliases.now in
+      let own : length c.aliases.result.now ≡ length c.args.waiting.now.held = ap (λ (hs : List Held). length hs) c.aliases.ensures.aliases in
+      let sum = c.saturating_add-count.ensures in let left = c.in-Some.ensures in omega (arith, both, own, sum, left);
+  is =
+      c.in_ok-looked.ensures.exact c.args.lead.now.name.now (sym c.key-key.ensures)
+      ∙ ap (λ (q : Question). seen_of (look_up c.args.config.now.routes c.args.moment c.args.cache.now.entries c.in-Some.more [] (asked_at q c.args.lead.now.name.now))) (c.question.view_is ∙ c.wanted-question.ensures);
+  few = c.in_ok-looked.ensures.few;
+  from_cache = c.in_ok-looked.ensures.from_cache c.args.lead.now.name.now (sym c.key-key.ensures);
+}

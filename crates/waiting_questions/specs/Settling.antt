@@ -1,0 +1,29 @@
+-- Questions that wait no more, or wait on: each that waits for a question has a fate.
+use Rattle.std.specs.Prelude.{ℕ, suc, if◌then◌else◌, Bool, List, [], ◌∷◌, ◌++◌, length, filter, take, drop, option_map, Option, Some}
+use Rattle.std.specs.List.{cons_option, filter_map}
+use Rattle.dns_message.specs.Values.{Question}
+use Rattle.step_rules.specs.State.{Waiting}
+use Rattle.step_rules.specs.Steps.{waits_for}
+use Rattle.step_replies.specs.Onward.{Onward, sent_on}
+
+-- what its fate leaves of a question: with aliases and another question it is sent on, with none it is gone
+abbrev pub left_by : Option Onward → Waiting → Option Waiting
+left_by fate x = option_map (λ s. sent_on s x) fate
+
+-- those that wait for the question get the fates, in order; all others stay where they are, and so do those for whom no fate is left
+abbrev pub settled : Question → List (Option Onward) → List Waiting → List Waiting
+settled q fates [] = []
+settled q [] (x ∷ xs) = x ∷ xs
+settled q (fate ∷ fates) (x ∷ xs) = if waits_for q x then cons_option (left_by fate x) (settled q fates xs) else x ∷ settled q (fate ∷ fates) xs
+
+-- the same, where a function gives the fates
+abbrev pub settled_by : Question → (Waiting → Option Onward) → List Waiting → List Waiting
+settled_by q f xs = filter_map (λ x. if waits_for q x then left_by (f x) x else Some x) xs
+
+-- with this in the place of the one there, or without it
+abbrev pub with_at : {X : Type 0} → List X → ℕ → Option X → List X
+with_at xs place o = take place xs ++ cons_option o (drop (suc place) xs)
+
+-- how many of those that pass stand before a place
+abbrev pub earlier : (ℕ → Bool) → List ℕ → ℕ → ℕ
+earlier p keys place = length (filter p (take place keys))
