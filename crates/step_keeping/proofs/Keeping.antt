@@ -35,7 +35,7 @@ pub all_from : (P : Held → Type 0) (es : List Held) → ((e : Held) → Among 
 all_from P [] each = tt
 all_from P (e ∷ es) each = (each e (inl refl), all_from P es (λ x among. each x (inr among)))
 
-among_filtered : (test : Held → Bool) (e : Held) (es : List Held) → Among e (filter test es) → Among e es × (test e ≡ true)
+pub among_filtered : (test : Held → Bool) (e : Held) (es : List Held) → Among e (filter test es) → Among e es × (test e ≡ true)
 among_filtered test e [] h = absurd h
 among_filtered test e (x ∷ es) h = by (among_filtered test e es) (test x) refl h
   where
@@ -44,7 +44,7 @@ among_filtered test e (x ∷ es) h = by (among_filtered test e es) (test x) refl
     by rest true t (inr later) = (inr (rest later).0, (rest later).1)
     by rest false f later = (inr (rest later).0, (rest later).1)
 
-among_first : (n : ℕ) (e : Held) (es : List Held) → Among e (take n es) → Among e es
+pub among_first : (n : ℕ) (e : Held) (es : List Held) → Among e (take n es) → Among e es
 among_first zero e es h = absurd h
 among_first (suc n) e [] h = h
 among_first (suc n) e (x ∷ es) (inl here) = inl here
@@ -61,7 +61,7 @@ promotions_leave P (slot ∷ used) es all = promotions_leave P used (promoted sl
 
 -- ---- what an offer leaves is not replaced by it
 
-own_key : (p : Piece) → IsPiece p → lowered p.slot.key ≡ p.slot.key
+pub own_key : (p : Piece) → IsPiece p → lowered p.slot.key ≡ p.slot.key
 own_key p formed = ap lowered formed.key ∙ lowered_again p.owner ∙ sym formed.key
 
 -- a piece of another slot, which doesn't deny what p shows, keeps its place
@@ -87,7 +87,7 @@ pub record IsShown (capacity : ℕ) (p : Piece) (es left : List Held) : Type 0 w
   pub was : (e : Held) → Among e left → Among e es
   pub over : (e : Held) → Among e left → is_name_error p ≡ false → denies p.owner p.slot.class e ≡ false
 
-shown_leaves : (capacity : ℕ) (p : Piece) (es : List Held) → AreHeld (record { capacity = capacity; entries = es }) → IsShown capacity p es (shown_by p es)
+pub shown_leaves : (capacity : ℕ) (p : Piece) (es : List Held) → AreHeld (record { capacity = capacity; entries = es }) → IsShown capacity p es (shown_by p es)
 shown_leaves capacity p es held = by (is_name_error p) refl
   where
     by : (b : Bool) → is_name_error p ≡ b → IsShown capacity p es (cond b es (shown p.owner p.slot.class es))
@@ -99,7 +99,7 @@ shown_leaves capacity p es held = by (is_name_error p) refl
     }
 
 -- the entry of a slot is the one that is among the entries
-entry_among : (slot : Slot) (e : Held) (es : List Held) → AreApart es → Among e es → of_slot slot e ≡ true → entry_of slot es ≡ Some e
+pub entry_among : (slot : Slot) (e : Held) (es : List Held) → AreApart es → Among e es → of_slot slot e ≡ true → entry_of slot es ≡ Some e
 entry_among slot e [] apart among is = absurd among
 entry_among slot e (x ∷ es) apart among is = by (λ later. entry_among slot e es apart.1 later is) (of_slot slot x) refl among
   where

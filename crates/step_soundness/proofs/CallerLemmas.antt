@@ -1,5 +1,6 @@
--- What crates above cite: the theorem, runs that go on by a step, asks that come next, and what is sent on.
-pub use Rattle.step_soundness.proofs.Theorem.{start_explained}
+-- What crates above cite: the theorem, runs that go on by a step, what a delivery carries, asks that come next, and what is sent on.
+pub use Rattle.step_soundness.proofs.Theorem.{row_explained, start_explained}
+pub use Rattle.step_soundness.proofs.Deliveries.{IsHeard, heard, heard_carried, carries, offered}
 pub use Rattle.step_soundness.proofs.Runs.{row_stays, IsExplained-start, explained_is_sound, explained_more, run_more, stays_at, handed_more}
 pub use Rattle.step_soundness.proofs.Listed.{ask_on-is, of_question-is, own_on, IsFresh, drawn_fresh, free_now, free_then, none_above, IsNumbered, drawn_numbered, without_shorter}
 pub use Rattle.step_soundness.proofs.Asking.{still_earlier}

@@ -84,8 +84,10 @@ module _ (c : Config) (past : List Step) (w : List (List ℕ)) (s : State) (x : 
     pub message : Message
     pub read : message_of octets ≡ Ok message
     pub fine : is_lame (walk_of c message ask.question ask.route).end ≡ false
+    pub carried : List Piece
+    pub carried_are : carried ≡ (walk_of c message ask.question ask.route).pieces ++ (walk_of c message ask.question ask.route).authority
 
-  heard : (actions : List Action) (ps : List Piece) → Carries c (told actions) past ps → IsHeard
+  pub heard : (actions : List Action) (ps : List Piece) → Carries c (told actions) past ps → IsHeard
   heard actions ps k = record {
     ask = a;
     on = at.1;
@@ -94,6 +96,8 @@ module _ (c : Config) (past : List Step) (w : List (List ℕ)) (s : State) (x : 
     message = k.message;
     read = read;
     fine = subst (λ (z : Question × ℕ). is_lame (walk_of c k.message z.0 z.1).end ≡ false) (λ i. (question_is i, route_is i)) accepts.not_lame;
+    carried = ps;
+    carried_are = k.are ∙ (λ i. (walk_of c k.message (question_is i) (route_is i)).pieces ++ (walk_of c k.message (question_is i) (route_is i)).authority);
   }
     where
       accepts : Accepts c (told actions) past k.ask k.asked k.route k.message
@@ -161,6 +165,11 @@ module _ (c : Config) (past : List Step) (w : List (List ℕ)) (s : State) (x : 
           (eq-eqb (header_in octets).id a.id (ap (λ (o : List ℕ). (header_in o).id) octets_is ∙ of_ask.identifier ∙ ap (λ (q : ShownAsk). (header_in q.octets).id) (sym at.2) ∙ tried.identifier)))
           (same_peer-is from a.peer (ap (λ (d : Delivered). d.from) delivered_is ∙ ap (λ (q : ShownAsk). q.server) (sym at.2))))
           (ap (asks_this a.question) (ap one_question octets_is ∙ of_ask.reads) ∙ subst (λ (q : Question). same_question of_ask.question q ≡ true) question_is of_ask.same_question_as_ask)
+
+  -- what it carried are the pieces that were carried
+  pub heard_carried : (actions : List Action) (ps : List Piece) (k : Carries c (told actions) past ps) → (heard actions ps k).carried ≡ ps
+  unfolding heard
+  heard_carried actions ps k = refl
 
   quiet : (IsHeard → ⊥) → (actions : List Action) → NothingAccepted c (told actions) past
   quiet none actions ps k = none (heard actions ps k)
@@ -237,13 +246,13 @@ module _ (c : Config) (past : List Step) (w : List (List ℕ)) (s : State) (x : 
         not_lame = fine;
       }
 
-      carries : (actions : List Action) → Carries c (told actions) past (walk.pieces ++ walk.authority)
+      pub carries : (actions : List Action) → Carries c (told actions) past (walk.pieces ++ walk.authority)
       carries actions = record { ask = shown a; asked = a.question; route = a.route; message = m; accepts = accepts actions; are = refl }
 
       shapes : HasShapes m
       shapes = spelled_message_has_shapes octets m spelled
 
-      offered : AllByRecursion (CanBeKept c) (walk.pieces ++ walk.authority)
+      pub offered : AllByRecursion (CanBeKept c) (walk.pieces ++ walk.authority)
       offered = accepted_pieces_can_be_kept c m a.question a.route (spelled_message_is_message octets m are_octets spelled) shapes tried_a.question tried_a.on_route fine
 
       -- a question that waited for the reply, by the end of its walk

@@ -1,0 +1,9 @@
+pub mod Standing
+pub mod Room
+pub mod Putting
+pub mod Offers
+pub mod Finding
+pub mod Rows
+pub mod Theorem
+pub mod CallerLemmas
+pub mod Worked

@@ -1,0 +1,4 @@
+pub mod Standing
+pub mod Use
+pub mod Mirrors
+pub mod Laws

@@ -1,0 +1,29 @@
+-- How the entries mirror what stands.
+use Rattle.std.specs.Prelude.{◌≡◌, ℕ, ◌≤◌, true, List, ◌∷◌}
+use Rattle.suffix_routes.specs.Values.{Config}
+use Rattle.record_cache.specs.Values.{Held}
+use Rattle.record_cache.specs.Ageing.{is_alive}
+use Rattle.record_cache.specs.Laws.{Among}
+use Rattle.step_values.specs.Values.{Handed, Outcome, Step}
+use Rattle.step_history.specs.Carried.{CarriedInEra}
+use Rattle.step_rules.specs.State.{State}
+use Rattle.step_soundness.specs.Explains.{Explains}
+use Rattle.step_use.specs.Standing.{standing}
+use Rattle.step_use.specs.Use.{HasRoom, UsesWhatStands}
+
+-- the entries were carried, and from the moment n on what lives of them is what stands
+pub record Mirrors (n : ℕ) (carried entries : List Held) : Type 0 where
+  pub was_carried : (h : Held) → Among h entries → Among h carried
+  pub stands : (m : ℕ) → n ≤ m → (h : Held) → Among h entries → is_alive m h ≡ true → Among h (standing m carried)
+  pub held : (m : ℕ) → n ≤ m → (h : Held) → Among h (standing m carried) → Among h entries
+
+-- where the cache has room for what the era carried, its entries mirror what stands; and each step used that
+pub record IsMirrored (c : Config) (past : List Step) (s : State) : Type 0 where
+  pub mirrors : (carried : List Held) → CarriedInEra c past carried → HasRoom c past carried → Mirrors s.moment carried s.cache.entries
+  pub uses : UsesWhatStands c past
+
+-- where a history explains the state before, and what stands of it is mirrored there, so it is after the step
+abbrev pub StaysMirrored : Config → State → Handed → Outcome → State → Type 0
+StaysMirrored c s h o s' =
+    (past : List Step) (w : List (List ℕ)) → Explains c past w s → IsMirrored c past s
+    → IsMirrored c (record { handed = h; outcome = o } ∷ past) s'
