@@ -8,7 +8,7 @@ use Rattle.std.proofs.lemmas.Bool.{cond_both, leb-true, leb-false, cond-true, co
 use Rattle.suffix_routes.specs.Values.{Config, Route, IsConfig}
 use Rattle.outstanding.specs.declared.ask.Path.{Path}
 use Rattle.outstanding.specs.declared.ask.Path.TheVariants.{Udp, Tcp}
-use Rattle.outstanding.specs.Lists.{same_path, without_path, AreInTurn, AreListed}
+use Rattle.outstanding.specs.Lists.{without_path, AreInTurn, AreListed}
 use Rattle.outstanding.specs.Due as due
 use Rattle.outstanding.specs.Values.{Ask, Inquiries}
 use Rattle.step_rules.specs.State.{Waiting, State}
@@ -23,10 +23,11 @@ use Rattle.step_soundness.specs.Explains.{IsBelow, ArePreferred}
 use Rattle.step_soundness.proofs.CallerLemmas.{All-append, All-filter, All-weaker, append_nil, preferred_first, preferred_put}
 use Rattle.step_changes.specs.declared.next.Preferred.{Preferred}
 use Rattle.step_changes.specs.Kept.{IsKeptAsk, HoldsEarlier, IsKept}
-use Rattle.step_changes.specs.Next.{left_waiting, left_or_sent, with_preferred, without_closed, IfFollows, IsSentEarlier, IsServed}
+use Rattle.step_changes.specs.Next.{left_waiting, left_or_sent, with_preferred, IfFollows, IsSentEarlier, IsServed}
 use Rattle.step_replies.specs.Onward.{Onward, sent_on}
 use Rattle.waiting_questions.specs.Settling.{left_by, settled}
 use Rattle.dns_message.specs.Values.{Question}
+use Rattle.step_decisions.proofs.CallerLemmas.{later_entries, later_held, kept_rest, kept_without}
 
 -- ---- asks, later
 
@@ -39,11 +40,6 @@ later_asks c m n k j asks le all = All-weaker (IsKeptAsk c m k) (IsKeptAsk c n (
 
 later_same : (c : Config) (m n k : ℕ) (asks : List Ask) → m ≤ n → AllByRecursion (IsKeptAsk c m k) asks → AllByRecursion (IsKeptAsk c n k) asks
 later_same c m n k asks le all = All-weaker (IsKeptAsk c m k) (IsKeptAsk c n k) (λ a h. record { earlier = let e = h.earlier in omega (arith, e, le); on_route = h.on_route; server = h.server; tries = h.tries; path = h.path }) asks all
-
--- ---- entries, later
-
-pub later_entries : (m n : ℕ) (es : List Held) → m ≤ n → AllByRecursion (IsEarlier m) es → AllByRecursion (IsEarlier n) es
-later_entries m n es le all = All-weaker (IsEarlier m) (IsEarlier n) (λ h was. let at : h.accepted ≤ m = was in omega (arith, at, le)) es all
 
 -- ---- questions, later
 
@@ -65,9 +61,6 @@ in_turn_left test (x ∷ xs) turn = elim (test x) as (λ v. AreTakenInTurn (cond
 fewer : {X : Type 0} (test : X → Bool) (xs : List X) → length (filter test xs) ≤ length xs
 fewer test [] = omega arith
 fewer test (x ∷ xs) = cond_both (test x) (x ∷ filter test xs) (filter test xs) (λ ys. length ys ≤ length (x ∷ xs)) (λ _. let rest = fewer test xs in omega (arith, rest)) (λ _. let rest = fewer test xs in omega (arith, rest))
-
-pub later_held : (m n : ℕ) (xs : List Waiting) → m ≤ n → AllByRecursion (HoldsEarlier m) xs → AllByRecursion (HoldsEarlier n) xs
-later_held m n xs le all = All-weaker (HoldsEarlier m) (HoldsEarlier n) (λ x h. later_entries m n x.held le h) xs all
 
 -- ---- changes
 
@@ -121,30 +114,6 @@ kept_asked c e i i' ws ps m n k j listed a kept le small all one fits is = subst
   in_time = small;
   counted = fits;
 })
-
-pub kept_rest : (c : Config) (m k : ℕ) (path : Path) (asks : List Ask) → AllByRecursion (IsKeptAsk c m k) asks → AllByRecursion (IsKeptAsk c m k) (without_path path asks)
-kept_rest c m k path asks all = All-filter (IsKeptAsk c m k) (λ b. not (same_path b.path path)) asks all
-
--- an ask fewer
-pub kept_without : (c : Config) (e : Cache) (i i' : Inquiries) (ws : List Waiting) (ps : List ℕ) (m k : ℕ) (closed : Option Path) → IsKept c e i ws ps m k → i' ≡ record i { asks = without_closed closed i.asks } → IsKept c e i' ws ps m k
-kept_without c e i i' ws ps m k closed kept is = subst (λ (q : Inquiries). IsKept c e q ws ps m k) (sym is) (record {
-  config = kept.config;
-  cache = kept.cache;
-  accepted = kept.accepted;
-  capacity = kept.capacity;
-  asks = by closed;
-  few = kept.few;
-  in_turn = kept.in_turn;
-  taken = kept.taken;
-  aliases = kept.aliases;
-  places = kept.places;
-  in_time = kept.in_time;
-  counted = kept.counted;
-})
-  where
-    by : (o : Option Path) → AllByRecursion (IsKeptAsk c m k) (without_closed o i.asks)
-    by None = kept.asks
-    by (Some path) = kept_rest c m k path i.asks kept.asks
 
 -- questions fewer
 pub kept_left : (c : Config) (e : Cache) (i : Inquiries) (ws ws' : List Waiting) (ps : List ℕ) (m k : ℕ) (r : Option Ask) → IsKept c e i ws ps m k → ws' ≡ left_waiting r ws → IsKept c e i ws' ps m k

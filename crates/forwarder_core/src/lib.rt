@@ -3,7 +3,6 @@
 #![tactic(auto)]
 
 mod forwarder;
-mod request;
 
 pub use forwarder::Forwarder;
 pub use step_values::{Action, Client, Event, Handed, Outcome, Path, Step, Why};

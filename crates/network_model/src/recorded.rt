@@ -6,6 +6,7 @@ ghost use Rattle.step_history.specs.Asked.{AsksWell};
 ghost use Rattle.step_rules.specs.Row.{Row};
 ghost use Rattle.step_rules.specs.Steps.{start};
 ghost use Rattle.step_soundness.specs.Runs.{IsSound};
+ghost use Rattle.step_use.specs.Use.{UsesWhatStands};
 
 use forwarder_core::Forwarder;
 use std::alloc::{AllocError, Allocator, Global};
@@ -14,7 +15,7 @@ use std::marker::Model;
 use step_values::{Handed, Step};
 use suffix_routes::Config;
 
-/// A forwarder and the steps that it has made since it was new. They are sound whenever they are seen.
+/// A forwarder and the steps that it has made since it was new. They are sound, and use what stands, whenever they are seen.
 #[derive(Drop)]
 pub struct Recorded<H: BuildHasher, A: Allocator = Global> {
     alloc: A,
@@ -23,14 +24,13 @@ pub struct Recorded<H: BuildHasher, A: Allocator = Global> {
 }
 
 impl<H: BuildHasher, A: Allocator> Model for Recorded<H, A> {
-    ghost use Rattle.step_soundness.specs.Runs.{IsExplained};
-    ghost use Rattle.network_model.specs.Recordings.{Recording};
+    ghost use Rattle.network_model.specs.Recordings.{Recording, IsRecorded};
 
     ghost Value = { Recording };
 
     ghost view = { λ r. record { running = r.forwarder; steps = r.steps.items } };
 
-    ghost invariant = { λ r. IsExplained r.forwarder.config r.steps.items r.forwarder.state };
+    ghost invariant = { λ r. IsRecorded r.forwarder.config r.steps.items r.forwarder.state };
 }
 
 impl<H: BuildHasher + Drop, A: Allocator + Copy> Recorded<H, A> {
@@ -51,6 +51,7 @@ impl<H: BuildHasher + Drop, A: Allocator + Copy> Recorded<H, A> {
         ensures steps { result.now ≡ self.now.steps }
         ensures sound { IsSound self.now.running.config result.now }
         ensures asks { AsksWell self.now.running.config (reverse result.now) }
+        ensures uses { UsesWhatStands self.now.running.config (reverse result.now) }
     {
         self.steps.as_slice()
     }

@@ -5,6 +5,7 @@ ghost use Rattle.step_history.specs.Asked.{AsksWell};
 ghost use Rattle.step_rules.specs.State.{State};
 ghost use Rattle.step_rules.specs.Steps.{start};
 ghost use Rattle.step_soundness.specs.Runs.{Run, IsSound};
+ghost use Rattle.step_use.specs.Use.{UsesWhatStands};
 
 use forwarder_core::Forwarder;
 use lru::DefaultHasher;
@@ -26,6 +27,9 @@ pub fn run_list<A: Allocator + Copy>(
     // After every step the listed asks have different paths and different questions, and are no more than may be open;
     // each goes to a server of its question's route, with the identifier and the path that its step's words give.
     ensures asks { IfOk result (λ steps. AsksWell config.now (reverse steps.items)) }
+    // Where the cache has room for what an era carried, and memory was found for it, each question of which enough stands
+    // is answered in its own step.
+    ensures uses { IfOk result (λ steps. UsesWhatStands config.now (reverse steps.items)) }
 {
     let own = config.copy(alloc)?;
     let mut forwarder = Forwarder::new(alloc, own, DefaultHasher::default())?;

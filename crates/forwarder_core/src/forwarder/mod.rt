@@ -7,15 +7,11 @@ ghost use Rattle.plain_list.specs.Octets.{AreOctets};
 ghost use Rattle.step_rules.specs.Steps.{start};
 ghost use Rattle.step_rules.specs.Row.{HandsOctets, TakesNoMemory, effective, Row, is_due_at};
 ghost use Rattle.step_rules.specs.Progress.{left_to_do, ServesSomething, next_due, IsInOrder};
-ghost use Rattle.step_changes.specs.Next.{IsDecided, IsDecidedQuietly, CanChange};
 ghost use Rattle.step_soundness.specs.Runs.{StaysExplained};
 ghost use Rattle.step_soundness.specs.Explains.{Explains};
+ghost use Rattle.step_use.specs.Mirrors.{IsMirrored, StaysMirrored};
 
-mod attempt;
 mod change;
-mod client;
-mod delivery;
-mod sending;
 mod tick;
 
 use outstanding::Inquiries;
@@ -25,6 +21,7 @@ use std::alloc::{AllocError, Allocator, Global};
 use std::hash::BuildHasher;
 use std::marker::Model;
 use step_changes::{Next, forget_all};
+use step_decisions::Situation;
 use step_values::{Event, Outcome};
 use suffix_routes::{Config, Route};
 use waiting_questions::WaitingQuestions;
@@ -105,37 +102,19 @@ impl<H: BuildHasher + Drop, A: Allocator + Copy> Forwarder<H, A> {
         let _asks = self.inquiries.len();
     }
 
-    /// What an event calls for; nothing where it is a restart.
-    fn decide(
-        &self,
-        moment: u64,
-        words: [u32; 8],
-        event: &Event<A>,
-    ) -> Result<Option<Next<'_, A>>, AllocError>
-        requires later { self.now.state.moment ≤ moment }
-        requires in_time { moment ≤ 2 ^ 62 }
-        ensures row { IfOk result (λ next. IsDecided self.now.config moment words self.now.state (event_of event.now) next) }
-        ensures no_memory { TakesNoMemory self.now.config moment self.now.state (event_of event.now) → IsDecidedQuietly result }
-        ensures fits { IfOk result (λ next. IfSome next (λ some. CanChange self.now.config moment self.now.state some)) }
+    /// The forwarder as a step finds it, lent.
+    fn situation(&self) -> Situation<'_, H, A>
+        ensures { result ≡ self.now }
     {
-        match event {
-            Event::Client { client, bytes } => {
-                let next = self.on_client(moment, words, *client, bytes.as_slice())?;
-                Ok(Some(next))
-            }
-            Event::Delivery { path, from, bytes } => {
-                let next = self.on_delivery(moment, words, *path, *from, bytes.as_slice())?;
-                Ok(Some(next))
-            }
-            Event::PathFailed { path } => {
-                let next = self.on_failed_path(moment, words, *path)?;
-                Ok(Some(next))
-            }
-            Event::Tick => {
-                let next = self.on_tick(moment, words)?;
-                Ok(Some(next))
-            }
-            Event::Restart => Ok(None),
+        Situation {
+            alloc: self.alloc,
+            config: &self.config,
+            cache: &self.cache,
+            inquiries: &self.inquiries,
+            waiting: &self.waiting,
+            preferred: &self.preferred,
+            moment: self.moment,
+            tcp_asks: self.tcp_asks,
         }
     }
 
@@ -182,7 +161,7 @@ impl<H: BuildHasher + Drop, A: Allocator + Copy> Forwarder<H, A> {
                 change,
                 carried,
             },
-        ) = self.decide(moment, words, event)?
+        ) = self.situation().decide(moment, words, event)?
         else {
             self.restart();
             return Ok(self.nothing_done());
@@ -216,6 +195,7 @@ impl<H: BuildHasher + Drop, A: Allocator + Copy> Forwarder<H, A> {
     pub fn new(alloc: A, config: Config<A>, hasher: H) -> Result<Forwarder<H, A>, AllocError>
         ensures new { IfOk result (λ forwarder. forwarder ≡ record { config = config; state = start config }) }
         ensures explained { IfOk result (λ forwarder. Explains forwarder.config [] [] forwarder.state) }
+        ensures mirrored { IfOk result (λ forwarder. IsMirrored forwarder.config [] forwarder.state) }
     {
         let capacity = config.limits.inquiries;
         let preferred = first_places(alloc, config.routes())?;
@@ -254,6 +234,9 @@ impl<H: BuildHasher + Drop, A: Allocator + Copy> Forwarder<H, A> {
         ensures row { IfOk result (λ outcome. Row self.old.config self.old.state (record { now = now; words = words; event = event_of event }) outcome self.new.state) }
         // What explains the state before explains, with this step and an owner for each of its replies, the state after.
         ensures explained { IfOk result (λ outcome. StaysExplained self.old.config self.old.state (record { now = now; words = words; event = event_of event }) outcome self.new.state) }
+        // What stands of that history, and is mirrored in the state before, is mirrored, with this step, in the state after: so a
+        // question of which enough stands is answered in its own step, where the cache has room.
+        ensures mirrored { IfOk result (λ outcome. StaysMirrored self.old.config self.old.state (record { now = now; words = words; event = event_of event }) outcome self.new.state) }
         ensures config { self.new.config ≡ self.old.config }
         // A message that is dropped, a delivery that matches nothing, the failure of a path without an ask, a tick with
         // nothing due and a restart never want memory.

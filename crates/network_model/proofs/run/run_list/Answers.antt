@@ -8,6 +8,7 @@ use Rattle.step_rules.specs.Row.{Row}
 use Rattle.step_rules.specs.Steps.{start}
 use Rattle.step_soundness.specs.Runs.{Run, IsExplained, StaysExplained}
 use Rattle.step_soundness.proofs.CallerLemmas.{explained_is_sound, explained_more, run_more, stays_at, handed_more}
+use Rattle.step_use.proofs.CallerLemmas.{run_uses}
 use Rattle.network_model.proofs.run.run_list.Goals as goal
 
 pub loop-entry-init : goal.loop-entry-init
@@ -41,3 +42,6 @@ returns-clause-handed g c =
 
 pub returns-clause-sound : goal.returns-clause-sound
 returns-clause-sound g c = explained_is_sound c.args.config.now c.loop-entry.steps.items c.loop-entry.forwarder.state c.loop-entry.invariant.explained
+
+pub returns-clause-uses : goal.returns-clause-uses
+returns-clause-uses g c = run_uses c.args.config.now c.loop-entry.steps.items c.loop-entry.forwarder.state c.loop-entry.invariant.explained.1.config c.loop-entry.invariant.run

@@ -5,7 +5,7 @@ use Rattle.suffix_routes.specs.Values.{Config}
 use Rattle.step_rules.specs.Row.{is_due_at}
 use Rattle.step_rules.specs.State.{Running}
 use Rattle.step_changes.specs.Next.{pieces_of, IsRouted}
-use Rattle.forwarder_core.proofs.Deciding.{carried_out}
+use Rattle.forwarder_core.proofs.CarryingOut.{carried_out}
 use Rattle.forwarder_core.proofs.forwarder.Forwarder.carry_out.Goals as goal
 
 pub keep-unkept-requires : goal.keep-unkept-requires

@@ -1,6 +1,7 @@
 use Rattle.std.proofs.Common.{◌≤◌, sym, subst}
 use Rattle.step_rules.specs.State.{Running}
-use Rattle.forwarder_core.proofs.KeptLaws.{kept_later, kept_without, kept_dropped}
+use Rattle.step_decisions.proofs.CallerLemmas.{kept_without}
+use Rattle.forwarder_core.proofs.KeptLaws.{kept_later, kept_dropped}
 use Rattle.forwarder_core.proofs.forwarder.Forwarder.expire_first.Goals as goal
 
 pub invariant_of-self : goal.invariant_of-self

@@ -4,7 +4,8 @@ use Rattle.step_rules.specs.State.{Running, Waiting}
 use Rattle.step_rules.specs.Row.{deadline_of}
 use Rattle.step_rules.specs.Progress.{least}
 use Rattle.forwarder_core.proofs.KeptLaws.{oldest_deadline}
-use Rattle.forwarder_core.proofs.Ticks.{rest_is, deadline_fits}
+use Rattle.step_decisions.proofs.CallerLemmas.{rest_is}
+use Rattle.forwarder_core.proofs.Ticks.{deadline_fits}
 use Rattle.forwarder_core.proofs.forwarder.Forwarder.first_deadline.Goals as goal
 
 pub overflow_add-result : goal.overflow_add-result

@@ -4,7 +4,7 @@ use Rattle.std.specs.List.{list_any}
 use Rattle.step_rules.specs.State.{Running, Waiting}
 use Rattle.step_rules.specs.Row.{deadline_of}
 use Rattle.forwarder_core.proofs.KeptLaws.{oldest_due}
-use Rattle.forwarder_core.proofs.Ticks.{rest_is}
+use Rattle.step_decisions.proofs.CallerLemmas.{rest_is}
 use Rattle.forwarder_core.proofs.forwarder.Forwarder.is_question_due.Goals as goal
 
 pub returns-in-Some : goal.returns-in-Some

@@ -5,6 +5,8 @@ use Rattle.outstanding.specs.Values.{Inquiries}
 use Rattle.step_rules.specs.State.{State}
 use Rattle.step_soundness.specs.Explains.{Explains}
 use Rattle.step_soundness.proofs.CallerLemmas.{start_explained}
+use Rattle.step_use.specs.Mirrors.{IsMirrored}
+use Rattle.step_use.proofs.CallerLemmas.{start_mirrors}
 use Rattle.forwarder_core.proofs.KeptLaws.{kept_first, room_is, cache_is}
 use Rattle.forwarder_core.proofs.forwarder.Forwarder.new.Goals as goal
 
@@ -32,3 +34,7 @@ returns-clause-new g c = λ i. record {
 pub returns-clause-explained : goal.returns-clause-explained
 returns-clause-explained g c =
     subst (λ (s : State). Explains c.args.config [] [] s) (sym (λ i. (returns-clause-new g c i).state)) (start_explained c.args.config c.routes.ensures.accepted)
+
+pub returns-clause-mirrored : goal.returns-clause-mirrored
+returns-clause-mirrored g c =
+    subst (λ (s : State). IsMirrored c.args.config [] s) (sym (λ i. (returns-clause-new g c i).state)) (start_mirrors c.args.config)

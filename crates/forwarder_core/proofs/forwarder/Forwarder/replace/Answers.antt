@@ -4,7 +4,8 @@ use Rattle.outstanding.specs.Lists.{without_path}
 use Rattle.outstanding.specs.Values.{Ask}
 use Rattle.step_changes.specs.Kept.{IsKeptAsk, IsKept}
 use Rattle.step_changes.specs.Next.{tcp_count_of}
-use Rattle.forwarder_core.proofs.KeptLaws.{kept_asked, kept_rest}
+use Rattle.step_decisions.proofs.CallerLemmas.{kept_rest}
+use Rattle.forwarder_core.proofs.KeptLaws.{kept_asked}
 use Rattle.forwarder_core.proofs.forwarder.Forwarder.replace.Goals as goal
 
 pub invariant_of-self : goal.invariant_of-self
