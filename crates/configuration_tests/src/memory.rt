@@ -1,7 +1,9 @@
-//! Each growth of a configuration and of its copy is refused once; then all of them are granted.
+//! Each growth of a configuration and of its copy, and of a name that is made of labels, is refused once; then all of them
+//! are granted.
 
+use dns_name::{Name, NameFault};
 use refusing_allocator::Refusing;
-use std::alloc::Global;
+use std::alloc::{AllocError, Global};
 use std::test::Fail;
 use suffix_routes::{Config, ConfigFault};
 
@@ -35,4 +37,45 @@ fn each_growth_may_be_refused(rt: HostRuntime) {
     }
     heap.allow(9);
     assert_eq!(rt; read_and_copied(rt.alloc(), &heap), Ok(4));
+}
+
+/// So many labels of one letter each.
+fn labels_of<'a>(
+    heap: &'a Refusing<Global>,
+    count: u8,
+) -> Result<Vec<Vec<u8, &'a Refusing<Global>>, &'a Refusing<Global>>, AllocError> {
+    let mut labels = Vec::new(heap);
+    for _ in 0..count {
+        labels.push(Vec::from_slice(heap, b"a")?)?;
+    }
+    Ok(labels)
+}
+
+/// How many octets the name of so many labels has, with so many growths granted.
+fn named_with(heap: &Refusing<Global>, labels: u8, growths: u64) -> Result<usize, NameFault> {
+    let labels = labels_of(heap, labels)?;
+    heap.allow(growths);
+    let octets = Name::from_labels(heap, labels.as_slice()).map(|name| name.octets().len());
+    heap.allow(u64::MAX);
+    octets
+}
+
+/// A name begins with room for 8 octets and doubles it where it is full.
+#[test]
+fn each_growth_of_a_name_of_labels_may_be_refused(rt: HostRuntime) {
+    let heap = Refusing::new(rt.alloc());
+    for (labels, growths, octets) in [(0, 0, 0), (4, 1, 8), (5, 2, 10), (127, 6, 254)] {
+        for count in 0..growths {
+            assert_eq!(rt;
+                named_with(&heap, labels, count),
+                Err(NameFault::Memory),
+                "{labels} labels, {count} growths"
+            );
+        }
+        assert_eq!(rt;
+            named_with(&heap, labels, growths),
+            Ok(octets),
+            "{labels} labels"
+        );
+    }
 }
