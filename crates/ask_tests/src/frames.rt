@@ -33,6 +33,34 @@ fn a_frame_is_given_with_its_last_octet(rt: HostRuntime) -> Result<(), Fail> {
     Ok(())
 }
 
+/// What is given behind each octet of the frames of "abc" and of no octets.
+const OCTET_BY_OCTET: [(u8, Option<&[u8]>); 7] = [
+    (0, None),
+    (3, None),
+    (b'a', None),
+    (b'b', None),
+    (b'c', Some(b"abc")),
+    (0, None),
+    (0, Some(b"")),
+];
+
+#[test]
+fn a_stream_that_comes_octet_by_octet(rt: HostRuntime) -> Result<(), Fail> {
+    let octets = frame(rt.alloc(), b"abc")?;
+    assert_eq!(rt; octets.as_slice(), b"\x00\x03abc".as_slice());
+    let mut reader = FrameReader::new(rt.alloc());
+    for (place, (octet, wanted)) in OCTET_BY_OCTET.iter().enumerate() {
+        reader.feed(&[*octet])?;
+        let message = reader.take()?;
+        let text = match &message {
+            Some(message) => Some(message.as_slice()),
+            None => None,
+        };
+        assert_eq!(rt; text, *wanted, "behind octet {place}");
+    }
+    Ok(())
+}
+
 #[test]
 fn what_is_said_of_a_fault(rt: HostRuntime) -> Result<(), Fail> {
     let heap = rt.alloc();
