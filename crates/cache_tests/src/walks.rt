@@ -1,6 +1,6 @@
 //! Replies in octets, and what no contract can say: that memory is found where there is some.
 
-use dns_message::MessageRef;
+use dns_message::{MessageRef, Rdata};
 use refusing_allocator::Refusing;
 use std::alloc::{Allocator, Global};
 use std::test::Fail;
@@ -148,5 +148,68 @@ fn each_growth_is_refused(rt: HostRuntime) -> Result<(), Fail> {
     let name_error = refusals(rt.alloc(), &hex::decode(rt.alloc(), NAME_ERROR)?)?;
     let twenty = refusals(rt.alloc(), &twenty_twice(rt.alloc())?)?;
     assert_eq!(rt; (alias, name_error, twenty), (14, 5, 28));
+    Ok(())
+}
+
+/// The data of two bodies are the same, or both tell of a name error with the same SOA.
+fn is_same_body<A: Allocator>(body: &Body<A>, other: &Body<A>) -> bool {
+    match (body, other) {
+        (Body::Rows(rows), Body::Rows(others)) => is_same_rows(rows.as_slice(), others.as_slice()),
+        (Body::Denied(Some(soa)), Body::Denied(Some(other))) => {
+            soa.rdata.octets() == other.rdata.octets() && soa.owner.same(&other.owner)
+        }
+        _ => false,
+    }
+}
+
+fn is_same_rows<A: Allocator>(rows: &[Rdata<A>], others: &[Rdata<A>]) -> bool {
+    rows.len() == others.len()
+        && rows
+            .iter()
+            .zip(others)
+            .all(|(row, other)| row.octets() == other.octets())
+}
+
+/// How many growths of a copy are refused one after another, until it is made; `None` where it is made otherwise than equal.
+fn refused_copies<'h>(
+    heap: &'h Refusing<Global>,
+    piece: &Piece<&'h Refusing<Global>>,
+) -> Option<u64> {
+    for growths in 0..100u64 {
+        heap.allow(growths);
+        let copy = piece.copy(heap);
+        heap.allow(u64::MAX);
+        if let Ok(copy) = copy {
+            let is_same = is_same_body(&copy.body, &piece.body)
+                && copy.owner.octets() == piece.owner.octets()
+                && shown(&copy) == shown(piece);
+            return if is_same { Some(growths) } else { None };
+        }
+    }
+    None
+}
+
+/// The same of each piece that a message carries.
+fn copies_of(table_heap: Global, digits: &str) -> Result<Vec<Option<u64>>, Fail> {
+    let heap = Refusing::new(table_heap);
+    let octets = hex::decode(table_heap, digits)?;
+    let Some(walk) = walked(table_heap, &heap, &octets, u64::MAX)? else {
+        return Err(Fail::from("no walk"));
+    };
+    let mut counts = Vec::new(table_heap);
+    for piece in walk.pieces.as_slice() {
+        counts.push(refused_copies(&heap, piece))?;
+    }
+    Ok(counts)
+}
+
+/// A growth goes to the name; those of a set to the list of its data and to each of them, those of a denial to the name and
+/// to the data of its SOA.
+#[test]
+fn each_growth_of_a_copy_is_refused(rt: HostRuntime) -> Result<(), Fail> {
+    let alias = copies_of(rt.alloc(), ALIAS)?;
+    assert_eq!(rt; alias.as_slice(), [Some(3), Some(4)].as_slice());
+    let name_error = copies_of(rt.alloc(), NAME_ERROR)?;
+    assert_eq!(rt; name_error.as_slice(), [Some(3)].as_slice());
     Ok(())
 }
