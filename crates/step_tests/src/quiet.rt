@@ -1,7 +1,7 @@
 //! What calls for nothing takes no memory: of one growth that is allowed, one is left after the step. So a body that
 //! copies a stranger's octets is found even where it bears the refusal in silence.
 
-use crate::worked::{PATH, REPLY, SERVER, WORDS, asked, delivers, sends};
+use crate::worked::{PATH, REPLY, SECOND, SERVER, WORDS, asked, delivers, sends};
 use forwarder_core::Forwarder;
 use lru::DefaultHasher;
 use refusing_allocator::Refusing;
@@ -48,7 +48,7 @@ const OTHER_PORT: Peer = Peer {
 
 /// What comes once the query was sent at 1000, with its moment. The query may be answered for 1,500 milliseconds, and an
 /// earlier moment counts as the latest one.
-const ROWS: [(u64, Row); 15] = [
+const ROWS: [(u64, Row); 16] = [
     (1001, Row::Sends(REPLY)),
     (
         1002,
@@ -57,6 +57,7 @@ const ROWS: [(u64, Row); 15] = [
     (1003, Row::Delivers(PATH, SERVER, OTHER_IDENTIFIER)),
     (1003, Row::Delivers(PATH, SERVER, OTHER_TYPE)),
     (1003, Row::Delivers(PATH, OTHER_PORT, REPLY)),
+    (1003, Row::Delivers(PATH, SECOND, REPLY)),
     (1003, Row::Delivers(Path::Udp(1033), SERVER, REPLY)),
     (1004, Row::Fails(Path::Udp(1033))),
     (1004, Row::Fails(Path::Tcp(1032))),

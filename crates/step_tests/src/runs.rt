@@ -1,6 +1,7 @@
 //! The worked question and its reply as a run over a list, and step by step beside the stored history.
 
 use crate::worked::{QUERY, QUESTION, WORDS, answer_whole, config, replies, send_alone, sends};
+use forwarder_core::Forwarder;
 use lru::DefaultHasher;
 use network_model::{Recorded, run_list};
 use refusing_allocator::Refusing;
@@ -70,6 +71,37 @@ fn a_run_over_a_list(rt: HostRuntime) -> Result<(), Fail> {
     // of its two copies, and the first for the list. Of the 14 of the first step, 5 are for the ask and 4 for the question
     // that waits: a slab and lists of keys. With the last growth refused, the set is not kept.
     assert_eq!(rt; (refused, unkept), (2 + 7 + (14 + 3) + (14 + 2), 1));
+    Ok(())
+}
+
+/// A new forwarder, which is granted so many growths; whether it was made. Its configuration has ample memory.
+fn is_forwarder_with(heap: &Refusing<Global>, count: u64) -> Result<bool, AllocError> {
+    let config = config(heap)?;
+    heap.allow(count);
+    let forwarder = Forwarder::new(heap, config, DefaultHasher::default());
+    heap.allow(u64::MAX);
+    Ok(forwarder.is_ok())
+}
+
+/// The same of a run that has made no step.
+fn is_recorded_with(heap: &Refusing<Global>, count: u64) -> Result<bool, AllocError> {
+    let config = config(heap)?;
+    heap.allow(count);
+    let recorded = Recorded::new(heap, config, DefaultHasher::default());
+    heap.allow(u64::MAX);
+    Ok(recorded.is_ok())
+}
+
+/// All but one are for the cache, and the list of steps takes none.
+#[test]
+fn each_growth_of_a_new_forwarder_is_refused(rt: HostRuntime) -> Result<(), Fail> {
+    let heap = Refusing::new(rt.alloc());
+    for count in 0..7 {
+        assert!(rt; !is_forwarder_with(&heap, count)?, "with {count} granted");
+        assert!(rt; !is_recorded_with(&heap, count)?, "with {count} granted");
+    }
+    assert!(rt; is_forwarder_with(&heap, 7)?);
+    assert!(rt; is_recorded_with(&heap, 7)?);
     Ok(())
 }
 

@@ -18,6 +18,12 @@ pub(crate) const SERVER: Peer = Peer {
     port: 53,
 };
 
+/// The second server of the group.
+pub(crate) const SECOND: Peer = Peer {
+    ip: [192, 0, 2, 2],
+    port: 53,
+};
+
 /// The first word gives identifier 8 and port 1032, each further one the next identifier and the next port.
 pub(crate) const WORDS: [u32; 8] = [
     524_296, 589_833, 655_370, 720_907, 786_444, 851_981, 917_518, 983_055,
@@ -42,13 +48,11 @@ pub(crate) const REPLY: &[u8] =
 pub(crate) const ANSWER: &[u8] =
     b"\x12\x34\x81\x80\x00\x01\x00\x01\x00\x00\x00\x00\x01a\x07example\x00\x00\x01\x00\x01\xc0\x0c\x00\x01\x00\x01\x00\x00\x01\x2c\x00\x04\xc6\x33\x64\x05";
 
-/// One route, for every name, with one server.
+/// One route, for every name, with two servers.
 pub(crate) fn config<A: Allocator + Copy>(alloc: A) -> Result<Config<A>, AllocError> {
-    let mut servers = PlainList::new(alloc);
-    servers.push(SERVER)?;
     let route = Route {
         suffix: Name::root(alloc),
-        servers,
+        servers: PlainList::copied(alloc, &[SERVER, SECOND])?,
     };
     let mut routes = PlainList::new(alloc);
     routes.push(route)?;
