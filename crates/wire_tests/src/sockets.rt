@@ -3,7 +3,7 @@
 //!
 //! A wire is forgotten, since each test has a process of its own: to let go of one would have to be proved here.
 
-use crate::worked::{ANSWER, QUERY, QUESTION, REPLY, forwarder_to};
+use crate::worked::{ANSWER, QUERY, QUESTION, REPLY};
 use forwarder_core::Forwarder;
 use lru::DefaultHasher;
 use mio::net::{TcpStream, UdpSocket};
@@ -14,10 +14,39 @@ use std::io::{Read, Write};
 use std::mem::forget;
 use std::net::{Ipv4Addr, SocketAddr, SocketAddrV4};
 use std::test::Fail;
-use suffix_routes::Peer;
+use suffix_routes::{Config, Peer};
 
-/// How often `serve` is called at most until the answer has come.
-const CALLS: u32 = 800;
+/// How often `serve` is called at most until a packet has come.
+const CALLS: u32 = 400;
+
+/// The configuration where the question comes by UDP. On a slow machine too nothing times out: an ask and a question wait as
+/// long as a configuration can say.
+const BY_UDP: &str = "version = 1
+listen = \"127.0.0.1:15353\"
+[limits]
+ask_ms = 10000
+deadline_ms = 30000
+[[route]]
+suffix = \".\"
+servers = [\"127.0.0.1:15354\"]
+";
+
+/// The same where it comes over TCP.
+const OVER_TCP: &str = "version = 1
+listen = \"127.0.0.1:15355\"
+[limits]
+ask_ms = 10000
+deadline_ms = 30000
+[[route]]
+suffix = \".\"
+servers = [\"127.0.0.1:15356\"]
+";
+
+/// A forwarder with the configuration of this text.
+fn forwarder_of(alloc: Global, text: &str) -> Result<Forwarder<DefaultHasher>, Fail> {
+    let config = Config::read(alloc, alloc, text)?;
+    Ok(Forwarder::new(alloc, config, DefaultHasher::default())?)
+}
 
 /// This port of this machine.
 const fn local(port: u16) -> Peer {
@@ -40,18 +69,35 @@ fn expected(is_so: bool) -> Result<(), Fail> {
     }
 }
 
-/// Replies where the query has come: under its identifier, to whom it came from.
-fn reply_to_query(server: &UdpSocket) -> Result<(), Fail> {
+/// Replies where the query has come: under its identifier, to whom it came from. The answer is whether it has come.
+fn is_query_replied(server: &UdpSocket) -> Result<bool, Fail> {
     let mut query = [0u8; 64];
     let Ok((count, from)) = server.recv_from(&mut query) else {
-        return Ok(());
+        return Ok(false);
     };
     expected(count == QUERY.len() && query[2..27] == QUERY[2..])?;
     let mut reply = [0u8; 43];
     reply.copy_from_slice(REPLY);
     reply[..2].copy_from_slice(&query[..2]);
     server.send_to(&reply, from)?;
-    Ok(())
+    Ok(true)
+}
+
+/// Calls of so many turns until the query has come, which gets its reply.
+fn reply_to_query(
+    alloc: Global,
+    wire: &mut MioWire<'_, HostRuntime>,
+    forwarder: &mut Forwarder<DefaultHasher>,
+    turns: u64,
+    server: &UdpSocket,
+) -> Result<(), Fail> {
+    for _ in 0..CALLS {
+        serve(alloc, wire, forwarder, turns)?;
+        if is_query_replied(server)? {
+            return Ok(());
+        }
+    }
+    Err(Fail::from("no query came"))
 }
 
 /// Turns until the answer has come by UDP.
@@ -59,13 +105,11 @@ fn answer_by_udp(
     alloc: Global,
     wire: &mut MioWire<'_, HostRuntime>,
     forwarder: &mut Forwarder<DefaultHasher>,
-    server: &UdpSocket,
     client: &UdpSocket,
 ) -> Result<(), Fail> {
     let mut answer = [0u8; 64];
     for _ in 0..CALLS {
         serve(alloc, wire, forwarder, 1)?;
-        reply_to_query(server)?;
         if let Ok((count, from)) = client.recv_from(&mut answer) {
             return expected(from == address(15353) && &answer[..count] == ANSWER);
         }
@@ -77,9 +121,10 @@ fn answer_by_udp(
 fn ask_by_udp(rt: &HostRuntime, wire: &mut MioWire<'_, HostRuntime>) -> Result<(), Fail> {
     let server = UdpSocket::bind(rt, address(15354))?;
     let client = UdpSocket::bind(rt, address(0))?;
-    let mut forwarder = forwarder_to(rt.alloc(), &[local(15354)])?;
+    let mut forwarder = forwarder_of(rt.alloc(), BY_UDP)?;
     client.send_to(&QUESTION, address(15353))?;
-    answer_by_udp(rt.alloc(), wire, &mut forwarder, &server, &client)
+    reply_to_query(rt.alloc(), wire, &mut forwarder, 1, &server)?;
+    answer_by_udp(rt.alloc(), wire, &mut forwarder, &client)
 }
 
 #[test]
@@ -95,13 +140,11 @@ fn answer_over_tcp(
     alloc: Global,
     wire: &mut MioWire<'_, HostRuntime>,
     forwarder: &mut Forwarder<DefaultHasher>,
-    server: &UdpSocket,
     client: &mut TcpStream,
 ) -> Result<(), Fail> {
     let mut answer = [0u8; 64];
     for _ in 0..CALLS {
         serve(alloc, wire, forwarder, 20)?;
-        reply_to_query(server)?;
         if let Ok(count) = client.read(&mut answer) {
             return expected(count == 45 && answer[..2] == [0, 43] && &answer[2..45] == ANSWER);
         }
@@ -119,10 +162,11 @@ fn send_in_two_pieces(client: &mut TcpStream) -> Result<(), Fail> {
 /// The question over TCP in two pieces, over a wire that listens at 15355.
 fn ask_over_tcp(rt: &HostRuntime, wire: &mut MioWire<'_, HostRuntime>) -> Result<(), Fail> {
     let server = UdpSocket::bind(rt, address(15356))?;
-    let mut forwarder = forwarder_to(rt.alloc(), &[local(15356)])?;
+    let mut forwarder = forwarder_of(rt.alloc(), OVER_TCP)?;
     let mut client = TcpStream::connect(rt, address(15355))?;
     send_in_two_pieces(&mut client)?;
-    answer_over_tcp(rt.alloc(), wire, &mut forwarder, &server, &mut client)
+    reply_to_query(rt.alloc(), wire, &mut forwarder, 20, &server)?;
+    answer_over_tcp(rt.alloc(), wire, &mut forwarder, &mut client)
 }
 
 #[test]
