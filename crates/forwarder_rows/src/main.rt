@@ -1,9 +1,13 @@
 //! Runs each worked row of a folder, and prints what differs from its expected lines.
 #![tactic(auto)]
 
+mod beginnings;
 mod folder;
 mod manner;
+mod probing;
+mod restarting;
 mod rows;
+mod script;
 mod sparing;
 
 use row_report::Tally;

@@ -1,6 +1,6 @@
 //! How the file of a row is run.
 
-use crate::sparing::run_sparingly;
+use crate::probing::run_probed;
 use replay_script::{ReplayFault, read_config, replay_run};
 use std::alloc::Global;
 use std::io::{Read, Write};
@@ -18,10 +18,11 @@ const FIRST_WORDS: [u32; 8] = [
 pub(crate) enum Manner {
     /// It is a script, which is replayed.
     Plain,
-    /// It is a script, and each growth of each step is refused in turn.
-    Sparing,
-    /// It is a script whose lines have the words of the first one, each growth of each step is refused in turn, and it
-    /// is told after which lines more is due.
+    /// It is a script that is probed while it runs: each growth of each step is refused in turn, and if it is short, a
+    /// restart is tried behind each line, and the beginnings of each message are handed in.
+    Probed,
+    /// It is a script whose lines have the words of the first one, which is probed, too, and it is told after which lines
+    /// more is due.
     SameWords,
     /// It is a configuration, which is checked.
     Check,
@@ -32,8 +33,8 @@ impl Manner {
     pub(crate) fn name(self) -> &'static str {
         match self {
             Manner::Plain => "replayed",
-            Manner::Sparing => "replayed with refused growths",
-            Manner::SameWords => "stepped with refused growths",
+            Manner::Probed => "replayed and probed",
+            Manner::SameWords => "stepped and probed",
             Manner::Check => "checked",
         }
     }
@@ -60,8 +61,8 @@ pub(crate) fn told_by<R: Files + AllocGlobal>(
     let mut stdout = Vec::new(alloc);
     let ended = match manner {
         Manner::Plain => replay_run(alloc, alloc, &mut reader, &mut stdout),
-        Manner::Sparing => run_sparingly(alloc, reader, None, &mut stdout),
-        Manner::SameWords => run_sparingly(alloc, reader, Some(FIRST_WORDS), &mut stdout),
+        Manner::Probed => run_probed(alloc, reader, None, &mut stdout),
+        Manner::SameWords => run_probed(alloc, reader, Some(FIRST_WORDS), &mut stdout),
         Manner::Check => check(alloc, &mut reader, &mut stdout),
     };
     let stderr = match ended {

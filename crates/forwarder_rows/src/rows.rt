@@ -30,7 +30,7 @@ impl Kind {
     /// How each row of this kind is run; it has to tell the same each time.
     fn manners(self) -> &'static [Manner] {
         match self {
-            Kind::Replay => &[Manner::Plain, Manner::Sparing],
+            Kind::Replay => &[Manner::Plain, Manner::Probed],
             Kind::Steps => &[Manner::SameWords],
             Kind::Check => &[Manner::Check],
         }

@@ -1,0 +1,96 @@
+//! The beginnings of a message, handed in in its place.
+
+ghost use Rattle.std.specs.Prelude.{◌≤◌};
+
+use crate::script::{Heap, Runner, Script, handed_in, run_again, run_first};
+use forwarder_core::{Event, Handed};
+use plain_list::PlainList;
+use replay_script::{MOST_LINES, ReplayFault};
+use std::alloc::{AllocError, Global};
+use std::io::Write;
+
+/// How many octets a message has at least: those of its header.
+const LEAST: usize = 12;
+
+/// Hands each beginning of a line's message, from no octets on, to a forwarder that has run the lines before, and tells
+/// which of those that are too short for a header call for something. After each one that calls for something the forwarder
+/// runs those lines again. With ample memory none is refused.
+pub(crate) fn tell_beginnings<W: Write>(
+    alloc: Global,
+    heap: Heap<'_>,
+    script: Script<'_>,
+    number: u32,
+    line: &[u8],
+    writer: &mut W,
+) -> Result<(), ReplayFault>
+    requires { number ≤ MOST_LINES }
+{
+    let handed = handed_in(heap, script, number, line)?;
+    let mut forwarder = run_first(alloc, heap, script, number.saturating_sub(1))?;
+    hand_beginnings(heap, script, &mut forwarder, number, &handed, writer)
+}
+
+/// Hands each beginning of a message to a forwarder that has run the lines before.
+fn hand_beginnings<'a, W: Write>(
+    heap: Heap<'a>,
+    script: Script<'_>,
+    forwarder: &mut Runner<'a>,
+    number: u32,
+    handed: &Handed<Heap<'a>>,
+    writer: &mut W,
+) -> Result<(), ReplayFault>
+    requires { number ≤ MOST_LINES }
+{
+    for end in 0..octets_of(&handed.event).len() {
+        if is_idle_at(heap, forwarder, handed, end)? {
+            continue;
+        }
+        if end < LEAST {
+            writeln!(writer, "{number} cut to {end} calls for something")?;
+        }
+        run_again(heap, script, number.saturating_sub(1), forwarder)?;
+    }
+    Ok(())
+}
+
+/// The octets that an event carries.
+fn octets_of<'e>(event: &'e Event<Heap<'_>>) -> &'e [u8] {
+    match event {
+        Event::Client { bytes, .. } | Event::Delivery { bytes, .. } => bytes.as_slice(),
+        Event::PathFailed { .. } | Event::Tick | Event::Restart => &[],
+    }
+}
+
+/// Whether nothing is to be done where a forwarder is handed the beginning of a message alone.
+fn is_idle_at<'a>(
+    heap: Heap<'a>,
+    forwarder: &mut Runner<'a>,
+    handed: &Handed<Heap<'a>>,
+    end: usize,
+) -> Result<bool, ReplayFault> {
+    let event = cut_to(heap, &handed.event, end)?;
+    let outcome = forwarder.step(handed.now, handed.words, event)?;
+    Ok(outcome.actions.as_slice().is_empty())
+}
+
+/// An event with the first so many octets alone.
+fn cut_to<'a>(
+    heap: Heap<'a>,
+    event: &Event<Heap<'a>>,
+    end: usize,
+) -> Result<Event<Heap<'a>>, AllocError> {
+    let octets = octets_of(event);
+    let octets = octets.get(..end).unwrap_or(octets);
+    match event {
+        Event::Client { client, .. } => Ok(Event::Client {
+            client: *client,
+            bytes: PlainList::copied(heap, octets)?,
+        }),
+        Event::Delivery { path, from, .. } => Ok(Event::Delivery {
+            path: *path,
+            from: *from,
+            bytes: PlainList::copied(heap, octets)?,
+        }),
+        _ => event.copy(heap),
+    }
+}

@@ -1,0 +1,59 @@
+//! Scripts that are probed while they run.
+
+use crate::beginnings::tell_beginnings;
+use crate::restarting::tell_restart;
+use crate::script::{Heap, Runner, Script, begin, script_in};
+use crate::sparing::run_line;
+use refusing_allocator::Refusing;
+use replay_script::{MOST_LINES, ReplayFault};
+use std::alloc::Global;
+use std::io::Write;
+
+/// A script has at most so many lines where a restart is tried behind each.
+const MOST_RESTARTED: u32 = 64;
+
+/// A script has at most so many lines where the beginnings of its messages are handed in.
+const MOST_CUT: u32 = 16;
+
+/// Runs a script and prints its actions, as it does with ample memory, but each growth of each step is refused in turn.
+/// With words of its own each line has these, and it is told after which lines more is due. A line more is printed for each
+/// thing that is not as it has to be: of the growths, and in a short script of a restart behind each line and of the
+/// beginnings of each message.
+pub(crate) fn run_probed<W: Write>(
+    alloc: Global,
+    text: &[u8],
+    words: Option<[u32; 8]>,
+    writer: &mut W,
+) -> Result<(), ReplayFault> {
+    let heap = Refusing::new(alloc);
+    let script = script_in(text, words)?;
+    let mut forwarder = begin(alloc, &heap, script)?;
+    if script.count == 0 {
+        return Ok(());
+    }
+    run_lines(alloc, &heap, script, &mut forwarder, writer)
+}
+
+/// Runs the lines of a script one after another.
+fn run_lines<'a, W: Write>(
+    alloc: Global,
+    heap: Heap<'a>,
+    script: Script<'_>,
+    forwarder: &mut Runner<'a>,
+    writer: &mut W,
+) -> Result<(), ReplayFault> {
+    for (before, line) in script.events.split(|octet| *octet == b'\n').enumerate() {
+        let number = match u32::try_from(before) {
+            Ok(before) if before < MOST_LINES => before + 1,
+            _ => return Err(ReplayFault::Line(MOST_LINES + 1)),
+        };
+        run_line(alloc, heap, script, forwarder, number, line, writer)?;
+        if script.count <= MOST_RESTARTED {
+            tell_restart(alloc, heap, script, number, writer)?;
+        }
+        if script.count <= MOST_CUT {
+            tell_beginnings(alloc, heap, script, number, line, writer)?;
+        }
+    }
+    Ok(())
+}

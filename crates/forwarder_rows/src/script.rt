@@ -1,0 +1,133 @@
+//! A script, and forwarders that run its lines with memory that can be refused.
+
+ghost use Rattle.std.specs.Prelude.{◌≤◌};
+
+use forwarder_core::{Forwarder, Handed, Outcome};
+use lru::DefaultHasher;
+use refusing_allocator::Refusing;
+use replay_script::{MOST_LINES, ReplayFault, handed_by, parts, print, read_config};
+use std::alloc::Global;
+use std::io::Write;
+
+/// Memory that can be refused.
+pub(crate) type Heap<'a> = &'a Refusing<Global>;
+
+/// A forwarder whose memory can be refused.
+pub(crate) type Runner<'a> = Forwarder<DefaultHasher, Heap<'a>>;
+
+/// A script, and the words that each of its lines is handed where they are not its own.
+#[derive(Clone, Copy)]
+pub(crate) struct Script<'s> {
+    /// Its configuration.
+    pub config: &'s [u8],
+    /// Its event lines, without the line feed that ends the last one.
+    pub events: &'s [u8],
+    /// How many event lines there are.
+    pub count: u32,
+    /// The words of each line, where all have the same.
+    pub words: Option<[u32; 8]>,
+}
+
+/// A script's parts; `Line(0)` where it has no line `---`.
+pub(crate) fn script_in(text: &[u8], words: Option<[u32; 8]>) -> Result<Script<'_>, ReplayFault> {
+    let (config, events) = parts(text).ok_or(ReplayFault::Line(0))?;
+    let lines = events.strip_suffix(b"\n".as_slice()).unwrap_or(events);
+    let count = if events.is_empty() {
+        0
+    } else {
+        count_lines(lines)
+    };
+    Ok(Script {
+        config,
+        events: lines,
+        count,
+        words,
+    })
+}
+
+/// How many lines there are, which are parted by line feeds; empty text is one.
+fn count_lines(lines: &[u8]) -> u32 {
+    let mut count = 0u32;
+    for _line in lines.split(|octet| *octet == b'\n') {
+        count = count.saturating_add(1);
+    }
+    count
+}
+
+/// A new forwarder with the configuration of a script.
+pub(crate) fn begin<'a>(
+    alloc: Global,
+    heap: Heap<'a>,
+    script: Script<'_>,
+) -> Result<Runner<'a>, ReplayFault> {
+    let mut config = script.config;
+    let config = read_config(alloc, heap, &mut config)?;
+    Ok(Forwarder::new(heap, config, DefaultHasher::default())?)
+}
+
+/// A forwarder that has run so many lines of a script, with ample memory.
+pub(crate) fn run_first<'a>(
+    alloc: Global,
+    heap: Heap<'a>,
+    script: Script<'_>,
+    count: u32,
+) -> Result<Runner<'a>, ReplayFault>
+    requires { count ≤ MOST_LINES }
+{
+    let mut forwarder = begin(alloc, heap, script)?;
+    run_again(heap, script, count, &mut forwarder)?;
+    Ok(forwarder)
+}
+
+/// Runs so many lines of a script, with ample memory, on a forwarder that forgets all before.
+pub(crate) fn run_again<'a>(
+    heap: Heap<'a>,
+    script: Script<'_>,
+    count: u32,
+    forwarder: &mut Runner<'a>,
+) -> Result<(), ReplayFault>
+    requires { count ≤ MOST_LINES }
+{
+    forwarder.restart();
+    let mut lines = script.events.split(|octet| *octet == b'\n');
+    for before in 0..count {
+        let Some(line) = lines.next() else {
+            return Ok(());
+        };
+        let handed = handed_in(heap, script, before + 1, line)?;
+        let _outcome = forwarder.step(handed.now, handed.words, handed.event)?;
+    }
+    Ok(())
+}
+
+/// What a line hands in.
+pub(crate) fn handed_in<'a>(
+    heap: Heap<'a>,
+    script: Script<'_>,
+    number: u32,
+    line: &[u8],
+) -> Result<Handed<Heap<'a>>, ReplayFault>
+    requires { number ≤ MOST_LINES }
+{
+    let mut handed = handed_by(heap, number, line)?;
+    handed.words = script.words.unwrap_or(handed.words);
+    Ok(handed)
+}
+
+/// The lines that a row has of an outcome.
+pub(crate) fn lines_of<'a>(
+    alloc: Global,
+    heap: Heap<'a>,
+    script: Script<'_>,
+    number: u32,
+    outcome: &Outcome<Heap<'a>>,
+) -> Result<Vec<u8>, ReplayFault> {
+    let mut lines = Vec::new(alloc);
+    for action in outcome.actions.as_slice() {
+        print(heap, &mut lines, number, action)?;
+    }
+    if outcome.more && script.words.is_some() {
+        writeln!(lines, "{number} more")?;
+    }
+    Ok(lines)
+}
