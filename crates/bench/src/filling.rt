@@ -33,7 +33,7 @@ pub fn numbered(alloc: Global, number: usize) -> Result<Name> {
 /// The addresses of a name for a day: one of them.
 pub fn addresses(alloc: Global, owner: Name) -> Result<Piece> {
     let mut rows = PlainList::new(alloc);
-    rows.push(Rdata::new(Vec::from_slice(alloc, b"\xc6\x33\x64\x05")?))?;
+    rows.push(Rdata::from_octets(alloc, b"\xc6\x33\x64\x05")?)?;
     Ok(set_of(owner, rows))
 }
 

@@ -20,7 +20,7 @@ const RECORDS: usize = 20_000;
 /// An address that has this number at its end.
 fn address(alloc: Global, number: usize) -> Result<Rdata> {
     let [high, low] = ((number % 65_536) as u16).to_be_bytes();
-    Ok(Rdata::new(Vec::from_slice(alloc, &[198, 51, high, low])?))
+    Ok(Rdata::from_octets(alloc, &[198, 51, high, low])?)
 }
 
 /// So many addresses of one name.

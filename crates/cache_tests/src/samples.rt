@@ -76,9 +76,8 @@ fn piece_of<A: Allocator>(owner: Name<A>, kind: Option<u16>, lifetime: u16, rank
 /// The addresses of a name: one of them, for five minutes.
 pub(crate) fn set<A: Allocator + Copy>(alloc: A, owner: &str) -> Result<Piece<A>, Fail> {
     let owner = Name::from_text(alloc, owner)?;
-    let data = Vec::from_slice(alloc, b"\xc6\x33\x64\x05")?;
     let mut rows = PlainList::new(alloc);
-    rows.push(Rdata::new(data))?;
+    rows.push(Rdata::from_octets(alloc, b"\xc6\x33\x64\x05")?)?;
     Ok(set_of(owner, rows))
 }
 

@@ -4,17 +4,20 @@ ghost use Rattle.std.specs.Prelude.{◌≡◌, ◌≤◌, ◌+◌, ◌∷◌, �
 ghost use Rattle.dns_name.specs.Labels.{IsLabel, IsName, IsSame, IsUnder, size_of, label_octets, labels_of, IsLaidOut, lowered, parent_of};
 ghost use Rattle.dns_name.specs.Faults.{Gives, first_fault, label_fault, named, pushed};
 
+use crate::builder::NameBuilder;
 use crate::fault::NameFault;
 use crate::key::{NameKey, is_same_text, key_of};
 use crate::labels::{Labels, labels_in, split_label};
+use short_octets::ShortOctets;
 use std::alloc::{AllocError, Allocator, Global};
 use std::marker::Model;
 
 /// A domain name (RFC 1035 2.3.4, 3.1): labels of 1 to 63 octets, at most 255 octets in all where each label is counted
-/// with its length octet, and the zero octet at the end too. Contracts see it as the list of its labels.
+/// with its length octet, and the zero octet at the end too. Up to 40 octets, the zero octet left out, lie in place. Contracts
+/// see it as the list of its labels.
 #[derive(Drop)]
 pub struct Name<A: Allocator = Global> {
-    octets: Vec<u8, A>,
+    octets: ShortOctets<A>,
 }
 
 impl<A: Allocator> Model for Name<A> {
@@ -23,29 +26,29 @@ impl<A: Allocator> Model for Name<A> {
 
     ghost Value = { List (List ℕ) };
 
-    ghost view = { λ n. labels_of n.octets.items };
+    ghost view = { λ n. labels_of n.octets };
 
-    ghost invariant = { λ n. IsLaidOut n.octets.items };
+    ghost invariant = { λ n. IsLaidOut n.octets };
 }
 
 impl<A: Allocator> Name<A> {
     /// The root, which has no label. It takes no memory.
-    pub fn root(alloc: A) -> Name<A>
+    pub fn root() -> Name<A>
         ensures { result ≡ [] }
     {
         Name {
-            octets: Vec::new(alloc),
+            octets: ShortOctets::new(),
         }
     }
 
     /// The name that these octets are, as `octets` gives them: each label behind its length, and no zero octet at the end.
-    /// They are copied once. `Err` where memory ran out.
+    /// They are copied once. Up to 40 take no memory; of more, `Err` where memory ran out.
     pub fn from_octets(alloc: A, octets: &[u8]) -> Result<Name<A>, AllocError>
         requires { IsLaidOut octets.now }
         ensures { IfOk result (λ name. name ≡ labels_of octets.now) }
     {
         Ok(Name {
-            octets: Vec::from_slice(alloc, octets)?,
+            octets: ShortOctets::from_slice(alloc, octets)?,
         })
     }
 
@@ -55,7 +58,7 @@ impl<A: Allocator> Name<A> {
         ensures name { IsName self.now }
         ensures few { length self.now ≤ 127 }
     {
-        labels_in(&self.octets)
+        labels_in(self.octets())
     }
 
     /// The name as it stands in a message (RFC 1035 3.1), without the zero octet at its end: each label behind its length.
@@ -65,7 +68,7 @@ impl<A: Allocator> Name<A> {
         ensures labels { labels_of result.now ≡ self.now }
         ensures size { length result.now + 1 ≡ size_of self.now }
     {
-        &self.octets
+        self.octets.as_slice()
     }
 
     /// Whether the names have equal labels, ASCII letter case aside (RFC 1035 2.3.3). It takes no memory.
@@ -73,28 +76,8 @@ impl<A: Allocator> Name<A> {
     pub fn same(&self, other: &Name<A>) -> bool
         ensures { IsTrue result ↔ IsSame self.now other.now }
     {
-        is_same_text(&self.octets, &other.octets)
+        is_same_text(self.octets(), other.octets())
     }
-}
-
-/// Puts a label and its length behind the octets, or nothing.
-fn put_label<A: Allocator>(octets: &mut Vec<u8, A>, label: &[u8]) -> Result<(), AllocError>
-    requires { length label.now ≤ 63 }
-    ensures ok { OnOk result (octets.new.items ≡ octets.old.items ++ label_octets label.now) }
-    ensures err { OnErr result (octets.new.items ≡ octets.old.items) }
-{
-    let mut buffer = [0u8; 64];
-    buffer[0] = label.len() as u8;
-    buffer[1..label.len() + 1].copy_from_slice(label);
-    octets.extend_from_slice(&buffer[..label.len() + 1])
-}
-
-/// Puts octets behind the octets, or nothing.
-fn put_octets<A: Allocator>(octets: &mut Vec<u8, A>, more: &[u8]) -> Result<(), AllocError>
-    ensures ok { OnOk result (octets.new.items ≡ octets.old.items ++ more.now) }
-    ensures err { OnErr result (octets.new.items ≡ octets.old.items) }
-{
-    octets.extend_from_slice(more)
 }
 
 /// The first fault of a label, from the left.
@@ -113,43 +96,6 @@ fn check_labels<A: Allocator>(labels: &[Vec<u8, A>]) -> Result<(), NameFault>
 }
 
 impl<A: Allocator> Name<A> {
-    /// Puts a label last. `NameLong` where the name would have more than 255 octets; an `Err` changes nothing.
-    #[tactic(auto, unfolding(crate::specs::Faults::pushed))]
-    pub(crate) fn push(&mut self, label: &[u8]) -> Result<(), NameFault>
-        requires { IsLabel label.now }
-        ensures given { Gives (λ _. self.new) result (pushed self.old label.now) }
-        ensures err { OnErr result (self.new ≡ self.old) }
-    {
-        if self.octets.len() + label.len() > 253 {
-            return Err(NameFault::NameLong);
-        }
-        put_label(&mut self.octets, label)?;
-        Ok(())
-    }
-
-    /// Puts a label last; the caller knows that it fits. An `Err` changes nothing.
-    pub fn append(&mut self, label: &[u8]) -> Result<(), AllocError>
-        requires is_label { IsLabel label.now }
-        requires room { size_of self.old + length label.now + 1 ≤ 255 }
-        ensures ok { OnOk result (self.new ≡ self.old ++ label.now ∷ []) }
-        ensures err { OnErr result (self.new ≡ self.old) }
-    {
-        put_label(&mut self.octets, label)?;
-        Ok(())
-    }
-
-    /// Puts labels last, which stand in these octets one behind another, each behind its length; the caller knows that they
-    /// fit. An `Err` changes nothing.
-    pub fn append_labels(&mut self, octets: &[u8]) -> Result<(), AllocError>
-        requires laid { IsLaidOut octets.now }
-        requires room { size_of self.old + length octets.now ≤ 255 }
-        ensures ok { OnOk result (self.new ≡ self.old ++ labels_of octets.now) }
-        ensures err { OnErr result (self.new ≡ self.old) }
-    {
-        put_octets(&mut self.octets, octets)?;
-        Ok(())
-    }
-
     /// The name of these labels, from left to right.
     ///
     /// The fault is the first `EmptyLabel` or `LabelLong` from the left, else `NameLong`. `Memory` comes where a growth was
@@ -158,11 +104,11 @@ impl<A: Allocator> Name<A> {
         ensures { Gives (λ n. n) result (named (map (λ v. v.items) labels.now)) }
     {
         check_labels(labels)?;
-        let mut name = Name::root(alloc);
+        let mut builder = NameBuilder::new();
         for label in labels {
-            name.push(label)?;
+            builder.push(label)?;
         }
-        Ok(name)
+        Ok(builder.name(alloc)?)
     }
 }
 
@@ -188,14 +134,14 @@ impl<A: Allocator> Name<A> {
     pub fn is_under(&self, suffix: &Name<A>) -> bool
         ensures { IsTrue result ↔ IsUnder self.now suffix.now }
     {
-        ends_in(&self.octets, &suffix.octets)
+        ends_in(self.octets(), suffix.octets())
     }
 
     /// The key of this name: keys are equal exactly where names are the same. It takes no memory.
     pub fn key(&self) -> NameKey
         ensures { result ≡ lowered self.now }
     {
-        key_of(&self.octets)
+        key_of(self.octets())
     }
 
     /// The name without its first label; `None` for the root, which takes no memory. `Err` where memory ran out.
@@ -203,7 +149,7 @@ impl<A: Allocator> Name<A> {
         ensures parent { IfOk result (λ p. p ≡ parent_of self.now) }
         ensures root { OnErr result (self.now ≡ [] → ⊥) }
     {
-        match split_label(&self.octets) {
+        match split_label(self.octets()) {
             None => Ok(None),
             Some((_, rest)) => Ok(Some(Name::from_octets(alloc, rest)?)),
         }
@@ -213,6 +159,6 @@ impl<A: Allocator> Name<A> {
     pub fn copy(&self, alloc: A) -> Result<Name<A>, AllocError>
         ensures { IfOk result (λ n. n ≡ self.now) }
     {
-        Name::from_octets(alloc, &self.octets)
+        Name::from_octets(alloc, self.octets())
     }
 }

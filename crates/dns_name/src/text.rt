@@ -7,6 +7,7 @@ ghost use Rattle.std.specs.List.{list_all};
 ghost use Rattle.dns_name.specs.Faults.{Gives, first_fault, judged};
 ghost use Rattle.dns_name.specs.Text.{is_dot, is_label_character, written_label_fault, parts_of, parts_left, name_in};
 
+use crate::builder::NameBuilder;
 use crate::fault::NameFault;
 use crate::name::Name;
 use std::alloc::Allocator;
@@ -110,11 +111,11 @@ fn name_of_parts<A: Allocator>(alloc: A, text: &[u8]) -> Result<Name<A>, NameFau
     ensures { Gives (λ n. n) result (judged written_label_fault (parts_of text.now)) }
 {
     check_parts(text)?;
-    let mut name = Name::root(alloc);
+    let mut builder = NameBuilder::new();
     for label in parts_of(text) {
-        name.push(label)?;
+        builder.push(label)?;
     }
-    Ok(name)
+    Ok(builder.name(alloc)?)
 }
 
 impl<A: Allocator> Name<A> {
@@ -127,7 +128,7 @@ impl<A: Allocator> Name<A> {
         ensures { Gives (λ n. n) result (name_in text.now) }
     {
         match text.as_bytes() {
-            [b'.'] => Ok(Name::root(alloc)),
+            [b'.'] => Ok(Name::root()),
             [labels @ .., b'.'] => name_of_parts(alloc, labels),
             labels => name_of_parts(alloc, labels),
         }

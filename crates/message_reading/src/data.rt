@@ -10,6 +10,7 @@ ghost use Rattle.message_reading.specs.Data.{octets_within, written_out, prefixe
 use crate::shape::{Part, shape_of};
 use dns_name::Name;
 use message_names::{Bound, Fault, part, put_labels, skip_name};
+use short_octets::ShortOctets;
 use std::alloc::{AllocError, Allocator};
 
 /// The place behind so many octets of the data.
@@ -176,10 +177,10 @@ pub(crate) fn read_data<A: Allocator>(
     kind: u16,
     offset: usize,
     len: usize,
-) -> Result<(Vec<u8, A>, usize), Fault>
+) -> Result<(ShortOctets<A>, usize), Fault>
     requires inside { offset ≤ length bytes.now }
     requires known { AreShortcuts bytes.now ends.old }
-    ensures exact { Gives (λ x. (x.0.items, x.1)) result (data_at kind bytes.now offset len) }
+    ensures exact { Gives (λ x. x) result (data_at kind bytes.now offset len) }
     ensures known { AreShortcuts bytes.now ends.new }
 {
     if bytes.len() - offset < len {
@@ -187,10 +188,14 @@ pub(crate) fn read_data<A: Allocator>(
     }
     match shape_of(kind) {
         None => Ok((
-            Vec::from_slice(alloc, part(bytes, offset, len))?,
+            ShortOctets::from_slice(alloc, part(bytes, offset, len))?,
             offset + len,
         )),
-        Some(shape) => read_parts(alloc, bytes, ends, offset + len, shape.parts, offset),
+        Some(shape) => {
+            let (octets, end) =
+                read_parts(alloc, bytes, ends, offset + len, shape.parts, offset)?;
+            Ok((ShortOctets::from_vec(octets), end))
+        }
     }
 }
 

@@ -1,13 +1,14 @@
 //! Messages that own what they hold.
 
-ghost use Rattle.std.specs.Prelude.{◌≡◌, IfOk, OnErr, None};
+ghost use Rattle.std.specs.Prelude.{◌≡◌, ◌≤◌, length, IfOk, IsOk, OnErr, None};
 ghost use Rattle.message_reading.specs.Data.{name_of_rdata};
 ghost use Rattle.message_reading.specs.Questions.{same_question};
 
 use crate::data::read_only_name;
 use crate::header::Header;
 use dns_name::Name;
-use plain_list::{Octets, PlainList};
+use plain_list::PlainList;
+use short_octets::ShortOctets;
 use std::alloc::{AllocError, Allocator, Global};
 use std::marker::Model;
 
@@ -53,7 +54,7 @@ impl<A: Allocator> Question<A> {
 /// The data of a record, with the names in it written out in full, letter case as read.
 #[derive(Drop)]
 pub struct Rdata<A: Allocator = Global> {
-    octets: Octets<A>,
+    octets: ShortOctets<A>,
 }
 
 impl<A: Allocator> Model for Rdata<A> {
@@ -66,12 +67,19 @@ impl<A: Allocator> Model for Rdata<A> {
 
 impl<A: Allocator> Rdata<A> {
     /// Data of these octets; it takes no memory.
-    pub fn new(octets: Vec<u8, A>) -> Rdata<A>
-        ensures { result ≡ octets.items }
+    pub(crate) fn new(octets: ShortOctets<A>) -> Rdata<A>
+        ensures { result ≡ octets }
     {
-        Rdata {
-            octets: PlainList::from_vec(octets),
-        }
+        Rdata { octets }
+    }
+
+    /// Data of a copy of these octets. Up to 40 take no memory; of more, `Err` where memory ran out.
+    pub fn from_octets(alloc: A, octets: &[u8]) -> Result<Rdata<A>, AllocError>
+        ensures octets { IfOk result (λ copy. copy ≡ octets.now) }
+        ensures few { length octets.now ≤ 40 → IsOk result }
+    {
+        let octets = ShortOctets::from_slice(alloc, octets)?;
+        Ok(Rdata { octets })
     }
 
     /// The octets of the data.
@@ -90,12 +98,11 @@ impl<A: Allocator> Rdata<A> {
         read_only_name(alloc, self.octets())
     }
 
-    /// Equal data. `Err` where memory ran out.
+    /// Equal data. Up to 40 octets take no memory; of more, `Err` where memory ran out.
     pub fn copy(&self, alloc: A) -> Result<Rdata<A>, AllocError>
         ensures { IfOk result (λ copy. copy ≡ self.now) }
     {
-        let octets = Octets::copied(alloc, self.octets())?;
-        Ok(Rdata { octets })
+        Rdata::from_octets(alloc, self.octets())
     }
 }
 

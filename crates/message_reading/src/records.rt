@@ -110,7 +110,7 @@ pub(crate) fn readable_record_end(bytes: &[u8], offset: usize) -> usize
 }
 
 /// So many questions from a place on, and the place behind them.
-#[tactic(auto, using(crate::proofs::Counting::read_more, crate::proofs::Counting::read_done, crate::proofs::Counting::after_none))]
+#[tactic(auto, using(crate::proofs::Counting::read_more, crate::proofs::Counting::after_none))]
 pub(crate) fn read_questions<A: Allocator + Copy>(
     alloc: A,
     bytes: &[u8],
@@ -133,7 +133,7 @@ pub(crate) fn read_questions<A: Allocator + Copy>(
 }
 
 /// So many records from a place on, and the place behind them.
-#[tactic(auto, using(crate::proofs::Counting::read_more, crate::proofs::Counting::read_done, crate::proofs::Counting::after_none))]
+#[tactic(auto, using(crate::proofs::Counting::read_more, crate::proofs::Counting::after_none))]
 pub(crate) fn read_records<A: Allocator + Copy>(
     alloc: A,
     bytes: &[u8],

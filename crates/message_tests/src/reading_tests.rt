@@ -413,7 +413,7 @@ fn a_view_knows_header_and_question(rt: HostRuntime) -> Result<(), Fail> {
 
 /// The name that these data are.
 fn name_in(alloc: Global, digits: &str) -> Result<Option<Name>, Fail> {
-    let data = Rdata::new(decoded(alloc, digits)?);
+    let data = Rdata::from_octets(alloc, &decoded(alloc, digits)?)?;
     Ok(data.name(alloc)?)
 }
 

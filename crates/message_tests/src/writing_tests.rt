@@ -103,16 +103,19 @@ fn entry<A: Allocator + Copy>(
     kind: u16,
     data: Vec<u8, A>,
 ) -> Result<Record<A>, Fault> {
-    let mut owner = Name::root(alloc);
-    if !label.is_empty() && label.len() < 64 {
-        owner.append(label)?;
+    let mut labels = Vec::new(alloc);
+    if !label.is_empty() {
+        labels.push(Vec::from_slice(alloc, label)?)?;
     }
+    let Ok(owner) = Name::from_labels(alloc, &labels) else {
+        return Err(Fault::NameLong);
+    };
     Ok(Record {
         owner,
         kind,
         class: 1,
         ttl: 0,
-        rdata: Rdata::new(data),
+        rdata: Rdata::from_octets(alloc, &data)?,
     })
 }
 
