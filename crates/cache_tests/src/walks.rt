@@ -147,7 +147,7 @@ fn each_growth_is_refused(rt: HostRuntime) -> Result<(), Fail> {
     let alias = refusals(rt.alloc(), &hex::decode(rt.alloc(), ALIAS)?)?;
     let name_error = refusals(rt.alloc(), &hex::decode(rt.alloc(), NAME_ERROR)?)?;
     let twenty = refusals(rt.alloc(), &twenty_twice(rt.alloc())?)?;
-    assert_eq!(rt; (alias, name_error, twenty), (14, 5, 28));
+    assert_eq!(rt; (alias, name_error, twenty), (5, 2, 6));
     Ok(())
 }
 
@@ -203,13 +203,13 @@ fn copies_of(table_heap: Global, digits: &str) -> Result<Vec<Option<u64>>, Fail>
     Ok(counts)
 }
 
-/// A growth goes to the name; those of a set to the list of its data and to each of them, those of a denial to the name and
-/// to the data of its SOA.
+/// Names and data of at most 30 octets take none: the growth of a set goes to the list of its data, that of a denial to the
+/// data of its SOA.
 #[test]
 fn each_growth_of_a_copy_is_refused(rt: HostRuntime) -> Result<(), Fail> {
     let alias = copies_of(rt.alloc(), ALIAS)?;
-    assert_eq!(rt; alias.as_slice(), [Some(3), Some(4)].as_slice());
+    assert_eq!(rt; alias.as_slice(), [Some(1), Some(1)].as_slice());
     let name_error = copies_of(rt.alloc(), NAME_ERROR)?;
-    assert_eq!(rt; name_error.as_slice(), [Some(3)].as_slice());
+    assert_eq!(rt; name_error.as_slice(), [Some(1)].as_slice());
     Ok(())
 }

@@ -28,14 +28,14 @@ fn read_and_copied(table_heap: Global, heap: &Refusing<Global>) -> Result<usize,
 #[test]
 fn each_growth_may_be_refused(rt: HostRuntime) {
     let heap = Refusing::new(rt.alloc());
-    for count in 0..9u64 {
+    for count in 0..6u64 {
         heap.allow(count);
         assert_eq!(rt;
             read_and_copied(rt.alloc(), &heap),
             Err(ConfigFault::Memory)
         );
     }
-    heap.allow(9);
+    heap.allow(6);
     assert_eq!(rt; read_and_copied(rt.alloc(), &heap), Ok(4));
 }
 
@@ -60,11 +60,11 @@ fn named_with(heap: &Refusing<Global>, labels: u8, growths: u64) -> Result<usize
     octets
 }
 
-/// A name begins with room for 8 octets and doubles it where it is full.
+/// Up to 30 octets take no memory; more of them take it once.
 #[test]
 fn each_growth_of_a_name_of_labels_may_be_refused(rt: HostRuntime) {
     let heap = Refusing::new(rt.alloc());
-    for (labels, growths, octets) in [(0, 0, 0), (4, 1, 8), (5, 2, 10), (127, 6, 254)] {
+    for (labels, growths, octets) in [(0, 0, 0), (15, 0, 30), (16, 1, 32), (127, 1, 254)] {
         for count in 0..growths {
             assert_eq!(rt;
                 named_with(&heap, labels, count),

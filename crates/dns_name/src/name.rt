@@ -13,7 +13,7 @@ use std::alloc::{AllocError, Allocator, Global};
 use std::marker::Model;
 
 /// A domain name (RFC 1035 2.3.4, 3.1): labels of 1 to 63 octets, at most 255 octets in all where each label is counted
-/// with its length octet, and the zero octet at the end too. Up to 40 octets, the zero octet left out, lie in place. Contracts
+/// with its length octet, and the zero octet at the end too. Up to 30 octets, the zero octet left out, lie in place. Contracts
 /// see it as the list of its labels.
 #[derive(Drop)]
 pub struct Name<A: Allocator = Global> {
@@ -42,7 +42,7 @@ impl<A: Allocator> Name<A> {
     }
 
     /// The name that these octets are, as `octets` gives them: each label behind its length, and no zero octet at the end.
-    /// They are copied once. Up to 40 take no memory; of more, `Err` where memory ran out.
+    /// They are copied once. Up to 30 take no memory; of more, `Err` where memory ran out.
     pub fn from_octets(alloc: A, octets: &[u8]) -> Result<Name<A>, AllocError>
         requires { IsLaidOut octets.now }
         ensures { IfOk result (λ name. name ≡ labels_of octets.now) }

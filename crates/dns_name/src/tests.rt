@@ -91,7 +91,7 @@ fn names_that_are_the_same(rt: HostRuntime) -> Result<(), Fail> {
     assert!(rt; hash_of(&name.key()) != hash_of(&other.key()));
     assert!(rt; upper.is_under(&example));
     assert!(rt; upper.key().is_under(&example));
-    assert!(rt; name.is_under(&Name::root(heap)));
+    assert!(rt; name.is_under(&Name::root()));
     assert!(rt; !inside.is_under(&example));
     assert!(rt; !example.is_under(&name));
     Ok(())
@@ -102,7 +102,7 @@ fn parents_and_copies(rt: HostRuntime) -> Result<(), Fail> {
     let heap = rt.alloc();
     let name = Name::from_text(heap, "a.example")?;
     let example = Name::from_text(heap, "example")?;
-    let root = Name::root(heap);
+    let root = Name::root();
     assert_eq!(rt; name.octets(), b"\x01a\x07example".as_slice());
     let parent = name.parent(heap)?.ok_or("a name that is not the root")?;
     assert_eq!(rt; parent.octets(), b"\x07example".as_slice());

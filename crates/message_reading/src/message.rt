@@ -73,10 +73,10 @@ impl<A: Allocator> Rdata<A> {
         Rdata { octets }
     }
 
-    /// Data of a copy of these octets. Up to 40 take no memory; of more, `Err` where memory ran out.
+    /// Data of a copy of these octets. Up to 30 take no memory; of more, `Err` where memory ran out.
     pub fn from_octets(alloc: A, octets: &[u8]) -> Result<Rdata<A>, AllocError>
         ensures octets { IfOk result (λ copy. copy ≡ octets.now) }
-        ensures few { length octets.now ≤ 40 → IsOk result }
+        ensures few { length octets.now ≤ 30 → IsOk result }
     {
         let octets = ShortOctets::from_slice(alloc, octets)?;
         Ok(Rdata { octets })
@@ -98,7 +98,7 @@ impl<A: Allocator> Rdata<A> {
         read_only_name(alloc, self.octets())
     }
 
-    /// Equal data. Up to 40 octets take no memory; of more, `Err` where memory ran out.
+    /// Equal data. Up to 30 octets take no memory; of more, `Err` where memory ran out.
     pub fn copy(&self, alloc: A) -> Result<Rdata<A>, AllocError>
         ensures { IfOk result (λ copy. copy ≡ self.now) }
     {

@@ -471,6 +471,6 @@ fn each_refused_growth_is_want_of_memory(rt: HostRuntime) -> Result<(), Fail> {
         "0008850000010001000000000161076578616d706c650000010001c00c000500010000003c00040162c00e",
     )?;
     let heap = Refusing::new(rt.alloc());
-    assert_eq!(rt; growths_of_every_call(&heap, &octets), 11);
+    assert_eq!(rt; growths_of_every_call(&heap, &octets), 3);
     Ok(())
 }

@@ -123,7 +123,7 @@ fn entry<A: Allocator + Copy>(
 fn reply<A: Allocator + Copy>(alloc: A, answers: Vec<Record<A>, A>) -> Result<Message<A>, Fault> {
     let mut questions = Vec::new(alloc);
     questions.push(Question {
-        name: Name::root(alloc),
+        name: Name::root(),
         kind: 1,
         class: 1,
     })?;

@@ -68,9 +68,9 @@ fn a_run_over_a_list(rt: HostRuntime) -> Result<(), Fail> {
         unkept = unkept.saturating_add(1);
     }
     // The configuration takes 2 growths and a new forwarder 7, all but one for its cache; a step takes one more for each
-    // of its two copies, and the first for the list. Of the 14 of the first step, 5 are for the ask and 4 for the question
+    // of its two copies, and the first for the list. Of the 12 of the first step, 5 are for the ask and 4 for the question
     // that waits: a slab and lists of keys. With the last growth refused, the set is not kept.
-    assert_eq!(rt; (refused, unkept), (2 + 7 + (14 + 3) + (14 + 2), 1));
+    assert_eq!(rt; (refused, unkept), (2 + 7 + (12 + 3) + (8 + 2), 1));
     Ok(())
 }
 
@@ -154,6 +154,6 @@ fn a_recorded_run(rt: HostRuntime) -> Result<(), Fail> {
         }
     }
     // Those of the step, and the copy of its event.
-    assert_eq!(rt; (refused, unkept), (14 + 1, 1));
+    assert_eq!(rt; (refused, unkept), (8 + 1, 1));
     Ok(())
 }

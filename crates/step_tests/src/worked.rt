@@ -51,7 +51,7 @@ pub(crate) const ANSWER: &[u8] =
 /// One route, for every name, with two servers.
 pub(crate) fn config<A: Allocator + Copy>(alloc: A) -> Result<Config<A>, AllocError> {
     let route = Route {
-        suffix: Name::root(alloc),
+        suffix: Name::root(),
         servers: PlainList::copied(alloc, &[SERVER, SECOND])?,
     };
     let mut routes = PlainList::new(alloc);

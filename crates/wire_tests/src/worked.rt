@@ -67,7 +67,7 @@ pub(crate) fn forwarder_to<A: Allocator + Copy>(
     requires { (0 < length servers.now) × (length servers.now ≤ 8) }
 {
     let route = Route {
-        suffix: Name::root(alloc),
+        suffix: Name::root(),
         servers: PlainList::copied(alloc, servers)?,
     };
     let mut routes = PlainList::new(alloc);
