@@ -192,8 +192,7 @@ pub(crate) fn read_data<A: Allocator>(
             offset + len,
         )),
         Some(shape) => {
-            let (octets, end) =
-                read_parts(alloc, bytes, ends, offset + len, shape.parts, offset)?;
+            let (octets, end) = read_parts(alloc, bytes, ends, offset + len, shape.parts, offset)?;
             Ok((ShortOctets::from_vec(octets), end))
         }
     }
