@@ -75,72 +75,125 @@ fn hash_of(key: &NameKey) -> u64 {
     hasher.hash_one(key)
 }
 
+/// Whether the names are the same, their keys are equal, and the hashes of these.
+fn sameness(heap: Global, one: &str, other: &str) -> Result<[bool; 3], NameFault> {
+    let one = Name::from_text(heap, one)?;
+    let other = Name::from_text(heap, other)?;
+    Ok([
+        one.same(&other),
+        one.key() == other.key(),
+        hash_of(&one.key()) == hash_of(&other.key()),
+    ])
+}
+
 #[test]
 fn names_that_are_the_same(rt: HostRuntime) -> Result<(), Fail> {
-    let heap = rt.alloc();
-    let name = Name::from_text(heap, "a.example")?;
-    let upper = Name::from_text(heap, "A.EXAMPLE.")?;
-    let other = Name::from_text(heap, "b.example")?;
-    let inside = Name::from_text(heap, "notexample")?;
-    let example = Name::from_text(heap, "example")?;
-    assert!(rt; name.same(&upper));
-    assert!(rt; !name.same(&other));
-    assert!(rt; name.key() == upper.key());
-    assert!(rt; name.key() != other.key());
-    assert_eq!(rt; hash_of(&name.key()), hash_of(&upper.key()));
-    assert!(rt; hash_of(&name.key()) != hash_of(&other.key()));
-    assert!(rt; upper.is_under(&example));
-    assert!(rt; upper.key().is_under(&example));
-    assert!(rt; name.is_under(&Name::root()));
-    assert!(rt; !inside.is_under(&example));
-    assert!(rt; !example.is_under(&name));
+    for (one, other, is_same) in [
+        ("a.example", "A.EXAMPLE.", true),
+        ("a.example", "b.example", false),
+    ] {
+        let told = sameness(rt.alloc(), one, other)?;
+        assert_eq!(rt; told, [is_same; 3], "{one} and {other}");
+    }
     Ok(())
+}
+
+/// Whether the first name is at or under the second one, and its key is.
+fn is_under(heap: Global, name: &str, suffix: &str) -> Result<[bool; 2], NameFault> {
+    let name = Name::from_text(heap, name)?;
+    let suffix = Name::from_text(heap, suffix)?;
+    Ok([name.is_under(&suffix), name.key().is_under(&suffix)])
+}
+
+#[test]
+fn names_under_names(rt: HostRuntime) -> Result<(), Fail> {
+    for (name, suffix, wanted) in [
+        ("A.EXAMPLE.", "example", true),
+        ("a.example", ".", true),
+        ("notexample", "example", false),
+        ("example", "a.example", false),
+    ] {
+        let told = is_under(rt.alloc(), name, suffix)?;
+        assert_eq!(rt; told, [wanted; 2], "{name} under {suffix}");
+    }
+    Ok(())
+}
+
+/// Whether the name has these octets, and its copy too.
+fn has_octets(heap: Global, name: &str, octets: &[u8]) -> Result<bool, NameFault> {
+    let name = Name::from_text(heap, name)?;
+    let copy = name.copy(heap)?;
+    Ok(name.octets() == octets && copy.octets() == octets)
+}
+
+/// Whether the parent of the first name is the second one, and that of its key is.
+fn has_parent(heap: Global, name: &str, parent: &str) -> Result<bool, NameFault> {
+    let name = Name::from_text(heap, name)?;
+    let wanted = Name::from_text(heap, parent)?;
+    match name.parent(heap)? {
+        Some(parent) => Ok(
+            parent.octets() == wanted.octets() && name.key().parent() == Some(wanted.key()),
+        ),
+        None => Ok(false),
+    }
 }
 
 #[test]
 fn parents_and_copies(rt: HostRuntime) -> Result<(), Fail> {
     let heap = rt.alloc();
-    let name = Name::from_text(heap, "a.example")?;
-    let example = Name::from_text(heap, "example")?;
-    let root = Name::root();
-    assert_eq!(rt; name.octets(), b"\x01a\x07example".as_slice());
-    let parent = name.parent(heap)?.ok_or("a name that is not the root")?;
-    assert_eq!(rt; parent.octets(), b"\x07example".as_slice());
+    assert!(rt; has_octets(heap, "a.example", b"\x01a\x07example")?);
+    assert!(rt; has_octets(heap, ".", b"")?);
+    assert!(rt; has_octets(heap, LONG, b"\x01a\x16abcdefghijklmnopqrstuv\x07example")?);
+    assert!(rt; has_parent(heap, "a.example", "example")?);
+    assert!(rt; has_parent(heap, LONG, LONGER)?);
+    let root: Name = Name::root();
     assert!(rt; root.parent(heap)?.is_none());
-    assert!(rt; name.key().parent() == Some(example.key()));
     assert!(rt; root.key().parent().is_none());
-    assert_eq!(rt; name.copy(heap)?.octets(), name.octets());
-    assert_eq!(rt; root.copy(heap)?.octets(), b"".as_slice());
     Ok(())
 }
 
-/// How many labels `a.example`, its copy and its parent have together.
-fn made<A: Allocator + Copy>(heap: A) -> Result<usize, NameFault> {
-    let name = Name::from_text(heap, "a.example")?;
+/// A name of 30 octets.
+const SHORT: &str = "abcdefghijklmnopqrstu.example";
+
+/// A name of 31 octets.
+const LONGER: &str = "abcdefghijklmnopqrstuv.example";
+
+/// A name of 33 octets, whose parent has 31.
+const LONG: &str = "a.abcdefghijklmnopqrstuv.example";
+
+/// How many labels the copy and the parent of a name have together.
+fn made<A: Allocator + Copy>(heap: A, text: &str) -> Result<usize, NameFault> {
+    let name = Name::from_text(heap, text)?;
     let copy = name.copy(heap)?;
     let parent = name.parent(heap)?;
     let count = copy.labels().count();
     Ok(count + parent.map_or(0, |parent| parent.labels().count()))
 }
 
-#[test]
-fn each_growth_may_be_refused(rt: HostRuntime) -> Result<(), Fail> {
-    let heap = Refusing::new(rt.alloc());
-    let mut refused = 0u64;
+/// How many growths are refused one after another, until there are so many labels; `None` where anything else is told than
+/// want of memory.
+fn growths_of(heap: &Refusing<Global>, text: &str, labels: usize) -> Option<u64> {
     for count in 0..100u64 {
         heap.allow(count);
-        match made(&heap) {
-            Ok(labels) => {
-                assert_eq!(rt; labels, 3);
-                break;
-            }
-            Err(fault) => {
-                assert_eq!(rt; fault, NameFault::Memory);
-                refused = refused.saturating_add(1);
-            }
+        match made(heap, text) {
+            Ok(made) if made == labels => return Some(count),
+            Err(NameFault::Memory) => {}
+            _ => return None,
         }
     }
-    heap.allow(u64::MAX);
-    assert_eq!(rt; refused, 4, "two for the labels, a copy and a parent");
-    Ok(())
+    None
+}
+
+/// Up to 30 octets lie in place; more of them take one growth for the name, one for its copy and one for its parent.
+#[test]
+fn each_growth_may_be_refused(rt: HostRuntime) {
+    let heap = Refusing::new(rt.alloc());
+    for (text, labels, growths) in [
+        ("a.example", 3, 0),
+        (SHORT, 3, 0),
+        (LONGER, 3, 2),
+        (LONG, 5, 3),
+    ] {
+        assert_eq!(rt; growths_of(&heap, text, labels), Some(growths), "{text}");
+    }
 }
