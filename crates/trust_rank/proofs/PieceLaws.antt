@@ -15,6 +15,7 @@ use Rattle.trust_rank.specs.Sets.{is_of, records_for, with_data, with_all_data, 
 use Rattle.trust_rank.specs.Gathering.{added_all, lowered_by_all}
 use Rattle.trust_rank.specs.Denials.{is_soa_for, soa_for, denial_lifetime}
 use Rattle.trust_rank.specs.Formed.{AreRows, IsSoa, IsPiece}
+use Rattle.trust_rank.specs.Walks.{target_of}
 use Rattle.trust_rank.proofs.Gathering.{added_all-is, lowered_by_all-is}
 
 -- ---- sets
@@ -103,6 +104,12 @@ passed_over q all rest others first left is other = sym (cond-false (is_of q fir
 
 pub none_left : (q : Question) (rank route : ℕ) (all rest : List Record) → records_for q rest ≡ records_for q all → length rest ≡ 0 → None ≡ set_of rank route (records_for q all)
 none_left q rank route all rest left e = ap (λ (rs : List Record). set_of rank route (records_for q rs)) (sym (empty rest e)) ∙ ap (set_of rank route) left
+
+-- data that is not of one record leads nowhere
+pub no_target : (each : List (List ℕ)) → length each ≢ 1 → target_of (rows each) ≡ None
+no_target [] many = refl
+no_target (octets ∷ []) many = absurd (many refl)
+no_target (octets ∷ other ∷ more) many = refl
 
 -- ---- denials
 

@@ -1,3 +1,4 @@
+pub mod Rows
 pub mod Values
 pub mod Sets
 pub mod Gathering

@@ -1,5 +1,5 @@
 -- What one reply carries, as plain values.
-use Rattle.std.specs.Prelude.{ℕ, Bool, List, Option}
+use Rattle.std.specs.Prelude.{ℕ, Bool, List, Option, Some, None, Box}
 use Rattle.dns_message.specs.Values.{Question, Record, Message}
 use Rattle.suffix_routes.specs.Values.{Config}
 use Rattle.trust_rank.specs.declared.slot.Slot.{Slot}
@@ -50,10 +50,15 @@ pub record Reply : Type 0 where
 abbrev pub reply_of : Config → Message → Question → ℕ → Reply
 reply_of c m q route = record { config = c; route = route; question = q; is_authoritative = m.header.aa; rcode = m.header.rcode; answers = m.answers; authority = m.authority }
 
+-- the record in the box, where there is one
+abbrev pub unboxed : {A : Type 0} → Option (Box Record A) → Option Record
+unboxed None = None
+unboxed (Some b) = Some b.value
+
 abbrev pub body_of : {A : Type 0} → OwnedBody A → Body
 body_of (Rows each) = rows each
-body_of (NoData soa) = no_data soa
-body_of (Denied soa) = denied soa
+body_of (NoData soa) = no_data (unboxed soa)
+body_of (Denied soa) = denied (unboxed soa)
 
 abbrev pub end_of : {A : Type 0} → OwnedEnd A → End
 end_of ends.Found = found

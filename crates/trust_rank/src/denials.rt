@@ -6,8 +6,9 @@ ghost use Rattle.dns_name.specs.Labels.{is_under};
 ghost use Rattle.dns_message.specs.Messages.{AreShaped};
 ghost use Rattle.trust_rank.specs.Denials.{is_soa_for, soa_for, minimum_of, denial_lifetime, no_data_with, name_error_with};
 ghost use Rattle.trust_rank.specs.Formed.{IsSoa};
+ghost use Rattle.trust_rank.specs.Values.{unboxed};
 
-use crate::piece::{Body, Piece};
+use crate::piece::{Body, Piece, boxed_copy};
 use crate::sets::{SetKey, Source, seconds_from};
 use byteorder::{BigEndian, ByteOrder};
 use dns_message::Record;
@@ -50,20 +51,20 @@ fn find_soa<'a, A: Allocator>(
     None
 }
 
-/// A copy of the SOA record that a denial at the name holds.
+/// A copy of the SOA record that a denial at the name holds, in a box.
 pub(crate) fn soa_for<A: Allocator + Copy>(
     alloc: A,
     name: &Name<A>,
     class: u16,
     authority: &[Record<A>],
-) -> Result<Option<Record<A>>, AllocError>
+) -> Result<Option<Box<Record<A>, A>>, AllocError>
     requires { AreShaped authority.now }
-    ensures found { IfOk result (λ soa. soa ≡ soa_for name.now class authority.now) }
-    ensures soa { IfOk result (λ soa. IfSome soa IsSoa) }
+    ensures found { IfOk result (λ soa. unboxed soa ≡ soa_for name.now class authority.now) }
+    ensures soa { IfOk result (λ soa. IfSome (unboxed soa) IsSoa) }
 {
     match find_soa(name, class, authority) {
         None => Ok(None),
-        Some(soa) => Ok(Some(soa.copy(alloc)?)),
+        Some(soa) => Ok(Some(boxed_copy(alloc, soa)?)),
     }
 }
 
@@ -75,18 +76,25 @@ fn minimum_from(rdata: &[u8]) -> u32
     BigEndian::read_u32(&rdata[rdata.len() - 4..])
 }
 
-/// How long a denial with this SOA lives, in seconds: the least of the SOA's TTL, its MINIMUM and three hours (RFC 2308
-/// 5); with no SOA it is used once and not kept.
-fn lifetime_with<A: Allocator>(soa: &Option<Record<A>>) -> u32
-    requires { IfSome soa.now IsSoa }
-    ensures { result ≡ denial_lifetime soa.now }
+/// How long a denial with this SOA lives, in seconds: the least of the SOA's TTL, its MINIMUM and three hours (RFC 2308 5).
+fn lifetime_from<A: Allocator>(soa: &Record<A>) -> u32
+    requires { IsSoa soa.now }
+    ensures { result ≡ denial_lifetime (Some soa.now) }
 {
-    let Some(soa) = soa else {
-        return 0;
-    };
     seconds_from(soa.ttl)
         .min(minimum_from(soa.rdata.octets()))
         .min(LONGEST_DENIAL)
+}
+
+/// How long a denial lives, in seconds; with no SOA it is used once and not kept.
+fn lifetime_with<A: Allocator>(soa: &Option<Box<Record<A>, A>>) -> u32
+    requires { IfSome (unboxed soa.now) IsSoa }
+    ensures { result ≡ denial_lifetime (unboxed soa.now) }
+{
+    match soa {
+        None => 0,
+        Some(soa) => lifetime_from(soa.as_ref()),
+    }
 }
 
 /// NODATA: the name has no records of this type (RFC 2308 2.2).
@@ -94,10 +102,10 @@ pub(crate) fn no_data<A: Allocator + Copy>(
     alloc: A,
     source: Source,
     denied: &SetKey<'_, A>,
-    soa: Option<Record<A>>,
+    soa: Option<Box<Record<A>, A>>,
 ) -> Result<Piece<A>, AllocError>
-    requires { IfSome soa IsSoa }
-    ensures { IfOk result (λ p. p ≡ no_data_with source.rank source.route denied.now.name denied.now.class denied.now.kind soa) }
+    requires { IfSome (unboxed soa) IsSoa }
+    ensures { IfOk result (λ p. p ≡ no_data_with source.rank source.route denied.now.name denied.now.class denied.now.kind (unboxed soa)) }
 {
     let owner = denied.name.copy(alloc)?;
     Ok(Piece {
@@ -116,10 +124,10 @@ pub(crate) fn name_error<A: Allocator + Copy>(
     alloc: A,
     source: Source,
     denied: &SetKey<'_, A>,
-    soa: Option<Record<A>>,
+    soa: Option<Box<Record<A>, A>>,
 ) -> Result<Piece<A>, AllocError>
-    requires { IfSome soa IsSoa }
-    ensures { IfOk result (λ p. p ≡ name_error_with source.rank source.route denied.now.name denied.now.class soa) }
+    requires { IfSome (unboxed soa) IsSoa }
+    ensures { IfOk result (λ p. p ≡ name_error_with source.rank source.route denied.now.name denied.now.class (unboxed soa)) }
 {
     let owner = denied.name.copy(alloc)?;
     Ok(Piece {

@@ -5,6 +5,7 @@ mod denials;
 mod laws;
 mod piece;
 mod reply;
+mod rows;
 mod servers;
 mod sets;
 mod slot;
@@ -13,6 +14,7 @@ mod walking;
 
 pub use laws::{pieces_are_writable, servers_fit, walk_leads};
 pub use piece::{Body, Piece};
+pub use rows::Rows;
 pub use slot::Slot;
 pub use walk::{End, Walk};
 pub use walking::pieces;

@@ -2,25 +2,25 @@
 
 ghost use Rattle.std.specs.Prelude.{◌≡◌, IfOk};
 ghost use Rattle.trust_rank.specs.Formed.{IsPiece};
-ghost use Rattle.trust_rank.specs.Values.{body_of};
+ghost use Rattle.trust_rank.specs.Values.{body_of, unboxed};
 
+use crate::rows::Rows;
 use crate::slot::Slot;
-use dns_message::{Rdata, Record};
+use dns_message::Record;
 use dns_name::Name;
-use plain_list::PlainList;
 use std::alloc::{AllocError, Allocator, Global};
 use std::marker::Model;
 use suffix_routes::RouteId;
 
-/// What a piece tells.
+/// What a piece tells. It is small, as most tell of a set: an SOA stands in a box.
 #[derive(Drop)]
 pub enum Body<A: Allocator = Global> {
     /// The data of a record set (RFC 2181 5), in the order of the reply, none of it twice.
-    Rows(PlainList<Rdata<A>, A>),
+    Rows(Rows<A>),
     /// NODATA: the name has no records of the type (RFC 2308 2.2); and the SOA, where the reply had one.
-    NoData(Option<Record<A>>),
+    NoData(Option<Box<Record<A>, A>>),
     /// A name error: the name is not there (RFC 2308 2.1); and the SOA, where the reply had one.
-    Denied(Option<Record<A>>),
+    Denied(Option<Box<Record<A>, A>>),
 }
 
 /// A record set or a denial, which lives and dies as one. Contracts see its class and type as a slot, with the owner's key.
@@ -91,36 +91,32 @@ impl<A: Allocator + Copy> Body<A> {
         ensures { IfOk result (λ copy. body_of copy ≡ body_of self.now) }
     {
         match self {
-            Body::Rows(rows) => Ok(Body::Rows(copy_of_rows(alloc, rows.as_slice())?)),
+            Body::Rows(rows) => Ok(Body::Rows(rows.copy(alloc)?)),
             Body::NoData(soa) => Ok(Body::NoData(copy_of_soa(alloc, soa)?)),
             Body::Denied(soa) => Ok(Body::Denied(copy_of_soa(alloc, soa)?)),
         }
     }
 }
 
-/// Copies of the data, in its order.
-fn copy_of_rows<A: Allocator + Copy>(
-    alloc: A,
-    rows: &[Rdata<A>],
-) -> Result<PlainList<Rdata<A>, A>, AllocError>
-    ensures { IfOk result (λ copy. copy ≡ rows.now) }
-{
-    let mut copy = PlainList::new(alloc);
-    for row in rows {
-        copy.push(row.copy(alloc)?)?;
-    }
-    Ok(copy)
-}
-
 /// A copy of the record, where there is one.
 fn copy_of_soa<A: Allocator + Copy>(
     alloc: A,
-    soa: &Option<Record<A>>,
-) -> Result<Option<Record<A>>, AllocError>
-    ensures { IfOk result (λ copy. copy ≡ soa.now) }
+    soa: &Option<Box<Record<A>, A>>,
+) -> Result<Option<Box<Record<A>, A>>, AllocError>
+    ensures { IfOk result (λ copy. unboxed copy ≡ unboxed soa.now) }
 {
     match soa {
         None => Ok(None),
-        Some(soa) => Ok(Some(soa.copy(alloc)?)),
+        Some(soa) => Ok(Some(boxed_copy(alloc, soa.as_ref())?)),
     }
+}
+
+/// A copy of an SOA, in a box.
+pub(crate) fn boxed_copy<A: Allocator + Copy>(
+    alloc: A,
+    soa: &Record<A>,
+) -> Result<Box<Record<A>, A>, AllocError>
+    ensures { IfOk result (λ copy. copy.value ≡ soa.now) }
+{
+    Ok(Box::new(alloc, soa.copy(alloc)?)?)
 }

@@ -1,10 +1,11 @@
 //! A message as the reply to a question, and what it has at one name of the walk: RFC 1034 3.6.2, RFC 2308 2.
 
-ghost use Rattle.std.specs.Prelude.{◌≡◌, IfOk};
+ghost use Rattle.std.specs.Prelude.{◌≡◌, IfOk, is_none};
 ghost use Rattle.std.specs.List.{list_any};
 ghost use Rattle.std.specs.Option.{IfSome};
 ghost use Rattle.trust_rank.specs.Denials.{soa_for};
 ghost use Rattle.trust_rank.specs.Formed.{IsSoa};
+ghost use Rattle.trust_rank.specs.Values.{unboxed};
 ghost use Rattle.trust_rank.specs.Walks.{is_on_route, rank_at, at_name, answer_set, alias_set, has_many, target_of, is_referral, denial_at, leads, set_met, met_at, is_name_server, met_of};
 
 use crate::denials::{name_error, no_data, soa_for};
@@ -133,10 +134,10 @@ impl<'a, A: Allocator + Copy> Reply<'a, A> {
         self.answer_set(alloc, CNAME, name)
     }
 
-    /// The SOA that a denial at the name holds.
-    fn soa_for(&self, alloc: A, name: &Name<A>) -> Result<Option<Record<A>>, AllocError>
-        ensures found { IfOk result (λ soa. soa ≡ soa_for name.now self.now.question.class self.now.authority) }
-        ensures soa { IfOk result (λ soa. IfSome soa IsSoa) }
+    /// The SOA that a denial at the name holds, in a box.
+    fn soa_for(&self, alloc: A, name: &Name<A>) -> Result<Option<Box<Record<A>, A>>, AllocError>
+        ensures found { IfOk result (λ soa. unboxed soa ≡ soa_for name.now self.now.question.class self.now.authority) }
+        ensures soa { IfOk result (λ soa. IfSome (unboxed soa) IsSoa) }
     {
         soa_for(alloc, name, self.class, self.authority)
     }
@@ -158,10 +159,11 @@ impl<'a, A: Allocator + Copy> Reply<'a, A> {
         if self.rcode == NAME_ERROR {
             return Ok(Met::NameError(name_error(alloc, source, &denied, soa)?));
         }
-        if soa.is_none() && !is_first {
+        let lacks_soa = is_missing(&soa);
+        if lacks_soa && !is_first {
             return Ok(Met::Nothing);
         }
-        if soa.is_none() && self.is_referral() {
+        if lacks_soa && self.is_referral() {
             return Ok(Met::Lame);
         }
         Ok(Met::NoData(no_data(alloc, source, &denied, soa)?))
@@ -184,6 +186,16 @@ impl<'a, A: Allocator + Copy> Reply<'a, A> {
     }
 }
 
+/// There is no record.
+fn is_missing<A: Allocator>(soa: &Option<Box<Record<A>, A>>) -> bool
+    ensures { result ≡ is_none (unboxed soa.now) }
+{
+    match soa {
+        None => true,
+        Some(_) => false,
+    }
+}
+
 pub(crate) fn is_name_server<A: Allocator>(record: &Record<A>) -> bool
     ensures { result ≡ is_name_server record.now }
 {
@@ -201,7 +213,7 @@ fn has_many<A: Allocator>(piece: &Piece<A>) -> bool
     ensures { result ≡ has_many piece.now.body }
 {
     match &piece.body {
-        Body::Rows(rows) => rows.as_slice().len() > 1,
+        Body::Rows(rows) => rows.len() > 1,
         _ => false,
     }
 }
@@ -217,15 +229,16 @@ fn set_met<A: Allocator>(kind: u16, set: Piece<A>) -> Met<A>
 }
 
 /// The name that an alias leads to: that of its one record.
+#[tactic(auto, using(crate::proofs::PieceLaws::no_target))]
 fn target_of<A: Allocator + Copy>(alloc: A, piece: &Piece<A>) -> Result<Option<Name<A>>, AllocError>
     ensures { IfOk result (λ target. target ≡ target_of piece.now.body) }
 {
     let Body::Rows(rows) = &piece.body else {
         return Ok(None);
     };
-    match rows.as_slice() {
-        [data] => data.name(alloc),
-        _ => Ok(None),
+    match rows.only() {
+        Some(data) => data.name(alloc),
+        None => Ok(None),
     }
 }
 

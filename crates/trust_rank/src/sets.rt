@@ -10,6 +10,7 @@ ghost use Rattle.trust_rank.specs.Sets.{is_of, records_for, with_data, seconds_o
 ghost use Rattle.trust_rank.specs.Gathering.{Indexes, few, added, added_all, lowered_by, lowered_by_all};
 
 use crate::piece::{Body, Piece};
+use crate::rows::Rows;
 use dns_message::{Rdata, Record};
 use dns_name::Name;
 use plain_list::PlainList;
@@ -175,7 +176,7 @@ fn gather<'a, A: Allocator + Copy>(
     first: &'a Record<A>,
     others: &'a [Record<A>],
     key: &SetKey<'_, A>,
-) -> Result<(PlainList<Rdata<A>, A>, u32), AllocError>
+) -> Result<(Rows<A>, u32), AllocError>
     ensures rows { IfOk result (λ g. g.0 ≡ added_all key.now (first.now.rdata ∷ []) others.now) }
     ensures lifetime { IfOk result (λ g. g.1 ≡ lowered_by_all key.now (min longest (seconds_of first.now.ttl)) others.now) }
 {
@@ -183,7 +184,8 @@ fn gather<'a, A: Allocator + Copy>(
     for record in others {
         gathered.add(alloc, record, key)?;
     }
-    Ok((gathered.rows, gathered.lifetime))
+    let Gathered { rows, lifetime, .. } = gathered;
+    Ok((Rows::from_list(rows), lifetime))
 }
 
 /// The set that begins with this record and goes on among the others.

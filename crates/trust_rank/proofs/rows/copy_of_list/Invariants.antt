@@ -1,5 +1,5 @@
 use Rattle.std.proofs.Common.{◌≡◌, take}
-use Rattle.trust_rank.proofs.piece.copy_of_rows.Given as goal
+use Rattle.trust_rank.proofs.rows.copy_of_list.Given as goal
 
 abbrev pub invariant-loop-row : goal.invariant-loop-row
 invariant-loop-row g l = l.copy ≡ take l.row-index l.rows

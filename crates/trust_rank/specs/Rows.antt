@@ -1,0 +1,8 @@
+-- The data of a record set, wherever it stands.
+use Rattle.std.specs.Prelude.{ℕ, List, [], ◌∷◌}
+use Rattle.trust_rank.specs.declared.rows.Place.{Place}
+use Rattle.trust_rank.specs.declared.rows.Place.TheVariants.{One, More}
+
+abbrev pub rows_at : {A : Type 0} → Place A → List (List ℕ)
+rows_at (One octets) = octets ∷ []
+rows_at (More each) = each
