@@ -1,21 +1,21 @@
 -- Endings of names and of the names above them, and what counts by sizes and endings tell.
-use Rattle.std.proofs.Common.{◌≡◌, ℕ, zero, suc, ◌+◌, ◌-◌, ◌<◌, ◌≤◌, ◌%◌, Bool, true, false, if◌then◌else◌, ◌||◌, nat_lt, ◌⊎◌, inl, inr, List, [], ◌∷◌, ◌++◌, length, map, drop, Option, None, Some, refl, sym, ap, subst, ◌∙◌, arith, length-append}
+use Rattle.std.proofs.Common.{◌≡◌, ℕ, zero, suc, ◌+◌, ◌-◌, ◌<◌, ◌≤◌, ◌%◌, Bool, true, false, ◌||◌, nat_lt, ◌⊎◌, inl, inr, List, [], ◌∷◌, ◌++◌, length, map, take, drop, Option, None, Some, refl, sym, ap, subst, ◌∙◌, arith, length-append}
 use Rattle.std.specs.Prelude.{is_none}
 use Rattle.std.specs.Int.{w64, from_be_bytes}
 use Rattle.std.specs.Char.{to_ascii_lowercase}
 use Rattle.std.proofs.lemmas.Bool.{cases_lt}
 use Rattle.std.proofs.lemmas.Bool.Decides.{nat_tests}
-use Rattle.std.proofs.lemmas.List.{length-map, map-append}
-use Rattle.dns_name.specs.Labels.{octets_of, label_octets, labels_of, lowered, size_of, IsLaidOut, IsSame, IsUnder}
+use Rattle.std.proofs.lemmas.List.{length-map, length-drop, map-append, take_all}
+use Rattle.dns_name.specs.Labels.{octets_of, label_octets, labels_of, lowered, IsLaidOut, IsSame, IsUnder}
 use Rattle.dns_name.specs.KeyLaws.{size_of-is}
 use Rattle.dns_name.proofs.KeyOf.{lower_octets}
 use Rattle.dns_name.proofs.CallerLemmas.{same_as_many_octets, lowered_again}
 use Rattle.trust_rank.specs.declared.slot.Slot.{Slot}
 use Rattle.trust_rank.specs.Formed.{IsPiece}
-use Rattle.trust_rank.specs.Replacing.{is_name_error}
 use Rattle.record_cache.specs.Values.{Held}
-use Rattle.record_cache.specs.Entries.{of_name_error, of_alias, ending_of, ending, name_error_size, name_error_ending, alias_ending, has_number, has_name_error, may_deny, may_have_alias}
-use Rattle.record_cache.specs.Laws.{Among, NoneOfSize, NoneDenies, NoAliasIsThere}
+use Rattle.record_cache.specs.Entries.{of_name_error, of_alias, ending_of, ending, name_error_size, name_error_ending, alias_ending, has_number, may_deny}
+use Rattle.record_cache.specs.Storing.{marks_of}
+use Rattle.record_cache.specs.Laws.{NoneOfSize, NoneDenies, NoAliasIsThere}
 use Rattle.record_cache.proofs.Counting.{none_among, or_left, or_right}
 
 -- ---- endings
@@ -55,6 +55,10 @@ map_drop zero xs = refl
 map_drop (suc n) [] = refl
 map_drop (suc n) (x ∷ xs) = map_drop n xs
 
+-- the slice from eight before the end to the end
+pub slice_is : (octets : List ℕ) → take (length octets - (length octets - 8)) (last_eight octets) ≡ last_eight octets
+slice_is octets = take_all (length octets - (length octets - 8)) (last_eight octets) (omega (arith, length-drop (length octets - 8) octets))
+
 pub code_short : (octets : List ℕ) → IsLaidOut octets → length octets < 8 → 0 ≡ ending (lowered (labels_of octets))
 code_short octets laid short =
     sym (ending_short (octets_of (lowered (labels_of octets))) (omega (arith, short, ap length (lower_octets octets laid), length-map octets to_ascii_lowercase)))
@@ -70,6 +74,10 @@ code_long octets last laid long is =
 
 -- ---- names above a name
 
+either_false : (a b : Bool) → a ≡ false → b ≡ false → (a || b) ≡ false
+either_false true b h k = h
+either_false false b h k = k
+
 -- where none may deny a name, none may deny the name above it
 pub denied_higher : (label : List ℕ) (name : List (List ℕ)) (entries : List Held) → may_deny (label ∷ name) entries ≡ false → may_deny name entries ≡ false
 denied_higher label name entries none = both (ending_behind (label_octets label) (octets_of name))
@@ -81,8 +89,10 @@ denied_higher label name entries none = both (ending_behind (label_octets label)
     at_own = or_right (has_number name_error_ending 0 entries) (has_number name_error_ending (ending (label ∷ name)) entries) none
 
     both : (ending name ≡ 0) ⊎ (ending name ≡ ending (label ∷ name)) → may_deny name entries ≡ false
-    both (inl zero_is) = rw (at_none, zero_is, at_none) refl
-    both (inr same) = rw (at_none, same, at_own) refl
+    both (inl none_is) =
+        either_false (has_number name_error_ending 0 entries) (has_number name_error_ending (ending name) entries) at_none (subst (λ (n : ℕ). has_number name_error_ending n entries ≡ false) (sym none_is) at_none)
+    both (inr same) =
+        either_false (has_number name_error_ending 0 entries) (has_number name_error_ending (ending name) entries) at_none (subst (λ (n : ℕ). has_number name_error_ending n entries ≡ false) (sym same) at_own)
 
 pub denied_above : (front name : List (List ℕ)) (entries : List Held) → may_deny (front ++ name) entries ≡ false → may_deny name entries ≡ false
 denied_above [] name entries none = none
@@ -113,11 +123,25 @@ none_of_size name entries h among piece none error same =
     none_among name_error_size (length (octets_of name)) entries h among
     (error_number h.piece.slot.kind (length (octets_of h.piece.slot.key)) error ∙ ap Some (sym (size_same name h.piece.slot.key same))) none
 
+-- the marks of a name error, by the octets of its owner
+pub error_marks : (octets : List ℕ) (owner : List (List ℕ)) (end class : ℕ) (kind : Option ℕ) (slot : Slot) → IsLaidOut octets → labels_of octets ≡ owner → kind ≡ None
+    → record { class = class; kind = kind; key = lowered owner } ≡ slot → end ≡ ending (lowered (labels_of octets))
+    → record { size = Some (length octets); ending = Some end; alias = None } ≡ marks_of slot
+error_marks octets owner end class kind slot laid labels none is told =
+    let key : lowered (labels_of octets) ≡ lowered owner = ap lowered labels in
+    let size : length octets ≡ length (octets_of (lowered owner)) =
+    ap length (sym laid.whole) ∙ size_same (labels_of octets) (lowered (labels_of octets)) (sym (lowered_again (labels_of octets))) ∙ ap (λ (k : List (List ℕ)). length (octets_of k)) key in
+    let at_end : end ≡ ending (lowered owner) = told ∙ ap ending key in
+    (λ i. record { size = Some (size i); ending = Some (at_end i); alias = None })
+    ∙ ap (λ (k : Option ℕ). marks_of (record { class = class; kind = k; key = lowered owner })) (sym none)
+    ∙ ap marks_of is
+
 -- a name under a key ends in it
 pub under_denies : (name key : List (List ℕ)) (entries : List Held) → lowered key ≡ key → IsUnder name key → may_deny (lowered name) entries ≡ false → may_deny key entries ≡ false
-under_denies name key entries lower (front, back, whole, same) none =
-    let is : lowered name ≡ lowered front ++ key = ap lowered whole ∙ map-append (map to_ascii_lowercase) front back ∙ ap (λ (k : List (List ℕ)). lowered front ++ k) (same ∙ lower) in
-    denied_above (lowered front) key entries (subst (λ (n : List (List ℕ)). may_deny n entries ≡ false) is none)
+under_denies name key entries lower under none =
+    let is : lowered name ≡ lowered under.0 ++ key =
+    ap lowered under.2 ∙ map-append (map to_ascii_lowercase) under.0 under.1 ∙ ap (λ (k : List (List ℕ)). lowered under.0 ++ k) (under.3 ∙ lower) in
+    denied_above (lowered under.0) key entries (subst (λ (n : List (List ℕ)). may_deny n entries ≡ false) is none)
 
 pub none_denies : NoneDenies
 none_denies name entries h among piece none error under =

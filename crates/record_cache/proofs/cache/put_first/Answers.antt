@@ -1,4 +1,4 @@
-use Rattle.std.proofs.Common.{◌≡◌, ap, sym, subst, ◌∙◌}
+use Rattle.std.proofs.Common.{ap, sym, subst, ◌∙◌}
 use Rattle.std.specs.Map.{values_of}
 use Rattle.lru.specs.LruCache.{LruCache}
 use Rattle.trust_rank.specs.declared.slot.Slot.{Slot}

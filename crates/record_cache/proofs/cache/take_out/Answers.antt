@@ -1,4 +1,4 @@
-use Rattle.std.proofs.Common.{◌≡◌, ◌∙◌, ap, subst}
+use Rattle.std.proofs.Common.{◌∙◌, ap, subst}
 use Rattle.record_cache.specs.Entries.{name_error_size, name_error_ending, alias_ending}
 use Rattle.record_cache.specs.Storing.{marks_in, AreOneMore}
 use Rattle.record_cache.specs.declared.counts.Marks.{Marks}
