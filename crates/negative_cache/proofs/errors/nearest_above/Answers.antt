@@ -1,4 +1,4 @@
-use Rattle.std.proofs.Common.{◌≡◌, ℕ, List, sym, ap, subst, ◌∙◌}
+use Rattle.std.proofs.Common.{◌≡◌, ℕ, List, sym, ap, subst}
 use Rattle.dns_name.specs.Labels.{labels_of, lowered, IsUnder}
 use Rattle.dns_name.proofs.CallerLemmas.{under_itself}
 use Rattle.suffix_routes.specs.Routes.{route_of}
