@@ -1,5 +1,5 @@
 //! Tests of what replies carry, from their octets, and of the cache: against a plain list, with many names, with refused
-//! growths, by depths, as time passes, and of look-ups.
+//! growths, by sizes and endings, as time passes, and of look-ups.
 #![tactic(auto)]
 
 #[cfg(test)]
@@ -7,7 +7,7 @@ mod ageing;
 #[cfg(test)]
 mod agreement;
 #[cfg(test)]
-mod depths;
+mod counts;
 #[cfg(test)]
 mod look_ups;
 #[cfg(test)]

@@ -54,7 +54,7 @@ fn second_within(heap: &Refusing<Global>, growths: u64) -> Result<(Offered, bool
     let right = cache.peek(&first.slot(heap)?).is_some()
         && cache.peek(&second.slot(heap)?).is_some() == kept
         && cache.len() == 1 + usize::from(kept)
-        && cache.has_name_error(3) == kept;
+        && cache.has_name_error(12) == kept;
     Ok((answer, right))
 }
 
@@ -112,7 +112,7 @@ fn other_calls_take_no_memory(rt: HostRuntime) -> Result<(), Fail> {
     cache.promote(&slot);
     assert!(rt; cache.peek(&slot).is_some());
     assert_eq!(rt; cache.len(), 1);
-    assert!(rt; !cache.has_name_error(2));
+    assert!(rt; !cache.has_name_error(10));
     cache.forget(&slot);
     assert_eq!(rt; cache.len(), 0);
     cache.clear();

@@ -69,7 +69,7 @@ impl PlainCache {
         Ok(Offered::Kept)
     }
 
-    /// Whether a name error of a name with two labels is there.
+    /// Whether a name error is there.
     pub(crate) fn has_name_error(&self) -> bool {
         self.entries.iter().any(|pair| pair.0.kind.is_none())
     }

@@ -1,5 +1,5 @@
 -- From a name to the names above it.
-use Rattle.std.proofs.Common.{◌≡◌, ℕ, ◌+◌, ◌<◌, true, false, List, [], ◌∷◌, length, Option, None, Some, refl, ap, sym, subst, ◌∙◌, arith}
+use Rattle.std.proofs.Common.{◌≡◌, ℕ, true, false, List, [], ◌∷◌, Option, None, Some, refl, ap, sym, subst, ◌∙◌}
 use Rattle.std.specs.Option.{option_or, option_eq}
 use Rattle.std.specs.Prelude.{nat_eq}
 use Rattle.dns_name.specs.Labels.{lowered, IsUnder}
@@ -8,12 +8,12 @@ use Rattle.suffix_routes.specs.Values.{Route}
 use Rattle.suffix_routes.specs.Routes.{route_of}
 use Rattle.record_cache.specs.Values.{Held}
 use Rattle.record_cache.specs.Ageing.{is_alive}
-use Rattle.record_cache.specs.Entries.{entry_of, has_name_error}
-use Rattle.record_cache.proofs.CallerLemmas.{entry_has_slot}
+use Rattle.record_cache.specs.Entries.{entry_of, may_deny}
+use Rattle.record_cache.proofs.CallerLemmas.{entry_has_slot, denied_higher}
 use Rattle.negative_cache.specs.BySlot.{slots_of, only, is_on, name_error_of, name_error_on, climbed, above}
 use Rattle.negative_cache.proofs.Options.{only_some, only_true, only_false, option_decides}
 use Rattle.negative_cache.proofs.Denying.{error_slot}
-use Rattle.negative_cache.proofs.Depths.{no_name_error}
+use Rattle.negative_cache.proofs.Sizes.{no_denial}
 
 abbrev There : Type 0
 There = List (List ℕ) → Option Held
@@ -33,14 +33,14 @@ climbed_here there key h is = climbed_is there key ∙ ap (λ o. option_or o (ab
 pub climbed_higher : (there : There) (key : List (List ℕ)) → there key ≡ None → climbed there key ≡ above there key
 climbed_higher there key is = climbed_is there key ∙ ap (λ o. option_or o (above there key)) is
 
--- where none is held of so few labels, none is near
+-- where none may deny a name, none is near
 pub none_near : (routes : List Route) (route : Option ℕ) (moment class : ℕ) (entries : List Held) (key : List (List ℕ))
-    → ((d : ℕ) → d < length key + 1 → has_name_error d entries ≡ false) → climbed (name_error_on routes route moment (slots_of entries) class) key ≡ None
-none_near routes route moment class entries [] none = ap (only (is_on routes route)) (no_name_error moment class [] entries (none 0 (omega arith)))
+    → may_deny key entries ≡ false → climbed (name_error_on routes route moment (slots_of entries) class) key ≡ None
+none_near routes route moment class entries [] none = ap (only (is_on routes route)) (no_denial moment class [] entries none)
 none_near routes route moment class entries (label ∷ key) none =
     climbed_higher (name_error_on routes route moment (slots_of entries) class) (label ∷ key)
-    (ap (only (is_on routes route)) (no_name_error moment class (label ∷ key) entries (none (length (label ∷ key)) (omega arith))))
-    ∙ none_near routes route moment class entries key (λ d less. none d (omega arith))
+    (ap (only (is_on routes route)) (no_denial moment class (label ∷ key) entries none))
+    ∙ none_near routes route moment class entries key (denied_higher label key entries none)
 
 -- ---- the name's own
 

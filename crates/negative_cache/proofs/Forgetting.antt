@@ -1,16 +1,15 @@
 -- What is forgotten of a name and of the names above it.
-use Rattle.std.proofs.Common.{◌≡◌, ℕ, ◌+◌, ◌<◌, Bool, true, false, cond, ◌&&◌, ◌||◌, ◌==◌, not, List, [], ◌∷◌, length, filter, refl, sym, ap, ◌∙◌, arith}
+use Rattle.std.proofs.Common.{◌≡◌, ℕ, Bool, true, false, cond, ◌||◌, not, inl, inr, List, [], ◌∷◌, filter, refl, sym, ap, ◌∙◌}
 use Rattle.std.specs.List.{AllByRecursion}
-use Rattle.std.proofs.lemmas.Bool.{eq-eqb}
 use Rattle.dns_name.specs.Labels.{lowered}
-use Rattle.trust_rank.specs.Replacing.{is_name_error}
 use Rattle.trust_rank.specs.Formed.{IsPiece}
 use Rattle.record_cache.specs.Values.{Held, Cache}
-use Rattle.record_cache.specs.Entries.{of_slot, without, has_name_error}
+use Rattle.record_cache.specs.Entries.{of_slot, without, may_deny}
+use Rattle.record_cache.specs.Laws.{Among}
+use Rattle.record_cache.proofs.CallerLemmas.{none_denies}
 use Rattle.negative_cache.specs.Entries.{denies}
 use Rattle.negative_cache.specs.Showing.{shown}
-use Rattle.negative_cache.proofs.Denying.{error_slot, and_true, IsLower, lower_key, denies_decides, denies_root, denies_higher, denies_is_short}
-use Rattle.negative_cache.proofs.Depths.{or_left, or_right}
+use Rattle.negative_cache.proofs.Denying.{error_slot, IsLower, lower_key, denies_decides, denies_root, denies_higher}
 
 -- the entries without the name errors of a name and of those above it, one name after another
 abbrev pub forgotten : ℕ → List (List ℕ) → List Held → List Held
@@ -65,21 +64,18 @@ forgotten_all class name entries formed = all_lower_forgotten class name entries
 
 -- ---- nothing to forget
 
-not_denied : (name : List (List ℕ)) (class : ℕ) (h : Held) → ((d : ℕ) → d < length name + 1 → (is_name_error h.piece && (length h.piece.slot.key == d)) ≡ false) → denies name class h ≡ false
-not_denied name class h none = (elim (denies name class h) as (λ b. denies name class h ≡ b → b ≡ false) [
-  | true ↦ λ is.
-      let d = (denies_decides name class h).0 is in
-      let there = and_true (is_name_error h.piece) (length h.piece.slot.key == length h.piece.slot.key) d.0.0 (eq-eqb (length h.piece.slot.key) (length h.piece.slot.key) refl) in
-      let not_there = none (length h.piece.slot.key) (omega (arith, denies_is_short name class h is)) in
-      absurd cc
+not_denied : (name : List (List ℕ)) (class : ℕ) (entries : List Held) → may_deny (lowered name) entries ≡ false → (h : Held) → Among h entries → IsPiece h.piece → denies name class h ≡ false
+not_denied name class entries none h among piece = (elim (denies name class h) as (λ b. denies name class h ≡ b → b ≡ false) [
+  | true ↦ λ is. let d = (denies_decides name class h).0 is in absurd (none_denies name entries h among piece none d.0.0 d.1)
   | false ↦ λ is. refl
 ]) refl
 
-pub nothing_shown : (name : List (List ℕ)) (class : ℕ) (entries : List Held) → ((d : ℕ) → d < length name + 1 → has_name_error d entries ≡ false) → shown name class entries ≡ entries
-nothing_shown name class [] none = refl
-nothing_shown name class (e ∷ entries) none =
-    rw (not_denied name class e (λ d less. or_left (is_name_error e.piece && (length e.piece.slot.key == d)) (has_name_error d entries) (none d less)))
-    (ap (λ xs. e ∷ xs) (nothing_shown name class entries (λ d less. or_right (is_name_error e.piece && (length e.piece.slot.key == d)) (has_name_error d entries) (none d less))))
+all_stay : (p : Held → Bool) (es : List Held) → ((h : Held) → Among h es → IsPiece h.piece → p h ≡ false) → AllByRecursion (λ h. IsPiece h.piece) es → filter (λ h. not (p h)) es ≡ es
+all_stay p [] f formed = refl
+all_stay p (e ∷ es) f formed = rw (f e (inl refl) formed.0) (ap (λ xs. e ∷ xs) (all_stay p es (λ h among. f h (inr among)) formed.1))
+
+pub nothing_shown : (name : List (List ℕ)) (class : ℕ) (entries : List Held) → AllByRecursion (λ h. IsPiece h.piece) entries → may_deny (lowered name) entries ≡ false → shown name class entries ≡ entries
+nothing_shown name class entries formed none = all_stay (denies name class) entries (not_denied name class entries none) formed
 
 -- ---- the cache
 

@@ -1,6 +1,6 @@
 pub mod Options
 pub mod Denying
-pub mod Depths
+pub mod Sizes
 pub mod Climbing
 pub mod SlotBySlot
 pub mod Fitting

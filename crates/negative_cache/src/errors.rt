@@ -1,10 +1,9 @@
 //! Name errors of a name and of the names above it.
 
-ghost use Rattle.std.specs.Prelude.{◌≡◌, ◌<◌, ◌+◌, ◌↔◌, ℕ, IsTrue, length, false, nat_eq};
+ghost use Rattle.std.specs.Prelude.{◌≡◌, ◌<◌, ◌+◌, ◌↔◌, IsTrue, length, nat_eq};
 ghost use Rattle.std.specs.Option.{option_copied, option_eq};
 ghost use Rattle.dns_name.specs.Labels.{labels_of, lowered, size_of, IsLaidOut, IsUnder};
 ghost use Rattle.suffix_routes.specs.Routes.{route_of};
-ghost use Rattle.record_cache.specs.Entries.{has_name_error};
 ghost use Rattle.negative_cache.specs.BySlot.{above, name_error_of, name_error_on, nearest_error, slots_of};
 
 use crate::living::living_entry;
@@ -14,21 +13,6 @@ use std::alloc::Allocator;
 use std::hash::BuildHasher;
 use suffix_routes::Config;
 use trust_rank::Slot;
-
-/// Whether a name error is held of a name with fewer labels than this.
-pub(crate) fn has_name_error_below<H: BuildHasher + Drop, A: Allocator + Copy>(
-    cache: &Cache<H, A>,
-    depth: usize,
-) -> bool
-    ensures { result ≡ false → (d : ℕ) → d < depth → has_name_error d cache.now.entries ≡ false }
-{
-    for fewer in 0..depth {
-        if cache.has_name_error(fewer) {
-            return true;
-        }
-    }
-    false
-}
 
 /// The nearest living name error of the name or of one above it whose own name has the route of the name. Routes are looked
 /// at only where a living one of a name above is met.
@@ -43,49 +27,42 @@ pub(crate) fn nearest_name_error<'a, H: BuildHasher + Drop, A: Allocator + Copy>
         ≡ nearest_error config.now.routes moment (slots_of cache.now.entries) class key.now }
 {
     let octets = key.octets();
-    if !has_name_error_below(cache, octets.len() / 2 + 1) {
+    if !cache.may_deny(octets) {
         return None;
     }
-    let depth = key.labels().count();
-    if let Some(held) = name_error_of(cache, octets, depth, class, moment) {
+    if let Some(held) = name_error_of(cache, octets, class, moment) {
         return Some(held);
     }
-    nearest_above(cache, key, depth, class, moment, config)
+    nearest_above(cache, key, class, moment, config)
 }
 
-/// The nearest living name error of the names above a name, which has so many labels, whose own name has the route of the
-/// name.
+/// The nearest living name error of the names above a name whose own name has the route of the name.
 fn nearest_above<'a, H: BuildHasher + Drop, A: Allocator + Copy>(
     cache: &'a Cache<H, A>,
     key: &NameKey,
-    labels: usize,
     class: u16,
     moment: u64,
     config: &Config<A>,
 ) -> Option<&'a Held<A>>
-    requires { labels ≡ length key.now }
     ensures { option_copied result
         ≡ above (name_error_on config.now.routes (route_of config.now.routes key.now) moment
         (slots_of cache.now.entries) class) key.now }
 {
     let mut rest = key.octets();
-    let mut depth = labels;
     while let Some((_, higher)) = split_label(rest) {
         rest = higher;
-        depth -= 1;
-        if let Some(held) = name_error_on(cache, rest, depth, class, moment, config, key) {
+        if let Some(held) = name_error_on(cache, rest, class, moment, config, key) {
             return Some(held);
         }
     }
     None
 }
 
-/// The living name error of the name that these octets are, which has so many labels, where that name has the route of the
-/// name that is asked for, which is below it.
+/// The living name error of the name that these octets are, where that name has the route of the name that is asked for,
+/// which is below it.
 fn name_error_on<'a, H: BuildHasher + Drop, A: Allocator + Copy>(
     cache: &'a Cache<H, A>,
     octets: &[u8],
-    depth: usize,
     class: u16,
     moment: u64,
     config: &Config<A>,
@@ -93,13 +70,12 @@ fn name_error_on<'a, H: BuildHasher + Drop, A: Allocator + Copy>(
 ) -> Option<&'a Held<A>>
     requires laid { IsLaidOut octets.now }
     requires lower { lowered (labels_of octets.now) ≡ labels_of octets.now }
-    requires depth { depth ≡ length (labels_of octets.now) }
     requires under { IsUnder asked.now (labels_of octets.now) }
     ensures { option_copied result
         ≡ name_error_on config.now.routes (route_of config.now.routes asked.now) moment
         (slots_of cache.now.entries) class (labels_of octets.now) }
 {
-    let held = name_error_of(cache, octets, depth, class, moment)?;
+    let held = name_error_of(cache, octets, class, moment)?;
     if has_route_of(config, octets, asked) {
         Some(held)
     } else {
@@ -134,20 +110,18 @@ fn is_under_longer<A: Allocator>(key: &NameKey, suffix: &Name<A>, size: usize) -
     suffix.octets().len() > size && key.is_under(suffix)
 }
 
-/// The living name error of the name that these octets are, which has so many labels.
+/// The living name error of the name that these octets are.
 fn name_error_of<'a, H: BuildHasher + Drop, A: Allocator + Copy>(
     cache: &'a Cache<H, A>,
     octets: &[u8],
-    depth: usize,
     class: u16,
     moment: u64,
 ) -> Option<&'a Held<A>>
     requires laid { IsLaidOut octets.now }
     requires lower { lowered (labels_of octets.now) ≡ labels_of octets.now }
-    requires depth { depth ≡ length (labels_of octets.now) }
     ensures { option_copied result ≡ name_error_of moment (slots_of cache.now.entries) class (labels_of octets.now) }
 {
-    if !cache.has_name_error(depth) {
+    if !cache.has_name_error(octets.len()) {
         return None;
     }
     let slot = Slot {

@@ -89,7 +89,7 @@ fn look_up<'a, H: BuildHasher + Drop, A: Allocator + Copy>(
 }
 
 /// The living alias at the name of a slot of this type, which becomes that of the alias: so the name is copied once. A
-/// question for CNAME follows none.
+/// question for CNAME follows none. Where no alias may be of the name, none is looked up.
 fn alias_beside<'a, H: BuildHasher + Drop, A: Allocator + Copy>(
     cache: &'a Cache<H, A>,
     slot: &mut Slot,
@@ -99,6 +99,9 @@ fn alias_beside<'a, H: BuildHasher + Drop, A: Allocator + Copy>(
     ensures { option_copied result ≡ alias_at moment (slots_of cache.now.entries) slot.old.key slot.old.class kind }
 {
     if kind == CNAME {
+        return None;
+    }
+    if !cache.may_have_alias(slot.key.octets()) {
         return None;
     }
     slot.kind = Some(CNAME);

@@ -1,11 +1,10 @@
 //! What a set or NODATA shows to be there.
 
-ghost use Rattle.std.specs.Prelude.{◌≡◌, length, None};
+ghost use Rattle.std.specs.Prelude.{◌≡◌, None};
 ghost use Rattle.dns_name.specs.Labels.{labels_of, lowered, IsLaidOut};
 ghost use Rattle.record_cache.specs.Entries.{AreHeld, without};
 ghost use Rattle.negative_cache.specs.Showing.{shown};
 
-use crate::errors::has_name_error_below;
 use dns_name::{Name, NameKey, split_label};
 use record_cache::Cache;
 use std::alloc::Allocator;
@@ -22,35 +21,30 @@ pub fn shown<H: BuildHasher + Drop, A: Allocator + Copy>(
     ensures { cache.new ≡ record cache.old { entries = shown name.now class cache.old.entries } }
 {
     let mut rest = name.octets();
-    if !has_name_error_below(cache, rest.len() / 2 + 1) {
+    if !cache.may_deny(rest) {
         return;
     }
-    let mut depth = name.labels().count();
-    forget_name_error(cache, rest, depth, class);
+    forget_name_error(cache, rest, class);
     while let Some((_, higher)) = split_label(rest) {
         rest = higher;
-        depth -= 1;
-        forget_name_error(cache, rest, depth, class);
+        forget_name_error(cache, rest, class);
     }
 }
 
-/// Forgets the name error of the name that these octets are, which has so many labels. `held` says what holds of all
-/// entries.
+/// Forgets the name error of the name that these octets are. `held` says what holds of all entries.
 fn forget_name_error<H: BuildHasher + Drop, A: Allocator + Copy>(
     cache: &mut Cache<H, A>,
     octets: &[u8],
-    depth: usize,
     class: u16,
 )
-    requires laid { IsLaidOut octets.now }
-    requires depth { depth ≡ length (labels_of octets.now) }
+    requires { IsLaidOut octets.now }
     ensures forgotten { cache.new ≡ record cache.old {
       entries = without (record { key = lowered (labels_of octets.now); class = class; kind = None })
           cache.old.entries;
     } }
     ensures held { AreHeld cache.old }
 {
-    if !cache.has_name_error(depth) {
+    if !cache.has_name_error(octets.len()) {
         return;
     }
     let slot = Slot {

@@ -1,19 +1,21 @@
 -- What the proofs of crates above cite of the cache.
-use Rattle.std.proofs.Common.{◌≡◌, ℕ, Bool, true, false, ◌&&◌, List, ◌∷◌, filter, None, Some, arith}
+use Rattle.std.proofs.Common.{◌≡◌, ℕ, Bool, true, false, ◌&&◌, List, ◌∷◌, length, filter, Option, None, Some, arith}
 use Rattle.std.specs.Bool.{Decides}
 use Rattle.std.specs.List.{list_any, AllByRecursion}
 use Rattle.std.specs.Option.{option_map_or}
-use Rattle.dns_name.specs.Labels.{lowered}
+use Rattle.dns_name.specs.Labels.{lowered, octets_of, IsSame}
 use Rattle.trust_rank.specs.declared.slot.Slot.{Slot}
 use Rattle.trust_rank.specs.Replacing.{same_slot}
 use Rattle.trust_rank.specs.Formed.{IsPiece}
 use Rattle.record_cache.specs.Values.{Held}
-use Rattle.record_cache.specs.Entries.{is_slot, of_slot, entry_of, without, promoted, AreApart, AreHeld}
+use Rattle.record_cache.specs.Entries.{is_slot, of_slot, entry_of, without, promoted, ending, name_error_ending, has_number, may_deny, AreApart, AreHeld}
 use Rattle.record_cache.specs.Offers.{kept}
-use Rattle.record_cache.specs.Laws.{Among}
+use Rattle.record_cache.specs.Laws.{Among, NoneDenies}
 use Rattle.record_cache.proofs.Slots as slots
 use Rattle.record_cache.proofs.Lists as lists
 use Rattle.record_cache.proofs.Keeping as keeping
+use Rattle.record_cache.proofs.Counting as counting
+use Rattle.record_cache.proofs.Telling as telling
 
 -- the test of slots is true exactly where they are one
 pub slots_decide : (a b : Slot) → Decides (is_slot a b) (a ≡ b)
@@ -68,3 +70,25 @@ fewer_are_held capacity test entries held = record {
 pub kept_are_held : (capacity : ℕ) (h : Held) (entries : List Held) → IsPiece h.piece → AreHeld (record { capacity = capacity; entries = entries })
     → AreHeld (record { capacity = capacity; entries = kept capacity h entries })
 kept_are_held = lists.held_kept
+
+-- ---- counts
+
+-- where no entry has the number of a slot, the slot has no entry
+pub no_entry : (number : Slot → Option ℕ) (n : ℕ) (slot : Slot) (entries : List Held) → number slot ≡ Some n → has_number number n entries ≡ false → entry_of slot entries ≡ None
+no_entry = counting.no_entry
+
+-- names that are the same have equally many octets
+pub size_same : (a b : List (List ℕ)) → IsSame a b → length (octets_of a) ≡ length (octets_of b)
+size_same = telling.size_same
+
+-- where none may deny a name, none may deny the name above it
+pub denied_higher : (label : List ℕ) (name : List (List ℕ)) (entries : List Held) → may_deny (label ∷ name) entries ≡ false → may_deny name entries ≡ false
+denied_higher = telling.denied_higher
+
+-- and no name error has its ending
+pub none_at_ending : (name : List (List ℕ)) (entries : List Held) → may_deny name entries ≡ false → has_number name_error_ending (ending name) entries ≡ false
+none_at_ending = telling.none_at_ending
+
+-- and none is of the name or of one above it
+pub none_denies : NoneDenies
+none_denies = telling.none_denies

@@ -1,6 +1,7 @@
 pub mod Slots
 pub mod Lists
-pub mod Counts
+pub mod Counting
+pub mod Telling
 pub mod Stored
 pub mod Keeping
 pub mod CallerLemmas

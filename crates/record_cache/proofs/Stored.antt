@@ -11,13 +11,15 @@ use Rattle.trust_rank.specs.Formed.{IsPiece}
 use Rattle.trust_rank.specs.Replacing.{is_name_error}
 use Rattle.trust_rank.specs.contracts.slot.SlotPartialEq.TheImpl.{eq-value}
 use Rattle.record_cache.specs.Values.{Held}
-use Rattle.record_cache.specs.Entries.{of_slot, entry_of, has_slot, without, promoted, AreApart, AreHeld}
+use Rattle.record_cache.specs.Entries.{name_error_size, name_error_ending, alias_ending, of_slot, entry_of, has_slot, without, promoted, AreApart, AreHeld}
 use Rattle.record_cache.specs.Ageing.{is_alive}
 use Rattle.record_cache.specs.Offers.{kept, outranks, is_outranked}
-use Rattle.record_cache.specs.Storing.{keyed, name_error_depth, depth_of, told, name_errors_at, IsStored}
+use Rattle.record_cache.specs.Storing.{keyed, number_in, marks_in, told, counted, AreCounted, HasOne, HasRoom, OneMore, AreOneMore, IsStored}
+use Rattle.record_cache.specs.declared.counts.Marks.{Marks}
+use Rattle.record_cache.specs.declared.counts.Tables.{Tables}
 use Rattle.record_cache.proofs.Slots.{eq_is}
 use Rattle.record_cache.proofs.Lists as lists
-use Rattle.record_cache.proofs.Counts as counts
+use Rattle.record_cache.proofs.Counting as counts
 
 abbrev pub eq : Slot → Slot → Bool
 eq = eq-value.it
@@ -98,37 +100,38 @@ put_keyed n h es apart few = rw (pair_keyed h.piece.slot es, remove_keyed h.piec
 abbrev pub old_one : LruCache Slot Held → Held → Option Held
 old_one m h = option_map (λ e. e.1) (displaced eq m h.piece.slot h)
 
--- the code's way to its depth
-pub old_depth : (m : LruCache Slot Held) (h : Held) (s : Slot) (out : Option (Slot × Held)) (held : Option Held) (depth : Option ℕ)
-    → s ≡ h.piece.slot → out ≡ displaced eq m s h → held ≡ option_map (λ e. e.1) out → depth ≡ depth_of held → depth ≡ depth_of (old_one m h)
-old_depth m h s out held depth slot is value told = told ∙ ap depth_of (value ∙ ap (option_map (λ e. e.1)) (is ∙ ap (λ t. displaced eq m t h) slot))
+-- the code's way to its numbers
+pub old_marks : (m : LruCache Slot Held) (h : Held) (s : Slot) (out : Option (Slot × Held)) (held : Option Held) (marks : Marks)
+    → s ≡ h.piece.slot → out ≡ displaced eq m s h → held ≡ option_map (λ e. e.1) out → marks ≡ marks_in held → marks ≡ marks_in (old_one m h)
+old_marks m h s out held marks slot is value told = told ∙ ap marks_in (value ∙ ap (option_map (λ e. e.1)) (is ∙ ap (λ t. displaced eq m t h) slot))
 
 pub put_at : (m new : LruCache Slot Held) (h : Held) (s : Slot) → s ≡ h.piece.slot → new ≡ lru_cache (put_entries eq m s h) m.cap → new ≡ lru_cache (put_entries eq m h.piece.slot h) m.cap
 put_at m new h s slot is = is ∙ ap (λ t. lru_cache (put_entries eq m t h) m.cap) slot
 
 -- what is counted is counted in what was displaced or in what is left
-displaced_counts : (d n : ℕ) (h : Held) (es : List Held) → AreApart es → NoMore n es → 0 < n
-    → name_errors_at d es ≡ told d (depth_of (option_map (λ e. e.1) (displaced eq (lru_cache (keyed es) n) h.piece.slot h))) + name_errors_at d (rest n h es)
-displaced_counts d n h es apart few some = rw (lookup_keyed h.piece.slot es)
-    ((elim (entry_of h.piece.slot es) as (λ o. entry_of h.piece.slot es ≡ o → name_errors_at d es ≡ told d (depth_of (option_map (λ e. e.1) (option_map_or (λ old. Some (h.piece.slot, old)) o (slice_get (keyed es) (n - 1))))) + name_errors_at d (rest n h es)) [
-      | None ↦ λ is. rw (get_keyed (n - 1) es, lists.without_absent h.piece.slot es is) (counts.name_errors_take d (n - 1) es (omega (arith, few, some)))
-      | Some old ↦ λ is. rw (room_left n h old es few is) (subst (λ o. name_errors_at d es ≡ told d (depth_of o) + name_errors_at d (without h.piece.slot es)) is (counts.name_errors_without d h.piece.slot es apart))
+displaced_counts : (f : Slot → Option ℕ) (d n : ℕ) (h : Held) (es : List Held) → AreApart es → NoMore n es → 0 < n
+    → counted f d es ≡ told d (number_in f (option_map (λ e. e.1) (displaced eq (lru_cache (keyed es) n) h.piece.slot h))) + counted f d (rest n h es)
+displaced_counts f d n h es apart few some = rw (lookup_keyed h.piece.slot es)
+    ((elim (entry_of h.piece.slot es) as (λ o. entry_of h.piece.slot es ≡ o → counted f d es ≡ told d (number_in f (option_map (λ e. e.1) (option_map_or (λ old. Some (h.piece.slot, old)) o (slice_get (keyed es) (n - 1))))) + counted f d (rest n h es)) [
+      | None ↦ λ is. rw (get_keyed (n - 1) es, lists.without_absent h.piece.slot es is) (counts.counted_take f d (n - 1) es (omega (arith, few, some)))
+      | Some old ↦ λ is. rw (room_left n h old es few is) (subst (λ o. counted f d es ≡ told d (number_in f o) + counted f d (without h.piece.slot es)) is (counts.counted_without f d h.piece.slot es apart))
     ]) refl)
 
 -- ---- what is stored
 
-abbrev Counted : List ℕ → List Held → Type 0
-Counted numbers es = (d : ℕ) → get_or numbers d 0 ≡ name_errors_at d es
-
-stored : (n : ℕ) (es : List Held) (numbers : List ℕ) → n < 2 ^ 64 → AreHeld (record { capacity = n; entries = es }) → Counted numbers es → IsStored (lru_cache (keyed es) n) numbers
-stored n es numbers fits held counted = record {
+stored : (n : ℕ) (es : List Held) (tables : Tables) → n < 2 ^ 64 → AreHeld (record { capacity = n; entries = es })
+    → AreCounted name_error_size tables.sizes.counts es → AreCounted name_error_ending tables.endings.counts es → AreCounted alias_ending tables.aliases.counts es
+    → IsStored (lru_cache (keyed es) n) tables
+stored n es tables fits held sizes endings aliases = record {
   keyed = rw (values_keyed es) refl;
   fits = fits;
   held = rw (values_keyed es) held;
-  counted = rw (values_keyed es) counted;
+  sizes = rw (values_keyed es) sizes;
+  endings = rw (values_keyed es) endings;
+  aliases = rw (values_keyed es) aliases;
 }
 
-module _ (m : LruCache Slot Held) (numbers : List ℕ) (is : IsStored m numbers) where
+module _ (m : LruCache Slot Held) (tables : Tables) (is : IsStored m tables) where
   abbrev es : List Held
   es = values_of m.entries
 
@@ -159,13 +162,20 @@ module _ (m : LruCache Slot Held) (numbers : List ℕ) (is : IsStored m numbers)
   pub taken_list : (s : Slot) → values_of (remove_entry (eq s) m.entries) ≡ without s es
   taken_list s = ap values_of (taken s) ∙ values_keyed (without s es)
 
-  pub taken_told : (d : ℕ) (s : Slot) → told d (depth_of (lookup (eq s) m.entries)) ≤ get_or numbers d 0
-  taken_told d s = omega (arith, is.counted d, counts.name_errors_without d s es is.held.apart, ap (λ o. told d (depth_of o)) (found s))
+  -- its number can be taken from its count, and what is left is counted
+  module _ (f : Slot → Option ℕ) (numbers : List ℕ) (counts_are : AreCounted f numbers es) (s : Slot) where
+    pub taken_told : (n : ℕ) → told n (number_in f (lookup (eq s) m.entries)) ≤ get_or numbers n 0
+    taken_told n = omega (arith, counts_are n, counts.counted_without f n s es is.held.apart, ap (λ o. told n (number_in f o)) (found s))
 
-  pub taken_stored : (s : Slot) (left : List ℕ) → ((d : ℕ) → get_or numbers d 0 ≡ told d (depth_of (lookup (eq s) m.entries)) + get_or left d 0) → IsStored (lru_cache (remove_entry (eq s) m.entries) m.cap) left
-  taken_stored s left counted = rw (taken s)
+    taken_counted : (left : List ℕ) → OneMore numbers (number_in f (lookup (eq s) m.entries)) left → AreCounted f left (without s es)
+    taken_counted left less = λ n. omega (arith, counts_are n, less n, counts.counted_without f n s es is.held.apart, ap (λ o. told n (number_in f o)) (found s))
+
+  pub taken_stored : (s : Slot) (left : Tables) → AreOneMore tables (marks_in (lookup (eq s) m.entries)) left → IsStored (lru_cache (remove_entry (eq s) m.entries) m.cap) left
+  taken_stored s left less = rw (taken s)
       (stored m.cap (without s es) left is.fits (lists.held_without m.cap s es is.held)
-      (λ d. omega (arith, is.counted d, counted d, counts.name_errors_without d s es is.held.apart, ap (λ o. told d (depth_of o)) (found s))))
+      (taken_counted name_error_size tables.sizes.counts is.sizes s left.sizes.counts less.sizes)
+      (taken_counted name_error_ending tables.endings.counts is.endings s left.endings.counts less.endings)
+      (taken_counted alias_ending tables.aliases.counts is.aliases s left.aliases.counts less.aliases))
 
   -- ---- an entry is promoted
 
@@ -175,10 +185,15 @@ module _ (m : LruCache Slot Held) (numbers : List ℕ) (is : IsStored m numbers)
   pub used_list : (s : Slot) → values_of (used (eq s) m.entries) ≡ promoted s es
   used_list s = ap values_of (used_is s) ∙ values_keyed (promoted s es)
 
-  pub used_stored : (s : Slot) → IsStored (lru_cache (used (eq s) m.entries) m.cap) numbers
+  used_counted : (f : Slot → Option ℕ) (numbers : List ℕ) (s : Slot) → AreCounted f numbers es → AreCounted f numbers (promoted s es)
+  used_counted f numbers s counts_are = λ n. counts_are n ∙ sym (counts.counted_promoted f n s es is.held.apart)
+
+  pub used_stored : (s : Slot) → IsStored (lru_cache (used (eq s) m.entries) m.cap) tables
   used_stored s = rw (used_is s)
-      (stored m.cap (promoted s es) numbers is.fits (lists.held_promoted m.cap s es is.held)
-      (λ d. is.counted d ∙ sym (counts.name_errors_promoted d s es is.held.apart)))
+      (stored m.cap (promoted s es) tables is.fits (lists.held_promoted m.cap s es is.held)
+      (used_counted name_error_size tables.sizes.counts s is.sizes)
+      (used_counted name_error_ending tables.endings.counts s is.endings)
+      (used_counted alias_ending tables.aliases.counts s is.aliases))
 
   -- ---- an entry is put first
 
@@ -189,32 +204,38 @@ module _ (m : LruCache Slot Held) (numbers : List ℕ) (is : IsStored m numbers)
     pub put_list : values_of (put_entries eq m h.piece.slot h) ≡ kept m.cap h es
     put_list = ap values_of put_is ∙ values_keyed (kept m.cap h es)
 
-    displaced_is : (d : ℕ) → name_errors_at d es ≡ told d (depth_of (old_one m h)) + name_errors_at d (rest m.cap h es)
-    displaced_is d = subst (λ xs. name_errors_at d es ≡ told d (depth_of (option_map (λ e. e.1) (displaced eq (lru_cache xs m.cap) h.piece.slot h))) + name_errors_at d (rest m.cap h es)) (sym is.keyed)
-        (displaced_counts d m.cap h es is.held.apart is.held.few is.held.some)
+    module _ (f : Slot → Option ℕ) (numbers : List ℕ) (counts_are : AreCounted f numbers es) where
+      displaced_is : (n : ℕ) → counted f n es ≡ told n (number_in f (old_one m h)) + counted f n (rest m.cap h es)
+      displaced_is n = subst (λ xs. counted f n es ≡ told n (number_in f (option_map (λ e. e.1) (displaced eq (lru_cache xs m.cap) h.piece.slot h))) + counted f n (rest m.cap h es)) (sym is.keyed)
+          (displaced_counts f n m.cap h es is.held.apart is.held.few is.held.some)
 
-    pub put_told : (d : ℕ) → told d (depth_of (old_one m h)) ≤ get_or numbers d 0
-    put_told d = omega (arith, is.counted d, displaced_is d)
+      pub put_told : (n : ℕ) → told n (number_in f (old_one m h)) ≤ get_or numbers n 0
+      put_told n = omega (arith, counts_are n, displaced_is n)
 
-    module _ (left : List ℕ) (without_old : (d : ℕ) → get_or numbers d 0 ≡ told d (depth_of (old_one m h)) + get_or left d 0) where
-      left_is : (d : ℕ) → get_or left d 0 ≡ name_errors_at d (rest m.cap h es)
-      left_is d = omega (arith, is.counted d, displaced_is d, without_old d)
+      left_is : (left : List ℕ) → OneMore numbers (number_in f (old_one m h)) left → AreCounted f left (rest m.cap h es)
+      left_is left less = λ n. omega (arith, counts_are n, displaced_is n, less n)
 
       -- one more fits the count
-      pub put_fits : (d : ℕ) → get_or left d 0 + 1 < 2 ^ 64
-      put_fits d = omega (arith, left_is d, counts.name_errors_few d (rest m.cap h es), length-take (m.cap - 1) (without h.piece.slot es), is.held.some, is.fits)
+      pub put_fits : (left : List ℕ) → OneMore numbers (number_in f (old_one m h)) left → (n : ℕ) → get_or left n 0 + 1 < 2 ^ 64
+      put_fits left less n = omega (arith, left_is left less n, counts.counted_few f n (rest m.cap h es), length-take (m.cap - 1) (without h.piece.slot es), is.held.some, is.fits)
 
-      pub put_stored : IsPiece h.piece → (numbers' : List ℕ) → ((d : ℕ) → get_or numbers' d 0 ≡ told d (name_error_depth h) + get_or left d 0) → IsStored (lru_cache (put_entries eq m h.piece.slot h) m.cap) numbers'
-      put_stored piece numbers' counted = rw put_is
-          (stored m.cap (kept m.cap h es) numbers' is.fits (lists.held_kept m.cap h es piece is.held)
-          (λ d. rw (kept_is m.cap h es is.held.some) (omega (arith, counted d, left_is d))))
+      put_counted : (left more : List ℕ) → OneMore numbers (number_in f (old_one m h)) left → OneMore more (f h.piece.slot) left → AreCounted f more (kept m.cap h es)
+      put_counted left more less new = λ n. rw (kept_is m.cap h es is.held.some) (omega (arith, new n, left_is left less n))
+
+    pub put_stored : IsPiece h.piece → (left more : Tables) → AreOneMore tables (marks_in (old_one m h)) left → AreOneMore more (marks_in (Some h)) left
+        → IsStored (lru_cache (put_entries eq m h.piece.slot h) m.cap) more
+    put_stored piece left more less new = rw put_is
+        (stored m.cap (kept m.cap h es) more is.fits (lists.held_kept m.cap h es piece is.held)
+        (put_counted name_error_size tables.sizes.counts is.sizes left.sizes.counts more.sizes.counts less.sizes new.sizes)
+        (put_counted name_error_ending tables.endings.counts is.endings left.endings.counts more.endings.counts less.endings new.endings)
+        (put_counted alias_ending tables.aliases.counts is.aliases left.aliases.counts more.aliases.counts less.aliases new.aliases))
 
 -- what is counted can be taken from its count
-pub counted_out : (numbers : List ℕ) (o : Option ℕ) → IfSome o (λ d. d < 128) → ((d : ℕ) → told d o ≤ get_or numbers d 0) → IfSome o (λ d. (d < 128) × (0 < get_or numbers d 0))
+pub counted_out : (numbers : List ℕ) (o : Option ℕ) → IfSome o (λ n. n < 256) → ((n : ℕ) → told n o ≤ get_or numbers n 0) → HasOne numbers o
 counted_out numbers None few h = tt
-counted_out numbers (Some d) few h = (few, omega (arith, h d, counts.told_own d))
+counted_out numbers (Some n) few h = (few, omega (arith, h n, counts.told_own n))
 
 -- what has room is counted in
-pub counted_in : (numbers : List ℕ) (o : Option ℕ) → IfSome o (λ d. d < 128) → ((d : ℕ) → get_or numbers d 0 + 1 < 2 ^ 64) → IfSome o (λ d. (d < 128) × (get_or numbers d 0 + 1 < 2 ^ 64))
+pub counted_in : (numbers : List ℕ) (o : Option ℕ) → IfSome o (λ n. n < 256) → ((n : ℕ) → get_or numbers n 0 + 1 < 2 ^ 64) → HasRoom numbers o
 counted_in numbers None few h = tt
-counted_in numbers (Some d) few h = (few, h d)
+counted_in numbers (Some n) few h = (few, h n)

@@ -1,9 +1,12 @@
--- Lists of entries, the most recently used first: what is looked up in them, and what holds of each that is kept.
-use Rattle.std.specs.Prelude.{◌≡◌, ◌<◌, ◌≤◌, ℕ, Bool, false, ◌==◌, ◌&&◌, not, nat_eq, List, [], ◌∷◌, ◌++◌, length, filter, Option}
+-- Lists of entries, the most recently used first: what is looked up in them, what is counted of them, and what holds of
+-- each that is kept.
+use Rattle.std.specs.Prelude.{◌≡◌, ◌<◌, ◌≤◌, ℕ, ◌+◌, ◌-◌, ◌%◌, Bool, false, if◌then◌else◌, ◌==◌, ◌&&◌, ◌||◌, not, nat_eq, nat_lt, List, [], ◌∷◌, ◌++◌, length, filter, drop, Option, Some, None}
+use Rattle.std.specs.Int.{w64, from_be_bytes}
 use Rattle.std.specs.Cmp.Lexicographic.{pointwise}
 use Rattle.std.specs.List.{find, list_any, AllByRecursion}
+use Rattle.dns_name.specs.Labels.{octets_of}
 use Rattle.trust_rank.specs.declared.slot.Slot.{Slot}
-use Rattle.trust_rank.specs.Replacing.{same_kind, is_name_error}
+use Rattle.trust_rank.specs.Replacing.{same_kind}
 use Rattle.trust_rank.specs.Formed.{IsPiece}
 use Rattle.record_cache.specs.Values.{Held, Cache}
 
@@ -31,13 +34,58 @@ without slot entries = filter (λ h. not (of_slot slot h)) entries
 abbrev pub promoted : Slot → List Held → List Held
 promoted slot entries = filter (of_slot slot) entries ++ without slot entries
 
--- a name error of a name with so many labels
-abbrev pub is_name_error_at : ℕ → Held → Bool
-is_name_error_at depth h = is_name_error h.piece && (length h.piece.slot.key == depth)
+-- the number of a name error; none where the slot is of a type
+abbrev pub of_name_error : Option ℕ → ℕ → Option ℕ
+of_name_error None number = Some number
+of_name_error (Some kind) number = None
 
--- a name error of so many labels is there
+-- the number of what is of type CNAME; none elsewhere
+abbrev pub of_alias : Option ℕ → ℕ → Option ℕ
+of_alias None number = None
+of_alias (Some kind) number = if kind == 5 then Some number else None
+
+-- the ending of octets: 0 where they are fewer than eight, else the last eight as one number, of which this is left
+abbrev pub ending_of : List ℕ → ℕ
+ending_of octets =
+    if nat_lt (length octets) 8 then 0 else from_be_bytes w64 (drop (length octets - 8) octets) % 251 + 1
+
+-- the ending of a name: a name above it has the same, or 0
+abbrev pub ending : List (List ℕ) → ℕ
+ending name = ending_of (octets_of name)
+
+-- the octets of the name of a name error, the zero octet at its end left out
+abbrev pub name_error_size : Slot → Option ℕ
+name_error_size slot = of_name_error slot.kind (length (octets_of slot.key))
+
+-- the ending of the name of a name error
+abbrev pub name_error_ending : Slot → Option ℕ
+name_error_ending slot = of_name_error slot.kind (ending slot.key)
+
+-- the ending of the owner of what is of type CNAME
+abbrev pub alias_ending : Slot → Option ℕ
+alias_ending slot = of_alias slot.kind (ending slot.key)
+
+-- the number is there, and this one
+abbrev pub is_number : ℕ → Option ℕ → Bool
+is_number n None = false
+is_number n (Some m) = m == n
+
+-- an entry whose slot has this number is there
+abbrev pub has_number : (Slot → Option ℕ) → ℕ → List Held → Bool
+has_number number n entries = list_any (λ h. is_number n (number h.piece.slot)) entries
+
+-- a name error of a name with so many octets is there
 abbrev pub has_name_error : ℕ → List Held → Bool
-has_name_error depth entries = list_any (is_name_error_at depth) entries
+has_name_error size entries = has_number name_error_size size entries
+
+-- a name error is there whose name has no ending or that of the name, as each name above it has
+abbrev pub may_deny : List (List ℕ) → List Held → Bool
+may_deny name entries =
+    has_number name_error_ending 0 entries || has_number name_error_ending (ending name) entries
+
+-- an entry of type CNAME is there whose owner has the ending of the name
+abbrev pub may_have_alias : List (List ℕ) → List Held → Bool
+may_have_alias name entries = has_number alias_ending (ending name) entries
 
 -- no two entries are of one slot
 abbrev pub AreApart : List Held → Type 0

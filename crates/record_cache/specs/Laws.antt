@@ -1,11 +1,12 @@
 -- What the definitions of the cache are good for, as statements.
 use Rattle.std.specs.Prelude.{◌≡◌, ◌<◌, ℕ, Bool, true, false, ◌⊎◌, List, [], ◌∷◌, length, Some}
-use Rattle.dns_name.specs.Labels.{lowered}
+use Rattle.dns_name.specs.Labels.{lowered, octets_of, IsSame, IsUnder}
 use Rattle.trust_rank.specs.declared.slot.Slot.{Slot}
 use Rattle.trust_rank.specs.Values.{Piece}
-use Rattle.trust_rank.specs.Replacing.{same_slot}
+use Rattle.trust_rank.specs.Replacing.{same_slot, is_name_error}
+use Rattle.trust_rank.specs.Formed.{IsPiece}
 use Rattle.record_cache.specs.Values.{Held}
-use Rattle.record_cache.specs.Entries.{is_slot, of_slot, entry_of, has_slot, without, promoted, AreApart, AreHeld}
+use Rattle.record_cache.specs.Entries.{is_slot, of_slot, entry_of, has_slot, without, promoted, has_name_error, may_deny, may_have_alias, AreApart, AreHeld}
 use Rattle.record_cache.specs.Offers.{answer, kept, offered}
 use Rattle.record_cache.specs.declared.cache.Offered.{Offered}
 use Rattle.record_cache.specs.declared.cache.Offered.TheVariants.{Unkept}
@@ -62,3 +63,21 @@ PromotedAreFound = (slot other : Slot) (entries : List Held) → AreApart entrie
 abbrev pub OneSlotIsTheSame : Type 0
 OneSlotIsTheSame = (a b : Slot) → lowered a.key ≡ a.key → lowered b.key ≡ b.key
     → is_slot a b ≡ same_slot a b
+
+-- Where no name error has the size of a name, none is of it.
+abbrev pub NoneOfSize : Type 0
+NoneOfSize = (name : List (List ℕ)) (entries : List Held) (h : Held) → Among h entries → IsPiece h.piece
+    → has_name_error (length (octets_of name)) entries ≡ false
+    → is_name_error h.piece ≡ true → IsSame name h.piece.slot.key → ⊥
+
+-- Where none may deny a name, none is of it or of a name above it.
+abbrev pub NoneDenies : Type 0
+NoneDenies = (name : List (List ℕ)) (entries : List Held) (h : Held) → Among h entries → IsPiece h.piece
+    → may_deny (lowered name) entries ≡ false
+    → is_name_error h.piece ≡ true → IsUnder name h.piece.slot.key → ⊥
+
+-- Where there may be no alias, no entry of type CNAME is of the name.
+abbrev pub NoAliasIsThere : Type 0
+NoAliasIsThere = (name : List (List ℕ)) (entries : List Held) (h : Held) → Among h entries → IsPiece h.piece
+    → may_have_alias (lowered name) entries ≡ false
+    → h.piece.slot.kind ≡ Some 5 → IsSame name h.piece.slot.key → ⊥

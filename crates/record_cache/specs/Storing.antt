@@ -1,37 +1,71 @@
--- How the entries stand in the `lru` cache, and the counts of name errors beside it.
-use Rattle.std.specs.Prelude.{◌≡◌, ◌<◌, ◌^◌, ℕ, ◌+◌, if◌then◌else◌, ◌==◌, List, [], ◌∷◌, map, get_or, length, Option, Some, None}
+-- How the entries stand in the `lru` cache, and what is counted beside it.
+use Rattle.std.specs.Prelude.{◌≡◌, ◌<◌, ◌^◌, ℕ, ◌+◌, if◌then◌else◌, List, [], ◌∷◌, map, get_or, Option, Some, None, IfSome}
 use Rattle.std.specs.Map.{values_of}
 use Rattle.lru.specs.LruCache.{LruCache}
 use Rattle.trust_rank.specs.declared.slot.Slot.{Slot}
-use Rattle.trust_rank.specs.Replacing.{is_name_error}
 use Rattle.record_cache.specs.Values.{Held}
-use Rattle.record_cache.specs.Entries.{AreHeld}
+use Rattle.record_cache.specs.Entries.{name_error_size, name_error_ending, alias_ending, is_number, AreHeld}
+use Rattle.record_cache.specs.declared.counts.Marks.{Marks}
+use Rattle.record_cache.specs.declared.counts.Tables.{Tables}
 
 -- each entry under its slot
 abbrev pub keyed : List Held → List (Slot × Held)
 keyed entries = map (λ h. (h.piece.slot, h)) entries
 
--- how many labels the name of a name error has; none where the entry is of one type
-abbrev pub name_error_depth : Held → Option ℕ
-name_error_depth h = if is_name_error h.piece then Some (length h.piece.slot.key) else None
+-- the number of an entry, where there is an entry and it has one
+abbrev pub number_in : (Slot → Option ℕ) → Option Held → Option ℕ
+number_in number None = None
+number_in number (Some h) = number h.piece.slot
 
-abbrev pub depth_of : Option Held → Option ℕ
-depth_of None = None
-depth_of (Some h) = name_error_depth h
+-- the numbers under which the entry of a slot is counted
+abbrev pub marks_of : Slot → Marks
+marks_of slot = record { size = name_error_size slot; ending = name_error_ending slot; alias = alias_ending slot }
 
--- 1 where it is this number of labels
+-- those of an entry, where there is one
+abbrev pub marks_in : Option Held → Marks
+marks_in h = record { size = number_in name_error_size h; ending = number_in name_error_ending h; alias = number_in alias_ending h }
+
+-- a table has a place for each
+pub record AreFew (marks : Marks) : Type 0 where
+  pub size : IfSome marks.size (λ n. n < 256)
+  pub ending : IfSome marks.ending (λ n. n < 256)
+  pub alias : IfSome marks.alias (λ n. n < 256)
+
+-- 1 where it is this number
 abbrev pub told : ℕ → Option ℕ → ℕ
-told depth None = 0
-told depth (Some d) = if d == depth then 1 else 0
+told n number = if is_number n number then 1 else 0
 
--- how many name errors of so many labels there are
-abbrev pub name_errors_at : ℕ → List Held → ℕ
-name_errors_at depth [] = 0
-name_errors_at depth (h ∷ entries) = told depth (name_error_depth h) + name_errors_at depth entries
+-- how many entries have this number
+abbrev pub counted : (Slot → Option ℕ) → ℕ → List Held → ℕ
+counted number n [] = 0
+counted number n (h ∷ entries) = told n (number h.piece.slot) + counted number n entries
+
+-- the counts are those of the entries
+abbrev pub AreCounted : (Slot → Option ℕ) → List ℕ → List Held → Type 0
+AreCounted number counts entries = (n : ℕ) → get_or counts n 0 ≡ counted number n entries
+
+-- the number has a place, and what is counted there can be taken from it
+abbrev pub HasOne : List ℕ → Option ℕ → Type 0
+HasOne counts number = IfSome number (λ n. (n < 256) × (0 < get_or counts n 0))
+
+-- the number has a place, and there is room for one more
+abbrev pub HasRoom : List ℕ → Option ℕ → Type 0
+HasRoom counts number = IfSome number (λ n. (n < 256) × (get_or counts n 0 + 1 < 2 ^ 64))
+
+-- the one counts one more of a number than the other
+abbrev pub OneMore : List ℕ → Option ℕ → List ℕ → Type 0
+OneMore more number less = (n : ℕ) → get_or more n 0 ≡ told n number + get_or less n 0
+
+pub record AreOneMore (more : Tables) (marks : Marks) (less : Tables) : Type 0 where
+  pub sizes : OneMore more.sizes.counts marks.size less.sizes.counts
+  pub endings : OneMore more.endings.counts marks.ending less.endings.counts
+  pub aliases : OneMore more.aliases.counts marks.alias less.aliases.counts
 
 -- what holds of the two at all times
-pub record IsStored (stored : LruCache Slot Held) (counts : List ℕ) : Type 0 where
+pub record IsStored (stored : LruCache Slot Held) (tables : Tables) : Type 0 where
   pub keyed : stored.entries ≡ keyed (values_of stored.entries)
   pub fits : stored.cap < 2 ^ 64
   pub held : AreHeld (record { capacity = stored.cap; entries = values_of stored.entries })
-  pub counted : (depth : ℕ) → get_or counts depth 0 ≡ name_errors_at depth (values_of stored.entries)
+  pub sizes : AreCounted name_error_size tables.sizes.counts (values_of stored.entries)
+  pub endings : AreCounted name_error_ending tables.endings.counts (values_of stored.entries)
+  pub aliases : AreCounted alias_ending tables.aliases.counts (values_of stored.entries)

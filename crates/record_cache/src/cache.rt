@@ -1,12 +1,14 @@
 //! The entries, in the order of their last use.
 
-ghost use Rattle.std.specs.Prelude.{◌≡◌, ◌<◌, ◌||◌, [], if◌then◌else◌, length, option_map, None, Some, IfOk, IfSome, MatchOption};
-ghost use Rattle.record_cache.specs.Entries.{AreHeld, entry_of, has_name_error, has_slot, promoted, without};
+ghost use Rattle.std.specs.Prelude.{◌≡◌, ◌<◌, ◌||◌, [], if◌then◌else◌, length, option_map, None, Some, IfOk, MatchOption};
+ghost use Rattle.dns_name.specs.Labels.{labels_of, lowered, IsLaidOut};
+ghost use Rattle.record_cache.specs.Entries.{AreHeld, entry_of, has_name_error, has_slot, may_deny, may_have_alias, promoted, without};
 ghost use Rattle.record_cache.specs.Offers.{answer, found_room, is_outranked, kept, offered};
-ghost use Rattle.record_cache.specs.Storing.{depth_of, IsStored};
+ghost use Rattle.record_cache.specs.Storing.{AreFew, IsStored, marks_in};
 ghost use Rattle.std.specs.Map.{values_of};
 
-use crate::depths::Depths;
+use crate::counts::{Marks, Tables};
+use crate::endings::ending;
 use crate::held::Held;
 use lru::LruCache;
 use std::alloc::{AllocError, Allocator, Global};
@@ -32,8 +34,8 @@ pub enum Offered {
 #[derive(Drop)]
 pub struct Cache<H: BuildHasher, A: Allocator = Global> {
     entries: LruCache<Slot, Held<A>, H, A>,
-    /// How many name errors are held, by the number of labels.
-    name_errors: Depths,
+    /// What is counted of the entries.
+    tables: Tables,
 }
 
 impl<H: BuildHasher, A: Allocator> Model for Cache<H, A> {
@@ -45,7 +47,7 @@ impl<H: BuildHasher, A: Allocator> Model for Cache<H, A> {
 
     ghost view = { λ c. record { capacity = c.entries.cap; entries = values_of c.entries.entries } };
 
-    ghost invariant = { λ c. IsStored c.entries c.name_errors.counts };
+    ghost invariant = { λ c. IsStored c.entries c.tables };
 }
 
 impl<H: BuildHasher + Drop, A: Allocator + Copy> Cache<H, A> {
@@ -59,7 +61,7 @@ impl<H: BuildHasher + Drop, A: Allocator + Copy> Cache<H, A> {
         };
         Ok(Cache {
             entries: LruCache::with_hasher(alloc, room, hasher)?,
-            name_errors: Depths::new(),
+            tables: Tables::new(),
         })
     }
 
@@ -84,7 +86,7 @@ impl<H: BuildHasher + Drop, A: Allocator + Copy> Cache<H, A> {
             self.forget(&held.slot());
             return Offered::NotKept;
         }
-        if put_first(&mut self.entries, &mut self.name_errors, held) {
+        if put_first(&mut self.entries, &mut self.tables, held) {
             Offered::Kept
         } else {
             Offered::Unkept
@@ -124,7 +126,7 @@ impl<H: BuildHasher + Drop, A: Allocator + Copy> Cache<H, A> {
     pub fn forget(&mut self, slot: &Slot)
         ensures { self.new ≡ record self.old { entries = without slot.now self.old.entries } }
     {
-        take_out(&mut self.entries, &mut self.name_errors, slot);
+        take_out(&mut self.entries, &mut self.tables, slot);
     }
 
     /// Removes all entries. It takes no memory.
@@ -132,7 +134,7 @@ impl<H: BuildHasher + Drop, A: Allocator + Copy> Cache<H, A> {
         ensures { self.new ≡ record self.old { entries = [] } }
     {
         self.entries.clear();
-        self.name_errors = Depths::new();
+        self.tables = Tables::new();
     }
 
     /// How many entries there are, dead ones too. `held` says what holds of them. It takes no memory.
@@ -143,13 +145,37 @@ impl<H: BuildHasher + Drop, A: Allocator + Copy> Cache<H, A> {
         self.entries.len()
     }
 
-    /// Whether a name error of a name with so many labels is held, alive or dead: where none is, no look-up for one is
-    /// needed. It takes no memory, and looks at no entry. `held` says again what holds of all entries.
-    pub fn has_name_error(&self, depth: usize) -> bool
-        ensures told { result ≡ has_name_error depth self.now.entries }
+    /// Whether a name error is held, alive or dead, of a name with so many octets, the zero octet at its end left out: where
+    /// none is, no look-up for one is needed. It takes no memory, and looks at no entry. `held` says again what holds of all
+    /// entries.
+    pub fn has_name_error(&self, size: usize) -> bool
+        ensures told { result ≡ has_name_error size self.now.entries }
         ensures held { AreHeld self.now }
     {
-        self.name_errors.has(depth)
+        self.tables.sizes.has(size)
+    }
+
+    /// Whether some name error, alive or dead, may be of the name that these octets are or of one above it: one whose name
+    /// is short, or ends in the same octets, letter case aside. Where none may, no look-up for one is needed. It takes no
+    /// memory, and looks at no entry. `held` says again what holds of all entries.
+    pub fn may_deny(&self, octets: &[u8]) -> bool
+        requires { IsLaidOut octets.now }
+        ensures told { result ≡ may_deny (lowered (labels_of octets.now)) self.now.entries }
+        ensures held { AreHeld self.now }
+    {
+        let endings = &self.tables.endings;
+        endings.has(0) || endings.has(ending(octets))
+    }
+
+    /// Whether some entry of type CNAME, alive or dead, may be of the name that these octets are: one whose owner has the
+    /// same ending. Where none may, no look-up for one is needed. It takes no memory, and looks at no entry. `held` says
+    /// again what holds of all entries.
+    pub fn may_have_alias(&self, octets: &[u8]) -> bool
+        requires { IsLaidOut octets.now }
+        ensures told { result ≡ may_have_alias (lowered (labels_of octets.now)) self.now.entries }
+        ensures held { AreHeld self.now }
+    {
+        self.tables.aliases.has(ending(octets))
     }
 }
 
@@ -157,21 +183,21 @@ impl<H: BuildHasher + Drop, A: Allocator + Copy> Cache<H, A> {
 /// a growth was refused, and then nothing has changed.
 fn put_first<H: BuildHasher + Drop, A: Allocator + Copy>(
     entries: &mut LruCache<Slot, Held<A>, H, A>,
-    name_errors: &mut Depths,
+    tables: &mut Tables,
     held: Held<A>,
 ) -> bool
-    requires { IsStored entries.old name_errors.old.counts }
-    ensures stored { IsStored entries.new name_errors.new.counts }
+    requires { IsStored entries.old tables.old }
+    ensures stored { IsStored entries.new tables.new }
     ensures list { values_of entries.new.entries ≡ (if result then kept entries.old.cap held (values_of entries.old.entries) else values_of entries.old.entries) }
     ensures capacity { entries.new.cap ≡ entries.old.cap }
     ensures room { result || has_slot held.piece.slot (values_of entries.old.entries) ≡ result }
 {
     let slot = held.slot();
-    let depth = held.name_error_depth();
+    let marks = held.marks();
     match entries.push(slot, held) {
         Ok(displaced) => {
-            name_errors.remove(depth_of(value_of(displaced)));
-            name_errors.add(depth);
+            tables.remove(marks_in(value_of(displaced)));
+            tables.add(marks);
             true
         }
         Err(_) => false,
@@ -181,24 +207,31 @@ fn put_first<H: BuildHasher + Drop, A: Allocator + Copy>(
 /// Takes the entry of a slot out.
 fn take_out<H: BuildHasher + Drop, A: Allocator + Copy>(
     entries: &mut LruCache<Slot, Held<A>, H, A>,
-    name_errors: &mut Depths,
+    tables: &mut Tables,
     slot: &Slot,
 )
-    requires { IsStored entries.old name_errors.old.counts }
-    ensures stored { IsStored entries.new name_errors.new.counts }
+    requires { IsStored entries.old tables.old }
+    ensures stored { IsStored entries.new tables.new }
     ensures list { values_of entries.new.entries ≡ without slot.now (values_of entries.old.entries) }
     ensures capacity { entries.new.cap ≡ entries.old.cap }
 {
     let taken = entries.pop(slot);
-    name_errors.remove(depth_of(taken));
+    tables.remove(marks_in(taken));
 }
 
-/// How many labels the name of an entry has, if there is an entry and it is a name error.
-fn depth_of<A: Allocator>(held: Option<Held<A>>) -> Option<usize>
-    ensures depth { result ≡ depth_of held }
-    ensures few { IfSome result (λ depth. depth < 128) }
+/// The numbers under which the entry is counted, if there is an entry.
+fn marks_in<A: Allocator>(held: Option<Held<A>>) -> Marks
+    ensures marks { result ≡ marks_in held }
+    ensures few { AreFew result }
 {
-    held?.name_error_depth()
+    match held {
+        Some(held) => held.marks(),
+        None => Marks {
+            size: None,
+            ending: None,
+            alias: None,
+        },
+    }
 }
 
 /// The value of a pair.

@@ -1,15 +1,19 @@
 //! One entry.
 
-ghost use Rattle.std.specs.Prelude.{◌≡◌, ◌≤◌, ◌<◌, ◌*◌, ◌==◌, ◌&&◌, nat_lt, length, IfSome};
+ghost use Rattle.std.specs.Prelude.{◌≡◌, ◌≤◌, ◌<◌, ◌*◌, ◌==◌, ◌&&◌, nat_lt};
 ghost use Rattle.record_cache.specs.Ageing.{is_alive, seconds_left};
-ghost use Rattle.record_cache.specs.Storing.{name_error_depth};
+ghost use Rattle.record_cache.specs.Storing.{AreFew, marks_of};
 ghost use Rattle.trust_rank.specs.Formed.{IsPiece};
 ghost use Rattle.trust_rank.specs.Replacing.{is_name_error};
 
-use dns_name::Name;
+use crate::counts::Marks;
+use crate::endings::ending;
 use std::alloc::{Allocator, Global};
 use std::marker::Model;
 use trust_rank::{Piece, Slot};
+
+/// The type CNAME.
+const CNAME: u16 = 5;
 
 /// A piece, and when it was accepted.
 #[derive(Drop)]
@@ -86,22 +90,28 @@ impl<A: Allocator> Held<A> {
         self.piece.slot()
     }
 
-    /// How many labels the name of a name error has; `None` where the piece is of one type.
-    pub(crate) fn name_error_depth(&self) -> Option<usize>
-        ensures depth { result ≡ name_error_depth self.now }
-        ensures few { IfSome result (λ depth. depth < 128) }
+    /// The numbers under which the entry is counted.
+    pub(crate) fn marks(&self) -> Marks
+        ensures marks { result ≡ marks_of self.now.piece.slot }
+        ensures few { AreFew result }
     {
-        if !self.is_name_error() {
-            return None;
+        let octets = self.piece.owner.octets();
+        match self.piece.kind {
+            None => Marks {
+                size: Some(octets.len()),
+                ending: Some(ending(octets)),
+                alias: None,
+            },
+            Some(CNAME) => Marks {
+                size: None,
+                ending: None,
+                alias: Some(ending(octets)),
+            },
+            Some(_) => Marks {
+                size: None,
+                ending: None,
+                alias: None,
+            },
         }
-        Some(label_count(&self.piece.owner))
     }
-}
-
-/// How many labels a name has.
-fn label_count<A: Allocator>(name: &Name<A>) -> usize
-    ensures count { result ≡ length name.now }
-    ensures few { result < 128 }
-{
-    name.labels().count()
 }

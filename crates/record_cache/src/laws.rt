@@ -1,6 +1,6 @@
 //! What the definitions of the cache are good for.
 
-ghost use Rattle.record_cache.specs.Laws.{KeptIsFound, OfferedStay, OneSlotIsTheSame, OthersStay, PromotedAreFound, PromotedStay, UnkeptIsNew};
+ghost use Rattle.record_cache.specs.Laws.{KeptIsFound, NoAliasIsThere, NoneDenies, NoneOfSize, OfferedStay, OneSlotIsTheSame, OthersStay, PromotedAreFound, PromotedStay, UnkeptIsNew};
 
 /// What was kept last is what `peek` finds.
 pub fn kept_is_found()
@@ -28,4 +28,12 @@ pub fn promotion_changes_no_look_up()
 /// Slots are one exactly where they are of the same name, class and type, as the rest of the forwarder says it.
 pub fn one_slot_is_the_same()
     ensures { OneSlotIsTheSame }
+{}
+
+/// Where no name error has the size of a name, none is of it; where none may deny the name, none is of it or of a name above
+/// it; and where there may be no alias, no entry of type CNAME is of it.
+pub fn counts_tell_what_is_there()
+    ensures size { NoneOfSize }
+    ensures denial { NoneDenies }
+    ensures alias { NoAliasIsThere }
 {}

@@ -3,12 +3,14 @@
 #![tactic(auto)]
 
 mod cache;
-mod depths;
+mod counts;
+mod endings;
 mod held;
 mod laws;
 
 pub use cache::{Cache, Offered};
 pub use held::Held;
 pub use laws::{
-    gone_only_so, kept_is_found, one_slot_is_the_same, promotion_changes_no_look_up, unkept_is_new,
+    counts_tell_what_is_there, gone_only_so, kept_is_found, one_slot_is_the_same,
+    promotion_changes_no_look_up, unkept_is_new,
 };

@@ -1,4 +1,4 @@
-use Rattle.std.proofs.Common.{◌≡◌, ℕ, List, length, sym, ap, subst, ◌∙◌, arith}
+use Rattle.std.proofs.Common.{◌≡◌, ℕ, List, sym, ap, subst}
 use Rattle.dns_name.specs.Labels.{labels_of, lowered, IsUnder}
 use Rattle.dns_name.proofs.CallerLemmas.{under_itself}
 use Rattle.suffix_routes.specs.Routes.{route_of}
@@ -13,7 +13,6 @@ loop-higher-init g c =
     record {
       laid = c.octets-rest.ensures.laid;
       lower = subst (λ (n : List (List ℕ)). lowered n ≡ n) (sym own) c.octets-rest.ensures.lower;
-      depth = c.requires ∙ ap length (sym own);
       under = subst (λ (n : List (List ℕ)). IsUnder c.args.key.now n) (sym own) (under_itself c.args.key.now);
       left = ap (above there) own;
     }
@@ -37,7 +36,6 @@ loop-higher-preserved g c =
     record {
       laid = c.in-Some.ensures.laid;
       lower = lower_higher rest higher c.in-Some.field-0-0.now c.in-Some.ensures.labels now.lower;
-      depth = omega (arith, now.depth, ap length c.in-Some.ensures.labels);
       under = under_higher c.args.key.now rest higher c.in-Some.field-0-0.now c.in-Some.ensures.labels now.under;
       left = none_higher there c.args.key.now rest higher c.in-Some.field-0-0.now c.in-Some.ensures.labels now.left (sym c.in_default-name_error_on.ensures);
     }

@@ -8,7 +8,6 @@ abbrev pub invariant-loop-higher : goal.invariant-loop-higher
 invariant-loop-higher g l = record {
   laid : IsLaidOut l.rest;
   lower : lowered (labels_of l.rest) ≡ labels_of l.rest;
-  depth : l.depth ≡ length (labels_of l.rest);
   under : IsUnder l.key (labels_of l.rest);
   left : above (name_error_on l.config.routes (route_of l.config.routes l.key) l.moment (slots_of l.cache.entries) l.class) (labels_of l.rest)
       ≡ above (name_error_on l.config.routes (route_of l.config.routes l.key) l.moment (slots_of l.cache.entries) l.class) l.key;

@@ -1,16 +1,16 @@
-use Rattle.std.proofs.Common.{◌≡◌, ℕ, ◌≤◌, ◌*◌, List, length, Some, None, sym, subst, ◌∙◌, arith}
+use Rattle.std.proofs.Common.{◌≡◌, ℕ, List, false, Some, None, sym, ap, subst, ◌∙◌}
+use Rattle.dns_name.specs.Labels.{lowered}
 use Rattle.suffix_routes.specs.Routes.{route_of}
+use Rattle.record_cache.specs.Entries.{may_deny}
 use Rattle.negative_cache.specs.BySlot.{slots_of, name_error_of}
 use Rattle.negative_cache.proofs.Climbing.{none_near, own_is_nearest, own_is_none}
-use Rattle.negative_cache.proofs.Depths.{few_labels}
 use Rattle.negative_cache.proofs.errors.nearest_name_error.Goals as goal
 
-pub returns-then-not-has_name_error_below : goal.returns-then-not-has_name_error_below
-returns-then-not-has_name_error_below g c =
-    let octets = c.octets-octets.result.now in
-    let few : 2 * length c.args.key.now ≤ length octets = subst (λ (k : List (List ℕ)). 2 * length k ≤ length octets) c.octets-octets.ensures.labels (few_labels octets c.octets-octets.ensures.laid) in
+pub returns-then-not-may_deny : goal.returns-then-not-may_deny
+returns-then-not-may_deny g c =
     sym (none_near c.args.config.now.routes (route_of c.args.config.now.routes c.args.key.now) c.args.moment c.args.class c.args.cache.now.entries c.args.key.now
-    (λ d less. c.has_name_error_below.ensures c.if-not-has_name_error_below.true d (omega (arith, few, less))))
+    (subst (λ (key : List (List ℕ)). may_deny key c.args.cache.now.entries ≡ false) (ap lowered c.octets-octets.ensures.labels ∙ c.octets-octets.ensures.lower)
+    (sym c.may_deny.ensures.told ∙ c.if-not-may_deny.true)))
 
 pub returns-in-Some : goal.returns-in-Some
 returns-in-Some g c =

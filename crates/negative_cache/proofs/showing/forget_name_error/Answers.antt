@@ -1,11 +1,11 @@
 use Rattle.std.proofs.Common.{◌≡◌, ℕ, List, length, false, sym, ap, subst, ◌∙◌}
-use Rattle.dns_name.proofs.CallerLemmas.{lowered_is_same, same_as_many_labels}
-use Rattle.dns_name.specs.Labels.{labels_of, lowered}
+use Rattle.dns_name.proofs.CallerLemmas.{lowered_is_same}
+use Rattle.dns_name.specs.Labels.{labels_of, lowered, octets_of}
 use Rattle.record_cache.specs.Values.{Held, Cache}
 use Rattle.record_cache.specs.Entries.{has_name_error}
-use Rattle.record_cache.proofs.CallerLemmas.{nothing_to_forget}
+use Rattle.record_cache.proofs.CallerLemmas.{nothing_to_forget, size_same}
 use Rattle.negative_cache.proofs.Denying.{error_slot}
-use Rattle.negative_cache.proofs.Depths.{no_entry}
+use Rattle.negative_cache.proofs.Sizes.{no_error_entry}
 use Rattle.negative_cache.proofs.showing.forget_name_error.Goals as goal
 
 pub returns-then-not-has_name_error-clause-forgotten : goal.returns-then-not-has_name_error-clause-forgotten
@@ -13,7 +13,7 @@ returns-then-not-has_name_error-clause-forgotten g c =
     let entries = c.args.cache.now.entries in
     let name = labels_of c.args.octets.now in
     let key = lowered name in
-    let depth : c.args.depth ≡ length key = c.requires.depth ∙ sym (same_as_many_labels key name (lowered_is_same name)) in
-    let none = subst (λ (d : ℕ). has_name_error d entries ≡ false) depth (sym c.has_name_error.ensures.told ∙ c.if-not-has_name_error.true) in
+    let size : length c.args.octets.now ≡ length (octets_of key) = sym (size_same key name (lowered_is_same name) ∙ ap length c.requires.whole) in
+    let none = subst (λ (n : ℕ). has_name_error n entries ≡ false) size (sym c.has_name_error.ensures.told ∙ c.if-not-has_name_error.true) in
     let with_entries : List Held → Cache = λ es. record { capacity = c.args.cache.now.capacity; entries = es } in
-    ap with_entries (sym (nothing_to_forget (error_slot c.args.class key) entries (no_entry c.args.class key entries none)))
+    ap with_entries (sym (nothing_to_forget (error_slot c.args.class key) entries (no_error_entry c.args.class key entries none)))

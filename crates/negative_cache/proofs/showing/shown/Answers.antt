@@ -1,19 +1,17 @@
-use Rattle.std.proofs.Common.{ℕ, ◌≤◌, ◌*◌, List, length, sym, ap, subst, ◌∙◌, arith}
-use Rattle.dns_name.specs.Labels.{labels_of}
+use Rattle.std.proofs.Common.{◌≡◌, List, ℕ, false, sym, ap, subst, ◌∙◌}
+use Rattle.dns_name.specs.Labels.{labels_of, lowered}
 use Rattle.dns_name.proofs.CallerLemmas.{labels_of_nothing}
 use Rattle.record_cache.specs.Values.{Held, Cache}
+use Rattle.record_cache.specs.Entries.{may_deny}
 use Rattle.negative_cache.specs.Showing.{shown}
-use Rattle.negative_cache.proofs.Depths.{few_labels}
 use Rattle.negative_cache.proofs.Forgetting.{forgotten_above, forgotten_all, nothing_shown, cache_is}
 use Rattle.negative_cache.proofs.showing.shown.Goals as goal
 
-pub returns-then-not-has_name_error_below : goal.returns-then-not-has_name_error_below
-returns-then-not-has_name_error_below g c =
-    let octets = c.octets-rest.result.now in
-    let few : 2 * length c.args.name.now ≤ length octets = subst (λ (k : List (List ℕ)). 2 * length k ≤ length octets) c.octets-rest.ensures.labels (few_labels octets c.octets-rest.ensures.laid) in
+pub returns-then-not-may_deny : goal.returns-then-not-may_deny
+returns-then-not-may_deny g c =
     let with_entries : List Held → Cache = λ es. record { capacity = c.args.cache.now.capacity; entries = es } in
-    ap with_entries (sym (nothing_shown c.args.name.now c.args.class c.args.cache.now.entries
-    (λ d less. c.has_name_error_below.ensures c.if-not-has_name_error_below.true d (omega (arith, few, less)))))
+    ap with_entries (sym (nothing_shown c.args.name.now c.args.class c.args.cache.now.entries c.may_deny.ensures.held.formed
+    (subst (λ (name : List (List ℕ)). may_deny (lowered name) c.args.cache.now.entries ≡ false) c.octets-rest.ensures.labels (sym c.may_deny.ensures.told ∙ c.if-not-may_deny.true))))
 
 pub returns : goal.returns
 returns g c =

@@ -6,7 +6,6 @@ use Rattle.negative_cache.proofs.showing.shown.Given as goal
 abbrev pub invariant-loop-higher : goal.invariant-loop-higher
 invariant-loop-higher g l = record {
   laid : IsLaidOut l.rest;
-  depth : l.depth ≡ length (labels_of l.rest);
   capacity : l.cache.capacity ≡ l.fn.cache.capacity;
   left : forgotten_above l.class (labels_of l.rest) l.cache.entries ≡ forgotten l.class l.name l.fn.cache.entries;
 }

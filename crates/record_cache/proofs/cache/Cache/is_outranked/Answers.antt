@@ -7,12 +7,12 @@ use Rattle.record_cache.proofs.cache.Cache.is_outranked.Goals as goal
 
 pub returns-in-Some : goal.returns-in-Some
 returns-in-Some g c = c.outranks.ensures
-    ∙ outranked c.self.inside.entries c.self.inside.name_errors.counts c.self.invariant c.args.held.now (Some c.in-Some.other.now)
+    ∙ outranked c.self.inside.entries c.self.inside.tables c.self.invariant c.args.held.now (Some c.in-Some.other.now)
     (c.in-Some.ensures ∙ ap (λ s. lookup (eq s) c.self.inside.entries.entries) c.slot.ensures.slot) (sym c.is_name_error.ensures ∙ c.if-is_name_error.false)
     ∙ ap (λ (cache : Cache). is_outranked c.args.held.now.accepted c.args.held.now.piece cache.entries) c.self.view_is
 
 pub returns-in-None : goal.returns-in-None
 returns-in-None g c =
-    outranked c.self.inside.entries c.self.inside.name_errors.counts c.self.invariant c.args.held.now None
+    outranked c.self.inside.entries c.self.inside.tables c.self.invariant c.args.held.now None
     (c.in-None.ensures ∙ ap (λ s. lookup (eq s) c.self.inside.entries.entries) c.slot.ensures.slot) (sym c.is_name_error.ensures ∙ c.if-is_name_error.false)
     ∙ ap (λ (cache : Cache). is_outranked c.args.held.now.accepted c.args.held.now.piece cache.entries) c.self.view_is

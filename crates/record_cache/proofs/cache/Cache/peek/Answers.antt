@@ -11,4 +11,4 @@ shown (Some x) o same = sym same
 
 pub returns-clause-found : goal.returns-clause-found
 returns-clause-found g c = shown c.peek.result (entry_of c.args.slot.now c.args.self.now.entries)
-    (c.peek.ensures ∙ found c.self.inside.entries c.self.inside.name_errors.counts c.self.invariant c.args.slot.now ∙ ap (λ (cache : Cache). entry_of c.args.slot.now cache.entries) c.self.view_is)
+    (c.peek.ensures ∙ found c.self.inside.entries c.self.inside.tables c.self.invariant c.args.slot.now ∙ ap (λ (cache : Cache). entry_of c.args.slot.now cache.entries) c.self.view_is)
