@@ -1,14 +1,15 @@
 //! The records that an answer has of a piece, borrowed from it.
 
-ghost use Rattle.std.specs.Prelude.{◌≡◌, ◌≤◌, ◌<◌, map, IfOk};
+ghost use Rattle.std.specs.Prelude.{◌≡◌, ◌≤◌, ◌<◌, map, IfOk, Some};
 ghost use Rattle.std.specs.List.{flat_map, AllByRecursion};
 ghost use Rattle.std.specs.Option.{option_copied, IfSome};
-ghost use Rattle.dns_message.specs.Borrowed.{records_in};
+ghost use Rattle.dns_message.specs.Borrowed.{data_of, records_in};
+ghost use Rattle.trust_rank.specs.Values.{unboxed};
 ghost use Rattle.record_cache.specs.Ageing.{seconds_left};
 ghost use Rattle.answer_builder.specs.Answers.{aged, answers_of, rcode_of, record_of, set_records, soa_records, IsEarlier};
 ghost use Rattle.answer_builder.specs.Building.{end_authority, end_rcode, lent, listed};
 
-use dns_message::{DataRef, Rdata, Record, RowsRef};
+use dns_message::{DataRef, Record, RowsRef};
 use record_cache::Held;
 use std::alloc::{AllocError, Allocator};
 use trust_rank::{Body, Piece};
@@ -41,17 +42,17 @@ fn rcode_of<A: Allocator>(piece: &Piece<A>) -> u8
 fn rows_of<'a, A: Allocator>(
     piece: &'a Piece<A>,
     kind: u16,
-    rows: &'a [Rdata<A>],
+    rows: DataRef<'a, A>,
     ttl: u32,
 ) -> RowsRef<'a, A>
-    ensures { result ≡ map (record_of ttl piece.now kind) rows.now }
+    ensures { result ≡ map (record_of ttl piece.now kind) (data_of rows.entry) }
 {
     RowsRef {
         owner: &piece.owner,
         kind,
         class: piece.class,
         ttl,
-        data: DataRef::Rows(rows),
+        data: rows,
     }
 }
 
@@ -60,8 +61,8 @@ pub(crate) fn set_of<'a, A: Allocator>(piece: &'a Piece<A>, ttl: u32) -> RowsRef
     ensures { result ≡ set_records ttl piece.now }
 {
     match (piece.kind, &piece.body) {
-        (Some(kind), Body::Rows(rows)) => rows_of(piece, kind, rows.as_slice(), ttl),
-        _ => rows_of(piece, 0, &[], ttl),
+        (Some(kind), Body::Rows(rows)) => rows_of(piece, kind, rows.data(), ttl),
+        _ => rows_of(piece, 0, DataRef::Rows(&[]), ttl),
     }
 }
 
@@ -82,18 +83,25 @@ pub(crate) fn sets_of<'a, A: Allocator + Copy>(
 }
 
 /// The SOA as a set of its own, if there is one.
-fn aged<A: Allocator>(soa: &Option<Record<A>>, ttl: u32) -> Option<RowsRef<'_, A>>
-    ensures { listed result ≡ aged ttl soa.now }
+fn aged<A: Allocator>(soa: &Option<Box<Record<A>, A>>, ttl: u32) -> Option<RowsRef<'_, A>>
+    ensures { listed result ≡ aged ttl (unboxed soa.now) }
 {
     match soa {
         None => None,
-        Some(soa) => Some(RowsRef {
-            owner: &soa.owner,
-            kind: soa.kind,
-            class: soa.class,
-            ttl,
-            data: DataRef::Row(&soa.rdata),
-        }),
+        Some(soa) => Some(aged_soa(soa.as_ref(), ttl)),
+    }
+}
+
+/// The SOA as a set of its own.
+fn aged_soa<A: Allocator>(soa: &Record<A>, ttl: u32) -> RowsRef<'_, A>
+    ensures { result ≡ aged ttl (Some soa.now) }
+{
+    RowsRef {
+        owner: &soa.owner,
+        kind: soa.kind,
+        class: soa.class,
+        ttl,
+        data: DataRef::Row(&soa.rdata),
     }
 }
 

@@ -10,7 +10,7 @@ use record_cache::{Cache, Held};
 use std::alloc::Global;
 use std::hash::RandomState;
 use suffix_routes::RouteId;
-use trust_rank::{Body, Piece, Slot};
+use trust_rank::{Body, Piece, Rows, Slot};
 
 /// The most entries that a configuration allows.
 pub const MANY: usize = 65_536;
@@ -34,10 +34,10 @@ pub fn numbered(alloc: Global, number: usize) -> Result<Name> {
 pub fn addresses(alloc: Global, owner: Name) -> Result<Piece> {
     let mut rows = PlainList::new(alloc);
     rows.push(Rdata::from_octets(alloc, b"\xc6\x33\x64\x05")?)?;
-    Ok(set_of(owner, rows))
+    Ok(set_of(owner, Rows::from_list(rows)))
 }
 
-fn set_of(owner: Name, rows: PlainList<Rdata>) -> Piece
+fn set_of(owner: Name, rows: Rows) -> Piece
     requires { rows ≢ [] }
 {
     Piece {

@@ -1,6 +1,6 @@
 //! Entries as time passes.
 
-use crate::samples::set;
+use crate::samples::{is_same_rows, set};
 use lru::DefaultHasher;
 use record_cache::{Cache, Held, Offered};
 use std::test::Fail;
@@ -11,13 +11,9 @@ fn is_copy(held: &Held, piece: &Piece) -> bool {
     let (Body::Rows(kept), Body::Rows(rows)) = (&held.piece.body, &piece.body) else {
         return false;
     };
-    let same = kept.as_slice().len() == rows.as_slice().len()
-        && kept
-            .as_slice()
-            .iter()
-            .zip(rows.as_slice())
-            .all(|(a, b)| a.octets() == b.octets());
-    same && held.piece.slot() == piece.slot() && held.piece.owner.same(&piece.owner)
+    is_same_rows(kept, rows)
+        && held.piece.slot() == piece.slot()
+        && held.piece.owner.same(&piece.owner)
 }
 
 #[test]

@@ -2,7 +2,7 @@
 
 ghost use Rattle.std.specs.Prelude.{◌≢◌, []};
 
-use dns_message::Rdata;
+use dns_message::{DataRef, Rdata};
 use dns_name::{Name, NameFault};
 use lru::DefaultHasher;
 use plain_list::PlainList;
@@ -10,7 +10,7 @@ use record_cache::{Cache, Offered};
 use std::alloc::Allocator;
 use std::test::Fail;
 use suffix_routes::RouteId;
-use trust_rank::{Body, Piece, Slot};
+use trust_rank::{Body, Piece, Rows, Slot};
 
 /// A denial without SOA: of a type (NODATA), or of the whole name (a name error) where there is none.
 #[derive(Clone, Copy)]
@@ -78,10 +78,10 @@ pub(crate) fn set<A: Allocator + Copy>(alloc: A, owner: &str) -> Result<Piece<A>
     let owner = Name::from_text(alloc, owner)?;
     let mut rows = PlainList::new(alloc);
     rows.push(Rdata::from_octets(alloc, b"\xc6\x33\x64\x05")?)?;
-    Ok(set_of(owner, rows))
+    Ok(set_of(owner, Rows::from_list(rows)))
 }
 
-fn set_of<A: Allocator>(owner: Name<A>, rows: PlainList<Rdata<A>, A>) -> Piece<A>
+fn set_of<A: Allocator>(owner: Name<A>, rows: Rows<A>) -> Piece<A>
     requires { rows ≢ [] }
 {
     Piece {
@@ -92,5 +92,20 @@ fn set_of<A: Allocator>(owner: Name<A>, rows: PlainList<Rdata<A>, A>) -> Piece<A
         lifetime: 300,
         rank: 3,
         route: RouteId { place: 0 },
+    }
+}
+
+/// The data are the same, and stand alike: one in place, or more in a list.
+pub(crate) fn is_same_rows<A: Allocator>(rows: &Rows<A>, others: &Rows<A>) -> bool {
+    match (rows.data(), others.data()) {
+        (DataRef::Row(row), DataRef::Row(other)) => row.octets() == other.octets(),
+        (DataRef::Rows(rows), DataRef::Rows(others)) => {
+            rows.len() == others.len()
+                && rows
+                    .iter()
+                    .zip(others)
+                    .all(|(row, other)| row.octets() == other.octets())
+        }
+        _ => false,
     }
 }

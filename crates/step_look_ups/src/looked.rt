@@ -76,6 +76,7 @@ impl<'a, A: Allocator + Copy> Looked<'a, A> {
 }
 
 /// The name that an alias leads to: that of its one record. `Err` where memory ran out.
+#[tactic(auto, using(trust_rank::proofs::CallerLemmas::no_target))]
 fn name_behind<A: Allocator + Copy>(
     alloc: A,
     alias: &Held<A>,
@@ -85,8 +86,8 @@ fn name_behind<A: Allocator + Copy>(
     let Body::Rows(rows) = &alias.piece.body else {
         return Ok(None);
     };
-    match rows.as_slice() {
-        [row] => row.name(alloc),
-        _ => Ok(None),
+    match rows.only() {
+        Some(row) => row.name(alloc),
+        None => Ok(None),
     }
 }

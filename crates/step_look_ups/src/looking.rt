@@ -103,15 +103,16 @@ fn ended<A: Allocator>(used: Vec<&Held<A>, A>, met: Met) -> Looked<'_, A>
 }
 
 /// The key of the name that an alias leads to: that of its one record.
+#[tactic(auto, using(trust_rank::proofs::CallerLemmas::no_target))]
 fn target_of<A: Allocator>(alias: &Held<A>) -> Option<NameKey>
     ensures { result ≡ option_map lowered (target_of alias.now.piece.body) }
 {
     let Body::Rows(rows) = &alias.piece.body else {
         return None;
     };
-    match rows.as_slice() {
-        [row] => key_of_data(row.octets()),
-        _ => None,
+    match rows.only() {
+        Some(row) => key_of_data(row.octets()),
+        None => None,
     }
 }
 
