@@ -92,7 +92,10 @@ fn name_errors_are_told_by_their_endings(rt: HostRuntime) -> Result<(), Fail> {
     }
     assert!(rt; !may_deny(alloc, &cache, "a.example")?);
     Denial::of("net", None).offer(alloc, &mut cache, 1000)?;
-    assert!(rt; may_deny(alloc, &cache, "a.example")?, "the ending of net is 0");
+    assert!(rt;
+        may_deny(alloc, &cache, "a.example")?,
+        "the ending of net is 0"
+    );
     Ok(())
 }
 
