@@ -1,3 +1,4 @@
+pub mod NameEnd
 pub mod Plain
 pub mod PointerLaws
 pub mod WriterLaws

@@ -1,11 +1,11 @@
 -- Parts with names among them, and parts without.
-use Rattle.std.proofs.Common.{◌≡◌, ℕ, ◌+◌, ◌<◌, ◌≤◌, Bool, true, false, List, [], ◌∷◌, ◌++◌, length, take, drop, get_or, Option, Some, None, refl, sym, ap, ◌∙◌, arith}
+use Rattle.std.proofs.Common.{◌≡◌, ℕ, ◌+◌, ◌<◌, ◌≤◌, Bool, true, false, List, [], ◌∷◌, ◌++◌, length, take, drop, get_or, None, refl, sym, ap, ◌∙◌, arith}
 use Rattle.std.specs.Prelude.{is_some, nat_lt}
 use Rattle.std.proofs.lemmas.List.{take-append-drop, drop_more, drop_all}
 use Rattle.message_reading.specs.declared.shape.Part.{Part}
 use Rattle.message_reading.specs.declared.shape.Part.TheVariants.{Name, Number16, Number32, Text}
 use Rattle.message_writing.specs.Fields.{plain, first_field, first_octets, fields_of, has_name}
-use Rattle.message_writing.specs.Writing.{Writing, as_is, ◌▹◌, field_text}
+use Rattle.message_writing.specs.Writing.{as_is, ◌▹◌, field_text}
 use Rattle.message_writing.specs.Writer.{field_in, IsFirst}
 use Rattle.message_writing.proofs.WriterFields.{parts_text, more_parts, no_part, part_left, parts_done}
 

@@ -7,7 +7,6 @@ use Rattle.std.proofs.lemmas.List.{length-append, length-take, length-drop, take
 use Rattle.dns_name.specs.Labels.{labels_of, octets_of, IsLaidOut, IsLabel}
 use Rattle.dns_name.proofs.CallerLemmas.{labels_of_octets, octets_are_laid_out}
 use Rattle.message_names.specs.declared.fault.Fault.{Fault}
-use Rattle.message_names.specs.declared.walk.Bound.{Bound}
 use Rattle.message_reading.specs.declared.shape.Part.{Part}
 use Rattle.message_reading.specs.declared.shape.Part.TheVariants.{Name}
 use Rattle.message_names.specs.Reading.{behind}
@@ -111,9 +110,6 @@ parts_done [] some = refl
 parts_done (x ∷ xs) some = absurd cc
 
 -- ---- the parts from the one at i on
-
-pub in_front_of : (xs : List ℕ) (e : ℕ) (b : Bound) → b ≡ inside (length xs) → Ok e ≡ behind (name_within xs b 0) → InFront xs e
-in_front_of xs e b same is = in_front xs e (rw same at is)
 
 pub more_at : (parts : List Part) (i : ℕ) (d : Part) (xs first rest : List ℕ) → i < length parts → IsFirst (get_or parts i d) xs first rest
     → is_some (fields_of (drop i parts) xs) ≡ is_some (fields_of (drop (i + 1) parts) rest)

@@ -31,6 +31,10 @@ pointer_known ps octets = option_or (pointer_among ps.few.items octets) (get_by 
 abbrev pub pointer_in : {A : Type 0} → Writer A → List ℕ → Option ℕ
 pointer_in w octets = pointer_known w.pointers octets
 
+-- what was known is known, and so is this name
+abbrev pub IsPointed : {A : Type 0} → Pointers A → Pointers A → List ℕ → ℕ → Type 0
+IsPointed old new octets pointer = (other : List ℕ) → pointer_known new other ≡ (if bytes_eq octets other then Some pointer else pointer_known old other)
+
 -- what was known is known, and so is this name where a pointer reaches its offset
 abbrev pub IsPutIn : {A : Type 0} → Pointers A → Pointers A → List ℕ → ℕ → Type 0
 IsPutIn old new octets offset = (other : List ℕ) → pointer_known new other ≡ (if nat_le offset 16383 && bytes_eq octets other then Some (pointer_to offset) else pointer_known old other)

@@ -1,16 +1,44 @@
 //! The data of records, written with pointers where its type allows them.
 
-ghost use Rattle.std.specs.Prelude.{◌≡◌, ◌≤◌, ◌<◌, ◌+◌, ◌++◌, [], length, OnOk, take, drop, IsTrue, is_some, MatchOption, None};
+ghost use Rattle.std.specs.Prelude.{◌≡◌, ◌≤◌, ◌<◌, ◌+◌, ◌++◌, [], length, OnOk, take, drop, IsTrue, is_some, MatchOption, None, Ok};
 ghost use Rattle.dns_name.specs.Labels.{IsLaidOut};
+ghost use Rattle.message_names.specs.Names.{name_within, inside};
+ghost use Rattle.message_names.specs.Reading.{behind};
 ghost use Rattle.message_writing.specs.Fields.{fields_of, first_field, has_name};
 ghost use Rattle.message_writing.specs.Writing.{octets16, as_is, with_length, data_text, field_text, by_fields};
 ghost use Rattle.message_writing.specs.Writer.{Writes, Puts, HoldsText, IsFirst, field_in};
 
 use crate::writer::Writer;
 use byteorder::{BigEndian, ByteOrder};
-use message_names::{Bound, Fault, skip_name};
+use message_names::Fault;
 use message_reading::{Part, shape_of};
 use std::alloc::{AllocError, Allocator};
+
+/// The most octets of a name (RFC 1035 2.3.4).
+const NAME_MOST: usize = 255;
+
+/// The most octets of a label (RFC 1035 2.3.4).
+const LABEL_MOST: usize = 63;
+
+/// The place behind the name in front of octets, in which no pointer can be. It ends behind its zero octet.
+#[tactic(auto, unfolding(crate::specs::Fields::first_field))]
+fn name_end(octets: &[u8]) -> Option<usize>
+    ensures { MatchOption result (first_field Part.Name octets.now ≡ None) (λ end. Ok end ≡ behind (name_within octets.now (inside (length octets.now)) 0)) }
+{
+    let most = octets.len().min(NAME_MOST);
+    let mut at = 0;
+    while at < most {
+        let len = octets[at] as usize;
+        if len == 0 {
+            return Some(at + 1);
+        }
+        if len > LABEL_MOST {
+            return None;
+        }
+        at += len + 1;
+    }
+    None
+}
 
 /// The part in front of the octets, and what stands behind it; of a name the zero octet is left out.
 #[tactic(auto, unfolding(crate::specs::Fields::first_field))]
@@ -18,13 +46,11 @@ fn split_part(part: Part, octets: &[u8]) -> Option<(&[u8], &[u8])>
     ensures { MatchOption result (first_field part octets.now ≡ None) (λ x. IsFirst part octets.now x.0.now x.1.now) }
 {
     match part {
-        Part::Name => match skip_name(octets, &mut [], Bound::data(octets.len()), 0) {
-            Err(_) => None,
-            Ok(end) => {
-                let (name, behind) = octets.split_at(end);
-                Some((&name[..end - 1], behind))
-            }
-        },
+        Part::Name => {
+            let end = name_end(octets)?;
+            let (name, behind) = octets.split_at(end);
+            Some((&name[..end - 1], behind))
+        }
         Part::Number16 => split_octets(octets, 2),
         Part::Number32 => split_octets(octets, 4),
         Part::Text => match octets {

@@ -1,7 +1,10 @@
 //! The names that begin in octets, and where each began first.
 
 ghost use Rattle.std.specs.Prelude.{◌≡◌, ℕ, List, None, OnOk, IsTrue};
-ghost use Rattle.message_writing.specs.Writer.{pointer_among, pointer_known, IsPutIn};
+ghost use Rattle.std.specs.Ordering.{nat_cmp};
+ghost use Rattle.std.specs.Cmp.Lexicographic.{slice_cmp};
+ghost use Rattle.std.specs.BTreeMap.{get_by};
+ghost use Rattle.message_writing.specs.Writer.{pointer_among, pointer_known, IsPointed, IsPutIn};
 
 use arrayvec::ArrayVec;
 use std::alloc::{AllocError, Allocator};
@@ -46,14 +49,27 @@ impl<'a, A: Allocator + Copy> Pointers<'a, A> {
         }
     }
 
-    /// The pointer to a name, letter case included.
+    /// The pointer to a name that the map has.
+    #[cold]
+    #[inline(never)]
+    fn find_in_map(&self, name: &[u8]) -> Option<u16>
+        ensures { result ≡ get_by (λ k. slice_cmp nat_cmp name.now k.now) self.now.many }
+    {
+        self.many.get(name).copied()
+    }
+
+    /// The pointer to a name, letter case included. The map is mostly empty.
+    #[inline]
     pub fn find(&self, name: &[u8]) -> Option<u16>
         ensures { result ≡ pointer_known self.now name.now }
     {
         if let Some(pointer) = pointer_among(self.few.as_slice(), name) {
             return Some(pointer);
         }
-        self.many.get(name).copied()
+        if self.many.is_empty() {
+            return None;
+        }
+        self.find_in_map(name)
     }
 
     /// Whether no name is known.
@@ -61,6 +77,17 @@ impl<'a, A: Allocator + Copy> Pointers<'a, A> {
         ensures { IsTrue result → (name : List ℕ) → pointer_known self.now name ≡ None }
     {
         self.few.is_empty() && self.many.is_empty()
+    }
+
+    /// Remembers in the map the pointer to a name that is not known.
+    #[cold]
+    #[inline(never)]
+    fn insert_in_map(&mut self, name: &'a [u8], pointer: u16) -> Result<(), AllocError>
+        requires { pointer_known self.old name.now ≡ None }
+        ensures { OnOk result (IsPointed self.old self.new name.now pointer) }
+    {
+        self.many.insert(name, pointer)?;
+        Ok(())
     }
 
     /// Remembers that a name that is not known begins at this offset, as far as a pointer reaches. It takes memory once
@@ -74,7 +101,7 @@ impl<'a, A: Allocator + Copy> Pointers<'a, A> {
         }
         let pointer = POINTER + offset as u16;
         if self.few.is_full() {
-            self.many.insert(name, pointer)?;
+            self.insert_in_map(name, pointer)?;
             return Ok(());
         }
         self.few.push((name, pointer));

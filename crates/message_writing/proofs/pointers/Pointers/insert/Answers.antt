@@ -1,11 +1,9 @@
 use Rattle.std.proofs.Common.{refl, arith}
-use Rattle.message_writing.proofs.PointerLaws.{put_in_few, put_in_many, put_near}
+use Rattle.message_writing.proofs.PointerLaws.{put_in_few, put_near}
 use Rattle.message_writing.proofs.pointers.Pointers.insert.Goals as goal
 
 pub returns-then-is_full : goal.returns-then-is_full
-returns-then-is_full g c =
-    put_near c.args.self.now (record { few = c.args.self.now.few; many = c.insert.new.self }) c.args.name.now c.args.offset _ (omega arith) (omega arith)
-    (put_in_many c.args.self.now (record { few = c.args.self.now.few; many = c.insert.new.self }) c.args.name.now _ refl c.requires c.in_ok-insert.ensures.updates)
+returns-then-is_full g c = put_near c.args.self.now c.insert_in_map.new.self c.args.name.now c.args.offset _ (omega arith) (omega arith) c.in_ok-insert_in_map.ensures
 
 pub returns : goal.returns
 returns g c =
