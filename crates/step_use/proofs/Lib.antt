@@ -3,6 +3,7 @@ pub mod Room
 pub mod Putting
 pub mod Offers
 pub mod Finding
+pub mod Ending
 pub mod Rows
 pub mod Theorem
 pub mod CallerLemmas

@@ -37,8 +37,9 @@ use Rattle.step_soundness.specs.Explains.{Explains}
 use Rattle.step_soundness.specs.Runs.{Run, IsExplained}
 use Rattle.step_soundness.proofs.CallerLemmas.{row_explained, start_explained, append_nil, IsHeard, heard, heard_carried, carries, offered}
 use Rattle.step_use.specs.Standing.{standing}
-use Rattle.step_use.specs.Use.{IsOneOf, HasFewSlots, FoundMemory, HasRoom, AsksToLookUp, IsKnown, AnswersAtOnce, UsesWhatStands}
+use Rattle.step_use.specs.Use.{IsOneOf, HasFewSlots, FoundMemory, HasRoom, AsksToLookUp, LeadsToEnd, IsKnown, AnswersAtOnce, UsesWhatStands}
 use Rattle.step_use.specs.Mirrors.{Mirrors, IsMirrored, StaysMirrored}
+use Rattle.step_use.proofs.Ending.{Ends, look_up_ends}
 use Rattle.step_use.proofs.Finding.{finds_the_same}
 use Rattle.step_use.proofs.Offers.{offers_mirror, promotions_mirror, mirrors_later}
 use Rattle.step_use.proofs.Rows.{promoted_cache, IsQuiet, request_is, path_is, tick_is, unheard_is, heard_is, end_is}
@@ -207,13 +208,17 @@ module _ (c : Config) (past : List Step) (w : List (List ℕ)) (s : State) (x : 
           (finds_the_same c.routes n s.cache.capacity s.cache.entries (standing n carried) x.cache.held (mirrored.stands n (omega arith)) (mirrored.held n (omega arith)))
           most_aliases [] q
 
-      ends_so : l.met ≡ ends known.end
-      ends_so =
-          ap (λ (v : Looked). v.met) same
-          ∙ ap (λ (t : ℕ). (look_up c.routes t (standing t carried) most_aliases [] q).met) moment_so
-          ∙ known.ends_so
+      ended : Ends (look_up c.routes n (standing n carried) most_aliases [] q)
+      ended = look_up_ends c.routes n (standing n carried) most_aliases [] q
+          (subst (λ (t : ℕ). LeadsToEnd c.routes t (standing t carried) most_aliases q) (sym moment_so) known)
 
-      row_is : d ≡ reply_step n (answered n y l.held known.end) (using l.used s)
+      abbrev end : Held
+      end = ended.0
+
+      ends_so : l.met ≡ ends end
+      ends_so = ap (λ (v : Looked). v.met) same ∙ ended.1
+
+      row_is : d ≡ reply_step n (answered n y l.held end) (using l.used s)
       row_is =
           is_row
           ∙ cond-true (is_taken octets) _ _ (subst (λ (o : List ℕ). is_taken o ≡ true) octets_are asks.taken)
@@ -224,12 +229,12 @@ module _ (c : Config) (past : List Step) (w : List (List ℕ)) (s : State) (x : 
           ∙ ap (λ (m : Met). row_of_fate c n words (using l.used s) (fate_at c n y l m)) ends_so
 
       pub answers_at_once : AnswersAtOnce step client
-      answers_at_once = by (answer_of y.asked (l.held ++ known.end ∷ []) n (transport_of client)) refl
+      answers_at_once = by (answer_of y.asked (l.held ++ end ∷ []) n (transport_of client)) refl
         where
-          actions_are : d.actions ≡ answered n y l.held known.end ∷ []
+          actions_are : d.actions ≡ answered n y l.held end ∷ []
           actions_are = ap (λ (z : Done). z.actions) row_is
 
-          by : (r : Result (List ℕ) Fault) → answer_of y.asked (l.held ++ known.end ∷ []) n (transport_of client) ≡ r → AnswersAtOnce step client
+          by : (r : Result (List ℕ) Fault) → answer_of y.asked (l.held ++ end ∷ []) n (transport_of client) ≡ r → AnswersAtOnce step client
           by (Ok text) told_so = record { octets = text; why = Rattle.step_values.specs.declared.action.Why.TheVariants.Answered; actions = actions_are ∙ (λ i. sends y (told_so i) ∷ []); reason = inl refl }
           by (Err fault) told_so = record { octets = Rattle.step_history.specs.Replies.failure_text y.asked TooLarge; why = TooLarge; actions = actions_are ∙ (λ i. sends y (told_so i) ∷ []); reason = inr refl }
 

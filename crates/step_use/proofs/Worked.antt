@@ -5,12 +5,10 @@ use Rattle.dns_message.specs.Names.{step as name_step, walk_in, name_within}
 use Rattle.dns_message.specs.Values.{Question}
 use Rattle.suffix_routes.specs.Routes.{route_of}
 use Rattle.trust_rank.specs.Values.{rows, denied}
-use Rattle.trust_rank.specs.Walks.{most_aliases}
 use Rattle.record_cache.specs.Values.{Held}
 use Rattle.step_values.specs.Values.{tick, restart, Event, Step}
-use Rattle.step_rules.specs.LookingUp.{ends, missed, look_up}
 use Rattle.step_use.specs.Standing.{standing}
-use Rattle.step_use.specs.Use.{HasFewSlots, FoundMemory}
+use Rattle.step_use.specs.Use.{HasFewSlots, FoundMemory, LeadsToEnd}
 
 -- ---- names below e, and what was carried of them
 
@@ -93,7 +91,15 @@ abbrev address : List (List ℕ) → Question
 address name = record { name = name; kind = 1; class = 1 }
 
 -- along an alias, while it stands
-along : ((look_up [] 2000 (standing 2000 (alias 1500 60 ∷ host b 1000 300 3 ∷ [])) most_aliases [] (address a)).met ≡ ends (host b 1000 300 3))
-    × ((look_up [] 61500 (standing 61500 (alias 1500 60 ∷ host b 1000 300 3 ∷ [])) most_aliases [] (address a)).met ≡ missed)
+along : LeadsToEnd [] 61499 (standing 61499 (alias 1500 60 ∷ host b 1000 300 3 ∷ [])) 8 (address a)
 unfolding name_of_rdata name_within walk_in name_step route_of
-along = (refl, refl)
+along = tt
+
+lost : LeadsToEnd [] 61500 (standing 61500 (alias 1500 60 ∷ host b 1000 300 3 ∷ [])) 8 (address a) → ⊥
+unfolding name_of_rdata name_within walk_in name_step route_of
+lost known = known
+
+-- behind no more aliases than may be taken
+too_far : LeadsToEnd [] 2000 (standing 2000 (alias 1500 60 ∷ host b 1000 300 3 ∷ [])) 0 (address a) → ⊥
+unfolding name_of_rdata name_within walk_in name_step route_of
+too_far known = known

@@ -1,12 +1,14 @@
 -- What is claimed of the use of what replies carried: a question is answered at once of which enough stands.
-use Rattle.std.specs.Prelude.{◌≡◌, ℕ, ◌≤◌, true, false, List, [], ◌∷◌, length, Some, ◌⊎◌}
+use Rattle.std.specs.Prelude.{◌≡◌, ℕ, zero, suc, ◌≤◌, true, false, List, [], ◌∷◌, length, Option, None, Some, ◌⊎◌}
 use Rattle.std.specs.List.{AllByRecursion}
 use Rattle.dns_message.specs.Header.{header_in}
 use Rattle.dns_message.specs.Values.{Question}
-use Rattle.suffix_routes.specs.Values.{Config}
+use Rattle.suffix_routes.specs.Values.{Config, Route}
 use Rattle.trust_rank.specs.declared.slot.Slot.{Slot}
-use Rattle.trust_rank.specs.Walks.{most_aliases}
+use Rattle.trust_rank.specs.Walks.{target_of}
 use Rattle.record_cache.specs.Values.{Held}
+use Rattle.negative_cache.specs.Values.{Found, rows, alias, no_data, denied, miss}
+use Rattle.negative_cache.specs.Finding.{found}
 use Rattle.step_values.specs.declared.event.Client.{Client}
 use Rattle.step_values.specs.declared.action.Why.{Why}
 use Rattle.step_values.specs.declared.action.Why.TheVariants.{Answered, TooLarge}
@@ -15,7 +17,7 @@ use Rattle.step_history.specs.Names.{route_of}
 use Rattle.step_history.specs.History.{is_restart, moment_at, is_taken, Reads, Sends}
 use Rattle.step_history.specs.Carried.{CarriedInEra}
 use Rattle.step_history.specs.Causes.{is_unserved}
-use Rattle.step_rules.specs.LookingUp.{ends, look_up}
+use Rattle.step_history.specs.Answers.{asked_at}
 use Rattle.step_use.specs.Standing.{standing}
 
 -- ---- room
@@ -53,10 +55,27 @@ pub record AsksToLookUp (c : Config) (s : Step) (client : Client) (q : Question)
   pub route : ℕ
   pub on_route : route_of c q.name ≡ Some route
 
--- with what stands at the step's moment, its look-up ends at a set or a denial, behind eight aliases at most
-pub record IsKnown (c : Config) (s : Step) (past : List Step) (carried : List Held) (q : Question) : Type 0 where
-  pub end : Held
-  pub ends_so : (look_up c.routes (moment_at (s ∷ past)) (standing (moment_at (s ∷ past)) carried) most_aliases [] q).met ≡ ends end
+-- an alias whose one record has a name as its data leads to that name
+abbrev pub AtTarget : (List (List ℕ) → Type 0) → Option (List (List ℕ)) → Type 0
+AtTarget onward None = ⊥
+AtTarget onward (Some name) = onward name
+
+-- a set or a denial answers, an alias leads on (RFC 1034 3.6.2)
+abbrev pub EndsOrLeadsOn : (List (List ℕ) → Type 0) → Found → Type 0
+EndsOrLeadsOn onward (rows h) = Unit {0}
+EndsOrLeadsOn onward (alias h) = AtTarget onward (target_of h.piece.body)
+EndsOrLeadsOn onward (no_data h) = Unit {0}
+EndsOrLeadsOn onward (denied h) = Unit {0}
+EndsOrLeadsOn onward miss = ⊥
+
+-- what stands answers the question, behind so many aliases at most
+abbrev pub LeadsToEnd : List Route → ℕ → List Held → ℕ → Question → Type 0
+LeadsToEnd routes n stood zero q = EndsOrLeadsOn (λ name. ⊥) (found routes n stood q)
+LeadsToEnd routes n stood (suc more) q = EndsOrLeadsOn (λ name. LeadsToEnd routes n stood more (asked_at q name)) (found routes n stood q)
+
+-- at the step's moment, what stands answers the question, behind eight aliases at most
+abbrev pub IsKnown : Config → Step → List Step → List Held → Question → Type 0
+IsKnown c s past carried q = LeadsToEnd c.routes (moment_at (s ∷ past)) (standing (moment_at (s ∷ past)) carried) 8 q
 
 -- the client gets its answer, and nothing else is done; a failure tells it that the answer passes what TCP carries
 pub record AnswersAtOnce (s : Step) (client : Client) : Type 0 where
