@@ -44,7 +44,7 @@ abbrev pub of_alias : Option ℕ → ℕ → Option ℕ
 of_alias None number = None
 of_alias (Some kind) number = if kind == 5 then Some number else None
 
--- the ending of octets: 0 where they are fewer than eight, else the last eight as one number, of which this is left
+-- the ending of octets: 0 where they are fewer than eight, else 1 and the rest by 251 of the last eight as one number
 abbrev pub ending_of : List ℕ → ℕ
 ending_of octets =
     if nat_lt (length octets) 8 then 0 else from_be_bytes w64 (drop (length octets - 8) octets) % 251 + 1
@@ -65,7 +65,7 @@ name_error_ending slot = of_name_error slot.kind (ending slot.key)
 abbrev pub alias_ending : Slot → Option ℕ
 alias_ending slot = of_alias slot.kind (ending slot.key)
 
--- the number is there, and this one
+-- there is a number, and it is this one
 abbrev pub is_number : ℕ → Option ℕ → Bool
 is_number n None = false
 is_number n (Some m) = m == n
