@@ -208,15 +208,15 @@ module _ (c : Config) (past : List Step) (w : List (List ℕ)) (s : State) (x : 
           (finds_the_same c.routes n s.cache.capacity s.cache.entries (standing n carried) x.cache.held (mirrored.stands n (omega arith)) (mirrored.held n (omega arith)))
           most_aliases [] q
 
-      ended : Ends (look_up c.routes n (standing n carried) most_aliases [] q)
-      ended = look_up_ends c.routes n (standing n carried) most_aliases [] q
+      leads : Ends (look_up c.routes n (standing n carried) most_aliases [] q)
+      leads = look_up_ends c.routes n (standing n carried) most_aliases [] q
           (subst (λ (t : ℕ). LeadsToEnd c.routes t (standing t carried) most_aliases q) (sym moment_so) known)
 
       abbrev end : Held
-      end = ended.0
+      end = leads.0
 
       ends_so : l.met ≡ ends end
-      ends_so = ap (λ (v : Looked). v.met) same ∙ ended.1
+      ends_so = ap (λ (v : Looked). v.met) same ∙ leads.1
 
       row_is : d ≡ reply_step n (answered n y l.held end) (using l.used s)
       row_is =
