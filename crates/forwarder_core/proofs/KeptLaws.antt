@@ -2,13 +2,14 @@
 use Rattle.std.proofs.Common.{Vec, ◌≡◌, ℕ, zero, suc, ◌+◌, ◌^◌, ◌<◌, ◌≤◌, List, [], ◌∷◌, ◌++◌, length, Bool, true, false, cond, refl, sym, ap, ◌∙◌, subst, arith, Option, Some, None}
 use Rattle.std.specs.Prelude.{filter, not, option_map, min, take, drop, map, slice_set, slice_get, nat_le}
 use Rattle.std.specs.List.{cons_option, AllByRecursion, list_any}
+use Rattle.std.specs.Option.{IfSome}
 use Rattle.std.proofs.lemmas.List.{length-append, with_items_is}
 use Rattle.std.specs.Vec.{with_items}
 use Rattle.std.proofs.lemmas.Bool.{cond_both, leb-true, leb-false, cond-true, cond-false}
 use Rattle.suffix_routes.specs.Values.{Config, Route, IsConfig}
 use Rattle.outstanding.specs.declared.ask.Path.{Path}
 use Rattle.outstanding.specs.declared.ask.Path.TheVariants.{Udp, Tcp}
-use Rattle.outstanding.specs.Lists.{without_path, AreInTurn, AreListed}
+use Rattle.outstanding.specs.Lists.{without_path, AreInTurn, AreListed, MayBegin}
 use Rattle.outstanding.specs.Due as due
 use Rattle.outstanding.specs.Values.{Ask, Inquiries}
 use Rattle.step_rules.specs.State.{Waiting, State}
@@ -218,6 +219,15 @@ kept_next c e i i' ws ps m n k path s listed (Some a) kept le small same follows
     (subst (λ (j : ℕ). IsKeptAsk c n (j + tcp_count (Some a)) a) same follows.kept)
     (subst (λ (j : ℕ). j + tcp_count (Some a) < 2 ^ 64) same follows.counted)
     is
+
+-- the next ask, where there is one, may be counted and may begin
+pub next_counted : (c : Config) (n : ℕ) (s : State) (listed : List Ask) (next : Option Ask) → s.tcp_asks < 2 ^ 64 → IfFollows c n s listed next → s.tcp_asks + tcp_count next < 2 ^ 64
+next_counted c n s listed None low follows = omega (arith, low)
+next_counted c n s listed (Some a) low follows = follows.counted
+
+pub next_begins : (c : Config) (n : ℕ) (s : State) (listed : List Ask) (next : Option Ask) → IfFollows c n s listed next → IfSome next (λ a. MayBegin a listed)
+next_begins c n s listed None follows = tt
+next_begins c n s listed (Some a) follows = follows.begins
 
 pub kept_dropped : (c : Config) (e : Cache) (i : Inquiries) (ws ws' : List Waiting) (ps : List ℕ) (m k : ℕ) → IsKept c e i ws ps m k → ws' ≡ drop 1 ws → IsKept c e i ws' ps m k
 kept_dropped c e i [] ws' ps m k kept is = subst (λ (xs : List Waiting). IsKept c e i xs ps m k) (sym is) kept

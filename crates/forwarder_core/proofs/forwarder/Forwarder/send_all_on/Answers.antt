@@ -1,11 +1,22 @@
-use Rattle.std.proofs.Common.{ℕ, ◌≤◌, ◌∙◌, sym, ap, subst, refl, Some, arith}
+use Rattle.std.proofs.Common.{ℕ, ◌≡◌, ◌≤◌, ◌+◌, ◌++◌, ◌∙◌, sym, ap, subst, refl, Some, arith}
 use Rattle.std.specs.Vec.{with_items}
+use Rattle.outstanding.specs.Lists.{on_path as ask_on, without_path}
 use Rattle.step_rules.specs.State.{Running}
-use Rattle.outstanding.specs.Lists.{on_path as ask_on}
+use Rattle.step_rules.specs.Steps.{ask_list, tcp_count}
 use Rattle.step_changes.specs.Kept.{IsKept}
-use Rattle.step_changes.specs.Next.{with_preferred, CanSendOn}
-use Rattle.forwarder_core.proofs.KeptLaws.{kept_later, kept_next, kept_sent, kept_preferred, put_back, preferred_length}
+use Rattle.step_changes.specs.Next.{with_preferred, left_or_sent, CanSendOn}
+use Rattle.forwarder_core.proofs.KeptLaws.{kept_later, kept_next, kept_sent, kept_preferred, next_counted, next_begins, put_back, preferred_length}
 use Rattle.forwarder_core.proofs.forwarder.Forwarder.send_all_on.Goals as goal
+
+pub count_next-self-inside-requires : goal.count_next-self-inside-requires
+count_next-self-inside-requires g c =
+    let fits = subst (λ (r : Running). CanSendOn r.config c.args.moment r.state c.args.sending.path c.args.sending.preferred c.args.sending.onward.items c.args.sending.ask) (sym c.self.view_is) c.requires.fits in
+    next_counted _ _ _ _ c.args.sending.ask c.self.invariant.counted fits.follows
+
+pub send_on-requires-clause-begins : goal.send_on-requires-clause-begins
+send_on-requires-clause-begins g c =
+    let fits = subst (λ (r : Running). CanSendOn r.config c.args.moment r.state c.args.sending.path c.args.sending.preferred c.args.sending.onward.items c.args.sending.ask) (sym c.self.view_is) c.requires.fits in
+    next_begins _ _ _ _ c.args.sending.ask fits.follows
 
 pub invariant_of-self : goal.invariant_of-self
 invariant_of-self g c =
@@ -17,3 +28,31 @@ invariant_of-self g c =
     (put_back c.self.inside.preferred c.prefer.new.places (with_preferred (Some c.args.sending.preferred) c.self.inside.preferred.items) (c.prefer.ensures ∙ ap (with_preferred (Some c.args.sending.preferred)) c.deref_mut.ensures.value) (preferred_length (Some c.args.sending.preferred) c.self.inside.preferred.items)) in
     subst (λ (k : ℕ). IsKept c.self.inside.config c.self.inside.cache c.send_on.new.inquiries c.send_on.new.waiting.items (with_items c.self.inside.preferred c.prefer.new.places).items c.args.moment k) (sym c.count_next-self-inside.ensures)
     (kept_next c.self.inside.config c.self.inside.cache c.self.inside.inquiries c.send_on.new.inquiries c.send_on.new.waiting.items (with_items c.self.inside.preferred c.prefer.new.places).items c.args.moment c.args.moment c.self.inside.tcp_asks c.args.sending.path _ _ c.args.sending.ask places (omega arith) c.requires.in_time refl fits.follows c.send_on.ensures.asks)
+
+pub returns : goal.returns
+returns g c =
+    (λ i. record {
+      config = c.self.inside.config;
+      state = record {
+        cache = c.self.inside.cache;
+        asks = (c.send_on.ensures.asks i).asks;
+        waiting = c.send_on.ensures.waiting i;
+        preferred = places i;
+        moment = c.args.moment;
+        tcp_asks = c.count_next-self-inside.ensures i;
+      };
+    })
+    ∙ ap (λ (r : Running). record {
+      config = r.config;
+      state = record r.state {
+        asks = without_path c.args.sending.path r.state.asks ++ ask_list c.args.sending.ask;
+        waiting = left_or_sent (ask_on c.args.sending.path r.state.asks) c.args.sending.onward.items r.state.waiting;
+        preferred = with_preferred (Some c.args.sending.preferred) r.state.preferred;
+        moment = c.args.moment;
+        tcp_asks = r.state.tcp_asks + tcp_count c.args.sending.ask;
+      };
+    }) c.self.view_is
+  where
+    places : (with_items c.self.inside.preferred c.prefer.new.places).items ≡ with_preferred (Some c.args.sending.preferred) c.self.inside.preferred.items
+    places = put_back c.self.inside.preferred c.prefer.new.places (with_preferred (Some c.args.sending.preferred) c.self.inside.preferred.items)
+        (c.prefer.ensures ∙ ap (with_preferred (Some c.args.sending.preferred)) c.deref_mut.ensures.value) (preferred_length (Some c.args.sending.preferred) c.self.inside.preferred.items)
