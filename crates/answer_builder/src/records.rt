@@ -4,6 +4,7 @@ ghost use Rattle.std.specs.Prelude.{◌≡◌, ◌≤◌, ◌<◌, map, IfOk, So
 ghost use Rattle.std.specs.List.{flat_map, AllByRecursion};
 ghost use Rattle.std.specs.Option.{option_copied, IfSome};
 ghost use Rattle.dns_message.specs.Borrowed.{data_of, records_in};
+ghost use Rattle.dns_message.specs.Data.{IsShaped};
 ghost use Rattle.trust_rank.specs.Values.{unboxed};
 ghost use Rattle.record_cache.specs.Ageing.{seconds_left};
 ghost use Rattle.answer_builder.specs.Answers.{aged, answers_of, rcode_of, record_of, set_records, soa_records, IsEarlier};
@@ -45,6 +46,7 @@ fn rows_of<'a, A: Allocator>(
     rows: DataRef<'a, A>,
     ttl: u32,
 ) -> RowsRef<'a, A>
+    requires { AllByRecursion (IsShaped kind) (data_of rows) }
     ensures { result ≡ map (record_of ttl piece.now kind) (data_of rows.entry) }
 {
     RowsRef {
@@ -84,6 +86,7 @@ pub(crate) fn sets_of<'a, A: Allocator + Copy>(
 
 /// The SOA as a set of its own, if there is one.
 fn aged<A: Allocator>(soa: &Option<Box<Record<A>, A>>, ttl: u32) -> Option<RowsRef<'_, A>>
+    requires { IfSome (unboxed soa.now) (λ r. IsShaped r.kind r.rdata) }
     ensures { listed result ≡ aged ttl (unboxed soa.now) }
 {
     match soa {
@@ -94,6 +97,7 @@ fn aged<A: Allocator>(soa: &Option<Box<Record<A>, A>>, ttl: u32) -> Option<RowsR
 
 /// The SOA as a set of its own.
 fn aged_soa<A: Allocator>(soa: &Record<A>, ttl: u32) -> RowsRef<'_, A>
+    requires { IsShaped soa.now.kind soa.now.rdata }
     ensures { result ≡ aged ttl (Some soa.now) }
 {
     RowsRef {

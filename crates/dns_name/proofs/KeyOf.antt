@@ -1,5 +1,5 @@
 -- The key of a name.
-use Rattle.std.proofs.Common.{◌≡◌, ℕ, suc, ◌+◌, ◌-◌, ◌<◌, ◌≤◌, List, [], ◌∷◌, ◌++◌, length, take, map, replicate, get_or, set, refl, sym, ap, subst, ◌∙◌, append_assoc, arith}
+use Rattle.std.proofs.Common.{◌≡◌, ℕ, suc, ◌+◌, ◌-◌, ◌<◌, ◌≤◌, List, [], ◌∷◌, ◌++◌, length, take, drop, map, replicate, get_or, set, refl, sym, ap, subst, ◌∙◌, append_assoc, arith}
 use Rattle.std.specs.List.{AllByRecursion}
 use Rattle.std.proofs.Common.{Bool, true, false, ◌&&◌, eqb}
 use Rattle.std.specs.Bool.{Decides}
@@ -7,7 +7,7 @@ use Rattle.std.specs.Cmp.Lexicographic.{pointwise, bytes_decides}
 use Rattle.std.proofs.lemmas.Bool.Decides.{Decides-eqb, same_from_decides}
 use Rattle.std.proofs.lemmas.Slice.Eq.{slice_eq-Decides}
 use Rattle.std.specs.Char.{to_ascii_lowercase}
-use Rattle.std.proofs.lemmas.List.{take_at, length-take, length-map, map-append, take_more, set_at}
+use Rattle.std.proofs.lemmas.List.{take_at, drop_at, drop-replicate, replicate-append-replicate, length-append, length-take, length-map, map-append, take_more, set_at}
 use Rattle.dns_name.specs.Labels.{octets_of, IsLabel, IsName, lowered, labels_of, IsLaidOut}
 use Rattle.dns_name.specs.Key.{padded, IsKey, key_octets, key_len}
 use Rattle.dns_name.proofs.LabelLaws.{size_of-is, size_of-lowered, labels_of-octets_of, map-octets_of, laid_out, laid_short}
@@ -46,6 +46,28 @@ is_key octets laid =
       lower = rw front (lowered_twice octets);
       zeros = rw front refl;
     }
+
+-- ---- a key that becomes that of another name
+
+-- behind the octets that the length of a key counts stand zeros
+zeros_behind : (octets : List ℕ) (len : ℕ) → IsKey octets len → length octets ≡ 255 → drop len octets ≡ replicate (255 - len) 0
+zeros_behind octets len key size =
+    let name : List ℕ = take (len - 1) octets in
+    let long : length name ≡ len - 1 = omega (arith, length-take (len - 1) octets, key.some, key.short, size) in
+    let one : 255 - length name ≡ suc (255 - len) = omega (arith, key.some, key.short, long) in
+    let whole : octets ≡ (name ++ 0 ∷ []) ++ replicate (255 - len) 0 = sym key.zeros ∙ ap (λ (n : ℕ). name ++ replicate n 0) one ∙ sym (append_assoc name (0 ∷ []) (replicate (255 - len) 0)) in
+    ap (drop len) whole ∙ drop_at (name ++ 0 ∷ []) (replicate (255 - len) 0) len (omega (arith, length-append name (0 ∷ []), long, key.some))
+
+-- where those octets are zeros too, others before them have zeros behind them
+pub became : (octets : List ℕ) (len : ℕ) (others : List ℕ) → IsKey octets len → length octets ≡ 255 → others ++ drop (length others) (replicate len 0 ++ drop len octets) ≡ padded others
+became octets len others key size =
+    let all : len + (255 - len) ≡ 255 = omega (arith, key.short) in
+    let zeros : replicate len 0 ++ drop len octets ≡ replicate 255 0 = ap (λ (xs : List ℕ). replicate len 0 ++ xs) (zeros_behind octets len key size) ∙ replicate-append-replicate len (255 - len) 0 ∙ ap (λ (n : ℕ). replicate n 0) all in
+    ap (λ (xs : List ℕ). others ++ xs) (ap (drop (length others)) zeros ∙ drop-replicate {X = ℕ} (length others) 255 0)
+
+-- octets of a name in lower case are as they are in its key
+pub lower_already : (octets : List ℕ) → IsLaidOut octets → lowered (labels_of octets) ≡ labels_of octets → map to_ascii_lowercase octets ≡ octets
+lower_already octets laid lower = lower_octets octets laid ∙ ap octets_of lower ∙ laid.whole
 
 -- one more octet in lower case, where a zero was
 pub lower_more : (octets : List ℕ) (i : ℕ) → i < length octets → length octets ≤ 255

@@ -86,6 +86,9 @@ fn end_of_words(len: u8) -> usize
     (words * 8).min(255)
 }
 
+/// What stands behind the octets of a name in its key.
+const ZEROS: [u8; 255] = [0; 255];
+
 impl NameKey {
     /// The key of the name that these octets are, as `Name::octets` gives them. It takes no memory.
     pub fn from_octets(octets: &[u8]) -> NameKey
@@ -93,6 +96,20 @@ impl NameKey {
         ensures { result ≡ lowered (labels_of octets.now) }
     {
         key_of(octets)
+    }
+
+    /// Makes this the key of the name that these octets are, as `octets` gives them: of what it was before nothing stays. Less
+    /// is written than for a new key. It takes no memory.
+    #[tactic(auto, using(crate::proofs::LabelLaws::laid_short))]
+    pub fn set_octets(&mut self, octets: &[u8])
+        requires laid { IsLaidOut octets.now }
+        requires lower { lowered (labels_of octets.now) ≡ labels_of octets.now }
+        ensures { self.new ≡ labels_of octets.now }
+    {
+        let before = usize::from(self.len);
+        self.octets[..before].copy_from_slice(&ZEROS[..before]);
+        self.octets[..octets.len()].copy_from_slice(octets);
+        self.len = octets.len() as u8 + 1;
     }
 
     /// The key of the name without its first label; `None` for the root. It takes no memory.

@@ -1,6 +1,6 @@
 //! Names: what they are made of, and how they compare.
 
-ghost use Rattle.std.specs.Prelude.{◌≡◌, ◌≤◌, ◌+◌, ◌∷◌, ◌++◌, [], length, map, OnOk, OnErr, IsTrue, ◌↔◌, IfOk, MatchResult, Some, None};
+ghost use Rattle.std.specs.Prelude.{◌≡◌, ◌≤◌, ◌+◌, ◌∷◌, ◌++◌, [], length, map, OnOk, OnErr, IsTrue, ◌↔◌, IfOk, IsOk, MatchResult, Some, None};
 ghost use Rattle.dns_name.specs.Labels.{IsLabel, IsName, IsSame, IsUnder, size_of, label_octets, labels_of, IsLaidOut, lowered, parent_of};
 ghost use Rattle.dns_name.specs.Faults.{Gives, first_fault, label_fault, named, pushed};
 
@@ -45,7 +45,8 @@ impl<A: Allocator> Name<A> {
     /// They are copied once. Up to 30 take no memory; of more, `Err` where memory ran out.
     pub fn from_octets(alloc: A, octets: &[u8]) -> Result<Name<A>, AllocError>
         requires { IsLaidOut octets.now }
-        ensures { IfOk result (λ name. name ≡ labels_of octets.now) }
+        ensures name { IfOk result (λ name. name ≡ labels_of octets.now) }
+        ensures few { length octets.now ≤ 30 → IsOk result }
     {
         Ok(Name {
             octets: ShortOctets::from_slice(alloc, octets)?,
@@ -155,9 +156,11 @@ impl<A: Allocator> Name<A> {
         }
     }
 
-    /// The same labels, letter case included. `Err` where memory ran out.
+    /// The same labels, letter case included. Up to 31 octets, the zero octet counted, take no memory; of more, `Err` where
+    /// memory ran out.
     pub fn copy(&self, alloc: A) -> Result<Name<A>, AllocError>
-        ensures { IfOk result (λ n. n ≡ self.now) }
+        ensures name { IfOk result (λ n. n ≡ self.now) }
+        ensures few { size_of self.now ≤ 31 → IsOk result }
     {
         Name::from_octets(alloc, self.octets())
     }

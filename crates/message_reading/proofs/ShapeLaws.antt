@@ -7,7 +7,7 @@ use Rattle.dns_name.specs.Labels.{IsLabel, IsName, label_octets, labels_of, octe
 use Rattle.dns_name.proofs.CallerLemmas.{labels_of_octets, octets_are_laid_out}
 use Rattle.message_names.specs.declared.fault.Fault.{Fault}
 use Rattle.message_reading.specs.declared.shape.Part.{Part}
-use Rattle.message_reading.specs.declared.shape.Part.TheVariants.{Name, Number16, Number32, Text}
+use Rattle.message_reading.specs.declared.shape.Part.TheVariants.{Name, Number16, SoaNumbers, Text}
 use Rattle.message_reading.specs.Values.{Record, Message}
 use Rattle.message_reading.specs.declared.header.Header.{Header}
 use Rattle.message_reading.specs.Shapes.{Shape, shape_of}
@@ -46,7 +46,7 @@ text_octets bytes o len lt is le =
 part_is : (part : Part) (bytes : List ℕ) (stop o : ℕ) (octets : List ℕ) (e : ℕ) → stop ≤ length bytes → PartAt part bytes stop o octets e → IsPart part octets
 part_is Name bytes stop o octets e le at = (at.0, name_is bytes o o e at.0 at.1 at.2, at.4)
 part_is Number16 bytes stop o octets e le at = ap length at.1 ∙ omega (arith, length-take 2 (drop o bytes), length-drop o bytes, at.0)
-part_is Number32 bytes stop o octets e le at = ap length at.1 ∙ omega (arith, length-take 4 (drop o bytes), length-drop o bytes, at.0)
+part_is SoaNumbers bytes stop o octets e le at = ap length at.1 ∙ omega (arith, length-take 20 (drop o bytes), length-drop o bytes, at.0)
 part_is Text bytes stop o octets e le at =
     let there : o + (get_or bytes o 0 + 1) ≤ stop = at.0 in
     (take (get_or bytes o 0) (drop (o + 1) bytes), at.1 ∙ text_octets bytes o (get_or bytes o 0) (omega (arith, there, le)) refl (omega (arith, there, le)))

@@ -3,7 +3,7 @@ use Rattle.std.proofs.Common.{◌≡◌, ℕ, zero, suc, ◌+◌, ◌≤◌, Boo
 use Rattle.message_names.specs.declared.fault.Fault.{Fault}
 use Rattle.message_names.specs.declared.fault.Fault.TheVariants.{Short, Rdata}
 use Rattle.message_reading.specs.declared.shape.Part.{Part}
-use Rattle.message_reading.specs.declared.shape.Part.TheVariants.{Name, Number16, Number32, Text}
+use Rattle.message_reading.specs.declared.shape.Part.TheVariants.{Name, Number16, SoaNumbers, Text}
 use Rattle.message_reading.specs.Values.{Question, Record}
 use Rattle.message_reading.specs.Shapes.{Shape, shape_of}
 use Rattle.message_names.specs.Reading.{◌>>=◌}
@@ -82,13 +82,13 @@ part_sound Name bytes stop o octets e le is =
     let at = bounded_name_read_stands bytes (inside stop) o name.labels e le name.read in
     (name.labels, at.0, at.1, at.2, name.out)
 part_sound Number16 bytes stop o octets e le is = let h = octets_sound bytes stop o 2 octets e is in (h.there, h.octets_are, h.ends)
-part_sound Number32 bytes stop o octets e le is = let h = octets_sound bytes stop o 4 octets e is in (h.there, h.octets_are, h.ends)
+part_sound SoaNumbers bytes stop o octets e le is = let h = octets_sound bytes stop o 20 octets e is in (h.there, h.octets_are, h.ends)
 part_sound Text bytes stop o octets e le is = let h = text_sound bytes stop o octets e is in (h.there, h.octets_are, h.ends)
 
 part_complete : (part : Part) (bytes : List ℕ) (stop o : ℕ) (octets : List ℕ) (e : ℕ) → PartAt part bytes stop o octets e → part_at part bytes stop o ≡ read_as octets e
 part_complete Name bytes stop o octets e at = rw (bounded_standing_name_is_read bytes (inside stop) o at.0 e at.1 at.2 at.3, at.4) refl
 part_complete Number16 bytes stop o octets e at = rw (at.1, at.2) (octets_complete bytes stop o 2 at.0)
-part_complete Number32 bytes stop o octets e at = rw (at.1, at.2) (octets_complete bytes stop o 4 at.0)
+part_complete SoaNumbers bytes stop o octets e at = rw (at.1, at.2) (octets_complete bytes stop o 20 at.0)
 part_complete Text bytes stop o octets e at = rw (at.1, at.2) (text_complete bytes stop o at.0)
 
 record Rest (front : List ℕ) (r : Result (List ℕ × ℕ) Fault) (octets : List ℕ) (e : ℕ) : Type 0 where

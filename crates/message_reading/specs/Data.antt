@@ -4,7 +4,7 @@ use Rattle.dns_name.specs.Labels.{IsName, label_octets, octets_of, size_of}
 use Rattle.message_names.specs.declared.fault.Fault.{Fault}
 use Rattle.message_names.specs.declared.fault.Fault.TheVariants.{Short, Rdata}
 use Rattle.message_reading.specs.declared.shape.Part.{Part}
-use Rattle.message_reading.specs.declared.shape.Part.TheVariants.{Name, Number16, Number32, Text}
+use Rattle.message_reading.specs.declared.shape.Part.TheVariants.{Name, Number16, SoaNumbers, Text}
 use Rattle.message_reading.specs.Shapes.{Shape, shape_of}
 use Rattle.message_names.specs.Reading.{◌>>=◌}
 use Rattle.message_names.specs.Names.{NameAt, name_at, name_within, inside}
@@ -19,7 +19,7 @@ name_octets labels = octets_of labels ++ 0 ∷ []
 abbrev pub IsPart : Part → List ℕ → Type 0
 IsPart Name octets = (labels : List (List ℕ)) × IsName labels × (octets ≡ name_octets labels)
 IsPart Number16 octets = length octets ≡ 2
-IsPart Number32 octets = length octets ≡ 4
+IsPart SoaNumbers octets = length octets ≡ 20
 IsPart Text octets = (text : List ℕ) × (octets ≡ label_octets text)
 
 -- these octets are the parts, one behind another
@@ -41,7 +41,7 @@ IsShaped kind octets = IsOfShape (shape_of kind) octets
 abbrev pub PartAt : Part → List ℕ → ℕ → ℕ → List ℕ → ℕ → Type 0
 PartAt Name bytes stop o octets e = (labels : List (List ℕ)) × NameAt bytes o o labels e × (size_of labels ≤ 255) × (e ≤ stop) × (octets ≡ name_octets labels)
 PartAt Number16 bytes stop o octets e = (o + 2 ≤ stop) × (octets ≡ take 2 (drop o bytes)) × (e ≡ o + 2)
-PartAt Number32 bytes stop o octets e = (o + 4 ≤ stop) × (octets ≡ take 4 (drop o bytes)) × (e ≡ o + 4)
+PartAt SoaNumbers bytes stop o octets e = (o + 20 ≤ stop) × (octets ≡ take 20 (drop o bytes)) × (e ≡ o + 20)
 PartAt Text bytes stop o octets e = (o + (slice_index bytes o + 1) ≤ stop) × (octets ≡ take (slice_index bytes o + 1) (drop o bytes)) × (e ≡ o + (slice_index bytes o + 1))
 
 -- the parts fill the data from o to stop
@@ -77,7 +77,7 @@ text_within bytes stop o = if nat_le stop o then Err Rdata else octets_within by
 abbrev pub part_at : Part → List ℕ → ℕ → ℕ → Result (List ℕ × ℕ) Fault
 part_at Name bytes stop o = written_out (name_within bytes (inside stop) o)
 part_at Number16 bytes stop o = octets_within bytes stop o 2
-part_at Number32 bytes stop o = octets_within bytes stop o 4
+part_at SoaNumbers bytes stop o = octets_within bytes stop o 20
 part_at Text bytes stop o = text_within bytes stop o
 
 -- the parts, which must end at stop

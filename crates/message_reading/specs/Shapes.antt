@@ -1,7 +1,7 @@
 -- The types whose data has names in it: RFC 1035 3.3, RFC 1183, RFC 2163, RFC 2782, RFC 3403.
 use Rattle.std.specs.Prelude.{ℕ, List, [], ◌∷◌, Bool, true, false, Option, Some, None, ◌==◌, if◌then◌else◌}
 use Rattle.message_reading.specs.declared.shape.Part.{Part}
-use Rattle.message_reading.specs.declared.shape.Part.TheVariants.{Name, Number16, Number32, Text}
+use Rattle.message_reading.specs.declared.shape.Part.TheVariants.{Name, Number16, SoaNumbers, Text}
 
 -- the parts that fill the data, and whether names in it may be written with pointers
 pub record Shape : Type 0 where
@@ -21,7 +21,7 @@ in_full kind parts = record { kind = kind; shape = record { parts = parts; compr
 
 -- MNAME, RNAME, SERIAL, REFRESH, RETRY, EXPIRE, MINIMUM: RFC 1035 3.3.13
 abbrev pub soa_parts : List Part
-soa_parts = Name ∷ Name ∷ Number32 ∷ Number32 ∷ Number32 ∷ Number32 ∷ Number32 ∷ []
+soa_parts = Name ∷ Name ∷ SoaNumbers ∷ []
 
 -- priority, weight, port, target: RFC 2782
 abbrev pub srv_parts : List Part

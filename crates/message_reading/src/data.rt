@@ -81,7 +81,7 @@ fn read_part<A: Allocator>(
     match part {
         Part::Name => expand_name(octets, bytes, ends, stop, offset),
         Part::Number16 => read_octets(octets, bytes, stop, offset, 2),
-        Part::Number32 => read_octets(octets, bytes, stop, offset, 4),
+        Part::SoaNumbers => read_octets(octets, bytes, stop, offset, 20),
         Part::Text => {
             if offset >= stop {
                 return Err(Fault::Rdata);
@@ -108,7 +108,7 @@ fn skip_part(
     match part {
         Part::Name => skip_name(bytes, sizes, Bound::data(stop), offset),
         Part::Number16 => skip_octets(bytes, stop, offset, 2),
-        Part::Number32 => skip_octets(bytes, stop, offset, 4),
+        Part::SoaNumbers => skip_octets(bytes, stop, offset, 20),
         Part::Text => {
             if offset >= stop {
                 return Err(Fault::Rdata);

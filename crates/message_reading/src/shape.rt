@@ -3,7 +3,7 @@
 ghost use Rattle.std.specs.Prelude.{◌≡◌};
 ghost use Rattle.message_reading.specs.Shapes.{shape_of};
 
-use Part::{Name, Number16, Number32, Text};
+use Part::{Name, Number16, SoaNumbers, Text};
 use std::marker::Model;
 
 /// A part of a record's data.
@@ -13,8 +13,9 @@ pub enum Part {
     Name,
     /// Two octets.
     Number16,
-    /// Four octets.
-    Number32,
+    /// The numbers of an SOA behind its names: SERIAL, REFRESH, RETRY, EXPIRE, MINIMUM, of four octets each (RFC 1035
+    /// 3.3.13).
+    SoaNumbers,
     /// A character-string: a length octet and that many octets (RFC 1035 3.3).
     Text,
 }
@@ -44,11 +45,8 @@ pub fn shape_of(kind: u16) -> Option<Shape>
     let (parts, compressed): (&'static [Part], bool) = match kind {
         // NS, MD, MF, CNAME, MB, MG, MR, PTR
         2 | 3 | 4 | 5 | 7 | 8 | 9 | 12 => (&[Name], true),
-        // SOA: MNAME, RNAME, SERIAL, REFRESH, RETRY, EXPIRE, MINIMUM
-        6 => (
-            &[Name, Name, Number32, Number32, Number32, Number32, Number32],
-            true,
-        ),
+        // SOA: MNAME, RNAME, and the numbers
+        6 => (&[Name, Name, SoaNumbers], true),
         // MINFO
         14 => (&[Name, Name], true),
         // MX: preference, exchange

@@ -6,8 +6,6 @@
 #[cfg(test)]
 mod messages;
 #[cfg(test)]
-mod parts_tests;
-#[cfg(test)]
 mod reading_tests;
 #[cfg(test)]
 mod shape_tests;

@@ -3,7 +3,7 @@ use Rattle.std.proofs.Common.{◌≡◌, ℕ, ◌+◌, ◌<◌, ◌≤◌, Bool,
 use Rattle.std.specs.Prelude.{is_some, nat_lt}
 use Rattle.std.proofs.lemmas.List.{take-append-drop, drop_more, drop_all}
 use Rattle.message_reading.specs.declared.shape.Part.{Part}
-use Rattle.message_reading.specs.declared.shape.Part.TheVariants.{Name, Number16, Number32, Text}
+use Rattle.message_reading.specs.declared.shape.Part.TheVariants.{Name, Number16, SoaNumbers, Text}
 use Rattle.message_writing.specs.Fields.{plain, first_field, first_octets, fields_of, has_name}
 use Rattle.message_writing.specs.Writing.{as_is, ◌▹◌, field_text}
 use Rattle.message_writing.specs.Writer.{field_in, IsFirst}
@@ -19,7 +19,7 @@ not_first : (part : Part) (parts : List Part) → (part ≡ Name → ⊥) → ha
 unfolding has_name
 not_first Name parts free = absurd (free refl)
 not_first Number16 parts free = refl
-not_first Number32 parts free = refl
+not_first SoaNumbers parts free = refl
 not_first Text parts free = refl
 
 pub not_here : (parts : List Part) (i : ℕ) (d : Part) → i < length parts → (get_or parts i d ≡ Name → ⊥) → has_name (drop i parts) ≡ has_name (drop (i + 1) parts)
@@ -89,6 +89,6 @@ plain_text [] [] free some = parts_done [] some
 plain_text [] (x ∷ xs) free some = absurd (nothing_left x xs some)
 plain_text (Name ∷ parts) xs free some = absurd cc
 plain_text (Number16 ∷ parts) xs free some = octets_first Number16 2 parts xs refl (λ first. refl) (λ same. absurd cc) (λ ys. plain_text parts ys free) some
-plain_text (Number32 ∷ parts) xs free some = octets_first Number32 4 parts xs refl (λ first. refl) (λ same. absurd cc) (λ ys. plain_text parts ys free) some
+plain_text (SoaNumbers ∷ parts) xs free some = octets_first SoaNumbers 20 parts xs refl (λ first. refl) (λ same. absurd cc) (λ ys. plain_text parts ys free) some
 plain_text (Text ∷ parts) [] free some = absurd (no_text parts some)
 plain_text (Text ∷ parts) (len ∷ xs) free some = octets_first Text (len + 1) parts (len ∷ xs) refl (λ first. refl) (λ same. absurd cc) (λ ys. plain_text parts ys free) some

@@ -1,11 +1,12 @@
 -- What was written stands there: the data of records.
 use Rattle.std.proofs.Common.{◌≡◌, ℕ, ◌+◌, ◌≤◌, Bool, true, false, cond, List, [], ◌∷◌, ◌++◌, length, take, drop, get_or, Option, Some, None, refl, sym, ap, subst, ◌∙◌, append_assoc, arith}
 use Rattle.std.specs.List.{AllByRecursion}
+use Rattle.std.specs.Prelude.{IsTrue, is_some}
 use Rattle.std.proofs.lemmas.List.{length-append, get_or_at, take_at, drop_at}
 use Rattle.std.proofs.lemmas.Bool.{le-ltb}
 use Rattle.dns_name.specs.Labels.{label_octets, octets_of, IsLabel}
 use Rattle.message_reading.specs.declared.shape.Part.{Part}
-use Rattle.message_reading.specs.declared.shape.Part.TheVariants.{Name, Number16, Number32, Text as String}
+use Rattle.message_reading.specs.declared.shape.Part.TheVariants.{Name, Number16, SoaNumbers, Text as String}
 use Rattle.message_reading.specs.Shapes.{Shape, shape_of}
 use Rattle.message_names.specs.Names.{NameAt, at_root, inside}
 use Rattle.message_reading.specs.Data.{name_octets, IsPart, HasParts, no_parts, more_parts, IsOfShape, IsShaped, PartAt, PartsAt, parts_end, parts_go_on, ShapedAt, DataAt}
@@ -38,8 +39,8 @@ part_here Name all front first more stop (labels, name, is) whole le =
     (labels, rw (ap length is) (full_stands all labels front more (length front) name.each (rw is at whole)), name.short, le, is)
 part_here Number16 all front first more stop size whole le =
     (omega (arith, le, size), sym (ap (take 2) (ap (drop (length front)) whole ∙ drop_at front (first ++ more) (length front) refl) ∙ take_at first more 2 size), omega (arith, size))
-part_here Number32 all front first more stop size whole le =
-    (omega (arith, le, size), sym (ap (take 4) (ap (drop (length front)) whole ∙ drop_at front (first ++ more) (length front) refl) ∙ take_at first more 4 size), omega (arith, size))
+part_here SoaNumbers all front first more stop size whole le =
+    (omega (arith, le, size), sym (ap (take 20) (ap (drop (length front)) whole ∙ drop_at front (first ++ more) (length front) refl) ∙ take_at first more 20 size), omega (arith, size))
 part_here String all front first more stop (text, is) whole le =
     let here : get_or all (length front) 0 ≡ length text = rw (whole, is) (get_or_at front (length text) (text ++ more) 0 (length front) refl) in
     let size : length first ≡ length text + 1 = omega (arith, ap length is) in
@@ -87,7 +88,7 @@ made Name first rest (labels, name, is) =
       stands = λ all t stop stand b le. ((labels, name_stands all labels t (length t.octets) name.each (stands_known all t labels stand) b, name.short, le, is), name_places all labels t stand name.each b);
     }
 made Number16 first rest size = record { field = plain first; is = so_many 2 first rest size; stands = λ all t stop stand b le. (octets_stand all t first 2 stop size b le, as_is_stands all t first stand) }
-made Number32 first rest size = record { field = plain first; is = so_many 4 first rest size; stands = λ all t stop stand b le. (octets_stand all t first 4 stop size b le, as_is_stands all t first stand) }
+made SoaNumbers first rest size = record { field = plain first; is = so_many 20 first rest size; stands = λ all t stop stand b le. (octets_stand all t first 20 stop size b le, as_is_stands all t first stand) }
 made String first rest (text, is) =
     let P : List ℕ → Type 0 = λ x. Made String x rest in
     subst P (sym is) (record {
@@ -138,6 +139,13 @@ fielded [] [] no_parts = record {
 }
 fielded [] (x ∷ xs) shaped = elim shaped [ ]
 fielded (part ∷ parts) xs (more_parts first rest is_part others is) = fielded_more part parts xs first rest is (made part first rest is_part) (fielded parts rest others)
+
+-- data of its type's shape has its parts
+pub shaped_fields : (kind : ℕ) (shape : Shape) (rdata : List ℕ) → Some shape ≡ shape_of kind → IsShaped kind rdata → IsTrue (is_some (fields_of shape.parts rdata))
+shaped_fields kind shape rdata is shaped =
+    let parts : HasParts shape.parts rdata = subst (λ (s : Option Shape). IsOfShape s rdata) (sym is) shaped in
+    let f = fielded shape.parts rdata parts in
+    rw f.is refl
 
 -- ---- the data of a record
 

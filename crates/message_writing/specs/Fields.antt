@@ -3,7 +3,7 @@ use Rattle.std.specs.Prelude.{ℕ, Bool, true, false, ◌+◌, List, [], ◌∷�
 use Rattle.std.specs.Option.{option_map}
 use Rattle.message_names.specs.declared.fault.Fault.{Fault}
 use Rattle.message_reading.specs.declared.shape.Part.{Part}
-use Rattle.message_reading.specs.declared.shape.Part.TheVariants.{Name, Number16, Number32, Text}
+use Rattle.message_reading.specs.declared.shape.Part.TheVariants.{Name, Number16, SoaNumbers, Text}
 use Rattle.message_reading.specs.Shapes.{Shape, shape_of}
 use Rattle.message_names.specs.Names.{name_within, inside}
 
@@ -30,7 +30,7 @@ first_text (len ∷ xs) = first_octets (len + 1) (len ∷ xs)
 unfoldable pub first_field : Part → List ℕ → Option (Field × List ℕ)
 first_field Name xs = first_name (name_within xs (inside (length xs)) 0) xs
 first_field Number16 xs = first_octets 2 xs
-first_field Number32 xs = first_octets 4 xs
+first_field SoaNumbers xs = first_octets 20 xs
 first_field Text xs = first_text xs
 
 abbrev pub and_others : Option (Field × List ℕ) → (List ℕ → Option (List Field)) → Option (List Field)

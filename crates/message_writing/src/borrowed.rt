@@ -29,7 +29,8 @@ impl<'a, A: Allocator> DataRef<'a, A> {
     }
 }
 
-/// Records of one owner, type, class and TTL, whose data is borrowed. Contracts see the list of these records.
+/// Records of one owner, type, class and TTL, whose data is borrowed and of the shape of its type, so that it is written
+/// without being looked through before. Contracts see the list of these records.
 #[derive(Drop)]
 pub struct RowsRef<'a, A: Allocator = Global> {
     pub owner: &'a Name<A>,
@@ -42,12 +43,16 @@ pub struct RowsRef<'a, A: Allocator = Global> {
 
 impl<'a, A: Allocator> Model for RowsRef<'a, A> {
     ghost use Rattle.std.specs.Prelude.{List};
+    ghost use Rattle.std.specs.List.{AllByRecursion};
+    ghost use Rattle.message_reading.specs.Data.{IsShaped};
     ghost use Rattle.message_reading.specs.Values.{Record};
     ghost use Rattle.message_writing.specs.Borrowed.{data_of, records_of};
 
     ghost Value = { List Record };
 
     ghost view = { λ r. records_of r.owner.now r.kind r.class r.ttl (data_of r.data) };
+
+    ghost invariant = { λ r. AllByRecursion (IsShaped r.kind) (data_of r.data) };
 }
 
 /// A message that is put together from borrowed things, without an additional section. Contracts see the message.

@@ -4,6 +4,7 @@ ghost use Rattle.std.specs.Prelude.{◌≡◌, ◌≤◌, ◌<◌, ◌+◌, ◌+
 ghost use Rattle.dns_name.specs.Labels.{IsLaidOut};
 ghost use Rattle.message_names.specs.Names.{name_within, inside};
 ghost use Rattle.message_names.specs.Reading.{behind};
+ghost use Rattle.message_reading.specs.Data.{IsShaped};
 ghost use Rattle.message_writing.specs.Fields.{fields_of, first_field, has_name};
 ghost use Rattle.message_writing.specs.Writing.{octets16, as_is, with_length, data_text, field_text, by_fields};
 ghost use Rattle.message_writing.specs.Writer.{Writes, Puts, HoldsText, IsFirst, field_in};
@@ -52,7 +53,7 @@ fn split_part(part: Part, octets: &[u8]) -> Option<(&[u8], &[u8])>
             Some((&name[..end - 1], behind))
         }
         Part::Number16 => split_octets(octets, 2),
-        Part::Number32 => split_octets(octets, 4),
+        Part::SoaNumbers => split_octets(octets, 20),
         Part::Text => match octets {
             [] => None,
             [len, ..] => split_octets(octets, *len as usize + 1),
@@ -198,6 +199,27 @@ pub(crate) fn put_with_length<'a, A: Allocator + Copy>(
 {
     match shape_of(kind) {
         Some(shape) if shape.compressed && are_parts(shape.parts, rdata) => {
+            put_parts_with_length(writer, shape.parts, rdata, limit)
+        }
+        _ => put_plain_with_length(writer, rdata, limit),
+    }
+}
+
+/// Writes data of the shape of its type behind its length, as far as the limit lets it. It is not looked through before.
+#[tactic(auto, unfolding(crate::specs::Writing::data_text))]
+pub(crate) fn put_shaped_with_length<'a, A: Allocator + Copy>(
+    writer: &mut Writer<'a, A>,
+    kind: u16,
+    rdata: &'a [u8],
+    limit: usize,
+) -> Result<(), Fault>
+    requires shaped { IsShaped kind rdata.now }
+    requires holds { HoldsText writer.old }
+    requires limit { limit ≤ 65535 }
+    ensures { Puts limit result writer.old writer.new (with_length (data_text kind rdata.now)) (Unit {0}) }
+{
+    match shape_of(kind) {
+        Some(shape) if shape.compressed => {
             put_parts_with_length(writer, shape.parts, rdata, limit)
         }
         _ => put_plain_with_length(writer, rdata, limit),

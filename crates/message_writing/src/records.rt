@@ -4,13 +4,14 @@ ghost use Rattle.std.specs.Prelude.{◌≡◌, ◌++◌, ◌≤◌, ◌<◌, ℕ
 ghost use Rattle.std.specs.Option.{IfSome};
 ghost use Rattle.std.specs.List.{AllByRecursion};
 ghost use Rattle.dns_name.specs.Labels.{labels_of, IsLaidOut};
+ghost use Rattle.message_reading.specs.Data.{IsShaped};
 ghost use Rattle.message_writing.specs.Writing.{octets16, octets32, each, question_text, head_text, record_text};
 ghost use Rattle.message_writing.specs.Borrowed.{record_of, records_of, records_in, questions_of};
 ghost use Rattle.message_writing.specs.Written.{IsQuestion, IsRecord};
 ghost use Rattle.message_writing.specs.Writer.{Writes, Puts, HoldsText, IsKnown};
 
 use crate::borrowed::{DataRef, RowsRef};
-use crate::data::put_with_length;
+use crate::data::{put_shaped_with_length, put_with_length};
 use crate::writer::Writer;
 use byteorder::{BigEndian, ByteOrder};
 use message_names::Fault;
@@ -126,7 +127,8 @@ fn put_head<'a, A: Allocator + Copy>(
 }
 
 /// Writes a record with this data, as far as the limit lets it. This is the pointer to its owner, if any.
-fn put_row<'a, A: Allocator + Copy>(
+/// Data that is not of its type's shape is written as it is.
+fn put_any_row<'a, A: Allocator + Copy>(
     writer: &mut Writer<'a, A>,
     head: &Head<'a>,
     known: Option<u16>,
@@ -177,7 +179,28 @@ fn put_record<'a, A: Allocator + Copy>(
         class: entry.class,
         ttl: entry.ttl,
     };
-    put_row(writer, &head, None, entry.rdata.octets(), limit)?;
+    put_any_row(writer, &head, None, entry.rdata.octets(), limit)?;
+    Ok(())
+}
+
+/// Writes a record with this data, which is of its type's shape, as far as the limit lets it. This is the pointer to its
+/// owner, if any.
+fn put_row<'a, A: Allocator + Copy>(
+    writer: &mut Writer<'a, A>,
+    head: &Head<'a>,
+    known: Option<u16>,
+    rdata: &'a [u8],
+    limit: usize,
+) -> Result<(), Fault>
+    requires shaped { IsShaped head.now.kind rdata.now }
+    requires laid { IsLaidOut head.now.owner.now }
+    requires known { IfSome known (λ pointer. IsKnown writer.old head.now.owner.now pointer) }
+    requires holds { HoldsText writer.old }
+    requires limit { limit ≤ 65535 }
+    ensures { let entry = record_of (labels_of head.now.owner.now) head.now.kind head.now.class head.now.ttl rdata.now in Puts limit result writer.old writer.new (record_text entry) (IsRecord entry) }
+{
+    put_head(writer, head, known)?;
+    put_shaped_with_length(writer, head.kind, rdata, limit)?;
     Ok(())
 }
 
@@ -188,6 +211,7 @@ fn put_rows<'a, A: Allocator + Copy>(
     rows: &'a [Rdata<A>],
     limit: usize,
 ) -> Result<(), Fault>
+    requires shaped { AllByRecursion (IsShaped head.now.kind) rows.now }
     requires laid { IsLaidOut head.now.owner.now }
     requires holds { HoldsText writer.old }
     requires limit { limit ≤ 65535 }

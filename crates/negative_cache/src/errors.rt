@@ -15,9 +15,11 @@ use suffix_routes::Config;
 use trust_rank::Slot;
 
 /// The nearest living name error of the name or of one above it whose own name has the route of the name. Routes are looked
-/// at only where a living one of a name above is met.
+/// at only where a living one of a name above is met. What the slot was does not matter: it becomes that of each name in
+/// turn, so that no key is made anew.
 pub(crate) fn nearest_name_error<'a, H: BuildHasher + Drop, A: Allocator + Copy>(
     cache: &'a Cache<H, A>,
+    slot: &mut Slot,
     key: &NameKey,
     class: u16,
     moment: u64,
@@ -30,15 +32,16 @@ pub(crate) fn nearest_name_error<'a, H: BuildHasher + Drop, A: Allocator + Copy>
     if !cache.may_deny(octets) {
         return None;
     }
-    if let Some(held) = name_error_of(cache, octets, class, moment) {
+    if let Some(held) = name_error_of(cache, slot, octets, class, moment) {
         return Some(held);
     }
-    nearest_above(cache, key, class, moment, config)
+    nearest_above(cache, slot, key, class, moment, config)
 }
 
 /// The nearest living name error of the names above a name whose own name has the route of the name.
 fn nearest_above<'a, H: BuildHasher + Drop, A: Allocator + Copy>(
     cache: &'a Cache<H, A>,
+    slot: &mut Slot,
     key: &NameKey,
     class: u16,
     moment: u64,
@@ -51,7 +54,7 @@ fn nearest_above<'a, H: BuildHasher + Drop, A: Allocator + Copy>(
     let mut rest = key.octets();
     while let Some((_, higher)) = split_label(rest) {
         rest = higher;
-        if let Some(held) = name_error_on(cache, rest, class, moment, config, key) {
+        if let Some(held) = name_error_on(cache, slot, rest, class, moment, config, key) {
             return Some(held);
         }
     }
@@ -62,6 +65,7 @@ fn nearest_above<'a, H: BuildHasher + Drop, A: Allocator + Copy>(
 /// which is below it.
 fn name_error_on<'a, H: BuildHasher + Drop, A: Allocator + Copy>(
     cache: &'a Cache<H, A>,
+    slot: &mut Slot,
     octets: &[u8],
     class: u16,
     moment: u64,
@@ -75,7 +79,7 @@ fn name_error_on<'a, H: BuildHasher + Drop, A: Allocator + Copy>(
         ≡ name_error_on config.now.routes (route_of config.now.routes asked.now) moment
         (slots_of cache.now.entries) class (labels_of octets.now) }
 {
-    let held = name_error_of(cache, octets, class, moment)?;
+    let held = name_error_of(cache, slot, octets, class, moment)?;
     if has_route_of(config, octets, asked) {
         Some(held)
     } else {
@@ -110,9 +114,10 @@ fn is_under_longer<A: Allocator>(key: &NameKey, suffix: &Name<A>, size: usize) -
     suffix.octets().len() > size && key.is_under(suffix)
 }
 
-/// The living name error of the name that these octets are.
+/// The living name error of the name that these octets are, whose slot is made where another one was.
 fn name_error_of<'a, H: BuildHasher + Drop, A: Allocator + Copy>(
     cache: &'a Cache<H, A>,
+    slot: &mut Slot,
     octets: &[u8],
     class: u16,
     moment: u64,
@@ -124,10 +129,8 @@ fn name_error_of<'a, H: BuildHasher + Drop, A: Allocator + Copy>(
     if !cache.has_name_error(octets.len()) {
         return None;
     }
-    let slot = Slot {
-        key: NameKey::from_octets(octets),
-        class,
-        kind: None,
-    };
-    living_entry(cache, &slot, moment)
+    slot.key.set_octets(octets);
+    slot.class = class;
+    slot.kind = None;
+    living_entry(cache, slot, moment)
 }

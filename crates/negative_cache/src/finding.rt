@@ -82,7 +82,7 @@ fn look_up<'a, H: BuildHasher + Drop, A: Allocator + Copy>(
     if let Some(held) = no_data_in(own) {
         return Found::NoData(held);
     }
-    match nearest_name_error(cache, key, class, moment, config) {
+    match nearest_name_error(cache, &mut slot, key, class, moment, config) {
         Some(held) => Found::Denied(held),
         None => Found::Miss,
     }

@@ -129,17 +129,13 @@ pub copy_is_soa : (soa copy : Record) → IsSoa soa → copy ≡ soa → IsSoa c
 copy_is_soa soa copy is e = subst IsSoa (sym e) is
 
 soa_long : (octets : List ℕ) → HasParts soa_parts octets → 4 ≤ length octets
-soa_long octets (more_parts a r1 is_a (more_parts b r2 is_b (more_parts c r3 is_c (more_parts d r4 is_d (more_parts e r5 is_e (more_parts f r6 is_f (more_parts g r7 is_g end e7) e6) e5) e4) e3) e2) e1) =
+soa_long octets (more_parts a r1 is_a (more_parts b r2 is_b (more_parts c r3 is_c end e3) e2) e1) =
     omega (
       arith,
-      is_g,
+      is_c,
       ap length e1 ∙ length-append a r1,
       ap length e2 ∙ length-append b r2,
       ap length e3 ∙ length-append c r3,
-      ap length e4 ∙ length-append d r4,
-      ap length e5 ∙ length-append e r5,
-      ap length e6 ∙ length-append f r6,
-      ap length e7 ∙ length-append g r7,
     )
 
 -- the data of an SOA has its last number

@@ -13,4 +13,4 @@ returns-then-not-has_name_error g c =
 pub returns : goal.returns
 returns g c =
     c.living_entry.ensures.found
-    ∙ ap (λ (key : List (List ℕ)). living_entry c.args.moment (slots_of c.args.cache.now.entries) (record { key = key; class = c.args.class; kind = None })) (c.from_octets.ensures ∙ c.requires.lower)
+    ∙ ap (λ (key : List (List ℕ)). living_entry c.args.moment (slots_of c.args.cache.now.entries) (record { key = key; class = c.args.class; kind = None })) c.set_octets.ensures
