@@ -1,7 +1,6 @@
 //! Messages that are read, their faults, and each growth refused in turn.
 
-use dns_message::{Fault, Header, Message, MessageRef, Question, Rdata, Record, Span};
-use dns_name::Name;
+use dns_message::{Fault, Header, Message, MessageRef, Record, Span};
 use refusing_allocator::Refusing;
 use std::alloc::{AllocError, Allocator, Global};
 use std::test::Fail;
@@ -70,12 +69,6 @@ fn decoded(alloc: Global, digits: &str) -> Result<Vec<u8>, Fail> {
     Ok(hex::decode(alloc, digits)?)
 }
 
-/// The first question of a message.
-fn question_of(alloc: Global, digits: &str) -> Result<Question, Fail> {
-    let octets = decoded(alloc, digits)?;
-    Ok(MessageRef::view(&octets)?.question(alloc)?)
-}
-
 #[test]
 fn a_header_is_read(rt: HostRuntime) -> Result<(), Fail> {
     let octets = decoded(rt.alloc(), REPLY)?;
@@ -93,34 +86,6 @@ fn a_header_is_read(rt: HostRuntime) -> Result<(), Fail> {
     };
     assert_eq!(rt; Header::read(&octets), Some(expected));
     assert_eq!(rt; Header::read(b"elevenoctet".as_slice()), None);
-    Ok(())
-}
-
-#[test]
-fn the_first_question_is_read(rt: HostRuntime) -> Result<(), Fail> {
-    let octets = decoded(rt.alloc(), REPLY)?;
-    let view = MessageRef::view(&octets)?;
-    let mut question = view.question(rt.alloc())?;
-    assert!(rt; question.name.octets() == b"\x01a\x07example".as_slice());
-    assert_eq!(rt; (question.kind, question.class), (1, 1));
-    assert!(rt; view.question_is(&question));
-    question.class = 3;
-    assert!(rt; !view.question_is(&question));
-    Ok(())
-}
-
-#[test]
-fn a_question_is_lent_where_it_lies(rt: HostRuntime) -> Result<(), Fail> {
-    let octets = decoded(rt.alloc(), REPLY)?;
-    let view = MessageRef::view(&octets)?;
-    let Some(question) = view.question_ref() else {
-        return Err(Fail::from("no question"));
-    };
-    assert!(rt; question.name() == b"\x01a\x07example".as_slice());
-    assert_eq!(rt; (question.kind(), question.class()), (1, 1));
-    assert!(rt; question.key() == view.key());
-    let copy = question.reborrow().copy(rt.alloc())?;
-    assert!(rt; view.question_is(&copy));
     Ok(())
 }
 
@@ -158,21 +123,6 @@ fn a_question_with_a_pointer_is_not_lent(rt: HostRuntime) -> Result<(), Fail> {
             "{digits}"
         );
     }
-    Ok(())
-}
-
-#[test]
-fn the_spans_of_the_records_are_told(rt: HostRuntime) -> Result<(), Fail> {
-    let octets = decoded(rt.alloc(), REPLY)?;
-    let view = MessageRef::view(&octets)?;
-    let span = Span {
-        start: 27,
-        end: 43,
-        section: 0,
-    };
-    let mut records = view.records();
-    assert_eq!(rt; records.next(), Some(span));
-    assert_eq!(rt; records.next(), None);
     Ok(())
 }
 
@@ -217,22 +167,6 @@ fn the_spans_behind_many_pointers_are_told(rt: HostRuntime) -> Result<(), Fail> 
         assert_eq!(rt; records.next(), Some(span));
     }
     assert_eq!(rt; records.next(), None);
-    Ok(())
-}
-
-#[test]
-fn questions_are_the_same_letter_case_aside(rt: HostRuntime) -> Result<(), Fail> {
-    let question = question_of(
-        rt.alloc(),
-        "0001010000010000000000000161076578616d706c650000010001",
-    )?;
-    let mut other = question_of(
-        rt.alloc(),
-        "0002010000010000000000000141076578616d706c650000010001",
-    )?;
-    assert!(rt; question.is_same(&other));
-    other.kind = 28;
-    assert!(rt; !question.is_same(&other));
     Ok(())
 }
 
@@ -393,35 +327,6 @@ fn a_name_too_long_behind_many_records_is_told(rt: HostRuntime) -> Result<(), Fa
         assert!(rt; !MessageRef::view(&octets)?.is_whole());
         assert_eq!(rt; fault_of(rt.alloc(), &octets), Some(Fault::NameLong));
     }
-    Ok(())
-}
-
-#[test]
-fn a_view_knows_header_and_question(rt: HostRuntime) -> Result<(), Fail> {
-    let octets = decoded(
-        rt.alloc(),
-        "0008850000010000000000000161074558414d504c4500001c0003",
-    )?;
-    let view = MessageRef::view(&octets)?;
-    let question = view.question(rt.alloc())?;
-    assert_eq!(rt; view.header().id, 8);
-    assert_eq!(rt; (view.kind(), view.class()), (28, 3));
-    assert!(rt; view.key() == question.name.key());
-    assert!(rt; question.name.octets() == b"\x01a\x07EXAMPLE".as_slice());
-    Ok(())
-}
-
-/// The name that these data are.
-fn name_in(alloc: Global, digits: &str) -> Result<Option<Name>, Fail> {
-    let data = Rdata::from_octets(alloc, &decoded(alloc, digits)?)?;
-    Ok(data.name(alloc)?)
-}
-
-#[test]
-fn data_is_a_name_or_none(rt: HostRuntime) -> Result<(), Fail> {
-    let name = name_in(rt.alloc(), "0161076578616d706c6500")?.ok_or("a name")?;
-    assert!(rt; name.octets() == b"\x01a\x07example".as_slice());
-    assert!(rt; name_in(rt.alloc(), "c6336405")?.is_none());
     Ok(())
 }
 
