@@ -1,4 +1,4 @@
-//! Tests of answers from outside: worked answers in octets, and refused growths.
+//! Tests of answers from outside: refused growths, and what is said of a fault.
 #![tactic(auto)]
 
 #[cfg(test)]

@@ -1,6 +1,6 @@
 //! Refused growths.
 
-use crate::samples::{ADDRESS, ALIAS, Case, NAME_ERROR, answer, asked, growths_beside_room};
+use crate::samples::{ADDRESS, ALIAS, NAME_ERROR, answer, asked, growths_beside_room};
 use answer_builder::{Fault, Transport, failure, put_failure};
 use dns_message::MessageRef;
 use refusing_allocator::Refusing;
@@ -11,15 +11,9 @@ use std::test::Fail;
 fn refusals(table_heap: Global, transport: Transport) -> Result<u64, Fail> {
     let heap = Refusing::new(table_heap);
     let octets = hex::decode(table_heap, ALIAS)?;
-    let case = Case {
-        question: &octets,
-        reply: &octets,
-        moment: 1020,
-        transport,
-    };
     let mut refused = 0u64;
     for growths in 0..100u64 {
-        match answer(table_heap, &heap, case, growths)? {
+        match answer(table_heap, &heap, &octets, transport, growths)? {
             Ok(_) => break,
             Err(Fault::Memory) => refused = refused.saturating_add(1),
             Err(Fault::TooLarge) => return Err(Fail::from("too large")),
@@ -59,7 +53,7 @@ fn a_vector_with_room_is_not_made_larger(rt: HostRuntime) -> Result<(), Fail> {
         let octets = hex::decode(rt.alloc(), reply)?;
         assert_eq!(rt;
             growths_beside_room(rt.alloc(), &octets)?,
-            growths,
+            Some(growths),
             "of {reply}"
         );
     }

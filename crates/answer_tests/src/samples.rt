@@ -1,6 +1,6 @@
 //! Questions, and the chains that answer them, from the octets of replies.
 
-ghost use Rattle.std.specs.Prelude.{◌≤◌, ◌<◌, IfOk};
+ghost use Rattle.std.specs.Prelude.{◌<◌, IfOk};
 ghost use Rattle.std.specs.List.{AllByRecursion};
 ghost use Rattle.answer_builder.specs.Answers.{IsEarlier};
 
@@ -65,10 +65,8 @@ pub(crate) fn asked<A: Allocator>(id: u16, question: Question<A>) -> Asked<A>
 fn chain_of<A: Allocator + Copy>(
     alloc: A,
     pieces: &[Piece<A>],
-    moment: u64,
 ) -> Result<PlainList<Held<A>, A>, AllocError>
-    requires { 1020 ≤ moment }
-    ensures { IfOk result (λ chain. AllByRecursion (IsEarlier moment) chain) }
+    ensures { IfOk result (λ chain. AllByRecursion (IsEarlier 1020) chain) }
 {
     let mut chain = PlainList::new(alloc);
     for piece in pieces {
@@ -80,34 +78,22 @@ fn chain_of<A: Allocator + Copy>(
     Ok(chain)
 }
 
-/// A question that is answered from a reply, both in octets.
-#[derive(Clone, Copy)]
-pub(crate) struct Case<'a> {
-    pub question: &'a [u8],
-    pub reply: &'a [u8],
-    /// In milliseconds.
-    pub moment: u64,
-    pub transport: Transport,
-}
-
 /// What came of an answer: its octets, that it is too large, or that it wants memory.
 pub(crate) type Built<'h> = Result<Octets<&'h Refusing<Global>>, Fault>;
 
-/// The answer, with so many growths granted.
+/// The answer from a reply to its own question, with so many growths granted.
 pub(crate) fn answer<'h>(
     table_heap: Global,
     heap: &'h Refusing<Global>,
-    case: Case<'_>,
+    reply: &[u8],
+    transport: Transport,
     growths: u64,
 ) -> Result<Built<'h>, Fail> {
-    if case.moment < ACCEPTED {
-        return Err(Fail::from("before the reply"));
-    }
-    let walk = walked(table_heap, heap, case.reply)?;
-    let chain = chain_of(heap, walk.pieces.as_slice(), case.moment)?;
-    let asked = asked(0x1234, MessageRef::view(case.question)?.question(heap)?);
+    let walk = walked(table_heap, heap, reply)?;
+    let chain = chain_of(heap, walk.pieces.as_slice())?;
+    let asked = asked(0x1234, MessageRef::view(reply)?.question(heap)?);
     heap.allow(growths);
-    let built = build(heap, &asked, chain.as_slice(), case.moment, case.transport);
+    let built = build(heap, &asked, chain.as_slice(), ACCEPTED, transport);
     heap.allow(u64::MAX);
     Ok(built)
 }
@@ -134,23 +120,35 @@ fn put<A: Allocator + Copy>(
     }
 }
 
-/// How many growths are refused one after another, until the answer from a reply to its own question is there, written over
-/// UDP into a vector with room.
-pub(crate) fn growths_beside_room(table_heap: Global, reply: &[u8]) -> Result<u64, Fail> {
-    let heap = Refusing::new(table_heap);
-    let walk = walked(table_heap, &heap, reply)?;
-    let chain = chain_of(&heap, walk.pieces.as_slice(), ACCEPTED)?;
-    let asked = asked(0x1234, MessageRef::view(reply)?.question(&heap)?);
-    let mut octets = Vec::with_capacity(&heap, 512)?;
+/// How many growths are refused one after another, until the answer is written into the vector; `None` where another fault is
+/// told, or no end is met.
+fn growths_of<'h>(
+    heap: &'h Refusing<Global>,
+    octets: &mut Vec<u8, &'h Refusing<Global>>,
+    asked: &Asked<&'h Refusing<Global>>,
+    chain: &[Held<&'h Refusing<Global>>],
+) -> Option<u64>
+    requires { asked.now.opcode < 16 }
+{
     for growths in 0..100u64 {
         heap.allow(growths);
-        let done = put(&heap, &mut octets, &asked, chain.as_slice(), ACCEPTED);
+        let done = put(heap, octets, asked, chain, ACCEPTED);
         heap.allow(u64::MAX);
         match done {
-            Ok(()) => return Ok(growths),
+            Ok(()) => return Some(growths),
             Err(Fault::Memory) => (),
-            Err(Fault::TooLarge) => return Err(Fail::from("another chain")),
+            Err(Fault::TooLarge) => return None,
         }
     }
-    Err(Fail::from("never there"))
+    None
+}
+
+/// The same of the answer from a reply to its own question, written over UDP into a vector with room.
+pub(crate) fn growths_beside_room(table_heap: Global, reply: &[u8]) -> Result<Option<u64>, Fail> {
+    let heap = Refusing::new(table_heap);
+    let walk = walked(table_heap, &heap, reply)?;
+    let chain = chain_of(&heap, walk.pieces.as_slice())?;
+    let asked = asked(0x1234, MessageRef::view(reply)?.question(&heap)?);
+    let mut octets = Vec::with_capacity(&heap, 512)?;
+    Ok(growths_of(&heap, &mut octets, &asked, chain.as_slice()))
 }

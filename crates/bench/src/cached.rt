@@ -240,29 +240,35 @@ fn measure_name(
     Ok(())
 }
 
+/// Names with sets, of three to seven labels.
+const HELD: [&str; 5] = [
+    "host7.some-example.com",
+    "a.host7.some-example.com",
+    "b.a.host7.some-example.com",
+    "c.b.a.host7.some-example.com",
+    "d.c.b.a.host7.some-example.com",
+];
+
+/// A name with a name error, and names below it.
+const DENIED: [&str; 5] = [
+    "gone.example.net",
+    "a.gone.example.net",
+    "b.a.gone.example.net",
+    "c.b.a.gone.example.net",
+    "d.c.b.a.gone.example.net",
+];
+
 /// Prints what answers at and below a name error cost beside sets of names with as many labels, with so many routes.
 fn measure_denials(rt: &HostRuntime, count: usize) -> Result<()> {
     let alloc = rt.alloc();
     let config = routes(alloc, count)?;
     let mut cache = full_cache(rt, 1000)?;
     offer_name_error(alloc, &mut cache, &config)?;
-    for name in [
-        "host7.some-example.com",
-        "a.host7.some-example.com",
-        "b.a.host7.some-example.com",
-        "c.b.a.host7.some-example.com",
-        "d.c.b.a.host7.some-example.com",
-    ] {
+    for name in &HELD {
         let _ = cache.offer(addresses(alloc, Name::from_text(alloc, name)?)?, 0);
         measure_name(rt, &mut cache, &config, count, name)?;
     }
-    for name in [
-        "gone.example.net",
-        "a.gone.example.net",
-        "b.a.gone.example.net",
-        "c.b.a.gone.example.net",
-        "d.c.b.a.gone.example.net",
-    ] {
+    for name in &DENIED {
         measure_name(rt, &mut cache, &config, count, name)?;
     }
     Ok(())
@@ -308,13 +314,23 @@ fn time_of_text(rt: &HostRuntime, held: &Held, octets: &[u8]) -> Result<(usize, 
     Ok((answers, least))
 }
 
-/// Prints what an answer costs that no look-up precedes: the question's octets, its key, the answer's octets.
-fn measure_text(rt: &HostRuntime) -> Result<()> {
-    let alloc = rt.alloc();
-    let held = held_of(alloc, 1)?;
+/// The octets of a question for the name with this number.
+fn question_numbered(alloc: Global, number: usize) -> Result<Vec<u8>> {
     let mut octets = Vec::new(alloc);
-    put_question(&mut octets, &numbered(alloc, 1)?)?;
-    let (answers, took) = time_of_text(rt, &held, octets.as_slice())?;
+    put_question(&mut octets, &numbered(alloc, number)?)?;
+    Ok(octets)
+}
+
+/// How many answers are given that no look-up precedes, and what one costs: the question's octets, its key, the answer's octets.
+fn time_without_look_up(rt: &HostRuntime) -> Result<(usize, u128)> {
+    let octets = question_numbered(rt.alloc(), 1)?;
+    let held = held_of(rt.alloc(), 1)?;
+    time_of_text(rt, &held, octets.as_slice())
+}
+
+/// Prints what an answer costs that no look-up precedes.
+fn measure_text(rt: &HostRuntime) -> Result<()> {
+    let (answers, took) = time_without_look_up(rt)?;
     println!(rt; "without a look-up: {answers} answers, {took} ns")?;
     Ok(())
 }

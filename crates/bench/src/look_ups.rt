@@ -26,6 +26,13 @@ const CALLS: usize = 20_000;
 const LONGEST: &str =
     "a.a.a.a.a.a.a.a.a.a.a.a.a.a.a.a.a.a.a.a.a.a.a.a.a.a.a.a.a.a.a.a.a.a.a.a.a.a.a.a.a.a.a.a.a.a.a.a.a.a.a.a.a.a.a.a.a.a.a.a.a.a.a.a.a.a.a.a.a.a.a.a.a.a.a.a.a.a.a.a.a.a.a.a.a.a.a.a.a.a.a.a.a.a.a.a.a.a.a.a.a.a.a.a.a.a.a.a.a.a.a.a.a.a.a.a.a.a.a.a.a.a.a.a.a.a.a";
 
+/// Names that are looked up, and what they are.
+const NAMES: [(&str, &str); 3] = [
+    ("a cached answer", "host7.some-example.com"),
+    ("a usual name", "www.other-example.com"),
+    ("127 labels", LONGEST),
+];
+
 /// Nanoseconds a call, of so many calls since a moment.
 fn each(rt: &HostRuntime, started: &Instant, calls: usize) -> Result<u128> {
     let count = calls.max(1) as u128;
@@ -69,11 +76,7 @@ fn measure_names(
     cache: &mut Cache<RandomState>,
     config: &Config,
 ) -> Result<()> {
-    for (what, name) in [
-        ("a cached answer", "host7.some-example.com"),
-        ("a usual name", "www.other-example.com"),
-        ("127 labels", LONGEST),
-    ] {
+    for (what, name) in &NAMES {
         let (answered, took) = of_name(rt, cache, name, config)?;
         println!(rt; "look-up, {held}: {what}: answered {answered}, {took} ns")?;
     }

@@ -1,15 +1,9 @@
-//! Tests of what replies carry, from their octets, and of the cache: against a plain list, with many names, with refused
-//! growths, by sizes and endings, as time passes, and of look-ups.
+//! Tests of the cache against a plain list and with many names, and of refused growths: of what replies carry, of copies, of
+//! the cache and of look-ups.
 #![tactic(auto)]
 
 #[cfg(test)]
-mod ageing;
-#[cfg(test)]
 mod agreement;
-#[cfg(test)]
-mod counts;
-#[cfg(test)]
-mod look_ups;
 #[cfg(test)]
 mod many;
 #[cfg(test)]

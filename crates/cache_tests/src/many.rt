@@ -13,16 +13,6 @@ fn slot_numbered(alloc: Global, number: u32) -> Result<Slot, Fail> {
     Ok(Denial::of(name.as_str(), Some(1)).slot(alloc)?)
 }
 
-/// Offers that there is no address of the name with this number.
-fn offer_numbered(
-    alloc: Global,
-    cache: &mut Cache<DefaultHasher>,
-    number: u32,
-) -> Result<Offered, Fail> {
-    let name = format!(in alloc; "n{number}.example")?;
-    Ok(Denial::of(name.as_str(), Some(1)).offer(alloc, cache, 1000)?)
-}
-
 /// Offers an address of the name with this number.
 fn offer_set_numbered(
     alloc: Global,
@@ -59,21 +49,5 @@ fn the_set_of_the_first_of_4097_names_is_gone(rt: HostRuntime) -> Result<(), Fai
         let is_held = holds_set_numbered(alloc, &cache, number)?;
         assert_eq!(rt; is_held, number > 0, "name {number}");
     }
-    Ok(())
-}
-
-#[test]
-fn a_full_cache_of_the_largest_size_is_cleared(rt: HostRuntime) -> Result<(), Fail> {
-    let alloc = rt.alloc();
-    let mut cache = Cache::new(alloc, 65536, DefaultHasher::default())?;
-    for number in 0..65536u32 {
-        let answer = offer_numbered(alloc, &mut cache, number)?;
-        assert_eq!(rt; answer, Offered::Kept, "name {number}");
-    }
-    assert_eq!(rt; cache.len(), 65536);
-    cache.clear();
-    assert_eq!(rt; cache.len(), 0);
-    let answer = offer_numbered(alloc, &mut cache, 0)?;
-    assert_eq!(rt; answer, Offered::Kept, "once more");
     Ok(())
 }

@@ -100,6 +100,11 @@ fn offers_at_a_slot_that_is_there_take_no_memory(rt: HostRuntime) -> Result<(), 
     Ok(())
 }
 
+/// Of one growth that is granted this one is left, and no more.
+fn is_one_left(heap: &Refusing<Global>) -> bool {
+    Box::new(heap, 0u8).is_ok() && Box::new(heap, 0u8).is_err()
+}
+
 /// One growth is granted, and stays unspent over all calls that take none.
 #[test]
 fn other_calls_take_no_memory(rt: HostRuntime) -> Result<(), Fail> {
@@ -110,39 +115,35 @@ fn other_calls_take_no_memory(rt: HostRuntime) -> Result<(), Fail> {
     first.offer(&heap, &mut cache, 1000)?;
     heap.allow(1);
     cache.promote(&slot);
-    assert!(rt; cache.peek(&slot).is_some());
-    assert_eq!(rt; cache.len(), 1);
-    assert!(rt; !cache.has_name_error(10));
+    let is_there = cache.peek(&slot).is_some() && !cache.has_name_error(10) && cache.len() == 1;
     cache.forget(&slot);
-    assert_eq!(rt; cache.len(), 0);
     cache.clear();
-    assert!(rt; Box::new(&heap, 0u8).is_ok(), "one growth was granted");
-    assert!(rt; Box::new(&heap, 0u8).is_err(), "and no more");
+    assert!(rt; is_there && is_one_left(&heap));
     Ok(())
 }
 
-/// The same of look-ups: at, under and beside a name error, and where it is forgotten.
+/// A cache with a name error, granted one growth, looks names up under it and beside it, and then shows the one under it.
+fn look_up<'a>(
+    heap: &'a Refusing<Global>,
+    cache: &mut Cache<DefaultHasher, &'a Refusing<Global>>,
+    config: &Config<&'a Refusing<Global>>,
+) -> Result<bool, NameFault> {
+    Denial::of("x.example", None).offer(heap, cache, 1000)?;
+    let under = Name::from_text(heap, "a.x.example")?;
+    let beside = Name::from_text(heap, "y.example")?.key();
+    heap.allow(1);
+    let is_denied = matches!(find(cache, &under, 1, 1, 2000, config), Found::Denied(_));
+    let is_missed = matches!(find_by_key(cache, &beside, 1, 1, 2000, config), Found::Miss);
+    shown(cache, &under, 1);
+    Ok(is_denied && is_missed && is_one_left(heap))
+}
+
 #[test]
 fn look_ups_take_no_memory(rt: HostRuntime) -> Result<(), Fail> {
-    let alloc = rt.alloc();
-    let heap = Refusing::new(alloc);
+    let heap = Refusing::new(rt.alloc());
     let text = "version = 1\n[[route]]\nsuffix = \".\"\nservers = [\"192.0.2.1:53\"]\n";
-    let config = Config::read(alloc, &heap, text)?;
+    let config = Config::read(rt.alloc(), &heap, text)?;
     let mut cache = Cache::new(&heap, 2, DefaultHasher::default())?;
-    Denial::of("x.example", None).offer(&heap, &mut cache, 1000)?;
-    let under = Name::from_text(&heap, "a.x.example")?;
-    let beside = Name::from_text(&heap, "y.example")?;
-    heap.allow(1);
-    assert!(rt; matches!(find(&cache, &under, 1, 1, 2000, &config), Found::Denied(_)));
-    assert!(rt;
-        matches!(
-            find_by_key(&cache, &beside.key(), 1, 1, 2000, &config),
-            Found::Miss
-        )
-    );
-    shown(&mut cache, &under, 1);
-    assert_eq!(rt; cache.len(), 0);
-    assert!(rt; Box::new(&heap, 0u8).is_ok(), "one growth was granted");
-    assert!(rt; Box::new(&heap, 0u8).is_err(), "and no more");
+    assert!(rt; look_up(&heap, &mut cache, &config)?);
     Ok(())
 }

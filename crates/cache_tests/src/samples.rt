@@ -2,7 +2,7 @@
 
 ghost use Rattle.std.specs.Prelude.{◌≢◌, []};
 
-use dns_message::{DataRef, Rdata};
+use dns_message::Rdata;
 use dns_name::{Name, NameFault};
 use lru::DefaultHasher;
 use plain_list::PlainList;
@@ -92,20 +92,5 @@ fn set_of<A: Allocator>(owner: Name<A>, rows: Rows<A>) -> Piece<A>
         lifetime: 300,
         rank: 3,
         route: RouteId { place: 0 },
-    }
-}
-
-/// The data are the same, and stand alike: one in place, or more in a list.
-pub(crate) fn is_same_rows<A: Allocator>(rows: &Rows<A>, others: &Rows<A>) -> bool {
-    match (rows.data(), others.data()) {
-        (DataRef::Row(row), DataRef::Row(other)) => row.octets() == other.octets(),
-        (DataRef::Rows(rows), DataRef::Rows(others)) => {
-            rows.len() == others.len()
-                && rows
-                    .iter()
-                    .zip(others)
-                    .all(|(row, other)| row.octets() == other.octets())
-        }
-        _ => false,
     }
 }

@@ -1,12 +1,11 @@
 //! Replies in octets, and what no contract can say: that memory is found where there is some.
 
-use crate::samples::is_same_rows;
-use dns_message::{MessageRef, Record};
+use dns_message::MessageRef;
 use refusing_allocator::Refusing;
-use std::alloc::{Allocator, Global};
+use std::alloc::Global;
 use std::test::Fail;
 use suffix_routes::{Config, RouteId};
-use trust_rank::{Body, End, Piece, Walk, pieces};
+use trust_rank::{Piece, Walk, pieces};
 
 /// One route for all names.
 const CONFIG: &str = r#"version = 1
@@ -69,80 +68,6 @@ fn refusals(table_heap: Global, octets: &[u8]) -> Result<u64, Fail> {
     Ok(refused)
 }
 
-/// Type, lifetime, rank, and how many data a set has.
-fn shown<A: Allocator>(piece: &Piece<A>) -> (Option<u16>, u32, u8, usize) {
-    let count = match &piece.body {
-        Body::Rows(rows) => rows.len(),
-        _ => 0,
-    };
-    (piece.kind, piece.lifetime, piece.rank, count)
-}
-
-#[test]
-fn an_alias_and_its_set(rt: HostRuntime) -> Result<(), Fail> {
-    let heap = Refusing::new(rt.alloc());
-    let octets = hex::decode(rt.alloc(), ALIAS)?;
-    let walk = walked(rt.alloc(), &heap, &octets, u64::MAX)?;
-    let Some(
-        Walk {
-            pieces,
-            authority,
-            end: End::Found,
-        },
-    ) = walk
-    else {
-        return Err(Fail::from("another walk"));
-    };
-    let [alias, set] = pieces.as_slice() else {
-        return Err(Fail::from("another walk"));
-    };
-    assert_eq!(rt; shown(alias), (Some(5), 60, 3, 1));
-    assert_eq!(rt; shown(set), (Some(1), 300, 1, 2));
-    assert_eq!(rt; shown(&set.copy(&heap)?), (Some(1), 300, 1, 2));
-    let [servers] = authority.as_slice() else {
-        return Err(Fail::from("another walk"));
-    };
-    assert_eq!(rt; shown(servers), (Some(2), 3600, 2, 1));
-    Ok(())
-}
-
-#[test]
-fn a_name_error(rt: HostRuntime) -> Result<(), Fail> {
-    let heap = Refusing::new(rt.alloc());
-    let octets = hex::decode(rt.alloc(), NAME_ERROR)?;
-    let walk = walked(rt.alloc(), &heap, &octets, u64::MAX)?;
-    let Some(
-        Walk {
-            pieces,
-            end: End::Denied,
-            ..
-        },
-    ) = walk
-    else {
-        return Err(Fail::from("another walk"));
-    };
-    let [denial] = pieces.as_slice() else {
-        return Err(Fail::from("another walk"));
-    };
-    assert_eq!(rt; shown(denial), (None, 600, 3, 0));
-    Ok(())
-}
-
-#[test]
-fn data_beyond_the_first_few(rt: HostRuntime) -> Result<(), Fail> {
-    let heap = Refusing::new(rt.alloc());
-    let octets = twenty_twice(rt.alloc())?;
-    let walk = walked(rt.alloc(), &heap, &octets, u64::MAX)?;
-    let Some(Walk { pieces, .. }) = walk else {
-        return Err(Fail::from("another walk"));
-    };
-    let [set] = pieces.as_slice() else {
-        return Err(Fail::from("another walk"));
-    };
-    assert_eq!(rt; shown(set), (Some(1), 300, 3, 20));
-    Ok(())
-}
-
 #[test]
 fn each_growth_is_refused(rt: HostRuntime) -> Result<(), Fail> {
     let alias = refusals(rt.alloc(), &hex::decode(rt.alloc(), ALIAS)?)?;
@@ -152,42 +77,21 @@ fn each_growth_is_refused(rt: HostRuntime) -> Result<(), Fail> {
     Ok(())
 }
 
-/// The data of two bodies are the same, or both tell of a name error with the same SOA.
-fn is_same_body<A: Allocator>(body: &Body<A>, other: &Body<A>) -> bool {
-    match (body, other) {
-        (Body::Rows(rows), Body::Rows(others)) => is_same_rows(rows, others),
-        (Body::Denied(Some(soa)), Body::Denied(Some(other))) => {
-            is_same_soa(soa.as_ref(), other.as_ref())
-        }
-        _ => false,
-    }
-}
-
-fn is_same_soa<A: Allocator>(soa: &Record<A>, other: &Record<A>) -> bool {
-    soa.rdata.octets() == other.rdata.octets() && soa.owner.same(&other.owner)
-}
-
-/// How many growths of a copy are refused one after another, until it is made; `None` where it is made otherwise than equal.
-fn refused_copies<'h>(
-    heap: &'h Refusing<Global>,
-    piece: &Piece<&'h Refusing<Global>>,
-) -> Option<u64> {
+/// How many growths of a copy are refused one after another, until it is made.
+fn refused_copies<'h>(heap: &'h Refusing<Global>, piece: &Piece<&'h Refusing<Global>>) -> u64 {
     for growths in 0..100u64 {
         heap.allow(growths);
-        let copy = piece.copy(heap);
+        let is_made = piece.copy(heap).is_ok();
         heap.allow(u64::MAX);
-        if let Ok(copy) = copy {
-            let is_same = is_same_body(&copy.body, &piece.body)
-                && copy.owner.octets() == piece.owner.octets()
-                && shown(&copy) == shown(piece);
-            return if is_same { Some(growths) } else { None };
+        if is_made {
+            return growths;
         }
     }
-    None
+    100
 }
 
 /// The same of each piece that a message carries.
-fn copies_of(table_heap: Global, digits: &str) -> Result<Vec<Option<u64>>, Fail> {
+fn copies_of(table_heap: Global, digits: &str) -> Result<Vec<u64>, Fail> {
     let heap = Refusing::new(table_heap);
     let octets = hex::decode(table_heap, digits)?;
     let Some(walk) = walked(table_heap, &heap, &octets, u64::MAX)? else {
@@ -205,8 +109,8 @@ fn copies_of(table_heap: Global, digits: &str) -> Result<Vec<Option<u64>>, Fail>
 #[test]
 fn each_growth_of_a_copy_is_refused(rt: HostRuntime) -> Result<(), Fail> {
     let alias = copies_of(rt.alloc(), ALIAS)?;
-    assert_eq!(rt; alias.as_slice(), [Some(0), Some(1)].as_slice());
+    assert_eq!(rt; alias.as_slice(), [0, 1].as_slice());
     let name_error = copies_of(rt.alloc(), NAME_ERROR)?;
-    assert_eq!(rt; name_error.as_slice(), [Some(2)].as_slice());
+    assert_eq!(rt; name_error.as_slice(), [2].as_slice());
     Ok(())
 }

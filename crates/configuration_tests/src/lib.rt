@@ -1,12 +1,9 @@
-//! Tests of configurations from outside: what is read in texts that are accepted, the fault that is told of texts that
-//! are refused and what it says to a person, and memory: that it is found where there is some.
+//! Tests of configurations from outside: what a fault says to a person, and memory: that it is found where there is some.
 #![tactic(auto)]
 
 #[cfg(test)]
-mod accepted;
-#[cfg(test)]
 mod memory;
 #[cfg(test)]
-mod refused;
+mod said;
 #[cfg(test)]
 mod shown;

@@ -74,6 +74,9 @@ fn routes_in(rt: &HostRuntime, name: &[u8]) -> Result<usize, ReplayFault> {
     Ok(load(rt, name)?.routes().len())
 }
 
+/// Names of no file that can be read whole.
+const UNREADABLE: [&str; 4] = [".", "/no/such/file", "/dev/zero", ""];
+
 /// A name that is no UTF-8 is one like any other.
 #[test]
 fn files_are_loaded(rt: HostRuntime) -> Result<(), Fail> {
@@ -83,7 +86,7 @@ fn files_are_loaded(rt: HostRuntime) -> Result<(), Fail> {
     assert_eq!(rt; routes_in(&rt, b"\xe4\xff"), Ok(1));
     assert_eq!(rt; os::unlink(b"\xe4\xff"), 0);
     assert_eq!(rt; routes_in(&rt, b"\xe4\xff"), Err(ReplayFault::Device));
-    for name in [".", "/no/such/file", "/dev/zero", ""] {
+    for name in &UNREADABLE {
         assert_eq!(rt;
             routes_in(&rt, name.as_bytes()),
             Err(ReplayFault::Device),
@@ -185,20 +188,29 @@ fn a_service_that_finds_no_memory(rt: HostRuntime) {
     assert!(rt; 0 < refused && refused < 100);
 }
 
+/// Each fault, its status, and what is said of it.
+const SAID: [(Fault, u8, &str); 5] = [
+    (
+        Fault::Usage,
+        1,
+        "usage: forwarder check FILE, replay, or serve FILE TURNS",
+    ),
+    (
+        Fault::Stopped(ReplayFault::Config(ConfigFault::Toml(Position { line: 1, column: 4 }))),
+        2,
+        "fault 1",
+    ),
+    (Fault::Stopped(ReplayFault::Line(8192)), 3, "line 8192"),
+    (Fault::Stopped(ReplayFault::Memory), 4, "memory"),
+    (Fault::Stopped(ReplayFault::Device), 5, "device"),
+];
+
 #[test]
 fn statuses_and_texts(rt: HostRuntime) -> Result<(), Fail> {
-    let usage = "usage: forwarder check FILE, replay, or serve FILE TURNS";
-    let refused = ReplayFault::Config(ConfigFault::Toml(Position { line: 1, column: 4 }));
-    for (fault, status, text) in [
-        (Fault::Usage, 1, usage),
-        (Fault::from(refused), 2, "fault 1"),
-        (Fault::from(ReplayFault::Line(8192)), 3, "line 8192"),
-        (Fault::from(ReplayFault::Memory), 4, "memory"),
-        (Fault::from(ReplayFault::Device), 5, "device"),
-    ] {
-        assert_eq!(rt; fault.status(), status);
+    for (fault, status, text) in &SAID {
+        assert_eq!(rt; fault.status(), *status);
         let told = format!(in rt.alloc(); "{fault}")?;
-        assert_eq!(rt; told.as_str(), text);
+        assert_eq!(rt; told.as_str(), *text);
     }
     Ok(())
 }

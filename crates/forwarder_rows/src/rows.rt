@@ -64,24 +64,36 @@ fn run_folder<R: Files + Print + AllocGlobal + Clone + Drop>(
     let names = names_in(rt, folder)?;
     let before = tally.rows;
     for name in &names {
-        let name = name.as_str();
-        match name.split_once('.') {
-            None => {
-                let row = format!(in rt.alloc(); "{folder}/{name}")?;
-                run_row(rt, kind, row.as_str(), &names, tally)?;
-            }
-            Some((row, "stdout" | "stderr")) if has(&names, row) => {}
-            Some(_) => {
-                println!(rt; "{folder}/{name}: belongs to no row")?;
-                tally.count_difference();
-            }
-        }
+        run_file(rt, kind, folder, name.as_str(), &names, tally)?;
     }
     if tally.rows == before {
         println!(rt; "{folder}: no rows")?;
         tally.count_difference();
     }
     Ok(())
+}
+
+/// Runs the row that a file of a folder with these names is, if it is one.
+fn run_file<R: Files + Print + AllocGlobal>(
+    rt: &R,
+    kind: Kind,
+    folder: &str,
+    name: &str,
+    names: &[String],
+    tally: &mut Tally,
+) -> io::Result<()> {
+    match name.split_once('.') {
+        None => {
+            let row = format!(in rt.alloc(); "{folder}/{name}")?;
+            run_row(rt, kind, row.as_str(), names, tally)
+        }
+        Some((row, "stdout" | "stderr")) if has(names, row) => Ok(()),
+        Some(_) => {
+            println!(rt; "{folder}/{name}: belongs to no row")?;
+            tally.count_difference();
+            Ok(())
+        }
+    }
 }
 
 /// Runs one row in each manner, and prints where it tells something else than its files say. Without a file

@@ -1,6 +1,5 @@
-//! Tests of messages from outside: octets of worked replies, faults in order, refused growths, and sweeps over right, cut
-//! and changed messages, in which the judging without memory agrees with the reading, and what is read is written and
-//! read again.
+//! Tests of messages from outside: octets of worked replies, faults in order, refused growths, and a sweep over changed
+//! messages, in which the judging without memory agrees with the reading, and what is read is written and read again.
 #![tactic(auto)]
 
 #[cfg(test)]

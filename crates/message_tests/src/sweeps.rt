@@ -1,4 +1,4 @@
-//! Many messages, right ones, cut ones and changed ones.
+//! Many changed messages.
 
 use crate::messages::MESSAGES;
 use crate::shapes::SHAPES;
@@ -37,30 +37,6 @@ fn rewritten(alloc: Global, octets: &[u8]) -> Result<Octets<Global>, Fault> {
     write(alloc, &message, 65535)
 }
 
-/// The length of the first beginning of the octets that is judged otherwise than it is read, if there is one. All of them
-/// are a beginning too.
-fn first_misjudged(alloc: Global, octets: &[u8]) -> Result<Option<usize>, AllocError> {
-    for end in 0..octets.len() {
-        if !judging_agrees(alloc, &octets[..end])? {
-            return Ok(Some(end));
-        }
-    }
-    if judging_agrees(alloc, octets)? {
-        Ok(None)
-    } else {
-        Ok(Some(octets.len()))
-    }
-}
-
-#[test]
-fn every_prefix_is_judged_as_it_is_read(rt: HostRuntime) -> Result<(), Fail> {
-    for digits in MESSAGES.iter().chain(SHAPES.iter()) {
-        let octets = octets_of(rt.alloc(), digits)?;
-        assert_eq!(rt; first_misjudged(rt.alloc(), &octets)?, None, "{digits}");
-    }
-    Ok(())
-}
-
 /// Whether what is written of the message that these octets spell is written so again.
 fn is_settled(alloc: Global, octets: &[u8]) -> Result<bool, Fault> {
     let written = rewritten(alloc, octets)?;
@@ -71,51 +47,6 @@ fn is_settled(alloc: Global, octets: &[u8]) -> Result<bool, Fault> {
 /// Whether the octets are a whole message.
 fn is_whole(octets: &[u8]) -> bool {
     MessageRef::view(octets).is_ok_and(|view| view.is_whole())
-}
-
-#[test]
-fn messages_with_every_shape_are_whole(rt: HostRuntime) -> Result<(), Fail> {
-    for digits in &SHAPES {
-        let octets = octets_of(rt.alloc(), digits)?;
-        assert!(rt; is_whole(&octets), "{digits}");
-        assert!(rt; is_settled(rt.alloc(), &octets)?, "{digits}");
-    }
-    Ok(())
-}
-
-/// A reply with one TXT record, up to the length of its data.
-const TEXT: &str = "0008850000010001000000000161076578616d706c650000100001c00c001000010000012c";
-
-/// The reply whose record has so many octets of data (RFC 1035 3.3.14): a string of as many octets as one may have, and one
-/// of the others, each behind its length.
-fn with_text(alloc: Global, count: u16) -> Result<Vec<u8>, Fail> {
-    let mut octets = octets_of(alloc, TEXT)?;
-    octets.extend_from_slice(count.to_be_bytes().as_slice())?;
-    let others = count.saturating_sub(257);
-    octets.push(255)?;
-    for _ in 0..255u8 {
-        octets.push(b'a')?;
-    }
-    octets.push((others & 255) as u8)?;
-    for _ in 0..others {
-        octets.push(b'a')?;
-    }
-    Ok(octets)
-}
-
-#[test]
-fn every_prefix_of_a_long_text_is_judged_as_it_is_read(rt: HostRuntime) -> Result<(), Fail> {
-    for (count, length) in [(473, 512), (474, 513)] {
-        let octets = with_text(rt.alloc(), count)?;
-        assert_eq!(rt; octets.len(), length);
-        assert!(rt; is_whole(&octets), "{length} octets");
-        assert_eq!(rt;
-            first_misjudged(rt.alloc(), &octets)?,
-            None,
-            "{length} octets"
-        );
-    }
-    Ok(())
 }
 
 /// A right message with up to three octets changed.

@@ -5,12 +5,8 @@
 #[cfg(test)]
 mod hits;
 #[cfg(test)]
-mod many;
-#[cfg(test)]
 mod quiet;
 #[cfg(test)]
 mod runs;
-#[cfg(test)]
-mod types;
 #[cfg(test)]
 mod worked;

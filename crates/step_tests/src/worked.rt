@@ -8,7 +8,7 @@ use std::alloc::{AllocError, Allocator};
 use step_values::{Action, Client, Event, Path, Why};
 use suffix_routes::{Config, Limits, Peer, Route};
 
-pub(crate) const CLIENT: Client = Client::Udp(Peer {
+const CLIENT: Client = Client::Udp(Peer {
     ip: [10, 0, 0, 7],
     port: 40000,
 });
@@ -65,17 +65,8 @@ pub(crate) fn config<A: Allocator + Copy>(alloc: A) -> Result<Config<A>, AllocEr
 
 /// The client sends these octets.
 pub(crate) fn sends<A: Allocator + Copy>(alloc: A, bytes: &[u8]) -> Result<Event<A>, AllocError> {
-    comes_from(alloc, CLIENT, bytes)
-}
-
-/// These octets come from a client.
-pub(crate) fn comes_from<A: Allocator + Copy>(
-    alloc: A,
-    client: Client,
-    bytes: &[u8],
-) -> Result<Event<A>, AllocError> {
     Ok(Event::Client {
-        client,
+        client: CLIENT,
         bytes: PlainList::copied(alloc, bytes)?,
     })
 }
@@ -124,19 +115,9 @@ pub(crate) fn send_alone<A: Allocator>(actions: &[Action<A>], text: &[u8]) -> bo
 
 /// The action replies to the client with these octets, for this reason.
 pub(crate) fn is_reply<A: Allocator>(action: &Action<A>, text: &[u8], reason: Why) -> bool {
-    goes_to(CLIENT, action, text, reason)
-}
-
-/// The action replies to this client with these octets, for this reason.
-pub(crate) fn goes_to<A: Allocator>(
-    to: Client,
-    action: &Action<A>,
-    text: &[u8],
-    reason: Why,
-) -> bool {
     match action {
         Action::Reply { client, bytes, why } => {
-            *client == to && bytes.as_slice() == text && *why == reason
+            *client == CLIENT && bytes.as_slice() == text && *why == reason
         }
         _ => false,
     }

@@ -1,58 +1,14 @@
 //! Turns over a wire that refuses calls, and turns without memory.
 
 use crate::worked::{
-    SECOND, SERVER, answers, asks, asks_at, closes, counted, fails, forwarder, gives_up, question,
-    reply, reply_from, serve_anew, wire, wire_of_two_pieces,
+    SECOND, SERVER, asks_at, counted, fails, forwarder, gives_up, question, serve_anew, wire,
+    wire_of_two_pieces,
 };
 use network_model::{Arrival, Served, Wire, serve};
 use refusing_allocator::Refusing;
 use std::alloc::{AllocError, Allocator, Global};
 use std::test::Fail;
 use step_values::Action;
-
-/// The ask that is refused, the close of its path, the next ask.
-fn is_asked_again<A: Allocator>(puts: &[(Action<A>, bool)]) -> bool {
-    match puts {
-        [first, second, third] => asks(first, false) && closes(second) && asks(third, true),
-        _ => false,
-    }
-}
-
-/// The first call is the arrival.
-#[test]
-fn a_refused_ask_is_a_failed_path(rt: HostRuntime) -> Result<(), Fail> {
-    let heap = Refusing::new(rt.alloc());
-    let mut wire = wire(&heap, question(&heap)?, Arrival::Nothing, &[1])?;
-    let served = serve_anew(&heap, &mut wire, &[SERVER], 2)?;
-    assert_eq!(rt; served, counted(2, 0));
-    assert_eq!(rt; wire.faults(), 1);
-    assert!(rt; is_asked_again(wire.puts()));
-    Ok(())
-}
-
-/// The ask that is refused, the close of its path, the ask of the second server, which answers.
-fn is_answered_by_the_second<A: Allocator>(puts: &[(Action<A>, bool)]) -> bool {
-    match puts {
-        [first, second, third, fourth, fifth] => {
-            asks(first, false)
-                && closes(second)
-                && asks_at(third, SECOND, true)
-                && closes(fourth)
-                && answers(fifth, true)
-        }
-        _ => false,
-    }
-}
-
-#[test]
-fn behind_a_refused_ask_the_next_server_is_asked(rt: HostRuntime) -> Result<(), Fail> {
-    let heap = Refusing::new(rt.alloc());
-    let mut wire = wire(&heap, question(&heap)?, reply_from(&heap, SECOND)?, &[1])?;
-    let served = serve_anew(&heap, &mut wire, &[SERVER, SECOND], 3)?;
-    assert_eq!(rt; served, counted(3, 0));
-    assert!(rt; is_answered_by_the_second(wire.puts()));
-    Ok(())
-}
 
 /// The actions of a turn of which every put is refused: of each try the ask and the close, in turn to both servers.
 fn is_refused<A: Allocator>(place: usize, put: &(Action<A>, bool)) -> bool {
@@ -76,25 +32,6 @@ fn every_put_is_refused(rt: HostRuntime) -> Result<(), Fail> {
     for (place, put) in wire.puts().iter().enumerate() {
         assert!(rt; is_refused(place, put));
     }
-    Ok(())
-}
-
-/// The ask, the close of its path, and the reply that is refused.
-fn is_answered_in_vain<A: Allocator>(puts: &[(Action<A>, bool)]) -> bool {
-    match puts {
-        [first, second, third] => asks(first, true) && closes(second) && answers(third, false),
-        _ => false,
-    }
-}
-
-/// Two arrivals are calls as well.
-#[test]
-fn a_refused_reply_is_counted(rt: HostRuntime) -> Result<(), Fail> {
-    let heap = Refusing::new(rt.alloc());
-    let mut wire = wire(&heap, question(&heap)?, reply(&heap)?, &[4])?;
-    let served = serve_anew(&heap, &mut wire, &[SERVER], 2)?;
-    assert_eq!(rt; served, counted(2, 1));
-    assert!(rt; is_answered_in_vain(wire.puts()));
     Ok(())
 }
 

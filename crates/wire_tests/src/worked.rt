@@ -28,7 +28,7 @@ pub(crate) const SECOND: Peer = Peer {
 };
 
 /// The first word gives identifier 8 and port 1032, each further one the next identifier and the next port.
-pub(crate) const WORDS: [u32; 8] = [
+const WORDS: [u32; 8] = [
     524_296, 589_833, 655_370, 720_907, 786_444, 851_981, 917_518, 983_055,
 ];
 
@@ -37,7 +37,7 @@ pub(crate) const QUESTION: [u8; 27] =
     *b"\x12\x34\x01\x00\x00\x01\x00\x00\x00\x00\x00\x00\x01a\x07example\x00\x00\x01\x00\x01";
 
 /// The same as a query.
-pub(crate) const QUERY: [u8; 27] =
+const QUERY: [u8; 27] =
     *b"\x00\x08\x01\x00\x00\x01\x00\x00\x00\x00\x00\x00\x01a\x07example\x00\x00\x01\x00\x01";
 
 /// The server's reply: 198.51.100.5, for 300 seconds.
@@ -45,11 +45,11 @@ pub(crate) const REPLY: &[u8] =
     b"\x00\x08\x85\x00\x00\x01\x00\x01\x00\x00\x00\x00\x01a\x07example\x00\x00\x01\x00\x01\xc0\x0c\x00\x01\x00\x01\x00\x00\x01\x2c\x00\x04\xc6\x33\x64\x05";
 
 /// What the client gets.
-pub(crate) const ANSWER: &[u8] =
+const ANSWER: &[u8] =
     b"\x12\x34\x81\x80\x00\x01\x00\x01\x00\x00\x00\x00\x01a\x07example\x00\x00\x01\x00\x01\xc0\x0c\x00\x01\x00\x01\x00\x00\x01\x2c\x00\x04\xc6\x33\x64\x05";
 
 /// What the client gets where every try failed.
-pub(crate) const FAILED: [u8; 27] =
+const FAILED: [u8; 27] =
     *b"\x12\x34\x81\x82\x00\x01\x00\x00\x00\x00\x00\x00\x01a\x07example\x00\x00\x01\x00\x01";
 
 /// A forwarder with one route, for every name, with one server.
@@ -90,17 +90,9 @@ pub(crate) fn question<A: Allocator + Copy>(alloc: A) -> Result<Arrival<A>, Allo
 
 /// The server's reply comes at the port of the query.
 pub(crate) fn reply<A: Allocator + Copy>(alloc: A) -> Result<Arrival<A>, AllocError> {
-    reply_from(alloc, SERVER)
-}
-
-/// The same from this server.
-pub(crate) fn reply_from<A: Allocator + Copy>(
-    alloc: A,
-    from: Peer,
-) -> Result<Arrival<A>, AllocError> {
     Ok(Arrival::ServerDatagram {
         port: 1032,
-        from,
+        from: SERVER,
         bytes: PlainList::copied(alloc, REPLY)?,
     })
 }
@@ -159,12 +151,12 @@ pub(crate) fn serve_anew<A: Allocator + Copy>(
     serve(alloc, wire, &mut forwarder, turns)
 }
 
-/// The query goes to the server from its port, and was or wasn't refused.
-pub(crate) fn asks<A: Allocator>(put: &(Action<A>, bool), taken: bool) -> bool {
-    asks_at(put, SERVER, taken)
+/// The query goes to the server from its port.
+pub(crate) fn asks<A: Allocator>(put: &(Action<A>, bool)) -> bool {
+    asks_at(put, SERVER, true)
 }
 
-/// The query goes to this server.
+/// The query goes to this server from its port, and was or wasn't refused.
 pub(crate) fn asks_at<A: Allocator>(put: &(Action<A>, bool), at: Peer, taken: bool) -> bool {
     match put {
         (
@@ -195,9 +187,9 @@ pub(crate) fn gives_up<A: Allocator>(put: &(Action<A>, bool), taken: bool) -> bo
     }
 }
 
-/// The client gets its answer, or would have.
-pub(crate) fn answers<A: Allocator>(put: &(Action<A>, bool), taken: bool) -> bool {
-    replies(put, ANSWER, Why::Answered, taken)
+/// The client gets its answer.
+pub(crate) fn answers<A: Allocator>(put: &(Action<A>, bool)) -> bool {
+    replies(put, ANSWER, Why::Answered, true)
 }
 
 /// The client would have got that every try failed: SERVFAIL, with its question.

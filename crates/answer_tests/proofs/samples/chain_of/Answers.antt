@@ -1,4 +1,4 @@
-use Rattle.std.proofs.Common.{List, [], ◌∷◌, ◌++◌, subst, sym}
+use Rattle.std.proofs.Common.{List, [], ◌∷◌, ◌++◌, subst, sym, arith}
 use Rattle.std.specs.List.{AllByRecursion}
 use Rattle.record_cache.specs.Values.{Held}
 use Rattle.answer_builder.specs.Answers.{IsEarlier}
@@ -10,4 +10,4 @@ put_last P (other ∷ hs) h all here = (all.0, put_last P hs h all.1 here)
 
 pub loop-piece-preserved : goal.loop-piece-preserved
 loop-piece-preserved g c =
-    subst (AllByRecursion (IsEarlier c.args.moment)) (sym c.in_ok-push.ensures.ok) (put_last (IsEarlier c.args.moment) c.loop-piece.chain _ c.loop-piece.invariant c.requires)
+    subst (AllByRecursion (IsEarlier 1020)) (sym c.in_ok-push.ensures.ok) (put_last (IsEarlier 1020) c.loop-piece.chain _ c.loop-piece.invariant (omega arith))
