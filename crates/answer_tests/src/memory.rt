@@ -13,7 +13,7 @@ fn refusals(table_heap: Global, transport: Transport) -> Result<u64, Fail> {
     let octets = hex::decode(table_heap, ALIAS)?;
     let mut refused = 0u64;
     for growths in 0..100u64 {
-        match answer(table_heap, &heap, &octets, transport, growths)? {
+        match answer(table_heap, &heap, &octets, &octets, transport, growths)? {
             Ok(_) => break,
             Err(Fault::Memory) => refused = refused.saturating_add(1),
             Err(Fault::TooLarge) => return Err(Fail::from("too large")),

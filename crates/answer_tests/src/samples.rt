@@ -81,17 +81,18 @@ fn chain_of<A: Allocator + Copy>(
 /// What came of an answer: its octets, that it is too large, or that it wants memory.
 pub(crate) type Built<'h> = Result<Octets<&'h Refusing<Global>>, Fault>;
 
-/// The answer from a reply to its own question, with so many growths granted.
+/// The answer from a reply to a question, both in octets, with so many growths granted.
 pub(crate) fn answer<'h>(
     table_heap: Global,
     heap: &'h Refusing<Global>,
+    question: &[u8],
     reply: &[u8],
     transport: Transport,
     growths: u64,
 ) -> Result<Built<'h>, Fail> {
     let walk = walked(table_heap, heap, reply)?;
     let chain = chain_of(heap, walk.pieces.as_slice())?;
-    let asked = asked(0x1234, MessageRef::view(reply)?.question(heap)?);
+    let asked = asked(0x1234, MessageRef::view(question)?.question(heap)?);
     heap.allow(growths);
     let built = build(heap, &asked, chain.as_slice(), ACCEPTED, transport);
     heap.allow(u64::MAX);

@@ -6,6 +6,21 @@ use std::test::Fail;
 use tcp_frames::{FrameFault, FrameReader, frame};
 
 #[test]
+fn a_frame_is_the_length_and_the_octets(rt: HostRuntime) -> Result<(), Fail> {
+    let heap = rt.alloc();
+    let mut message = Vec::from_elem(heap, b'a', 65_535)?;
+    let longest = frame(heap, message.as_slice())?;
+    assert_eq!(rt; longest.as_slice().len(), 65_537);
+    assert!(rt; longest.as_slice().starts_with(b"\xff\xffa"));
+    message.push(b'a')?;
+    assert_eq!(rt;
+        frame(heap, message.as_slice()).err(),
+        Some(FrameFault::TooLong)
+    );
+    Ok(())
+}
+
+#[test]
 fn what_is_said_of_a_fault(rt: HostRuntime) -> Result<(), Fail> {
     let heap = rt.alloc();
     let memory = format!(in heap; "{}", FrameFault::Memory)?;

@@ -6,3 +6,5 @@
 mod asks;
 #[cfg(test)]
 mod frames;
+#[cfg(test)]
+mod replies;

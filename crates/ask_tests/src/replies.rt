@@ -1,0 +1,49 @@
+//! The longest reply.
+
+use dns_message::Question;
+use dns_name::{Name, NameFault};
+use outstanding::{Ask, Path};
+use reply_match::{Verdict, judge};
+use std::alloc::Global;
+use std::test::Fail;
+use suffix_routes::{Peer, RouteId};
+
+/// The asked server.
+const SERVER: Peer = Peer {
+    ip: [192, 0, 2, 1],
+    port: 53,
+};
+
+/// The reply to the ask: the address of a.example is 198.51.100.5. Its header has 12 octets, its question 15.
+const REPLY: [u8; 43] =
+    *b"\x00\x08\x85\x00\x00\x01\x00\x01\x00\x00\x00\x00\x01a\x07example\x00\x00\x01\x00\x01\xc0\x0c\x00\x01\x00\x01\x00\x00\x01\x2c\x00\x04\xc6\x33\x64\x05";
+
+/// An ask for the address of a.example, with identifier 8.
+fn ask(heap: Global) -> Result<Ask, NameFault> {
+    Ok(Ask {
+        question: Question {
+            name: Name::from_text(heap, "a.example")?,
+            kind: 1,
+            class: 1,
+        },
+        route: RouteId { place: 0 },
+        server: 0,
+        peer: SERVER,
+        used: 1,
+        path: Path::Udp(1032),
+        id: 8,
+        asked: 1000,
+    })
+}
+
+#[test]
+fn octets_behind_the_reply(rt: HostRuntime) -> Result<(), Fail> {
+    let heap = rt.alloc();
+    let ask = ask(heap)?;
+    let mut bytes = Vec::from_slice(heap, &REPLY)?;
+    bytes.resize(65_535, 0)?;
+    assert_eq!(rt; judge(&ask, SERVER, &bytes).verdict(), Verdict::Whole);
+    bytes.push(0)?;
+    assert_eq!(rt; judge(&ask, SERVER, &bytes).verdict(), Verdict::Stranger);
+    Ok(())
+}
