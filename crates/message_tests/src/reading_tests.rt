@@ -76,6 +76,33 @@ fn the_first_fault_is_told(rt: HostRuntime) -> Result<(), Fail> {
     Ok(())
 }
 
+/// Owners in front of a name of 127 labels, at the offset 12, and of its last 126, at 14: of 255 octets and of 256.
+const LONG_OWNERS: [(&[u8], Option<Fault>); 2] = [
+    (b"\x01a\xc0\x0e", None),
+    (b"\x02aa\xc0\x0e", Some(Fault::NameLong)),
+];
+
+/// A message whose question has 127 labels of one octet, and an address with this owner.
+fn under_127_labels(alloc: Global, owner: &[u8]) -> Result<Vec<u8>, Fail> {
+    let mut octets = decoded(alloc, "000885000001000100000000")?;
+    for _ in 0..127u8 {
+        octets.extend_from_slice(b"\x01a".as_slice())?;
+    }
+    octets.extend_from_slice(b"\x00\x00\x01\x00\x01".as_slice())?;
+    octets.extend_from_slice(owner)?;
+    octets.extend_from_slice(b"\x00\x01\x00\x01\x00\x00\x01\x2c\x00\x04\xc63d\x05".as_slice())?;
+    Ok(octets)
+}
+
+#[test]
+fn a_name_has_at_most_255_octets(rt: HostRuntime) -> Result<(), Fail> {
+    for (owner, fault) in &LONG_OWNERS {
+        let octets = under_127_labels(rt.alloc(), owner)?;
+        assert_eq!(rt; fault_of(rt.alloc(), &octets), *fault);
+    }
+    Ok(())
+}
+
 /// What is said of each fault.
 const SAID: [(Fault, &str); 8] = [
     (Fault::Short, "the octets end too soon"),

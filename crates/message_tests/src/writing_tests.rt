@@ -85,6 +85,37 @@ fn a_name_is_a_pointer_where_it_stood_first(rt: HostRuntime) -> Result<(), Fail>
     Ok(())
 }
 
+/// How many octets stand in front of a name that comes twice, besides 28, and its second place: a pointer leads to the offset
+/// 16,383 at most (RFC 1035 4.1.4).
+const LAST_PLACES: [(u16, &[u8]); 2] = [(16355, b"\xff\xff"), (16356, b"\x01x\x00")];
+
+/// A reply whose first answer has so many octets of data, and two answers of one owner behind it: `x`, and as it is given.
+fn behind_a_filler(alloc: Global, length: u16, owner: &[u8]) -> Result<Vec<u8>, Fail> {
+    let mut octets = hex::decode(
+        alloc,
+        "1234850000010003000000000000010001000010000100000000",
+    )?;
+    octets.extend_from_slice(&length.to_be_bytes())?;
+    for _ in 0..length {
+        octets.push(0)?;
+    }
+    for name in [b"\x01x\x00".as_slice(), owner] {
+        octets.extend_from_slice(name)?;
+        octets.extend_from_slice(b"\x00\x10\x00\x01\x00\x00\x00\x00\x00\x00".as_slice())?;
+    }
+    Ok(octets)
+}
+
+#[test]
+fn a_pointer_leads_to_16383_at_most(rt: HostRuntime) -> Result<(), Fail> {
+    for (length, owner) in &LAST_PLACES {
+        let octets = behind_a_filler(rt.alloc(), *length, owner)?;
+        let text = written_again(rt.alloc(), &octets, 65535)?;
+        assert!(rt; text.as_slice() == octets.as_slice(), "behind {length}");
+    }
+    Ok(())
+}
+
 /// Whether the message is written as these octets, which it came from, where so many growths are granted. `Memory` where one
 /// was refused.
 fn is_written(heap: &Refusing<Global>, octets: &[u8], growths: u64) -> Result<bool, Fault> {
