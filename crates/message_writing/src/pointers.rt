@@ -59,7 +59,7 @@ impl<'a, A: Allocator + Copy> Pointers<'a, A> {
     }
 
     /// The pointer to a name, letter case included. The map is mostly empty.
-    #[inline]
+    #[inline(always)]
     pub fn find(&self, name: &[u8]) -> Option<u16>
         ensures { result ≡ pointer_known self.now name.now }
     {

@@ -1,6 +1,6 @@
 //! Octets that are written from the front, with pointers to the names in them.
 
-ghost use Rattle.std.specs.Prelude.{◌≡◌, ◌≤◌, ◌<◌, ◌-◌, [], length, OnOk, IsTrue, None, MatchResult};
+ghost use Rattle.std.specs.Prelude.{◌≡◌, ◌≤◌, ◌<◌, ◌-◌, [], ℕ, List, length, OnOk, None, MatchResult};
 ghost use Rattle.std.specs.Option.{IfSome};
 ghost use Rattle.dns_name.specs.Labels.{labels_of, IsLaidOut};
 ghost use Rattle.message_writing.specs.Writing.{as_is, octets16, name_text};
@@ -48,30 +48,34 @@ impl<'a, A: Allocator + Copy> Writer<'a, A> {
         self.put(&buffer)
     }
 
-    /// The pointer to an end of a name, where there is one. None is looked up for the first name: no two ends of one
-    /// name are equal.
-    fn find(&self, end: &[u8], first: bool) -> Option<u16>
-        requires { IsTrue first → pointer_in self.now end.now ≡ None }
-        ensures { result ≡ pointer_in self.now end.now }
+    /// Writes the first name: none of its ends is looked up, since no two ends of one name are equal.
+    fn put_first_name(&mut self, name: &'a [u8]) -> Result<(), AllocError>
+        requires laid { IsLaidOut name.now }
+        requires none { (other : List ℕ) → pointer_in self.old other ≡ None }
+        ensures { OnOk result (Writes self.old self.new (name_text (labels_of name.now))) }
     {
-        if first {
-            return None;
+        let start = self.octets.len();
+        let mut rest = name;
+        while let Some((_label, after)) = split_label(rest) {
+            let front = name.len() - rest.len();
+            self.pointers.insert(rest, start + front)?;
+            rest = after;
         }
-        self.pointers.find(end)
+        self.octets.extend_from_slice(name)?;
+        self.put(&[0])?;
+        Ok(())
     }
 
-    /// Writes the name with these octets, its longest end that is known as a pointer. The octets in front of that are
-    /// written at once.
-    pub fn put_name(&mut self, name: &'a [u8]) -> Result<(), AllocError>
+    /// Writes a name, its longest end that is known as a pointer. The octets in front of that are written at once.
+    fn put_later_name(&mut self, name: &'a [u8]) -> Result<(), AllocError>
         requires { IsLaidOut name.now }
         ensures { OnOk result (Writes self.old self.new (name_text (labels_of name.now))) }
     {
         let start = self.octets.len();
-        let first = self.pointers.is_empty();
         let mut rest = name;
         while let Some((_label, after)) = split_label(rest) {
             let front = name.len() - rest.len();
-            if let Some(pointer) = self.find(rest, first) {
+            if let Some(pointer) = self.pointers.find(rest) {
                 self.octets.extend_from_slice(&name[..front])?;
                 self.put_u16(pointer)?;
                 return Ok(());
@@ -82,6 +86,17 @@ impl<'a, A: Allocator + Copy> Writer<'a, A> {
         self.octets.extend_from_slice(name)?;
         self.put(&[0])?;
         Ok(())
+    }
+
+    /// Writes the name with these octets, its longest end that is known as a pointer.
+    pub fn put_name(&mut self, name: &'a [u8]) -> Result<(), AllocError>
+        requires { IsLaidOut name.now }
+        ensures { OnOk result (Writes self.old self.new (name_text (labels_of name.now))) }
+    {
+        if self.pointers.is_empty() {
+            return self.put_first_name(name);
+        }
+        self.put_later_name(name)
     }
 
     /// The pointer to this name, where there is one. It is looked up unless it was found before.

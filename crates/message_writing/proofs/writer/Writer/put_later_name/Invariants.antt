@@ -1,12 +1,12 @@
-use Rattle.std.proofs.Common.{◌≡◌, ◌≤◌, length}
+use Rattle.std.proofs.Common.{◌≡◌, ◌≤◌, false, length}
 use Rattle.message_writing.proofs.WriterLaws.{OnTheWay}
-use Rattle.message_writing.proofs.writer.Writer.put_name.Given as goal
+use Rattle.message_writing.proofs.writer.Writer.put_later_name.Given as goal
 
 abbrev pub invariant-loop-label : goal.invariant-loop-label
 invariant-loop-label g l = record {
   start : l.start ≡ length l.initial.self.octets.items;
   within : length l.rest ≤ length l.name;
-  way : OnTheWay l.initial.self l.self l.name l.rest l.first;
+  way : OnTheWay l.initial.self l.self l.name l.rest false;
 }
 
 abbrev pub decreases-loop-label : goal.decreases-loop-label
