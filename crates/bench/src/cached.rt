@@ -2,13 +2,13 @@
 
 ghost use Rattle.std.specs.Prelude.{◌≤◌};
 
-use crate::filling::{MANY, ROUNDS, addresses, full_cache, held_of, numbered, slots_of};
+use crate::filling::{MANY, ROUNDS, addresses, any_slot, full_cache, held_of, numbered, slots_of};
 use answer_builder::{AskedRef, Transport, put_answer};
 use anyhow::Result;
 use dns_message::{Header, MessageRef, QuestionRef};
 use dns_name::Name;
 use lru::LruCache;
-use negative_cache::{Found, find_by_key};
+use negative_cache::{Found, find_by_octets};
 use record_cache::{Cache, Held};
 use std::alloc::Global;
 use std::hash::RandomState;
@@ -78,6 +78,7 @@ fn write_answer(
 fn answer(
     alloc: Global,
     cache: &mut Cache<RandomState>,
+    slot: &mut Slot,
     config: &Config,
     octets: &[u8],
     text: &mut Vec<u8>,
@@ -86,9 +87,10 @@ fn answer(
     let Some(question) = view.question_ref() else {
         return Ok(false);
     };
-    let slot = match find_by_key(
+    match find_by_octets(
         cache,
-        &question.key(),
+        slot,
+        question.name(),
         question.class(),
         question.kind(),
         NOW,
@@ -96,25 +98,31 @@ fn answer(
     ) {
         Found::Rows(held) | Found::Denied(held) if held.accepted <= NOW => {
             write_answer(alloc, text, view.header(), question, held)?;
-            held.piece.slot()
         }
         _ => return Ok(false),
-    };
-    cache.promote(&slot);
+    }
+    cache.promote(slot);
     Ok(true)
 }
 
 /// Writes the answer to a question from the entry at hand, where its name has the entry's key; whether it has.
-fn answer_from(alloc: Global, held: &Held, octets: &[u8], text: &mut Vec<u8>) -> Result<bool> {
+fn answer_from(
+    alloc: Global,
+    held: &Held,
+    slot: &mut Slot,
+    octets: &[u8],
+    text: &mut Vec<u8>,
+) -> Result<bool> {
     let view = MessageRef::view(octets)?;
-    match view.question_ref() {
-        Some(question)
-            if question.key().octets() == held.piece.owner.octets() && held.accepted <= NOW => {
-            write_answer(alloc, text, view.header(), question, held)?;
-            Ok(true)
-        }
-        _ => Ok(false),
+    let Some(question) = view.question_ref() else {
+        return Ok(false);
+    };
+    slot.key.set_octets(question.name());
+    if slot.key.octets() != held.piece.owner.octets() || held.accepted > NOW {
+        return Ok(false);
     }
+    write_answer(alloc, text, view.header(), question, held)?;
+    Ok(true)
 }
 
 /// How often so many questions are asked in a round.
@@ -137,6 +145,7 @@ fn time_of(
 ) -> Result<(usize, u128)> {
     let alloc = rt.alloc();
     let mut text = Vec::with_capacity(alloc, 512)?;
+    let mut slot = any_slot();
     let count = questions.len() / ROOM;
     let times = times_of(count);
     let mut least = u128::MAX;
@@ -146,7 +155,7 @@ fn time_of(
         let started = Instant::now(rt)?;
         for _ in 0..times {
             for octets in questions.chunks_exact(ROOM) {
-                if answer(alloc, cache, config, octets, &mut text)? {
+                if answer(alloc, cache, &mut slot, config, octets, &mut text)? {
                     answers = answers.saturating_add(1);
                 }
             }
@@ -293,8 +302,9 @@ fn offer_name_error(alloc: Global, cache: &mut Cache<RandomState>, config: &Conf
 /// How many of so many calls give an answer from the entry at hand.
 fn answers_from(alloc: Global, held: &Held, octets: &[u8], text: &mut Vec<u8>) -> Result<usize> {
     let mut answers = 0usize;
+    let mut slot = any_slot();
     for _ in 0..CALLS {
-        if answer_from(alloc, held, octets, text)? {
+        if answer_from(alloc, held, &mut slot, octets, text)? {
             answers = answers.saturating_add(1);
         }
     }

@@ -4,7 +4,7 @@ ghost use Rattle.std.specs.Prelude.{◌≢◌, []};
 
 use anyhow::Result;
 use dns_message::Rdata;
-use dns_name::Name;
+use dns_name::{Name, NameKey};
 use plain_list::PlainList;
 use record_cache::{Cache, Held};
 use std::alloc::Global;
@@ -28,6 +28,16 @@ pub const ADDRESS: u16 = 1;
 pub fn numbered(alloc: Global, number: usize) -> Result<Name> {
     let text = format!(in alloc; "host{number}.some-example.com")?;
     Ok(Name::from_text(alloc, text.as_str())?)
+}
+
+/// A slot that look-ups set.
+#[tactic(auto, using(dns_name::proofs::CallerLemmas::no_octets_are_laid_out))]
+pub fn any_slot() -> Slot {
+    Slot {
+        class: CLASS,
+        kind: None,
+        key: NameKey::from_octets(&[]),
+    }
 }
 
 /// The addresses of a name for a day: one of them.

@@ -1,13 +1,16 @@
-//! What it costs to look a name up in a full cache, its key at hand, and to change the cache.
+//! What it costs to look a name up in a full cache, its octets at hand, and to change the cache.
 
-use crate::filling::{ADDRESS, CLASS, MANY, ROUNDS, addresses, full_cache, name_error, numbered};
+use crate::filling::{
+    ADDRESS, CLASS, MANY, ROUNDS, addresses, any_slot, full_cache, name_error, numbered,
+};
 use anyhow::Result;
-use dns_name::{Name, NameKey};
-use negative_cache::{Found, find_by_key, shown};
+use dns_name::Name;
+use negative_cache::{Found, find_by_octets, shown};
 use record_cache::Cache;
 use std::hash::RandomState;
 use std::time::Instant;
 use suffix_routes::Config;
+use trust_rank::Slot;
 
 /// Two routes, so that one is looked for.
 const CONFIG: &str = r#"version = 1
@@ -39,13 +42,12 @@ fn each(rt: &HostRuntime, started: &Instant, calls: usize) -> Result<u128> {
     Ok(started.elapsed(rt)?.as_nanos() / count)
 }
 
-/// What answers a question from the cache, made the most recently used; whether there is something.
-fn answer(cache: &mut Cache<RandomState>, key: &NameKey, config: &Config) -> bool {
-    let slot = match find_by_key(cache, key, CLASS, ADDRESS, 1000, config) {
-        Found::Rows(held) | Found::Denied(held) => held.piece.slot(),
+/// Makes what answers a question from the cache the most recently used; whether there is something.
+fn answer(cache: &mut Cache<RandomState>, slot: &mut Slot, name: &Name, config: &Config) -> bool {
+    match find_by_octets(cache, slot, name.octets(), CLASS, ADDRESS, 1000, config) {
+        Found::Rows(_) | Found::Denied(_) => cache.promote(slot),
         _ => return false,
-    };
-    cache.promote(&slot);
+    }
     true
 }
 
@@ -56,13 +58,14 @@ fn of_name(
     name: &str,
     config: &Config,
 ) -> Result<(bool, u128)> {
-    let key = Name::from_text(rt.alloc(), name)?.key();
+    let name = Name::from_text(rt.alloc(), name)?;
+    let mut slot = any_slot();
     let mut least = u128::MAX;
     let mut answered = false;
     for _ in 0..ROUNDS {
         let started = Instant::now(rt)?;
         for _ in 0..CALLS {
-            answered = answer(cache, &key, config);
+            answered = answer(cache, &mut slot, &name, config);
         }
         least = least.min(each(rt, &started, CALLS)?);
     }

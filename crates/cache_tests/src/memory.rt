@@ -3,7 +3,7 @@
 use crate::samples::Denial;
 use dns_name::{Name, NameFault};
 use lru::DefaultHasher;
-use negative_cache::{Found, find, find_by_key, shown};
+use negative_cache::{Found, find, shown};
 use record_cache::{Cache, Offered};
 use refusing_allocator::Refusing;
 use std::alloc::Global;
@@ -130,10 +130,10 @@ fn look_up<'a>(
 ) -> Result<bool, NameFault> {
     Denial::of("x.example", None).offer(heap, cache, 1000)?;
     let under = Name::from_text(heap, "a.x.example")?;
-    let beside = Name::from_text(heap, "y.example")?.key();
+    let beside = Name::from_text(heap, "y.example")?;
     heap.allow(1);
     let is_denied = matches!(find(cache, &under, 1, 1, 2000, config), Found::Denied(_));
-    let is_missed = matches!(find_by_key(cache, &beside, 1, 1, 2000, config), Found::Miss);
+    let is_missed = matches!(find(cache, &beside, 1, 1, 2000, config), Found::Miss);
     shown(cache, &under, 1);
     Ok(is_denied && is_missed && is_one_left(heap))
 }

@@ -58,16 +58,14 @@ zeros_behind octets len key size =
     let whole : octets ≡ (name ++ 0 ∷ []) ++ replicate (255 - len) 0 = sym key.zeros ∙ ap (λ (n : ℕ). name ++ replicate n 0) one ∙ sym (append_assoc name (0 ∷ []) (replicate (255 - len) 0)) in
     ap (drop len) whole ∙ drop_at (name ++ 0 ∷ []) (replicate (255 - len) 0) len (omega (arith, length-append name (0 ∷ []), long, key.some))
 
--- where those octets are zeros too, others before them have zeros behind them
-pub became : (octets : List ℕ) (len : ℕ) (others : List ℕ) → IsKey octets len → length octets ≡ 255 → others ++ drop (length others) (replicate len 0 ++ drop len octets) ≡ padded others
-became octets len others key size =
+-- where those octets are zeros too, those of another name in lower case have zeros behind them
+pub became : (octets : List ℕ) (len : ℕ) (name : List ℕ) → IsKey octets len → length octets ≡ 255
+    → map to_ascii_lowercase name ++ drop (length name) (replicate len 0 ++ drop len octets) ≡ padded (map to_ascii_lowercase name)
+became octets len name key size =
+    let lower : List ℕ = map to_ascii_lowercase name in
     let all : len + (255 - len) ≡ 255 = omega (arith, key.short) in
     let zeros : replicate len 0 ++ drop len octets ≡ replicate 255 0 = ap (λ (xs : List ℕ). replicate len 0 ++ xs) (zeros_behind octets len key size) ∙ replicate-append-replicate len (255 - len) 0 ∙ ap (λ (n : ℕ). replicate n 0) all in
-    ap (λ (xs : List ℕ). others ++ xs) (ap (drop (length others)) zeros ∙ drop-replicate {X = ℕ} (length others) 255 0)
-
--- octets of a name in lower case are as they are in its key
-pub lower_already : (octets : List ℕ) → IsLaidOut octets → lowered (labels_of octets) ≡ labels_of octets → map to_ascii_lowercase octets ≡ octets
-lower_already octets laid lower = lower_octets octets laid ∙ ap octets_of lower ∙ laid.whole
+    ap (λ (xs : List ℕ). lower ++ xs) (ap (drop (length name)) zeros ∙ drop-replicate {X = ℕ} (length name) 255 0 ∙ ap (λ (n : ℕ). replicate (255 - n) 0) (sym (length-map name to_ascii_lowercase)))
 
 -- one more octet in lower case, where a zero was
 pub lower_more : (octets : List ℕ) (i : ℕ) → i < length octets → length octets ≤ 255

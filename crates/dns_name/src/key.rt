@@ -98,17 +98,18 @@ impl NameKey {
         key_of(octets)
     }
 
-    /// Makes this the key of the name that these octets are, as `octets` gives them: of what it was before nothing stays. Less
-    /// is written than for a new key. It takes no memory.
+    /// Makes this the key of the name that these octets are, as `Name::octets` gives them: of what it was before nothing
+    /// stays. Less is written than for a new key, and nothing is moved. It takes no memory.
     #[tactic(auto, using(crate::proofs::LabelLaws::laid_short))]
     pub fn set_octets(&mut self, octets: &[u8])
-        requires laid { IsLaidOut octets.now }
-        requires lower { lowered (labels_of octets.now) ≡ labels_of octets.now }
-        ensures { self.new ≡ labels_of octets.now }
+        requires { IsLaidOut octets.now }
+        ensures { self.new ≡ lowered (labels_of octets.now) }
     {
         let before = usize::from(self.len);
         self.octets[..before].copy_from_slice(&ZEROS[..before]);
-        self.octets[..octets.len()].copy_from_slice(octets);
+        let name = &mut self.octets[..octets.len()];
+        name.copy_from_slice(octets);
+        name.make_ascii_lowercase();
         self.len = octets.len() as u8 + 1;
     }
 

@@ -113,8 +113,9 @@ impl<A: Allocator> Name<A> {
     }
 }
 
-/// Whether the last labels of the one are those of the other, letter case aside.
-pub(crate) fn ends_in(octets: &[u8], suffix: &[u8]) -> bool
+/// Whether the name that the first octets are is under the one that the others are, both as `Name::octets` gives them: what
+/// `Name::is_under` tells of names that are not at hand as such. It takes no memory.
+pub fn ends_in(octets: &[u8], suffix: &[u8]) -> bool
     requires whole { IsLaidOut octets.now }
     requires suffix_whole { IsLaidOut suffix.now }
     ensures { IsTrue result ↔ IsUnder (labels_of octets.now) (labels_of suffix.now) }

@@ -1,4 +1,6 @@
 -- What a contract sees of what a look-up found.
+use Rattle.std.specs.Prelude.{◌≡◌}
+use Rattle.trust_rank.specs.declared.slot.Slot.{Slot}
 use Rattle.record_cache.specs.Values.{Held}
 use Rattle.negative_cache.specs.declared.found.Found.{Found as OwnedFound}
 use Rattle.negative_cache.specs.declared.found.Found.TheVariants as owned
@@ -18,3 +20,11 @@ found_of (owned.Alias held) = alias held.now
 found_of (owned.NoData held) = no_data held.now
 found_of (owned.Denied held) = denied held.now
 found_of owned.Miss = miss
+
+-- this is the slot of what was found; where nothing was, any is
+abbrev pub IsSlotOf : Slot → Found → Type 0
+IsSlotOf slot (rows h) = slot ≡ h.piece.slot
+IsSlotOf slot (alias h) = slot ≡ h.piece.slot
+IsSlotOf slot (no_data h) = slot ≡ h.piece.slot
+IsSlotOf slot (denied h) = slot ≡ h.piece.slot
+IsSlotOf slot miss = Unit {0}

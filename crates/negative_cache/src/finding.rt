@@ -1,18 +1,18 @@
 //! What the cache holds for a question.
 
-ghost use Rattle.std.specs.Prelude.{◌≡◌, List, ℕ};
-ghost use Rattle.std.specs.Option.{option_copied};
-ghost use Rattle.dns_name.specs.Labels.{lowered};
-ghost use Rattle.record_cache.specs.Entries.{AreHeld};
+ghost use Rattle.std.specs.Prelude.{◌≡◌};
+ghost use Rattle.std.specs.Option.{option_copied, IfSome};
+ghost use Rattle.dns_name.specs.Labels.{labels_of, lowered, IsLaidOut};
+ghost use Rattle.record_cache.specs.Entries.{ending, AreHeld};
 ghost use Rattle.negative_cache.specs.BySlot.{alias_at, found_by_slot, slots_of};
 ghost use Rattle.negative_cache.specs.Finding.{found};
-ghost use Rattle.negative_cache.specs.Values.{found_of};
+ghost use Rattle.negative_cache.specs.Values.{found_of, IsSlotOf};
 
 use crate::errors::nearest_name_error;
 use crate::found::Found;
 use crate::living::{living_entry, no_data_in, set_in};
-use dns_name::{Name, NameKey};
-use record_cache::{Cache, Held};
+use dns_name::Name;
+use record_cache::{Cache, Held, ending};
 use std::alloc::Allocator;
 use std::hash::BuildHasher;
 use suffix_routes::Config;
@@ -35,73 +35,89 @@ pub fn find<'a, H: BuildHasher + Drop, A: Allocator + Copy>(
     ensures { found_of result
         ≡ found config.now.routes moment cache.now.entries (record { name = name.now; kind = kind; class = class }) }
 {
-    find_by_key(cache, &name.key(), class, kind, moment, config)
+    let mut slot = Slot {
+        class,
+        kind: None,
+        key: name.key(),
+    };
+    find_by_octets(cache, &mut slot, name.octets(), class, kind, moment, config)
 }
 
-/// What `find` gives for each name that has this key. Routes are looked at only where a living name error of a name above
-/// it is met. It takes no memory.
-pub fn find_by_key<'a, H: BuildHasher + Drop, A: Allocator + Copy>(
+/// What `find` gives for the name that these octets are, as `Name::octets` gives them. The slot becomes that of what is found,
+/// which `promote` takes, and any where nothing is; what it was does not matter, so that one slot serves many look-ups and no
+/// key is moved. Routes are looked at only where a living name error of a name above it is met. It takes no memory.
+pub fn find_by_octets<'a, H: BuildHasher + Drop, A: Allocator + Copy>(
     cache: &'a Cache<H, A>,
-    key: &NameKey,
+    slot: &mut Slot,
+    octets: &[u8],
     class: u16,
     kind: u16,
     moment: u64,
     config: &Config<A>,
 ) -> Found<'a, A>
-    ensures { (name : List (List ℕ)) → lowered name ≡ key.now → found_of result
-        ≡ found config.now.routes moment cache.now.entries (record { name = name; kind = kind; class = class }) }
+    requires { IsLaidOut octets.now }
+    ensures found { found_of result
+        ≡ found config.now.routes moment cache.now.entries (record { name = labels_of octets.now; kind = kind; class = class }) }
+    ensures slot { IsSlotOf slot.new (found_of result) }
 {
-    look_up(cache, key, class, kind, moment, config)
+    look_up(cache, slot, octets, class, kind, moment, config)
 }
 
 /// The same, slot by slot. `held` says what holds of all entries.
 fn look_up<'a, H: BuildHasher + Drop, A: Allocator + Copy>(
     cache: &'a Cache<H, A>,
-    key: &NameKey,
+    slot: &mut Slot,
+    octets: &[u8],
     class: u16,
     kind: u16,
     moment: u64,
     config: &Config<A>,
 ) -> Found<'a, A>
+    requires { IsLaidOut octets.now }
     ensures found { found_of result
-        ≡ found_by_slot config.now.routes moment (slots_of cache.now.entries) key.now class kind }
+        ≡ found_by_slot config.now.routes moment (slots_of cache.now.entries) (lowered (labels_of octets.now)) class kind }
+    ensures slot { IsSlotOf slot.new (found_of result) }
     ensures held { AreHeld cache.now }
 {
-    let mut slot = Slot {
-        key: *key,
-        class,
-        kind: Some(kind),
-    };
-    let own = living_entry(cache, &slot, moment);
+    slot.key.set_octets(octets);
+    slot.class = class;
+    slot.kind = Some(kind);
+    let own = living_entry(cache, slot, moment);
     if let Some(held) = set_in(own) {
         return Found::Rows(held);
     }
-    if let Some(held) = alias_beside(cache, &mut slot, kind, moment) {
+    let end = ending(octets);
+    if let Some(held) = alias_beside(cache, slot, end, kind, moment) {
         return Found::Alias(held);
     }
     if let Some(held) = no_data_in(own) {
+        slot.kind = Some(kind);
         return Found::NoData(held);
     }
-    match nearest_name_error(cache, &mut slot, key, class, moment, config) {
+    match nearest_name_error(cache, slot, octets, end, class, moment, config) {
         Some(held) => Found::Denied(held),
         None => Found::Miss,
     }
 }
 
-/// The living alias at the name of a slot of this type, which becomes that of the alias: so the name is copied once. A
-/// question for CNAME follows none. Where no alias may be of the name, none is looked up.
+/// The living alias at the name of a slot of this type, whose ending this is; the slot becomes that of the alias. A question
+/// for CNAME follows none. Where no alias may be of the name, none is looked up.
 fn alias_beside<'a, H: BuildHasher + Drop, A: Allocator + Copy>(
     cache: &'a Cache<H, A>,
     slot: &mut Slot,
+    end: usize,
     kind: u16,
     moment: u64,
 ) -> Option<&'a Held<A>>
-    ensures { option_copied result ≡ alias_at moment (slots_of cache.now.entries) slot.old.key slot.old.class kind }
+    requires { end ≡ ending slot.old.key }
+    ensures alias { option_copied result ≡ alias_at moment (slots_of cache.now.entries) slot.old.key slot.old.class kind }
+    ensures slot { IfSome (option_copied result) (λ h. slot.new ≡ h.piece.slot) }
+    ensures name { (slot.new.key ≡ slot.old.key) × (slot.new.class ≡ slot.old.class) }
 {
     if kind == CNAME {
         return None;
     }
-    if !cache.may_have_alias(slot.key.octets()) {
+    if !cache.may_have_alias(end) {
         return None;
     }
     slot.kind = Some(CNAME);

@@ -8,7 +8,7 @@ mod laws;
 mod living;
 mod showing;
 
-pub use finding::{find, find_by_key};
+pub use finding::{find, find_by_octets};
 pub use found::Found;
 pub use laws::{found_fits, found_is_settled, nearest_is_found, shown_is_replaced};
 pub use showing::shown;

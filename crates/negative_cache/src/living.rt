@@ -1,7 +1,7 @@
 //! The entry of a slot, where it is alive.
 
 ghost use Rattle.std.specs.Prelude.{◌≡◌};
-ghost use Rattle.std.specs.Option.{option_copied};
+ghost use Rattle.std.specs.Option.{option_copied, IfSome};
 ghost use Rattle.record_cache.specs.Entries.{AreHeld};
 ghost use Rattle.negative_cache.specs.Entries.{is_no_data, is_set};
 ghost use Rattle.negative_cache.specs.BySlot.{living_entry, only, slots_of};
@@ -18,6 +18,7 @@ pub(crate) fn living_entry<'a, H: BuildHasher + Drop, A: Allocator + Copy>(
     moment: u64,
 ) -> Option<&'a Held<A>>
     ensures found { option_copied result ≡ living_entry moment (slots_of cache.now.entries) slot.now }
+    ensures slot { IfSome (option_copied result) (λ h. slot.now ≡ h.piece.slot) }
     ensures held { AreHeld cache.now }
 {
     let held = cache.peek(slot)?;

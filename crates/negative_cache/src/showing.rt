@@ -6,7 +6,7 @@ ghost use Rattle.record_cache.specs.Entries.{AreHeld, without};
 ghost use Rattle.negative_cache.specs.Showing.{shown};
 
 use dns_name::{Name, NameKey, split_label};
-use record_cache::Cache;
+use record_cache::{Cache, ending};
 use std::alloc::Allocator;
 use std::hash::BuildHasher;
 use trust_rank::Slot;
@@ -21,7 +21,7 @@ pub fn shown<H: BuildHasher + Drop, A: Allocator + Copy>(
     ensures { cache.new ≡ record cache.old { entries = shown name.now class cache.old.entries } }
 {
     let mut rest = name.octets();
-    if !cache.may_deny(rest) {
+    if !cache.may_deny(ending(rest)) {
         return;
     }
     forget_name_error(cache, rest, class);

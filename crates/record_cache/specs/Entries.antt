@@ -78,14 +78,21 @@ has_number number n entries = list_any (λ h. is_number n (number h.piece.slot))
 abbrev pub has_name_error : ℕ → List Held → Bool
 has_name_error size entries = has_number name_error_size size entries
 
+-- a name error is there whose name has no ending or this one
+abbrev pub may_deny_at : ℕ → List Held → Bool
+may_deny_at n entries = has_number name_error_ending 0 entries || has_number name_error_ending n entries
+
 -- a name error is there whose name has no ending or that of the name, as each name above it has
 abbrev pub may_deny : List (List ℕ) → List Held → Bool
-may_deny name entries =
-    has_number name_error_ending 0 entries || has_number name_error_ending (ending name) entries
+may_deny name entries = may_deny_at (ending name) entries
+
+-- an entry of type CNAME is there whose owner has this ending
+abbrev pub may_have_alias_at : ℕ → List Held → Bool
+may_have_alias_at n entries = has_number alias_ending n entries
 
 -- an entry of type CNAME is there whose owner has the ending of the name
 abbrev pub may_have_alias : List (List ℕ) → List Held → Bool
-may_have_alias name entries = has_number alias_ending (ending name) entries
+may_have_alias name entries = may_have_alias_at (ending name) entries
 
 -- no two entries are of one slot
 abbrev pub AreApart : List Held → Type 0

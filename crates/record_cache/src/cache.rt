@@ -1,14 +1,12 @@
 //! The entries, in the order of their last use.
 
 ghost use Rattle.std.specs.Prelude.{◌≡◌, ◌<◌, ◌||◌, [], if◌then◌else◌, length, option_map, None, Some, IfOk, MatchOption};
-ghost use Rattle.dns_name.specs.Labels.{labels_of, lowered, IsLaidOut};
-ghost use Rattle.record_cache.specs.Entries.{AreHeld, entry_of, has_name_error, has_slot, may_deny, may_have_alias, promoted, without};
+ghost use Rattle.record_cache.specs.Entries.{AreHeld, entry_of, has_name_error, has_slot, may_deny_at, may_have_alias_at, promoted, without};
 ghost use Rattle.record_cache.specs.Offers.{answer, found_room, is_outranked, kept, offered};
 ghost use Rattle.record_cache.specs.Storing.{AreFew, IsStored, marks_in};
 ghost use Rattle.std.specs.Map.{values_of};
 
 use crate::counts::{Marks, Tables};
-use crate::endings::ending;
 use crate::held::Held;
 use lru::LruCache;
 use std::alloc::{AllocError, Allocator, Global};
@@ -155,27 +153,25 @@ impl<H: BuildHasher + Drop, A: Allocator + Copy> Cache<H, A> {
         self.tables.sizes.has(size)
     }
 
-    /// Whether some name error, alive or dead, may be of the name that these octets are or of one above it: one whose name
-    /// is short, or ends in the same octets, letter case aside. Where none may, no look-up for one is needed. It takes no
-    /// memory, and looks at no entry. `held` says again what holds of all entries.
-    pub fn may_deny(&self, octets: &[u8]) -> bool
-        requires { IsLaidOut octets.now }
-        ensures told { result ≡ may_deny (lowered (labels_of octets.now)) self.now.entries }
+    /// Whether some name error, alive or dead, may be of a name with this ending or of one above it: one whose name is short,
+    /// or has the same ending. Where none may, no look-up for one is needed. It takes no memory, and looks at no entry. `held`
+    /// says again what holds of all entries.
+    pub fn may_deny(&self, ending: usize) -> bool
+        ensures told { result ≡ may_deny_at ending self.now.entries }
         ensures held { AreHeld self.now }
     {
         let endings = &self.tables.endings;
-        endings.has(0) || endings.has(ending(octets))
+        endings.has(0) || endings.has(ending)
     }
 
-    /// Whether some entry of type CNAME, alive or dead, may be of the name that these octets are: one whose owner has the
-    /// same ending. Where none may, no look-up for one is needed. It takes no memory, and looks at no entry. `held` says
-    /// again what holds of all entries.
-    pub fn may_have_alias(&self, octets: &[u8]) -> bool
-        requires { IsLaidOut octets.now }
-        ensures told { result ≡ may_have_alias (lowered (labels_of octets.now)) self.now.entries }
+    /// Whether some entry of type CNAME, alive or dead, may be of a name with this ending: one whose owner has it too. Where
+    /// none may, no look-up for one is needed. It takes no memory, and looks at no entry. `held` says again what holds of all
+    /// entries.
+    pub fn may_have_alias(&self, ending: usize) -> bool
+        ensures told { result ≡ may_have_alias_at ending self.now.entries }
         ensures held { AreHeld self.now }
     {
-        self.tables.aliases.has(ending(octets))
+        self.tables.aliases.has(ending)
     }
 }
 

@@ -4,9 +4,10 @@ ghost use Rattle.std.specs.Prelude.{◌≡◌, ◌<◌};
 ghost use Rattle.dns_name.specs.Labels.{labels_of, lowered, IsLaidOut};
 ghost use Rattle.record_cache.specs.Entries.{ending};
 
-/// The ending of the name that these octets are, in lower case: 0 where they are fewer than eight, else 1 and the rest by 251
-/// of the last eight as one number.
-pub(crate) fn ending(octets: &[u8]) -> usize
+/// The ending of the name that these octets are, as `Name::octets` gives them, letter case aside: 0 where they are fewer than
+/// eight, else 1 and the rest by 251 of the last eight as one number. `Cache::may_deny` and `Cache::may_have_alias` are asked
+/// by it. It takes no memory.
+pub fn ending(octets: &[u8]) -> usize
     requires { IsLaidOut octets.now }
     ensures ending { result ≡ ending (lowered (labels_of octets.now)) }
     ensures few { result < 256 }

@@ -3,7 +3,6 @@ use Rattle.std.proofs.Common.{◌≡◌, ℕ, zero, suc, ◌+◌, ◌-◌, ◌<�
 use Rattle.std.specs.Prelude.{Result, IfOk}
 use Rattle.std.proofs.lemmas.Result.{IfOk-weaker}
 use denote.Ref.{Bor}
-use Rattle.dns_name.specs.Labels.{lowered}
 use Rattle.dns_message.specs.Values.{Question}
 use Rattle.suffix_routes.specs.Values.{Route}
 use Rattle.trust_rank.specs.Walks.{target_of}
@@ -14,7 +13,6 @@ use Rattle.answer_builder.specs.Building.{lent}
 use Rattle.step_rules.specs.LookingUp.{Looked, led, followed, one_too_many, through, look_up}
 use Rattle.step_look_ups.specs.declared.looked.Met.TheVariants.{Ends, TooLong, Missed}
 use Rattle.step_look_ups.specs.Seen.{Seen, seen_of, led_on, goes_on, seen_from}
-use Rattle.step_look_ups.proofs.Targets.{IsKeyOf}
 
 -- ---- the definition of a look-up, seen
 
@@ -106,18 +104,18 @@ module _ (routes : List Route) (n : ℕ) (entries : List Held) (class kind most 
   on_way f is = record { few = omega arith; left = λ more e. let whole : more ≡ most = omega (arith, e) in ap (λ (m : ℕ). seen_from routes n entries class kind m [] f) whole ∙ is }
 
   -- one alias more is used, and leads on
-  pub on_alias : (used after : List (Bor Held)) (e : Bor Held) (key : List (List ℕ)) (f : Found) → IsOnWay routes n entries class kind most used (alias e.now) all
-      → after ≡ used ++ e ∷ [] → IsKeyOf (target_of e.now.piece.body) key
-      → ((name : List (List ℕ)) → lowered name ≡ key → f ≡ found routes n entries (record { name = name; kind = kind; class = class }))
+  pub on_alias : (used after : List (Bor Held)) (e : Bor Held) (target : List (List ℕ)) (f : Found) → IsOnWay routes n entries class kind most used (alias e.now) all
+      → after ≡ used ++ e ∷ [] → target_of e.now.piece.body ≡ Some target
+      → f ≡ found routes n entries (record { name = target; kind = kind; class = class })
       → length after ≤ most → IsOnWay routes n entries class kind most after f all
-  on_alias used after e key f way put target is few =
+  on_alias used after e target f way put leads is few =
       let count : length after ≡ length used + 1 = ap length put ∙ length-append used (e ∷ []) in
       record {
         few = few;
         left = λ more sum.
             ap (λ (us : List (Bor Held)). seen_from routes n entries class kind more (lent us) f) put
             ∙ ap (λ (hs : List Held). seen_from routes n entries class kind more hs f) (lent_put used e)
-            ∙ sym (alias_seen routes n entries class kind more (lent used) e.now target.name f target.is (sym (is target.name target.lower)))
+            ∙ sym (alias_seen routes n entries class kind more (lent used) e.now target f leads (sym is))
             ∙ way.left (suc more) (omega (arith, sum, count));
       }
 
@@ -128,13 +126,13 @@ module _ (routes : List Route) (n : ℕ) (entries : List Held) (class kind most 
       sym (no_target_seen routes n entries class kind (most - length used) (lent used) e none) ∙ way.left (most - length used) (let few = way.few in omega (arith, few))
 
   -- at one alias too many
-  pub at_ninth : (used after : List (Bor Held)) (e : Bor Held) (key : List (List ℕ)) → IsOnWay routes n entries class kind most used (alias e.now) all → after ≡ used ++ e ∷ []
-      → IsKeyOf (target_of e.now.piece.body) key → most < length after → record { used = lent after; met = TooLong } ≡ all
-  at_ninth used after e key way put target many =
+  pub at_ninth : (used after : List (Bor Held)) (e : Bor Held) (target : List (List ℕ)) → IsOnWay routes n entries class kind most used (alias e.now) all → after ≡ used ++ e ∷ []
+      → target_of e.now.piece.body ≡ Some target → most < length after → record { used = lent after; met = TooLong } ≡ all
+  at_ninth used after e target way put leads many =
       let count : length after ≡ length used + 1 = ap length put ∙ length-append used (e ∷ []) in
       let few = way.few in
       ap (λ (hs : List Held). record { used = hs; met = TooLong }) (ap (λ (us : List (Bor Held)). lent us) put ∙ lent_put used e)
-      ∙ sym (too_long_seen routes n entries class kind (lent used) e.now target.name target.is)
+      ∙ sym (too_long_seen routes n entries class kind (lent used) e.now target leads)
       ∙ way.left 0 (omega (arith, few, many, count))
 
   -- where nothing is found

@@ -31,11 +31,10 @@ pub(crate) fn look_on<'a, H: BuildHasher + Drop, A: Allocator + Copy>(
         return Ok(None);
     };
     let question = waiting.wanted();
-    let key = lead.name.key();
     let looked = look_up(
         alloc,
         cache,
-        &key,
+        lead.name.octets(),
         question.class,
         question.kind,
         moment,

@@ -362,7 +362,7 @@ impl<'a, H: BuildHasher + Drop, A: Allocator + Copy> Situation<'a, H, A> {
         let looked = look_up(
             self.alloc,
             self.cache,
-            &question.key(),
+            question.name(),
             question.class(),
             question.kind(),
             moment,

@@ -59,7 +59,7 @@ returns-then-is_under_longer g c =
     let there : slice_get routes i ≡ Some r = slice_get_read routes (length routes) i r refl c.loop-route-test.true c.route-item.is in
     let suffix : r.suffix ≡ c.route.inside.suffix = ap (λ (x : Route). x.suffix) (sym c.route.view_is) in
     let found = c.is_under_longer.ensures.0 c.if-is_under_longer.true in
-    leaves routes c.args.config.now.routes c.args.asked.now (labels_of octets) (length octets + 1) i r c.routes-routes.ensures.routes c.requires.under (size_is octets c.requires.laid)
+    leaves routes c.args.config.now.routes (labels_of c.args.asked.now) (labels_of octets) (length octets + 1) i r c.routes-routes.ensures.routes c.requires.under (size_is octets c.requires.laid)
     there (rw suffix found.0) (rw suffix found.1)
 
 pub loop-route-preserved : goal.loop-route-preserved
@@ -70,7 +70,7 @@ loop-route-preserved g c =
     let i = c.loop-route.route-index in
     let there : slice_get routes i ≡ Some r = slice_get_read routes (length routes) i r refl c.loop-route-test.true c.route-item.is in
     let suffix : r.suffix ≡ c.route.inside.suffix = ap (λ (x : Route). x.suffix) (sym c.route.view_is) in
-    one_more routes c.args.asked.now size i r there c.loop-route.invariant
+    one_more routes (labels_of c.args.asked.now) size i r there c.loop-route.invariant
     (λ under. elim (cases_lt size (size_of r.suffix)) [
       | inl longer ↦ absurd (let yes = c.is_under_longer.ensures.1 (rw suffix at under, rw suffix at longer) in let no = c.if-is_under_longer.false in cc)
       | inr short ↦ short
@@ -79,5 +79,5 @@ loop-route-preserved g c =
 pub returns : goal.returns
 returns g c =
     let octets = c.args.octets.now in
-    stays c.routes-routes.result.now c.args.config.now.routes c.args.asked.now (labels_of octets) (length octets + 1) c.loop-route.route-index
+    stays c.routes-routes.result.now c.args.config.now.routes (labels_of c.args.asked.now) (labels_of octets) (length octets + 1) c.loop-route.route-index
     c.routes-routes.ensures.routes c.routes-routes.ensures.accepted.differ c.requires.under (size_is octets c.requires.laid) c.loop-route-test.false c.loop-route.invariant

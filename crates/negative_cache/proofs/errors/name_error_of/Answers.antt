@@ -1,16 +1,21 @@
 use Rattle.std.proofs.Common.{◌≡◌, ℕ, List, length, false, None, sym, ap, subst, ◌∙◌}
-use Rattle.dns_name.specs.Labels.{labels_of}
+use Rattle.dns_name.specs.Labels.{labels_of, lowered, octets_of}
+use Rattle.dns_name.proofs.CallerLemmas.{lowered_is_same}
 use Rattle.record_cache.specs.Entries.{has_name_error}
+use Rattle.record_cache.proofs.CallerLemmas.{size_same}
 use Rattle.negative_cache.specs.BySlot.{living_entry, slots_of}
 use Rattle.negative_cache.proofs.Sizes.{no_name_error}
 use Rattle.negative_cache.proofs.errors.name_error_of.Goals as goal
 
-pub returns-then-not-has_name_error : goal.returns-then-not-has_name_error
-returns-then-not-has_name_error g c =
-    sym (no_name_error c.args.moment c.args.class (labels_of c.args.octets.now) c.args.cache.now.entries
-    (subst (λ (n : ℕ). has_name_error n c.args.cache.now.entries ≡ false) (ap length (sym c.requires.laid.whole)) (sym c.has_name_error.ensures.told ∙ c.if-not-has_name_error.true)))
+pub returns-then-not-has_name_error-clause-found : goal.returns-then-not-has_name_error-clause-found
+returns-then-not-has_name_error-clause-found g c =
+    let name = labels_of c.args.octets.now in
+    let key = lowered name in
+    let size : length c.args.octets.now ≡ length (octets_of key) = sym (size_same key name (lowered_is_same name) ∙ ap length c.requires.whole) in
+    sym (no_name_error c.args.moment c.args.class key c.args.cache.now.entries
+    (subst (λ (n : ℕ). has_name_error n c.args.cache.now.entries ≡ false) size (sym c.has_name_error.ensures.told ∙ c.if-not-has_name_error.true)))
 
-pub returns : goal.returns
-returns g c =
+pub returns-clause-found : goal.returns-clause-found
+returns-clause-found g c =
     c.living_entry.ensures.found
     ∙ ap (λ (key : List (List ℕ)). living_entry c.args.moment (slots_of c.args.cache.now.entries) (record { key = key; class = c.args.class; kind = None })) c.set_octets.ensures

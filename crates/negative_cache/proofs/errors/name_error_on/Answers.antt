@@ -1,15 +1,24 @@
 use Rattle.std.proofs.Common.{sym, ◌∙◌}
-use Rattle.dns_name.specs.Labels.{labels_of}
+use Rattle.std.specs.Prelude.{nat_eq}
+use Rattle.std.specs.Option.{option_eq}
+use Rattle.dns_name.specs.Labels.{labels_of, lowered}
 use Rattle.suffix_routes.specs.Routes.{route_of}
+use Rattle.suffix_routes.proofs.CallerLemmas.{route_of_lowered}
 use Rattle.negative_cache.proofs.Climbing.{on_route, off_route}
 use Rattle.negative_cache.proofs.errors.name_error_on.Goals as goal
 
-pub returns-then-has_route_of : goal.returns-then-has_route_of
-returns-then-has_route_of g c =
-    on_route c.args.config.now.routes (route_of c.args.config.now.routes c.args.asked.now) c.args.moment c.args.class c.args.cache.now.entries (labels_of c.args.octets.now) c.in_ok-held.held.now
-    c.in_ok-held.ensures (sym c.has_route_of.ensures ∙ c.if-has_route_of.true)
+pub returns-then-has_route_of-clause-found : goal.returns-then-has_route_of-clause-found
+returns-then-has_route_of-clause-found g c =
+    let routes = c.args.config.now.routes in
+    let name = labels_of c.args.octets.now in
+    let asked = labels_of c.args.asked.now in
+    on_route routes (route_of routes (lowered asked)) c.args.moment c.args.class c.args.cache.now.entries (lowered name) c.in_ok-held.held.now c.in_ok-held.ensures.found
+    ((λ i. option_eq nat_eq (route_of_lowered routes name i) (route_of_lowered routes asked i)) ∙ sym c.has_route_of.ensures ∙ c.if-has_route_of.true)
 
-pub returns-else-has_route_of : goal.returns-else-has_route_of
-returns-else-has_route_of g c =
-    off_route c.args.config.now.routes (route_of c.args.config.now.routes c.args.asked.now) c.args.moment c.args.class c.args.cache.now.entries (labels_of c.args.octets.now) c.in_ok-held.held.now
-    c.in_ok-held.ensures (sym c.has_route_of.ensures ∙ c.if-has_route_of.false)
+pub returns-else-has_route_of-clause-found : goal.returns-else-has_route_of-clause-found
+returns-else-has_route_of-clause-found g c =
+    let routes = c.args.config.now.routes in
+    let name = labels_of c.args.octets.now in
+    let asked = labels_of c.args.asked.now in
+    off_route routes (route_of routes (lowered asked)) c.args.moment c.args.class c.args.cache.now.entries (lowered name) c.in_ok-held.held.now c.in_ok-held.ensures.found
+    ((λ i. option_eq nat_eq (route_of_lowered routes name i) (route_of_lowered routes asked i)) ∙ sym c.has_route_of.ensures ∙ c.if-has_route_of.false)

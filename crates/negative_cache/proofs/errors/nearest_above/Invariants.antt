@@ -7,10 +7,9 @@ use Rattle.negative_cache.proofs.errors.nearest_above.Given as goal
 abbrev pub invariant-loop-higher : goal.invariant-loop-higher
 invariant-loop-higher g l = record {
   laid : IsLaidOut l.rest;
-  lower : lowered (labels_of l.rest) ≡ labels_of l.rest;
-  under : IsUnder l.key (labels_of l.rest);
-  left : above (name_error_on l.config.routes (route_of l.config.routes l.key) l.moment (slots_of l.cache.entries) l.class) (labels_of l.rest)
-      ≡ above (name_error_on l.config.routes (route_of l.config.routes l.key) l.moment (slots_of l.cache.entries) l.class) l.key;
+  under : IsUnder (labels_of l.octets) (labels_of l.rest);
+  left : above (name_error_on l.config.routes (route_of l.config.routes (lowered (labels_of l.octets))) l.moment (slots_of l.cache.entries) l.class) (lowered (labels_of l.rest))
+      ≡ above (name_error_on l.config.routes (route_of l.config.routes (lowered (labels_of l.octets))) l.moment (slots_of l.cache.entries) l.class) (lowered (labels_of l.octets));
 }
 
 abbrev pub decreases-loop-higher : goal.decreases-loop-higher

@@ -1,8 +1,9 @@
-use Rattle.std.proofs.Common.{◌≡◌, ◌∙◌, ◌+◌, ◌++◌, ℕ, List, [], length, sym, ap, subst, arith}
+use Rattle.std.proofs.Common.{◌≡◌, ◌∙◌, ◌+◌, ◌++◌, ℕ, List, [], length, ap, arith}
 use Rattle.std.specs.List.{AllByRecursion}
 use Rattle.std.proofs.lemmas.List.{length-append}
 use Rattle.record_cache.specs.Values.{Held}
 use Rattle.record_cache.specs.Laws.{Among}
+use Rattle.dns_name.specs.Labels.{labels_of}
 use Rattle.dns_message.specs.Values.{Question}
 use Rattle.step_history.specs.Answers.{asked_at}
 use Rattle.step_rules.specs.LookingUp.{look_up}
@@ -17,8 +18,9 @@ returns g c = record {
       let own : length c.aliases.result.now ≡ length c.args.waiting.now.held = ap (λ (hs : List Held). length hs) c.aliases.ensures.aliases in
       let sum = c.saturating_add-count.ensures in let left = c.in-Some.ensures in omega (arith, both, own, sum, left);
   is =
-      c.in_ok-looked.ensures.exact c.args.lead.now.name.now (sym c.key-key.ensures)
-      ∙ ap (λ (q : Question). seen_of (look_up c.args.config.now.routes c.args.moment c.args.cache.now.entries c.in-Some.more [] (asked_at q c.args.lead.now.name.now))) (c.question.view_is ∙ c.wanted-question.ensures);
+      c.in_ok-looked.ensures.exact
+      ∙ ap (λ (q : Question). seen_of (look_up c.args.config.now.routes c.args.moment c.args.cache.now.entries c.in-Some.more [] (asked_at q (labels_of c.octets.result.now)))) (c.question.view_is ∙ c.wanted-question.ensures)
+      ∙ ap (λ (name : List (List ℕ)). seen_of (look_up c.args.config.now.routes c.args.moment c.args.cache.now.entries c.in-Some.more [] (asked_at c.args.waiting.now.wanted name))) c.octets.ensures.labels;
   few = c.in_ok-looked.ensures.few;
-  from_cache = c.in_ok-looked.ensures.from_cache c.args.lead.now.name.now (sym c.key-key.ensures);
+  from_cache = c.in_ok-looked.ensures.from_cache;
 }

@@ -1,8 +1,7 @@
-use Rattle.std.proofs.Common.{◌≡◌, ℕ, Bool, true, false, ◌||◌, nat_lt, refl, ap, sym, ◌∙◌}
+use Rattle.std.proofs.Common.{◌≡◌, Bool, true, false, ◌||◌, nat_lt, refl, ap, sym, ◌∙◌}
 use Rattle.std.specs.Map.{values_of}
-use Rattle.dns_name.specs.Labels.{labels_of, lowered}
 use Rattle.record_cache.specs.Values.{Cache}
-use Rattle.record_cache.specs.Entries.{ending, name_error_ending, has_number, may_deny}
+use Rattle.record_cache.specs.Entries.{name_error_ending, has_number, may_deny_at}
 use Rattle.record_cache.proofs.Counting.{some_number}
 use Rattle.record_cache.proofs.cache.Cache.may_deny.Goals as goal
 
@@ -17,17 +16,16 @@ the_second false b is = refl
 pub returns-then-has-clause-told : goal.returns-then-has-clause-told
 returns-then-has-clause-told g c =
     let es = values_of c.self.inside.entries.entries in
-    let name = lowered (labels_of c.args.octets.now) in
+    let n = c.args.ending in
     let first : c.has.result ≡ has_number name_error_ending 0 es = c.has.ensures ∙ ap (nat_lt 0) (c.self.invariant.endings 0) ∙ some_number name_error_ending 0 es in
-    first ∙ the_first (has_number name_error_ending 0 es) (has_number name_error_ending (ending name) es) (sym first ∙ c.if-has.true)
-    ∙ ap (λ (cache : Cache). may_deny name cache.entries) c.self.view_is
+    first ∙ the_first (has_number name_error_ending 0 es) (has_number name_error_ending n es) (sym first ∙ c.if-has.true)
+    ∙ ap (λ (cache : Cache). may_deny_at n cache.entries) c.self.view_is
 
 pub returns-else-has-clause-told : goal.returns-else-has-clause-told
 returns-else-has-clause-told g c =
     let es = values_of c.self.inside.entries.entries in
-    let name = lowered (labels_of c.args.octets.now) in
+    let n = c.args.ending in
     let first : c.has.result ≡ has_number name_error_ending 0 es = c.has.ensures ∙ ap (nat_lt 0) (c.self.invariant.endings 0) ∙ some_number name_error_ending 0 es in
-    c.has-else-has.ensures ∙ ap (nat_lt 0) (c.self.invariant.endings c.ending.result) ∙ some_number name_error_ending c.ending.result es
-    ∙ ap (λ (n : ℕ). has_number name_error_ending n es) c.ending.ensures.ending
-    ∙ the_second (has_number name_error_ending 0 es) (has_number name_error_ending (ending name) es) (sym first ∙ c.if-has.false)
-    ∙ ap (λ (cache : Cache). may_deny name cache.entries) c.self.view_is
+    c.has-else-has.ensures ∙ ap (nat_lt 0) (c.self.invariant.endings n) ∙ some_number name_error_ending n es
+    ∙ the_second (has_number name_error_ending 0 es) (has_number name_error_ending n es) (sym first ∙ c.if-has.false)
+    ∙ ap (λ (cache : Cache). may_deny_at n cache.entries) c.self.view_is
