@@ -1,4 +1,4 @@
-use Rattle.std.proofs.Common.{ℕ, List, ap, drop, subst}
+use Rattle.std.proofs.Common.{ℕ, List, ap, drop, subst, rules}
 use Rattle.std.proofs.lemmas.Result.{err_from_is_err_and}
 use Rattle.dns_name.specs.Labels.{labels_of}
 use Rattle.message_writing.specs.Borrowed.{records_of}
@@ -49,3 +49,6 @@ returns g c =
       c.loop-rdata.invariant.within,
       all_rows (labels_of c.args.head.now.owner.now) c.args.head.now.kind c.args.head.now.class c.args.head.now.ttl rows (all_of_them is_row rows c.loop-rdata.rdata-index c.loop-rdata-test.false c.loop-rdata.invariant.all),
     )
+
+pub put_row-requires-clause-known : goal.put_row-requires-clause-known
+put_row-requires-clause-known g c = search rules

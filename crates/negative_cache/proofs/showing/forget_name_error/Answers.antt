@@ -1,4 +1,4 @@
-use Rattle.std.proofs.Common.{◌≡◌, ℕ, List, length, false, sym, ap, subst, ◌∙◌}
+use Rattle.std.proofs.Common.{◌≡◌, ℕ, List, length, false, sym, ap, subst, ◌∙◌, rules}
 use Rattle.dns_name.proofs.CallerLemmas.{lowered_is_same}
 use Rattle.dns_name.specs.Labels.{labels_of, lowered, octets_of}
 use Rattle.record_cache.specs.Values.{Held, Cache}
@@ -17,3 +17,6 @@ returns-then-not-has_name_error-clause-forgotten g c =
     let none = subst (λ (n : ℕ). has_name_error n entries ≡ false) size (sym c.has_name_error.ensures.told ∙ c.if-not-has_name_error.true) in
     let with_entries : List Held → Cache = λ es. record { capacity = c.args.cache.now.capacity; entries = es } in
     ap with_entries (sym (nothing_to_forget (error_slot c.args.class key) entries (no_error_entry c.args.class key entries none)))
+
+pub returns-clause-forgotten : goal.returns-clause-forgotten
+returns-clause-forgotten g c = search rules

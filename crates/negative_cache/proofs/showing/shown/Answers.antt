@@ -1,4 +1,4 @@
-use Rattle.std.proofs.Common.{◌≡◌, List, ℕ, false, sym, ap, subst, ◌∙◌}
+use Rattle.std.proofs.Common.{◌≡◌, List, ℕ, false, sym, ap, subst, ◌∙◌, rules}
 use Rattle.dns_name.specs.Labels.{labels_of, lowered}
 use Rattle.dns_name.proofs.CallerLemmas.{labels_of_nothing}
 use Rattle.record_cache.specs.Values.{Held, Cache}
@@ -21,3 +21,6 @@ returns g c =
     let root = ap labels_of c.in_default.ensures ∙ labels_of_nothing in
     cache_is c.loop-higher.cache c.args.cache.now (shown c.args.name.now c.args.class c.args.cache.now.entries) now.capacity
     (sym (ap (λ (labels : List (List ℕ)). forgotten_above c.args.class labels entries) root) ∙ now.left ∙ forgotten_all c.args.class c.args.name.now c.args.cache.now.entries c.forget_name_error.ensures.held.formed)
+
+pub loop-higher-preserved : goal.loop-higher-preserved
+loop-higher-preserved g c = search rules

@@ -1,4 +1,4 @@
-use Rattle.std.proofs.Common.{ap, sym, subst, ◌∙◌}
+use Rattle.std.proofs.Common.{ap, sym, subst, ◌∙◌, rules}
 use Rattle.std.specs.Map.{values_of}
 use Rattle.lru.specs.LruCache.{LruCache}
 use Rattle.trust_rank.specs.declared.slot.Slot.{Slot}
@@ -63,3 +63,6 @@ returns-in-Ok-clause-list g c =
 
 pub returns-clause-room : goal.returns-clause-room
 returns-clause-room g c = absent c.args.entries.now c.args.tables.now c.requires c.args.held.piece.slot (rw c.slot-slot.ensures.slot at c.in-Err.ensures.succeeds)
+
+pub returns-clause-stored : goal.returns-clause-stored
+returns-clause-stored g c = search rules

@@ -1,4 +1,4 @@
-use Rattle.std.proofs.Common.{◌≡◌, suc, ap, ◌∙◌, arith}
+use Rattle.std.proofs.Common.{◌≡◌, suc, ap, ◌∙◌, arith, rules}
 use Rattle.std.specs.List.{remove_range}
 use Rattle.waiting_questions.proofs.table.take_range.Goals as goal
 
@@ -7,3 +7,6 @@ pub returns-in-Some : goal.returns-in-Some
 returns-in-Some g c =
     let last : suc c.args.start ≡ c.args.end = omega (arith, c.in-1.is, c.requires.low) in
     c.in-Some.ensures.items ∙ ap (remove_range c.args.keys.now.items c.args.start) last
+
+pub returns-in_default : goal.returns-in_default
+returns-in_default g c = search rules

@@ -1,4 +1,4 @@
-use Rattle.std.proofs.Common.{List, sym, subst}
+use Rattle.std.proofs.Common.{List, sym, subst, rules}
 use Rattle.outstanding.specs.Values.{Ask}
 use Rattle.outstanding.specs.Lists.{AreListed}
 use Rattle.outstanding.specs.Tables.{asks_of}
@@ -11,3 +11,6 @@ invariant_of-self g c = (
   subst (λ (xs : List Ask). AreListed (record { capacity = c.self.inside.capacity; asks = xs })) (sym c.take.ensures.list)
       (left c.args.path c.self.inside.capacity (asks_of c.self.inside.table) c.self.invariant.1),
 )
+
+pub returns-clause-ended : goal.returns-clause-ended
+returns-clause-ended g c = search rules

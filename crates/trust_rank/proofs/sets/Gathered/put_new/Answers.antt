@@ -1,4 +1,4 @@
-use Rattle.std.proofs.Common.{ℕ, List, [], ◌∷◌, ◌++◌, length, sym, ap, ◌∙◌, subst, arith}
+use Rattle.std.proofs.Common.{ℕ, List, [], ◌∷◌, ◌++◌, length, sym, ap, ◌∙◌, subst, arith, rules}
 use Rattle.std.proofs.lemmas.Result.{on_ok_weaker}
 use Rattle.trust_rank.specs.Gathering.{Indexes}
 use Rattle.trust_rank.proofs.Gathering.{at, known_by_index, new_behind, few_are_indexed, more_are_indexed, not_among, was_there, was_missing}
@@ -31,3 +31,6 @@ returns-clause-index g c =
     (λ e. subst (Indexes c.insert.new.self) (sym (e ∙ ap (λ (o : List ℕ). c.args.self.now.rows ++ o ∷ []) (sym c.octets-octets.ensures)))
     (more_are_indexed c.args.self.now.index c.insert.new.self c.args.self.now.rows c.octets-octets.result (omega (arith, c.if-as_slice-lt-FEW.false, ap length c.as_slice-2.ensures)) c.requires c.in_ok-added.ensures.updates))
     c.push_copy-2.ensures
+
+pub returns-then-as_slice-lt-FEW-clause-rows : goal.returns-then-as_slice-lt-FEW-clause-rows
+returns-then-as_slice-lt-FEW-clause-rows g c = search rules

@@ -1,4 +1,4 @@
-use Rattle.std.proofs.Common.{refl}
+use Rattle.std.proofs.Common.{refl, rules}
 use Rattle.waiting_questions.proofs.Indexed.{table_room}
 use Rattle.waiting_questions.proofs.table.Table.reserve.Goals as goal
 
@@ -13,3 +13,6 @@ returns-in_err-reserve-2-clause-indexed g c = table_room c.args.self.now _ c.res
 
 pub returns-clause-indexed : goal.returns-clause-indexed
 returns-clause-indexed g c = table_room c.args.self.now _ c.reserve.ensures.rest_kept c.reserve-2.ensures.items c.reserve-3.ensures.same c.requires
+
+pub returns-clause-room : goal.returns-clause-room
+returns-clause-room g c = search rules

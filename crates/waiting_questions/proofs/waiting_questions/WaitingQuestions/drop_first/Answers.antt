@@ -1,4 +1,4 @@
-use Rattle.std.proofs.Common.{arith}
+use Rattle.std.proofs.Common.{arith, rules}
 use Rattle.waiting_questions.specs.Indexes.{keys_of}
 use Rattle.waiting_questions.proofs.Numbered.{length_keys}
 use Rattle.waiting_questions.proofs.Indexed.{first_stands_at}
@@ -11,3 +11,6 @@ take-requires-clause-place g c =
 pub take-requires-clause-one : goal.take-requires-clause-one
 take-requires-clause-one g c =
     (first_stands_at c.self.inside.table.waiting (keys_of c.self.inside.table.by_question.items) c.self.inside.table.in_turn.keys c.self.invariant.lists c.in-Some.first.now c.in-Some.ensures c.key.result.now c.key.ensures c.range-place.result.0 c.range-place.result.1 c.range-place.ensures).1
+
+pub returns : goal.returns
+returns g c = search rules

@@ -1,4 +1,4 @@
-use Rattle.std.proofs.Common.{◌≡◌, ◌-◌, ℕ, cond, nat_lt, is_eq, Bool, slice_get, List, ap, sym, ◌∙◌}
+use Rattle.std.proofs.Common.{◌≡◌, ◌-◌, ℕ, cond, nat_lt, is_eq, Bool, slice_get, List, ap, sym, ◌∙◌, rules}
 use Rattle.outstanding.specs.declared.keyed.QuestionKey.{QuestionKey}
 use Rattle.step_rules.specs.State.{Waiting}
 use Rattle.step_rules.specs.Steps.{waits_for}
@@ -18,3 +18,6 @@ returns-in-Some g c =
     ap (λ (n : ℕ). nat_lt n (c.range-start.result.1 - c.range-start.result.0)) one
     ∙ any_other c.self.inside.table.waiting (keys_of c.self.inside.table.by_question.items) c.self.inside.table.in_turn.keys c.self.invariant.lists c.args.question.now c.of-key.result c.of-key.ensures
     c.range-start.result.0 c.range-start.result.1 c.range-start.ensures c.args.self.now.items items x (ap (λ (xs : List Waiting). slice_get xs 0) (sym items) ∙ c.in-Some.ensures)
+
+pub returns-in-None : goal.returns-in-None
+returns-in-None g c = search rules
