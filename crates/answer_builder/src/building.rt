@@ -18,7 +18,6 @@ use dns_message::{MessageParts, RowsRef};
 use plain_list::Octets;
 use record_cache::Held;
 use std::alloc::{AllocError, Allocator};
-use std::slice;
 
 /// Room for what UDP carries (RFC 1035 4.2.1).
 const ROOM: usize = 512;
@@ -69,7 +68,7 @@ pub fn put_answer<A: Allocator + Copy>(
             alloc,
             octets,
             asked,
-            slice::from_ref(&set),
+            set.as_slice(),
             Some(held),
             moment,
             transport,

@@ -58,13 +58,13 @@ fn rows_of<'a, A: Allocator>(
     }
 }
 
-/// The records of a set; a denial has none.
-pub(crate) fn set_of<'a, A: Allocator>(piece: &'a Piece<A>, ttl: u32) -> RowsRef<'a, A>
-    ensures { result ≡ set_records ttl piece.now }
+/// The records of a set; `None` for a denial.
+pub(crate) fn set_of<A: Allocator>(piece: &Piece<A>, ttl: u32) -> Option<RowsRef<'_, A>>
+    ensures { listed result ≡ set_records ttl piece.now }
 {
     match (piece.kind, &piece.body) {
-        (Some(kind), Body::Rows(rows)) => rows_of(piece, kind, rows.data(), ttl),
-        _ => rows_of(piece, 0, DataRef::Rows(&[]), ttl),
+        (Some(kind), Body::Rows(rows)) => Some(rows_of(piece, kind, rows.data(), ttl)),
+        _ => None,
     }
 }
 
@@ -79,7 +79,9 @@ pub(crate) fn sets_of<'a, A: Allocator + Copy>(
 {
     let mut sets = Vec::with_capacity(alloc, chain.len())?;
     for held in chain {
-        sets.push(set_of(&held.piece, ttl_of(held, moment)))?;
+        if let Some(set) = set_of(&held.piece, ttl_of(held, moment)) {
+            sets.push(set)?;
+        }
     }
     Ok(sets)
 }
