@@ -15,7 +15,7 @@ use std::hash::RandomState;
 use std::num::NonZeroUsize;
 use std::time::Instant;
 use suffix_routes::{Config, RouteId};
-use trust_rank::{Slot, pieces};
+use trust_rank::{Piece, Slot, pieces};
 
 /// The moment of all look-ups.
 const NOW: u64 = 1000;
@@ -192,15 +192,20 @@ fn slot_in(held: &Held) -> Slot {
     held.piece.slot()
 }
 
-/// Prints what a bare `lru` of the cache's types costs.
-fn measure_bare(rt: &HostRuntime, room: NonZeroUsize, slots: &[Slot]) -> Result<()> {
-    let alloc = rt.alloc();
-    let mut map = LruCache::with_hasher(alloc, room, RandomState::new(rt)?)?;
-    for (number, _) in slots.iter().enumerate() {
+/// Puts the entries with the first numbers into a bare `lru`, so many.
+fn fill(alloc: Global, map: &mut LruCache<Slot, Held, RandomState>, count: usize) -> Result<()> {
+    for number in 0..count {
         let held = held_of(alloc, number)?;
         let slot = slot_in(&held);
         let _ = map.push(slot, held);
     }
+    Ok(())
+}
+
+/// Prints what a bare `lru` of the cache's types costs.
+fn measure_bare(rt: &HostRuntime, room: NonZeroUsize, slots: &[Slot]) -> Result<()> {
+    let mut map = LruCache::with_hasher(rt.alloc(), room, RandomState::new(rt)?)?;
+    fill(rt.alloc(), &mut map, slots.len())?;
     let took = time_of_bare(rt, &mut map, slots)?;
     println!(rt; "{} entries, lru of the types: {took} ns", slots.len())?;
     Ok(())
@@ -218,19 +223,30 @@ fn measure_numbers(rt: &HostRuntime, room: NonZeroUsize, slots: &[Slot]) -> Resu
     Ok(())
 }
 
-/// Prints what a cached answer to each of so many names costs, neighbours far apart.
-fn measure_hits(rt: &HostRuntime, count: usize) -> Result<()> {
-    let alloc = rt.alloc();
-    let config = routes(alloc, 1)?;
-    let mut cache = full_cache(rt, count)?;
+/// A question for each of the names with the first numbers, so many, neighbours far apart.
+fn questions_of(alloc: Global, count: usize) -> Result<Vec<u8>> {
     let mut questions = Vec::new(alloc);
     for number in 0..count {
         let far = number.wrapping_mul(40_503) % count.max(1);
         put_question(&mut questions, &numbered(alloc, far)?)?;
     }
-    let (answers, took) = time_of(rt, &mut cache, &config, &questions)?;
+    Ok(questions)
+}
+
+/// Prints what a cached answer to each of so many names costs.
+fn measure_hits(rt: &HostRuntime, config: &Config, count: usize) -> Result<()> {
+    let questions = questions_of(rt.alloc(), count)?;
+    let mut cache = full_cache(rt, count)?;
+    let (answers, took) = time_of(rt, &mut cache, config, &questions)?;
     println!(rt; "{count} entries: {answers} answers, {took} ns")?;
     Ok(())
+}
+
+/// A question for one name.
+fn question_for(alloc: Global, name: &str) -> Result<Vec<u8>> {
+    let mut questions = Vec::new(alloc);
+    put_question(&mut questions, &Name::from_text(alloc, name)?)?;
+    Ok(questions)
 }
 
 /// Prints what the answer to one name costs, time and again.
@@ -238,14 +254,14 @@ fn measure_name(
     rt: &HostRuntime,
     cache: &mut Cache<RandomState>,
     config: &Config,
-    routes: usize,
     name: &str,
 ) -> Result<()> {
-    let alloc = rt.alloc();
-    let mut questions = Vec::new(alloc);
-    put_question(&mut questions, &Name::from_text(alloc, name)?)?;
+    let questions = question_for(rt.alloc(), name)?;
     let (answers, took) = time_of(rt, cache, config, &questions)?;
-    println!(rt; "{routes} routes: {name}: {answers} answers, {took} ns")?;
+    println!(rt;
+        "{} routes: {name}: {answers} answers, {took} ns",
+        config.routes().len()
+    )?;
     Ok(())
 }
 
@@ -267,18 +283,22 @@ const DENIED: [&str; 5] = [
     "d.c.b.a.gone.example.net",
 ];
 
-/// Prints what answers at and below a name error cost beside sets of names with as many labels, with so many routes.
-fn measure_denials(rt: &HostRuntime, count: usize) -> Result<()> {
-    let alloc = rt.alloc();
-    let config = routes(alloc, count)?;
+/// A cache of 1,000 names, those with sets, and the name error.
+fn cache_with_denial(rt: &HostRuntime, config: &Config) -> Result<Cache<RandomState>> {
     let mut cache = full_cache(rt, 1000)?;
-    offer_name_error(alloc, &mut cache, &config)?;
     for name in &HELD {
-        let _ = cache.offer(addresses(alloc, Name::from_text(alloc, name)?)?, 0);
-        measure_name(rt, &mut cache, &config, count, name)?;
+        let owner = Name::from_text(rt.alloc(), name)?;
+        let _ = cache.offer(addresses(rt.alloc(), owner)?, 0);
     }
-    for name in &DENIED {
-        measure_name(rt, &mut cache, &config, count, name)?;
+    offer_name_error(rt.alloc(), &mut cache, config)?;
+    Ok(cache)
+}
+
+/// Prints what answers at and below a name error cost beside sets of names with as many labels.
+fn measure_denials(rt: &HostRuntime, config: &Config) -> Result<()> {
+    let mut cache = cache_with_denial(rt, config)?;
+    for name in HELD.iter().chain(&DENIED) {
+        measure_name(rt, &mut cache, config, name)?;
     }
     Ok(())
 }
@@ -289,14 +309,19 @@ const GONE: &[u8] =
 
 /// Offers the name error of that reply.
 fn offer_name_error(alloc: Global, cache: &mut Cache<RandomState>, config: &Config) -> Result<()> {
+    for piece in pieces_of(alloc, config)? {
+        let _ = cache.offer(piece, 0);
+    }
+    Ok(())
+}
+
+/// What that reply carries.
+fn pieces_of(alloc: Global, config: &Config) -> Result<Vec<Piece>> {
     let view = MessageRef::view(GONE)?;
     let question = view.question(alloc)?;
     let message = view.read_whole(alloc)?;
     let walk = pieces(alloc, &message, &question, RouteId { place: 0 }, config)?;
-    for piece in walk.pieces.into_vec() {
-        let _ = cache.offer(piece, 0);
-    }
-    Ok(())
+    Ok(walk.pieces.into_vec())
 }
 
 /// How many of so many calls give an answer from the entry at hand.
@@ -345,19 +370,25 @@ fn measure_text(rt: &HostRuntime) -> Result<()> {
     Ok(())
 }
 
+/// Prints what cached answers to so many names cost, and what a bare `lru` does.
+fn measure_many(rt: &HostRuntime, config: &Config, room: NonZeroUsize, count: usize) -> Result<()> {
+    let slots = slots_of(rt.alloc(), count)?;
+    measure_bare(rt, room, &slots)?;
+    measure_numbers(rt, room, &slots)?;
+    measure_hits(rt, config, count)
+}
+
 /// Prints what cached answers cost.
 pub fn measure(rt: &HostRuntime) -> Result<()> {
+    let Some(room) = NonZeroUsize::new(MANY) else {
+        return Ok(());
+    };
+    let one = routes(rt.alloc(), 1)?;
     for count in [10, 1000, 10_000, MANY] {
-        let slots = slots_of(rt.alloc(), count)?;
-        let Some(room) = NonZeroUsize::new(MANY) else {
-            return Ok(());
-        };
-        measure_bare(rt, room, &slots)?;
-        measure_numbers(rt, room, &slots)?;
-        measure_hits(rt, count)?;
+        measure_many(rt, &one, room, count)?;
     }
     for count in [1, 8, 64] {
-        measure_denials(rt, count)?;
+        measure_denials(rt, &routes(rt.alloc(), count)?)?;
     }
     measure_text(rt)
 }

@@ -31,7 +31,7 @@ const LONGEST: &str =
 
 /// Names that are looked up, and what they are.
 const NAMES: [(&str, &str); 3] = [
-    ("a cached answer", "host7.some-example.com"),
+    ("a cached answer", "host10007.some-example.com"),
     ("a usual name", "www.other-example.com"),
     ("127 labels", LONGEST),
 ];
