@@ -1,11 +1,17 @@
-use Rattle.std.proofs.Common.{sym, ◌∙◌}
+use Rattle.std.proofs.Common.{◌≡◌, Bool, true, false, ℕ, List, sym, ◌∙◌}
 use Rattle.std.specs.Prelude.{nat_eq}
 use Rattle.std.specs.Option.{option_eq}
 use Rattle.dns_name.specs.Labels.{labels_of, lowered}
+use Rattle.suffix_routes.specs.Values.{Route}
 use Rattle.suffix_routes.specs.Routes.{route_of}
 use Rattle.suffix_routes.proofs.CallerLemmas.{route_of_lowered}
 use Rattle.negative_cache.proofs.Climbing.{on_route, off_route}
 use Rattle.negative_cache.proofs.errors.name_error_on.Goals as goal
+
+-- what is told of two names holds of their keys
+of_keys : (routes : List Route) (name asked : List (List ℕ)) (told said : Bool) → told ≡ option_eq nat_eq (route_of routes name) (route_of routes asked) → told ≡ said
+    → option_eq nat_eq (route_of routes (lowered name)) (route_of routes (lowered asked)) ≡ said
+of_keys routes name asked told said is so = (λ i. option_eq nat_eq (route_of_lowered routes name i) (route_of_lowered routes asked i)) ∙ sym is ∙ so
 
 pub returns-then-has_route_of-clause-found : goal.returns-then-has_route_of-clause-found
 returns-then-has_route_of-clause-found g c =
@@ -13,7 +19,7 @@ returns-then-has_route_of-clause-found g c =
     let name = labels_of c.args.octets.now in
     let asked = labels_of c.args.asked.now in
     on_route routes (route_of routes (lowered asked)) c.args.moment c.args.class c.args.cache.now.entries (lowered name) c.in_ok-held.held.now c.in_ok-held.ensures.found
-    ((λ i. option_eq nat_eq (route_of_lowered routes name i) (route_of_lowered routes asked i)) ∙ sym c.has_route_of.ensures ∙ c.if-has_route_of.true)
+    (of_keys routes name asked _ true c.has_route_of.ensures c.if-has_route_of.true)
 
 pub returns-else-has_route_of-clause-found : goal.returns-else-has_route_of-clause-found
 returns-else-has_route_of-clause-found g c =
@@ -21,4 +27,4 @@ returns-else-has_route_of-clause-found g c =
     let name = labels_of c.args.octets.now in
     let asked = labels_of c.args.asked.now in
     off_route routes (route_of routes (lowered asked)) c.args.moment c.args.class c.args.cache.now.entries (lowered name) c.in_ok-held.held.now c.in_ok-held.ensures.found
-    ((λ i. option_eq nat_eq (route_of_lowered routes name i) (route_of_lowered routes asked i)) ∙ sym c.has_route_of.ensures ∙ c.if-has_route_of.false)
+    (of_keys routes name asked _ false c.has_route_of.ensures c.if-has_route_of.false)

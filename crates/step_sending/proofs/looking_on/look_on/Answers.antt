@@ -1,8 +1,6 @@
-use Rattle.std.proofs.Common.{◌≡◌, ◌∙◌, ◌+◌, ◌++◌, ℕ, List, [], length, ap, arith}
-use Rattle.std.specs.List.{AllByRecursion}
+use Rattle.std.proofs.Common.{◌≡◌, ◌∙◌, ℕ, List, [], length, ap, arith}
 use Rattle.std.proofs.lemmas.List.{length-append}
 use Rattle.record_cache.specs.Values.{Held}
-use Rattle.record_cache.specs.Laws.{Among}
 use Rattle.dns_name.specs.Labels.{labels_of}
 use Rattle.dns_message.specs.Values.{Question}
 use Rattle.step_history.specs.Answers.{asked_at}

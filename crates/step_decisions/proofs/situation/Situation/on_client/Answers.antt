@@ -1,7 +1,11 @@
+use Rattle.std.proofs.Common.{rules}
 use Rattle.std.proofs.lemmas.Result.{IfOk-weaker}
 use Rattle.step_changes.specs.Next.{next_of}
 use Rattle.step_decisions.proofs.Clients.{fits_at, dropped_row, opcode_row}
 use Rattle.step_decisions.proofs.situation.Situation.on_client.Goals as goal
+
+pub returns-clause-row : goal.returns-clause-row
+returns-clause-row g c = search rules
 
 pub returns-then-header-ne0-clause-fits : goal.returns-then-header-ne0-clause-fits
 returns-then-header-ne0-clause-fits g c = fits_at c.refuse_message.result c.args.self.now.config c.args.self.now.state c.refuse_message.ensures.fits c.args.moment
