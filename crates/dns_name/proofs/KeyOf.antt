@@ -7,7 +7,7 @@ use Rattle.std.specs.Cmp.Lexicographic.{pointwise, bytes_decides}
 use Rattle.std.proofs.lemmas.Bool.Decides.{Decides-eqb, same_from_decides}
 use Rattle.std.proofs.lemmas.Slice.Eq.{slice_eq-Decides}
 use Rattle.std.specs.Char.{to_ascii_lowercase}
-use Rattle.std.proofs.lemmas.List.{take_at, drop_at, drop-replicate, replicate-append-replicate, length-append, length-take, length-map, map-append, take_more, set_at}
+use Rattle.std.proofs.lemmas.List.{take_at, drop_at, drop-replicate, replicate-append-replicate, length-append, length-take, length-map, map-append, take_more, drop_more, set_at}
 use Rattle.dns_name.specs.Labels.{octets_of, IsLabel, IsName, lowered, labels_of, IsLaidOut}
 use Rattle.dns_name.specs.Key.{padded, IsKey, key_octets, key_len}
 use Rattle.dns_name.proofs.LabelLaws.{size_of-is, size_of-lowered, labels_of-octets_of, map-octets_of, laid_out, laid_short}
@@ -58,22 +58,24 @@ zeros_behind octets len key size =
     let whole : octets ≡ (name ++ 0 ∷ []) ++ replicate (255 - len) 0 = sym key.zeros ∙ ap (λ (n : ℕ). name ++ replicate n 0) one ∙ sym (append_assoc name (0 ∷ []) (replicate (255 - len) 0)) in
     ap (drop len) whole ∙ drop_at (name ++ 0 ∷ []) (replicate (255 - len) 0) len (omega (arith, length-append name (0 ∷ []), long, key.some))
 
+-- in the place of the first of 255 zeros
+pub over_zeros : (octets : List ℕ) → map to_ascii_lowercase octets ++ drop (length octets) (replicate 255 0) ≡ padded (map to_ascii_lowercase octets)
+over_zeros octets = ap (λ (xs : List ℕ). map to_ascii_lowercase octets ++ xs) (drop-replicate {X = ℕ} (length octets) 255 0 ∙ ap (λ (n : ℕ). replicate (255 - n) 0) (sym (length-map octets to_ascii_lowercase)))
+
 -- where those octets are zeros too, those of another name in lower case have zeros behind them
 pub became : (octets : List ℕ) (len : ℕ) (name : List ℕ) → IsKey octets len → length octets ≡ 255
     → map to_ascii_lowercase name ++ drop (length name) (replicate len 0 ++ drop len octets) ≡ padded (map to_ascii_lowercase name)
 became octets len name key size =
-    let lower : List ℕ = map to_ascii_lowercase name in
     let all : len + (255 - len) ≡ 255 = omega (arith, key.short) in
     let zeros : replicate len 0 ++ drop len octets ≡ replicate 255 0 = ap (λ (xs : List ℕ). replicate len 0 ++ xs) (zeros_behind octets len key size) ∙ replicate-append-replicate len (255 - len) 0 ∙ ap (λ (n : ℕ). replicate n 0) all in
-    ap (λ (xs : List ℕ). lower ++ xs) (ap (drop (length name)) zeros ∙ drop-replicate {X = ℕ} (length name) 255 0 ∙ ap (λ (n : ℕ). replicate (255 - n) 0) (sym (length-map name to_ascii_lowercase)))
+    ap (λ (xs : List ℕ). map to_ascii_lowercase name ++ drop (length name) xs) zeros ∙ over_zeros name
 
--- one more octet in lower case, where a zero was
-pub lower_more : (octets : List ℕ) (i : ℕ) → i < length octets → length octets ≤ 255
-    → set (map to_ascii_lowercase (take i octets) ++ replicate (255 - i) 0) i (to_ascii_lowercase (get_or octets i 0)) ≡ map to_ascii_lowercase (take (i + 1) octets) ++ replicate (255 - (i + 1)) 0
-lower_more octets i lt le =
-    let one : 255 - i ≡ suc (255 - (i + 1)) = omega arith in
+-- one more octet in lower case, in the place of the next one
+pub lower_more : (octets before : List ℕ) (i : ℕ) → i < length octets → length octets ≤ length before
+    → set (map to_ascii_lowercase (take i octets) ++ drop i before) i (to_ascii_lowercase (get_or octets i 0)) ≡ map to_ascii_lowercase (take (i + 1) octets) ++ drop (i + 1) before
+lower_more octets before i lt le =
     let front : length (map to_ascii_lowercase (take i octets)) ≡ i = omega (arith, length-map (take i octets) to_ascii_lowercase, length-take i octets) in
-    rw (one, take_more octets i 0 lt, map-append) (set_at (map to_ascii_lowercase (take i octets)) 0 (replicate (255 - (i + 1)) 0) (to_ascii_lowercase (get_or octets i 0)) i front ∙ sym (append_assoc (map to_ascii_lowercase (take i octets)) (to_ascii_lowercase (get_or octets i 0) ∷ []) (replicate (255 - (i + 1)) 0)))
+    rw (drop_more before i 0 (omega (arith, lt, le)), take_more octets i 0 lt, map-append) (set_at (map to_ascii_lowercase (take i octets)) (get_or before i 0) (drop (i + 1) before) (to_ascii_lowercase (get_or octets i 0)) i front ∙ sym (append_assoc (map to_ascii_lowercase (take i octets)) (to_ascii_lowercase (get_or octets i 0) ∷ []) (drop (i + 1) before)))
 
 -- octets in lower case are equal where they are with zeros behind them
 pub padded_same : (a b : List ℕ) → length a ≡ length b → padded (map to_ascii_lowercase a) ≡ padded (map to_ascii_lowercase b) → map to_ascii_lowercase a ≡ map to_ascii_lowercase b

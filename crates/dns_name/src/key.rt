@@ -1,6 +1,6 @@
 //! Names as keys of fixed size.
 
-ghost use Rattle.std.specs.Prelude.{◌≡◌, ◌≤◌, ◌↔◌, IsTrue, length, map};
+ghost use Rattle.std.specs.Prelude.{◌≡◌, ◌≤◌, ◌↔◌, ◌++◌, IsTrue, length, map, drop};
 ghost use Rattle.std.specs.Char.{to_ascii_lowercase};
 ghost use Rattle.dns_name.specs.Key.{end_of_words, padded};
 ghost use Rattle.dns_name.specs.Labels.{labels_of, IsLaidOut, IsUnder, lowered, parent_of};
@@ -107,9 +107,7 @@ impl NameKey {
     {
         let before = usize::from(self.len);
         self.octets[..before].copy_from_slice(&ZEROS[..before]);
-        let name = &mut self.octets[..octets.len()];
-        name.copy_from_slice(octets);
-        name.make_ascii_lowercase();
+        put_lower(&mut self.octets, octets);
         self.len = octets.len() as u8 + 1;
     }
 
@@ -148,14 +146,22 @@ impl NameKey {
     }
 }
 
+/// Puts octets in lower case in the place of the first ones.
+fn put_lower(all: &mut [u8; 255], octets: &[u8])
+    requires { length octets.now ≤ 255 }
+    ensures { all.new ≡ map to_ascii_lowercase octets.now ++ drop (length octets.now) all.old }
+{
+    for (i, octet) in octets.iter().enumerate() {
+        all[i] = octet.to_ascii_lowercase();
+    }
+}
+
 fn lower_with_zeros(octets: &[u8]) -> [u8; 255]
     requires { length octets.now ≤ 255 }
     ensures { result ≡ padded (map to_ascii_lowercase octets.now) }
 {
     let mut all = [0u8; 255];
-    for (i, octet) in octets.iter().enumerate() {
-        all[i] = octet.to_ascii_lowercase();
-    }
+    put_lower(&mut all, octets);
     all
 }
 

@@ -1,13 +1,17 @@
 -- Parts with names among them, and parts without.
-use Rattle.std.proofs.Common.{◌≡◌, ℕ, ◌+◌, ◌<◌, ◌≤◌, Bool, true, false, List, [], ◌∷◌, ◌++◌, length, take, drop, get_or, None, refl, sym, ap, ◌∙◌, arith}
+use Rattle.std.proofs.Common.{◌≡◌, ℕ, ◌+◌, ◌-◌, ◌<◌, ◌≤◌, Bool, true, false, List, [], ◌∷◌, ◌++◌, length, take, drop, get_or, eqb, Some, None, Result, Ok, Err, refl, sym, ap, ◌∙◌, arith}
 use Rattle.std.specs.Prelude.{is_some, nat_lt}
-use Rattle.std.proofs.lemmas.List.{take-append-drop, drop_more, drop_all}
+use Rattle.std.proofs.lemmas.Bool.Decides.{Decides-eqb, nat_tests}
+use Rattle.std.proofs.lemmas.List.{take-append-drop, drop_more, drop_all, length-drop}
+use Rattle.message_names.specs.declared.fault.Fault.{Fault}
+use Rattle.message_names.specs.Names.{name_within, inside}
+use Rattle.message_names.specs.Reading.{behind}
 use Rattle.message_reading.specs.declared.shape.Part.{Part}
 use Rattle.message_reading.specs.declared.shape.Part.TheVariants.{Name, Number16, SoaNumbers, Text}
-use Rattle.message_writing.specs.Fields.{plain, first_field, first_octets, fields_of, has_name}
+use Rattle.message_writing.specs.Fields.{plain, first_field, first_octets, fields_of, has_name, size_of_parts}
 use Rattle.message_writing.specs.Writing.{as_is, ◌▹◌, field_text}
 use Rattle.message_writing.specs.Writer.{field_in, IsFirst}
-use Rattle.message_writing.proofs.WriterFields.{parts_text, more_parts, no_part, part_left, parts_done}
+use Rattle.message_writing.proofs.WriterFields.{InFront, in_front, name_first, parts_text, all_parts, more_parts, no_part, part_left, parts_done}
 
 -- ---- where a name is
 
@@ -92,3 +96,47 @@ plain_text (Number16 ∷ parts) xs free some = octets_first Number16 2 parts xs 
 plain_text (SoaNumbers ∷ parts) xs free some = octets_first SoaNumbers 20 parts xs refl (λ first. refl) (λ same. absurd cc) (λ ys. plain_text parts ys free) some
 plain_text (Text ∷ parts) [] free some = absurd (no_text parts some)
 plain_text (Text ∷ parts) (len ∷ xs) free some = octets_first Text (len + 1) parts (len ∷ xs) refl (λ first. refl) (λ same. absurd cc) (λ ys. plain_text parts ys free) some
+
+-- ---- the last name
+
+enough : (a b : ℕ) → nat_lt a b ≡ false → b ≤ a
+enough a b h = grind (arith, nat_tests)
+
+-- parts of one size take as many octets
+pub parts_size : (parts : List Part) (size : ℕ) (xs : List ℕ) → size_of_parts parts ≡ Some size → is_some (fields_of parts xs) ≡ true → length xs ≡ size
+unfolding size_of_parts first_field
+parts_size [] size [] is some = cc
+parts_size [] size (x ∷ xs) is some = absurd (nothing_left x xs some)
+parts_size (Name ∷ parts) size xs is some = absurd cc
+parts_size (Number16 ∷ parts) size xs is some = absurd cc
+parts_size (Text ∷ parts) size xs is some = absurd cc
+parts_size (SoaNumbers ∷ part ∷ parts) size xs is some = absurd cc
+parts_size (SoaNumbers ∷ []) size xs is some = by_test (nat_lt (length xs) 20) refl
+  where
+    by_test : (short : Bool) → nat_lt (length xs) 20 ≡ short → length xs ≡ size
+    by_test true short =
+        let not : is_some (fields_of (SoaNumbers ∷ []) xs) ≡ false = no_part SoaNumbers [] xs (rw short refl) in
+        absurd cc
+    by_test false long =
+        let h : IsFirst SoaNumbers xs (take 20 xs) (drop 20 xs) = record { is = rw long refl; laid = λ same. absurd cc } in
+        let left : eqb (length (drop 20 xs)) 0 ≡ true = sym (all_parts (drop 20 xs)) ∙ sym (more_parts SoaNumbers [] xs (take 20 xs) (drop 20 xs) h) ∙ some in
+        let none : length (drop 20 xs) ≡ 0 = (Decides-eqb (length (drop 20 xs)) 0).0 left in
+        let twenty : 20 ≡ size = cc in
+        omega (arith, none, length-drop 20 xs, enough (length xs) 20 long, twenty)
+
+-- where the parts behind a name have one size, the name ends where they begin
+pub ends_before : (others : List Part) (size : ℕ) (xs : List ℕ) → size_of_parts others ≡ Some size → is_some (fields_of (Name ∷ others) xs) ≡ true
+    → (size ≤ length xs) × (Ok (length xs - size) ≡ behind (name_within xs (inside (length xs)) 0))
+unfolding first_field
+ends_before others size xs is some = ends_by (name_within xs (inside (length xs)) 0) refl
+  where
+    ends_by : (r : Result (List (List ℕ) × ℕ) Fault) → name_within xs (inside (length xs)) 0 ≡ r → (size ≤ length xs) × (Ok (length xs - size) ≡ behind (name_within xs (inside (length xs)) 0))
+    ends_by (Err fault) read =
+        let not : is_some (fields_of (Name ∷ others) xs) ≡ false = no_part Name others xs (rw read refl) in
+        absurd cc
+    ends_by (Ok n) read =
+        let front : InFront xs n.1 = in_front xs n.1 (rw read refl) in
+        let left : length (drop n.1 xs) ≡ size = parts_size others size (drop n.1 xs) is (sym (more_parts Name others xs (take (n.1 - 1) xs) (drop n.1 xs) (name_first xs n.1 front)) ∙ some) in
+        let fits = front.fits in
+        let at : length xs - size ≡ n.1 = omega (arith, left, length-drop n.1 xs, fits) in
+        (omega (arith, left, length-drop n.1 xs, fits), ap Ok at ∙ rw read refl)

@@ -52,6 +52,12 @@ has_name [] = false
 has_name (Name ∷ parts) = true
 has_name (part ∷ parts) = has_name parts
 
+-- how many octets these parts are, where they are as many in all data: no part, and the numbers of an SOA
+unfoldable pub size_of_parts : List Part → Option ℕ
+size_of_parts [] = Some 0
+size_of_parts (SoaNumbers ∷ []) = Some 20
+size_of_parts parts = None
+
 abbrev pub if_compressed : Option Shape → List ℕ → Option (List Field)
 if_compressed None rdata = None
 if_compressed (Some shape) rdata = if shape.compressed then fields_of shape.parts rdata else None

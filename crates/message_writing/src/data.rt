@@ -1,11 +1,11 @@
 //! The data of records, written with pointers where its type allows them.
 
-ghost use Rattle.std.specs.Prelude.{◌≡◌, ◌≤◌, ◌<◌, ◌+◌, ◌++◌, [], length, OnOk, take, drop, IsTrue, is_some, MatchOption, None, Ok};
+ghost use Rattle.std.specs.Prelude.{◌≡◌, ◌≤◌, ◌<◌, ◌+◌, ◌++◌, ◌∷◌, [], length, OnOk, take, drop, IsTrue, is_some, MatchOption, None, Ok};
 ghost use Rattle.dns_name.specs.Labels.{IsLaidOut};
 ghost use Rattle.message_names.specs.Names.{name_within, inside};
 ghost use Rattle.message_names.specs.Reading.{behind};
 ghost use Rattle.message_reading.specs.Data.{IsShaped};
-ghost use Rattle.message_writing.specs.Fields.{fields_of, first_field, has_name};
+ghost use Rattle.message_writing.specs.Fields.{fields_of, first_field, has_name, size_of_parts};
 ghost use Rattle.message_writing.specs.Writing.{octets16, as_is, with_length, data_text, field_text, by_fields};
 ghost use Rattle.message_writing.specs.Writer.{Writes, Puts, HoldsText, IsFirst, field_in};
 
@@ -41,17 +41,22 @@ fn name_end(octets: &[u8]) -> Option<usize>
     None
 }
 
+/// The name in front of octets, whose end this is, its zero octet left out; and what stands behind it.
+fn split_name(octets: &[u8], end: usize) -> (&[u8], &[u8])
+    requires { Ok end ≡ behind (name_within octets.now (inside (length octets.now)) 0) }
+    ensures { IsFirst Part.Name octets.now result.0.now result.1.now }
+{
+    let (name, behind) = octets.split_at(end);
+    (&name[..end - 1], behind)
+}
+
 /// The part in front of the octets, and what stands behind it; of a name the zero octet is left out.
 #[tactic(auto, unfolding(crate::specs::Fields::first_field))]
 fn split_part(part: Part, octets: &[u8]) -> Option<(&[u8], &[u8])>
     ensures { MatchOption result (first_field part octets.now ≡ None) (λ x. IsFirst part octets.now x.0.now x.1.now) }
 {
     match part {
-        Part::Name => {
-            let end = name_end(octets)?;
-            let (name, behind) = octets.split_at(end);
-            Some((&name[..end - 1], behind))
-        }
+        Part::Name => Some(split_name(octets, name_end(octets)?)),
         Part::Number16 => split_octets(octets, 2),
         Part::SoaNumbers => split_octets(octets, 20),
         Part::Text => match octets {
@@ -69,6 +74,29 @@ fn split_octets(octets: &[u8], count: usize) -> Option<(&[u8], &[u8])>
         return None;
     }
     Some(octets.split_at(count))
+}
+
+/// How many octets these parts are, where they are as many in all data.
+#[tactic(auto, unfolding(crate::specs::Fields::size_of_parts))]
+fn size_of_parts(parts: &[Part]) -> Option<usize>
+    ensures { result ≡ size_of_parts parts.now }
+{
+    match parts {
+        [] => Some(0),
+        [Part::SoaNumbers] => Some(20),
+        _ => None,
+    }
+}
+
+/// `split_part` of octets that are this part and these others. The last name ends where they begin, so it is not walked along.
+fn split_before<'a>(part: Part, others: &[Part], octets: &'a [u8]) -> Option<(&'a [u8], &'a [u8])>
+    requires { IsTrue (is_some (fields_of (part ∷ others.now) octets.now)) }
+    ensures { MatchOption result (first_field part octets.now ≡ None) (λ x. IsFirst part octets.now x.0.now x.1.now) }
+{
+    match (part, size_of_parts(others)) {
+        (Part::Name, Some(size)) => Some(split_name(octets, octets.len() - size)),
+        _ => split_part(part, octets),
+    }
 }
 
 /// The octets are these parts, one behind another.
@@ -95,7 +123,7 @@ fn put_part<'a, A: Allocator + Copy>(
     ensures { OnOk result (Writes writer.old writer.new (field_text (field_in part first.now))) }
 {
     match part {
-        Part::Name => writer.put_name(first),
+        Part::Name => writer.put_later_name(first),
         _ => writer.put(first),
     }
 }
@@ -127,7 +155,7 @@ fn put_parts<'a, A: Allocator + Copy>(
         let Some((part, others)) = left.split_first() else {
             unreachable!()
         };
-        let Some((first, behind)) = split_part(*part, rest) else {
+        let Some((first, behind)) = split_before(*part, others, rest) else {
             unreachable!()
         };
         put_part(writer, *part, first)?;
@@ -147,6 +175,7 @@ fn set_u16(octets: &mut [u8], offset: usize, number: u16)
 }
 
 /// Writes octets that are these parts behind their length.
+#[inline(always)]
 fn put_parts_with_length<'a, A: Allocator + Copy>(
     writer: &mut Writer<'a, A>,
     parts: &[Part],
@@ -159,7 +188,7 @@ fn put_parts_with_length<'a, A: Allocator + Copy>(
     ensures { Puts limit result writer.old writer.new (with_length (by_fields (fields_of parts.now octets.now) octets.now)) (Unit {0}) }
 {
     let start = writer.octets.len();
-    writer.put(&[0, 0])?;
+    writer.put_u16(0)?;
     put_parts(writer, parts, octets)?;
     writer.check(limit)?;
     let len = writer.octets.len() - start - 2;

@@ -1,13 +1,12 @@
 //! Octets that are written from the front, with pointers to the names in them.
 
-ghost use Rattle.std.specs.Prelude.{◌≡◌, ◌≤◌, ◌<◌, ◌-◌, [], ℕ, List, length, OnOk, None, MatchResult};
+ghost use Rattle.std.specs.Prelude.{◌≡◌, ◌≤◌, ◌<◌, ◌-◌, ◌∷◌, [], ℕ, List, length, OnOk, None, MatchResult};
 ghost use Rattle.std.specs.Option.{IfSome};
 ghost use Rattle.dns_name.specs.Labels.{labels_of, IsLaidOut};
 ghost use Rattle.message_writing.specs.Writing.{as_is, octets16, name_text};
 ghost use Rattle.message_writing.specs.Writer.{Writes, IsEmpty, IsKnown, pointer_in};
 
 use crate::pointers::Pointers;
-use byteorder::{BigEndian, ByteOrder};
 use dns_name::split_label;
 use message_names::Fault;
 use std::alloc::{AllocError, Allocator};
@@ -40,12 +39,22 @@ impl<'a, A: Allocator + Copy> Writer<'a, A> {
         Ok(())
     }
 
+    /// Writes an octet.
+    fn put_u8(&mut self, octet: u8) -> Result<(), AllocError>
+        ensures { OnOk result (Writes self.old self.new (as_is (octet ∷ []))) }
+    {
+        self.octets.push(octet)?;
+        Ok(())
+    }
+
+    /// Writes a number. Two octets are sooner pushed than copied.
     pub fn put_u16(&mut self, number: u16) -> Result<(), AllocError>
         ensures { OnOk result (Writes self.old self.new (as_is (octets16 number))) }
     {
-        let mut buffer = [0u8; 2];
-        BigEndian::write_u16(&mut buffer, number);
-        self.put(&buffer)
+        let [high, low] = number.to_be_bytes();
+        self.octets.push(high)?;
+        self.octets.push(low)?;
+        Ok(())
     }
 
     /// Writes the first name: none of its ends is looked up, since no two ends of one name are equal.
@@ -62,12 +71,13 @@ impl<'a, A: Allocator + Copy> Writer<'a, A> {
             rest = after;
         }
         self.octets.extend_from_slice(name)?;
-        self.put(&[0])?;
+        self.put_u8(0)?;
         Ok(())
     }
 
     /// Writes a name, its longest end that is known as a pointer. The octets in front of that are written at once.
-    fn put_later_name(&mut self, name: &'a [u8]) -> Result<(), AllocError>
+    #[inline(always)]
+    pub fn put_later_name(&mut self, name: &'a [u8]) -> Result<(), AllocError>
         requires { IsLaidOut name.now }
         ensures { OnOk result (Writes self.old self.new (name_text (labels_of name.now))) }
     {
@@ -84,7 +94,7 @@ impl<'a, A: Allocator + Copy> Writer<'a, A> {
             rest = after;
         }
         self.octets.extend_from_slice(name)?;
-        self.put(&[0])?;
+        self.put_u8(0)?;
         Ok(())
     }
 

@@ -12,7 +12,7 @@ use crate::errors::nearest_name_error;
 use crate::found::Found;
 use crate::living::{living_entry, no_data_in, set_in};
 use dns_name::Name;
-use record_cache::{Cache, Held, ending};
+use record_cache::{Cache, Held, key_ending};
 use std::alloc::Allocator;
 use std::hash::BuildHasher;
 use suffix_routes::Config;
@@ -86,7 +86,7 @@ fn look_up<'a, H: BuildHasher + Drop, A: Allocator + Copy>(
     if let Some(held) = set_in(own) {
         return Found::Rows(held);
     }
-    let end = ending(octets);
+    let end = key_ending(&slot.key);
     if let Some(held) = alias_beside(cache, slot, end, kind, moment) {
         return Found::Alias(held);
     }

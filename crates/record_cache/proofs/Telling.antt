@@ -1,11 +1,11 @@
 -- Endings of names and of the names above them, and what counts by sizes and endings tell.
-use Rattle.std.proofs.Common.{◌≡◌, ℕ, zero, suc, ◌+◌, ◌-◌, ◌<◌, ◌≤◌, ◌%◌, Bool, true, false, ◌||◌, nat_lt, ◌⊎◌, inl, inr, List, [], ◌∷◌, ◌++◌, length, map, take, drop, Option, None, Some, refl, sym, ap, subst, ◌∙◌, arith, length-append}
+use Rattle.std.proofs.Common.{◌≡◌, ℕ, zero, suc, ◌+◌, ◌-◌, ◌<◌, ◌≤◌, ◌%◌, Bool, true, false, ◌||◌, nat_lt, ◌⊎◌, inl, inr, List, [], ◌∷◌, ◌++◌, length, map, drop, Option, None, Some, refl, sym, ap, subst, ◌∙◌, arith, length-append}
 use Rattle.std.specs.Prelude.{is_none}
 use Rattle.std.specs.Int.{w64, from_be_bytes}
 use Rattle.std.specs.Char.{to_ascii_lowercase}
 use Rattle.std.proofs.lemmas.Bool.{cases_lt}
 use Rattle.std.proofs.lemmas.Bool.Decides.{nat_tests}
-use Rattle.std.proofs.lemmas.List.{length-map, length-drop, map-append, take_all}
+use Rattle.std.proofs.lemmas.List.{length-map, map-append}
 use Rattle.dns_name.specs.Labels.{octets_of, label_octets, labels_of, lowered, IsLaidOut, IsSame, IsUnder}
 use Rattle.dns_name.specs.KeyLaws.{size_of-is}
 use Rattle.dns_name.proofs.KeyOf.{lower_octets}
@@ -55,10 +55,6 @@ map_drop zero xs = refl
 map_drop (suc n) [] = refl
 map_drop (suc n) (x ∷ xs) = map_drop n xs
 
--- the slice from eight before the end to the end
-pub slice_is : (octets : List ℕ) → take (length octets - (length octets - 8)) (last_eight octets) ≡ last_eight octets
-slice_is octets = take_all (length octets - (length octets - 8)) (last_eight octets) (omega (arith, length-drop (length octets - 8) octets))
-
 pub code_short : (octets : List ℕ) → IsLaidOut octets → length octets < 8 → 0 ≡ ending (lowered (labels_of octets))
 code_short octets laid short =
     sym (ending_short (octets_of (lowered (labels_of octets))) (omega (arith, short, ap length (lower_octets octets laid), length-map octets to_ascii_lowercase)))
@@ -71,6 +67,15 @@ code_long octets last laid long is =
     is ∙ map_drop (length octets - 8) octets ∙ ap (λ (n : ℕ). drop (n - 8) (map to_ascii_lowercase octets)) size ∙ ap last_eight (lower_octets octets laid) in
     ap (λ (os : List ℕ). from_be_bytes w64 os % 251 + 1) same
     ∙ sym (ending_long (octets_of (lowered (labels_of octets))) (omega (arith, long, ap length (lower_octets octets laid), length-map octets to_ascii_lowercase)))
+
+-- of a key's own octets, as they stand
+pub key_short : (octets : List ℕ) (key : List (List ℕ)) → IsLaidOut octets → labels_of octets ≡ key → length octets < 8 → 0 ≡ ending key
+key_short octets key laid is short = sym (ending_short octets short) ∙ ap ending_of (sym laid.whole) ∙ ap ending is
+
+pub key_long : (octets last : List ℕ) (key : List (List ℕ)) → IsLaidOut octets → labels_of octets ≡ key → 8 ≤ length octets → last ≡ last_eight octets
+    → from_be_bytes w64 last % 251 + 1 ≡ ending key
+key_long octets last key laid is long same =
+    ap (λ (os : List ℕ). from_be_bytes w64 os % 251 + 1) same ∙ sym (ending_long octets long) ∙ ap ending_of (sym laid.whole) ∙ ap ending is
 
 -- ---- names above a name
 

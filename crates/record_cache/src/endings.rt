@@ -1,22 +1,46 @@
 //! The ending of a name: a number that the names above it share, or 0.
 
-ghost use Rattle.std.specs.Prelude.{◌≡◌, ◌<◌};
+ghost use Rattle.std.specs.Prelude.{◌≡◌, ◌<◌, ◌+◌, ◌%◌};
+ghost use Rattle.std.specs.Int.{w64, from_be_bytes};
 ghost use Rattle.dns_name.specs.Labels.{labels_of, lowered, IsLaidOut};
 ghost use Rattle.record_cache.specs.Entries.{ending};
 
-/// The ending of the name that these octets are, as `Name::octets` gives them, letter case aside: 0 where they are fewer than
-/// eight, else 1 and the rest by 251 of the last eight as one number. `Cache::may_deny` and `Cache::may_have_alias` are asked
-/// by it. It takes no memory.
+use dns_name::NameKey;
+
+/// How many octets an ending is made of.
+const LAST: usize = 8;
+
+/// The ending of the name of a key: 0 where its octets are fewer than eight, else 1 and the rest by 251 of the last eight as
+/// one number. `Cache::may_deny` and `Cache::may_have_alias` are asked by it. It takes no memory.
+pub fn key_ending(key: &NameKey) -> usize
+    ensures ending { result ≡ ending key.now }
+    ensures few { result < 256 }
+{
+    match key.octets().last_chunk::<LAST>() {
+        None => 0,
+        Some(last) => number_of(*last),
+    }
+}
+
+/// The same of the name that these octets are, as `Name::octets` gives them, letter case aside. It takes no memory.
 pub fn ending(octets: &[u8]) -> usize
     requires { IsLaidOut octets.now }
     ensures ending { result ≡ ending (lowered (labels_of octets.now)) }
     ensures few { result < 256 }
 {
-    if octets.len() < 8 {
-        return 0;
+    match octets.last_chunk::<LAST>() {
+        None => 0,
+        Some(last) => {
+            let mut last = *last;
+            last.make_ascii_lowercase();
+            number_of(last)
+        }
     }
-    let mut last = [0u8; 8];
-    last.copy_from_slice(&octets[octets.len() - 8..]);
-    last.make_ascii_lowercase();
+}
+
+/// The ending of names that end in these octets.
+fn number_of(last: [u8; LAST]) -> usize
+    ensures { result ≡ from_be_bytes w64 last % 251 + 1 }
+{
     (u64::from_be_bytes(last) % 251) as usize + 1
 }

@@ -9,7 +9,7 @@ mod held;
 mod laws;
 
 pub use cache::{Cache, Offered};
-pub use endings::ending;
+pub use endings::{ending, key_ending};
 pub use held::Held;
 pub use laws::{
     counts_tell_what_is_there, gone_only_so, kept_is_found, one_slot_is_the_same,

@@ -5,10 +5,10 @@ use Rattle.dns_name.proofs.key.NameKey.set_octets.Goals as goal
 
 pub invariant_of-self : goal.invariant_of-self
 invariant_of-self c =
-    rw (c.make_ascii_lowercase.ensures.after, c.copy_from_slice-2.ensures.after, c.copy_from_slice.ensures.after, c.from-before.ensures, take-replicate {X = ℕ} c.self.inside.len 255 0 c.self.invariant.short, became c.self.inside.octets c.self.inside.len c.args.octets.now c.self.invariant c.self.told)
+    rw (c.put_lower.ensures, c.copy_from_slice.ensures.after, c.from-before.ensures, take-replicate {X = ℕ} c.self.inside.len 255 0 c.self.invariant.short, became c.self.inside.octets c.self.inside.len c.args.octets.now c.self.invariant c.self.told)
     (is_key c.args.octets.now c.requires)
 
 pub returns : goal.returns
 returns c =
-    rw (c.make_ascii_lowercase.ensures.after, c.copy_from_slice-2.ensures.after, c.copy_from_slice.ensures.after, c.from-before.ensures, take-replicate {X = ℕ} c.self.inside.len 255 0 c.self.invariant.short, became c.self.inside.octets c.self.inside.len c.args.octets.now c.self.invariant c.self.told)
+    rw (c.put_lower.ensures, c.copy_from_slice.ensures.after, c.from-before.ensures, take-replicate {X = ℕ} c.self.inside.len 255 0 c.self.invariant.short, became c.self.inside.octets c.self.inside.len c.args.octets.now c.self.invariant c.self.told)
     (key_labels c.args.octets.now c.requires)

@@ -25,6 +25,6 @@ loop-label-preserved g c = record {
 pub returns : goal.returns
 returns g c =
     let way = c.loop-label.invariant.way in
-    way_ends c.args.self.now c.loop-label.self (record { octets = c.extend_from_slice-2.new.self; pointers = c.loop-label.self.pointers }) c.put.new.self c.args.name.now c.loop-label.rest.now
+    way_ends c.args.self.now c.loop-label.self (record { octets = c.extend_from_slice-2.new.self; pointers = c.loop-label.self.pointers }) c.put_u8.new.self c.args.name.now c.loop-label.rest.now
     c.args.name.now (0 ∷ []) false way (all_of c.args.name.now c.loop-label.rest.now c.in_default.ensures) c.in_ok-extend_from_slice-2.ensures.items refl
-    (λ u into. root_left u c.loop-label.rest.now c.in_default.ensures) c.in_ok-put.ensures
+    (λ u into. root_left u c.loop-label.rest.now c.in_default.ensures) c.in_ok-put_u8.ensures
