@@ -1,32 +1,28 @@
-//! Measures what steps and the reading of replies cost. `tools/bench` makes the messages and runs it.
+//! Measures what messages, what replies carry, and cached answers cost, by the calls that steps make. `tools/bench` makes the
+//! messages and runs it.
 #![tactic(auto)]
 
 mod cached;
 mod carried;
 mod filling;
 mod look_ups;
-mod many_wait;
 mod messages;
-mod open_queries;
 
 use anyhow::Result;
 use std::env;
 use std::process::ExitCode;
 
-const USAGE: &str =
-    "usage: bench many_wait QUESTION REPLY, bench carried REPLY, bench messages, bench look_ups, or bench open_queries";
+const USAGE: &str = "usage: bench carried REPLY, bench messages, or bench look_ups";
 
 /// Measures what these words ask for; `None` where they ask for nothing.
 fn measure(rt: &HostRuntime, words: &[&str]) -> Result<Option<()>> {
     match words {
-        ["many_wait", question, reply] => many_wait::measure(rt, question, reply)?,
         ["carried", reply] => carried::measure(rt, reply)?,
         ["messages"] => messages::measure(rt)?,
         ["look_ups"] => {
             cached::measure(rt)?;
             look_ups::measure(rt)?;
         }
-        ["open_queries"] => open_queries::measure(rt)?,
         _ => return Ok(None),
     }
     Ok(Some(()))
