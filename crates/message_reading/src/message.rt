@@ -66,8 +66,15 @@ impl<A: Allocator> Model for Rdata<A> {
 }
 
 impl<A: Allocator> Rdata<A> {
-    /// Data of these octets; it takes no memory.
-    pub(crate) fn new(octets: ShortOctets<A>) -> Rdata<A>
+    /// Data of these octets, in which names have to be written out in full. It takes no memory.
+    pub fn new(octets: Vec<u8, A>) -> Rdata<A>
+        ensures { result ≡ octets.items }
+    {
+        Rdata::holding(ShortOctets::from_vec(octets))
+    }
+
+    /// Data that lies as these octets lie; it takes no memory.
+    pub(crate) fn holding(octets: ShortOctets<A>) -> Rdata<A>
         ensures { result ≡ octets }
     {
         Rdata { octets }

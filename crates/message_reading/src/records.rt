@@ -72,7 +72,7 @@ pub(crate) fn read_record<A: Allocator + Copy>(
     let ttl = number32(bytes, after + 4);
     let len = number16(bytes, after + 8) as usize;
     let (octets, end) = read_data(alloc, bytes, ends, kind, fixed, len)?;
-    let rdata = Rdata::new(octets);
+    let rdata = Rdata::holding(octets);
     Ok((
         Record {
             owner,
