@@ -9,7 +9,8 @@ HERE = pathlib.Path(__file__).resolve().parent
 
 
 def said(*words, **more):
-    return subprocess.run([str(word) for word in words], capture_output=True, text=True, timeout=30, check=False, **more).stdout
+    words = [str(word) for word in words]
+    return subprocess.run(words, capture_output=True, text=True, timeout=30, check=False, **more).stdout
 
 
 class Reply:
@@ -17,7 +18,9 @@ class Reply:
 
     def __init__(self, code, records):
         self.code = code
-        self.records = sorted((owner.lower(), int(seconds), kind, " ".join(data)) for owner, seconds, _, kind, *data in records)
+        self.records = sorted(
+            (owner.lower(), int(seconds), kind, " ".join(data)) for owner, seconds, _, kind, *data in records
+        )
 
     def without_seconds(self):
         return [(owner, kind, data) for owner, _, kind, data in self.records]
@@ -79,16 +82,19 @@ class Host:
     shows_large = False
 
     def ask(self, port, name, kind, tcp=False):
-        lines = said("host", "-v", *(["-T"] if tcp else []), "-p", port, "-t", kind, name + ".", "127.0.0.1").splitlines()
+        options = ["-v", *(["-T"] if tcp else []), "-p", port, "-t", kind]
+        lines = said("host", *options, name + ".", "127.0.0.1").splitlines()
         failures = [line.split("(")[1].rstrip(")") for line in lines if " not found: " in line]
         return Reply(failures[0] if failures else code_behind("status: ", lines), answer_section(lines))
 
 
+def has_dns(python):
+    return os.path.exists(python) and said(python, "-c", "import dns; print(dns)") != ""
+
+
 def python_with_dns():
-    for python in (sys.executable, "/usr/bin/python3"):
-        if os.path.exists(python) and subprocess.run([python, "-c", "import dns"], capture_output=True, check=False).returncode == 0:
-            return python
-    return None
+    """A Python that has dnspython: the one that runs this, or the system's."""
+    return next((python for python in (sys.executable, "/usr/bin/python3") if has_dns(python)), None)
 
 
 class Dnspython:

@@ -29,7 +29,8 @@ def followed(asker, port, name, kind, tcp):
         end = name.lower().rstrip(".") + "."
         while end in aliases:
             end = aliases[end].lower()
-        if kind == "CNAME" or not aliases or reply.code != "NOERROR" or any(owner == end for owner, *_ in reply.records):
+        is_answered = any(owner == end for owner, *_ in reply.records)
+        if kind == "CNAME" or not aliases or is_answered or reply.code != "NOERROR":
             return reply
         more = asker.ask(port, end.rstrip("."), kind, tcp)
         reply.code, reply.records = more.code, sorted(reply.records + more.records)
@@ -40,7 +41,8 @@ def followed(asker, port, name, kind, tcp):
 
 def compared(asker, place, name, kind, tcp=False, code=None):
     """The forwarder's answer has the records that the server gives, and none is older than the forwarder."""
-    wanted, met = followed(asker, place.server.port, name, kind, tcp), asker.ask(place.forwarder, name, kind, tcp)
+    wanted = followed(asker, place.server.port, name, kind, tcp)
+    met = asker.ask(place.forwarder, name, kind, tcp)
     if code is not None and met.code != code:
         return f"{name} {kind}: {met} in place of {code}"
     if met.code != wanted.code or met.without_seconds() != wanted.without_seconds():
@@ -60,7 +62,8 @@ def types_of(server):
 
 def all_types(asker, place, tcp):
     """Each type that the server holds, asked for anew or from the cache."""
-    return first_fault(compared(asker, place, f"type-{kind.lower()}.example", kind, tcp, "NOERROR") for kind in types_of(place.server))
+    names = {kind: f"type-{kind.lower()}.example" for kind in types_of(place.server)}
+    return first_fault(compared(asker, place, names[kind], kind, tcp, "NOERROR") for kind in names)
 
 
 def denials(asker, place):
@@ -157,11 +160,12 @@ def stopped_and_started(place):
 def all_answered(folder, place, mode):
     """dnsperf loses no question and gets no failure."""
     questions = folder / "questions"
-    names = [f"n{n}.example A" for n in range(100)] + [f"type-{kind.lower()}.example {kind}" for kind in ("A", "MX", "TXT")]
-    questions.write_text("\n".join(names) + "\n")
-    told = askers.said("dnsperf", "-m", mode, "-s", "127.0.0.1", "-p", place.forwarder, "-d", questions, "-l", "2", "-c", "4")
-    sums = {line.split(":")[0].strip(): line.split(":")[1].strip() for line in told.splitlines() if line.count(":") == 1}
-    completed, lost, codes = (sums.get(key, "?").split() for key in ("Queries completed", "Queries lost", "Response codes"))
+    questions.write_text("".join(f"n{n}.example A\n" for n in range(100)) + "type-mx.example MX\n")
+    where = ["-s", "127.0.0.1", "-p", place.forwarder]
+    told = askers.said("dnsperf", "-m", mode, *where, "-d", questions, "-l", "2", "-c", "4")
+    sums = dict(line.split(":") for line in told.splitlines() if line.count(":") == 1)
+    sums = {key.strip(): text.split() for key, text in sums.items()}
+    completed, lost, codes = (sums.get(key, ["?"]) for key in ("Queries completed", "Queries lost", "Response codes"))
     if lost[0] != "0" or completed[0] in ("0", "?") or codes[:1] != ["NOERROR"] or len(codes) > 3:
         return told
     return None
@@ -176,8 +180,11 @@ def getent(folder, serve):
     """The C library's resolver finds both addresses of a name, an alias's target, and that a name is not there."""
     (folder / "resolv.conf").write_text("nameserver 127.0.0.153\noptions timeout:8 attempts:1\n")
     script = f'mount --bind {folder}/resolv.conf /etc/resolv.conf && exec getent ahostsv4 "$1"'
+    addresses = {
+        "type-a.example": {"198.51.100.5", "198.51.100.6"}, "across.example": {"203.0.113.9"}, "gone.example": set()
+    }
     with serve("127.0.0.153:53"):
-        for name, wanted in (("type-a.example", {"198.51.100.5", "198.51.100.6"}), ("across.example", {"203.0.113.9"}), ("gone.example", set())):
+        for name, wanted in addresses.items():
             told = askers.said("unshare", "--mount", "--propagation", "private", "sh", "-c", script, "sh", name)
             met = {line.split()[0] for line in told.splitlines()}
             if met != wanted:

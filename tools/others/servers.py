@@ -83,7 +83,8 @@ class Server:
     def start(self):
         path = shutil.which(self.command, path=os.environ["PATH"] + ":/usr/sbin")
         log = open(self.folder / "log", "ab")
-        self.process = subprocess.Popen([path, *self.words()], stdout=log, stderr=log, cwd=self.folder, start_new_session=True)
+        self.process = subprocess.Popen(
+            [path, *self.words()], stdout=log, stderr=log, cwd=self.folder, start_new_session=True)
         time.sleep(1)
         if self.process.poll() is not None:
             raise AssertionError(f"{self.command} ended: " + (self.folder / "log").read_text()[-500:])
@@ -130,23 +131,26 @@ class Pdns(Server):
 
     def words(self):
         zones = self.written("zones", PDNS_ZONES)
-        return ["--config-dir=" + str(self.folder), "--launch=bind", "--bind-config=" + zones, "--local-address=127.0.0.1",
-                f"--local-port={self.port}", "--daemon=no", "--guardian=no", f"--socket-dir={self.folder}", "--setuid=", "--setgid="]
+        return [f"--config-dir={self.folder}", f"--socket-dir={self.folder}", "--launch=bind", f"--bind-config={zones}",
+                "--local-address=127.0.0.1", f"--local-port={self.port}", "--daemon=no", "--guardian=no",
+                "--setuid=", "--setgid="]
 
 
 class Dnsmasq(Server):
     """It has no zones, but records of some types, and any type by its octets."""
 
     command = "dnsmasq"
-    without = tuple(kind for kind in zone.TYPES if kind not in ("A", "AAAA", "TXT", "SRV", "MX", "CAA", "PTR", "TYPE65400"))
+    with_types = ("A", "AAAA", "TXT", "SRV", "MX", "CAA", "PTR", "TYPE65400")
+    without = tuple(set(zone.TYPES).difference(with_types))
 
     def words(self):
-        common = ["-k", "--no-resolv", "--no-hosts", "--conf-file=/dev/null", "--bind-interfaces", "--listen-address=127.0.0.1",
-                  f"--port={self.port}", f"--local-ttl={zone.LIFETIME}", "--local=/example/test/", "--user=root", "--cache-size=0"]
-        return common + [word for each in zone.ZONES.values() for record in each for word in option_of(*record)]
+        common = ["-k", "--no-resolv", "--no-hosts", "--conf-file=/dev/null", "--user=root", "--cache-size=0",
+                  "--bind-interfaces", "--listen-address=127.0.0.1", f"--port={self.port}",
+                  "--local=/example/test/", f"--local-ttl={zone.LIFETIME}"]
+        return common + [word for each in zone.ZONES.values() for record in each for word in options_of(*record)]
 
 
-def option_of(name, kind, data):
+def options_of(name, kind, data):
     """The options by which dnsmasq holds a record."""
     name, fields = name.rstrip("."), [field.strip('"').rstrip(".") for field in data.split()]
     if kind in ("A", "AAAA"):
