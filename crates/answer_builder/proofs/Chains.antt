@@ -1,5 +1,7 @@
 -- An answer that ends with the last piece of a chain.
-use Rattle.std.proofs.Common.{◌≡◌, ℕ, zero, suc, ◌+◌, ◌-◌, ◌<◌, ◌≤◌, List, [], ◌∷◌, ◌++◌, length, map, take, drop, drop-cons, get_or, refl, sym, ap, subst, ◌∙◌, append_assoc, Option, Some, None, Bor, MatchOption, arith}
+use Rattle.std.proofs.Common.{◌≡◌, ℕ, zero, suc, ◌+◌, ◌-◌, ◌<◌, List, [], ◌∷◌, ◌++◌, length, map, take, drop, get_or}
+use Rattle.std.proofs.Common.{refl, sym, ap, subst, ◌∙◌, append_assoc, drop-cons, arith}
+use Rattle.std.proofs.Common.{Option, Some, None, Bor, MatchOption}
 use Rattle.std.proofs.lemmas.List.{append-nil, take_more, map-append}
 use Rattle.std.specs.List.{flat_map, slice_get, AllByRecursion}
 use Rattle.std.specs.Prelude.{option_map}
@@ -17,10 +19,12 @@ ending_is (t ∷ chain) = refl
 
 -- sections of the records of a chain that end with its last piece
 pub told_sections : (chain : List Told) (records authority : List Record) (rcode : ℕ) (last : Option Told)
-    → records ≡ flat_map answers_of chain → authority ≡ end_authority last → rcode ≡ end_rcode last → last ≡ end_of chain
+    → records ≡ flat_map answers_of chain → authority ≡ end_authority last → rcode ≡ end_rcode last
+    → last ≡ end_of chain
     → record { answers = records; authority = authority; rcode = rcode } ≡ sections_told chain
 told_sections chain records authority rcode last all soa code is =
-    (λ i. record { answers = all i; authority = soa i; rcode = code i }) ∙ ap (ending (flat_map answers_of chain)) is ∙ ending_is chain
+    (λ i. record { answers = all i; authority = soa i; rcode = code i })
+      ∙ ap (ending (flat_map answers_of chain)) is ∙ ending_is chain
 
 -- it is the last one
 pub last_is : (chain : List Told) → slice_get chain (length chain - 1) ≡ end_of chain
@@ -29,7 +33,8 @@ last_is (t ∷ []) = refl
 last_is (t ∷ other ∷ chain) =
     let one : length (t ∷ other ∷ chain) - 1 ≡ suc (length chain) = omega arith in
     let none : length chain ≡ length (other ∷ chain) - 1 = omega arith in
-    ap (λ (n : ℕ). slice_get (t ∷ other ∷ chain) n) one ∙ ap (λ (n : ℕ). slice_get (other ∷ chain) n) none ∙ last_is (other ∷ chain)
+    ap (λ (n : ℕ). slice_get (t ∷ other ∷ chain) n) one ∙ ap (λ (n : ℕ). slice_get (other ∷ chain) n) none
+      ∙ last_is (other ∷ chain)
 
 -- one more is told, behind others
 pub told_more : {X Y : Type 0} (f : X → Y) (before items more : List Y) (y : Y) (xs : List X) (i : ℕ) (x : X)
@@ -39,7 +44,8 @@ told_more {X = X} {Y = Y} f before items more y xs i x lt is told so_far pushed 
     let next : map f (take i xs) ++ y ∷ [] ≡ map f (take (i + 1) xs) =
     (λ j. map f (take i xs) ++ told j ∷ []) ∙ sym (map-append f (take i xs) (x ∷ []))
     ∙ (λ j. map f (take i xs ++ is j ∷ [])) ∙ sym (ap (map f) (take_more xs i x lt)) in
-    pushed ∙ (λ j. so_far j ++ y ∷ []) ∙ append_assoc before (map f (take i xs)) (y ∷ []) ∙ ap (λ (zs : List Y). before ++ zs) next
+    pushed ∙ (λ j. so_far j ++ y ∷ []) ∙ append_assoc before (map f (take i xs)) (y ∷ [])
+      ∙ ap (λ (zs : List Y). before ++ zs) next
 
 -- ---- what holds of each piece
 
@@ -69,26 +75,36 @@ none_past moment (h ∷ chain) = ap (λ (told : List Told). told_at moment h ∷
 
 -- ---- held pieces, borrowed, by what is left of them
 
+-- the last one, if any
+abbrev pub last_of_lent : List (Bor Held) → Option Held
+last_of_lent refs = option_copied (slice_get refs (length refs - 1))
+
+-- behind another one it stays the last
+one_more : (r s : Bor Held) (refs : List (Bor Held)) → last_of_lent (s ∷ refs) ≡ last_of_lent (r ∷ s ∷ refs)
+one_more r s refs =
+    let longer : length (r ∷ s ∷ refs) - 1 ≡ suc (length refs) = omega arith in
+    let shorter : length refs ≡ length (s ∷ refs) - 1 = omega arith in
+    sym (ap (λ (n : ℕ). option_copied (slice_get (s ∷ refs) n)) shorter)
+      ∙ sym (ap (λ (n : ℕ). option_copied (slice_get (r ∷ s ∷ refs) n)) longer)
+
 -- the end of what is told of them is told of the last of them
-pub last_lent : (moment : ℕ) (refs : List (Bor Held)) → end_of (map (told_at moment) (lent refs)) ≡ option_map (told_at moment) (option_copied (slice_get refs (length refs - 1)))
+pub last_lent : (moment : ℕ) (refs : List (Bor Held))
+    → end_of (map (told_at moment) (lent refs)) ≡ option_map (told_at moment) (last_of_lent refs)
 last_lent moment [] = refl
 last_lent moment (r ∷ []) = refl
 last_lent moment (r ∷ s ∷ refs) =
-    let one : length (r ∷ s ∷ refs) - 1 ≡ suc (length refs) = omega arith in
-    let none : length refs ≡ length (s ∷ refs) - 1 = omega arith in
-    last_lent moment (s ∷ refs) ∙ sym (ap (λ (n : ℕ). option_map (told_at moment) (option_copied (slice_get (s ∷ refs) n))) none) ∙ sym (ap (λ (n : ℕ). option_map (told_at moment) (option_copied (slice_get (r ∷ s ∷ refs) n))) one)
+    last_lent moment (s ∷ refs) ∙ ap (λ (last : Option Held). option_map (told_at moment) last) (one_more r s refs)
 
 -- each was accepted by then, so the last was
-pub last_earlier : (P : Held → Type 0) (refs : List (Bor Held)) → AllByRecursion P (lent refs) → IfSome (option_copied (slice_get refs (length refs - 1))) P
+pub last_earlier : (P : Held → Type 0) (refs : List (Bor Held)) → AllByRecursion P (lent refs)
+    → IfSome (last_of_lent refs) P
 last_earlier P [] all = tt
 last_earlier P (r ∷ []) all = all.0
 last_earlier P (r ∷ s ∷ refs) all =
-    let one : length (r ∷ s ∷ refs) - 1 ≡ suc (length refs) = omega arith in
-    let none : length refs ≡ length (s ∷ refs) - 1 = omega arith in
-    subst (λ (n : ℕ). IfSome (option_copied (slice_get (r ∷ s ∷ refs) n)) P) (sym one)
-    (subst (λ (n : ℕ). IfSome (option_copied (slice_get (s ∷ refs) n)) P) (sym none) (last_earlier P (s ∷ refs) all.1))
+    subst (λ (last : Option Held). IfSome last P) (one_more r s refs) (last_earlier P (s ∷ refs) all.1)
 
 -- a set that may be missing, as a slice
-pub listed_slice : (soa : Option (List Record)) (sets : List (List Record)) → MatchOption soa (sets ≡ []) (λ x. sets ≡ x ∷ []) → records_in sets ≡ listed soa
+pub listed_slice : (soa : Option (List Record)) (sets : List (List Record))
+    → MatchOption soa (sets ≡ []) (λ x. sets ≡ x ∷ []) → records_in sets ≡ listed soa
 listed_slice None sets is = ap records_in is
 listed_slice (Some records) sets is = ap records_in is ∙ append-nil records

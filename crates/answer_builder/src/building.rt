@@ -1,6 +1,6 @@
 //! The answer from a chain of pieces, and the answer to a question that failed.
 
-ghost use Rattle.std.specs.Prelude.{◌≡◌, ◌<◌, ◌≤◌, length, IfOk, OnOk};
+ghost use Rattle.std.specs.Prelude.{◌≡◌, ◌<◌, ◌≤◌, [], ◌∷◌, length, IfOk, OnOk};
 ghost use Rattle.std.specs.List.{AllByRecursion};
 ghost use Rattle.dns_message.specs.Writing.{written};
 ghost use Rattle.answer_builder.specs.Answers.{error_response, local_sections, sections_told, IsEarlier};
@@ -43,6 +43,28 @@ fn put_sections<A: Allocator + Copy>(
     put_text(alloc, octets, message, transport)
 }
 
+/// Writes the answer from one piece, without a list of it: most answers from the cache are such.
+#[inline(always)]
+fn put_one<A: Allocator + Copy>(
+    alloc: A,
+    octets: &mut Vec<u8, A>,
+    asked: AskedRef<'_>,
+    told: &ToldRef<'_, A>,
+    transport: Transport,
+) -> Result<(), Fault>
+    requires opcode { asked.opcode < 16 }
+    ensures { Gives (λ _. octets.new.items) result (text_of asked.entry (sections_told (told.now ∷ [])) transport) }
+{
+    let set = set_of(told);
+    let (soa, rcode) = end_of(Some(told));
+    let sections = SectionsRef {
+        answers: set.as_slice(),
+        authority: soa.as_slice(),
+        rcode,
+    };
+    put_sections(alloc, octets, asked, sections, transport)
+}
+
 /// Writes the answer from pieces with the seconds that are told to be left of them, in the place of the octets: aliases in
 /// order, then a set or a denial. Faults are those of `build`.
 ///
@@ -58,21 +80,14 @@ pub fn put_told<A: Allocator + Copy>(
     requires opcode { asked.opcode < 16 }
     ensures { Gives (λ _. octets.new.items) result (text_of asked.entry (sections_told chain.now) transport) }
 {
-    let (soa, rcode) = end_of(chain.last());
-    let authority = soa.as_slice();
     if let [told] = chain {
-        let set = set_of(told);
-        let sections = SectionsRef {
-            answers: set.as_slice(),
-            authority,
-            rcode,
-        };
-        return put_sections(alloc, octets, asked, sections, transport);
+        return put_one(alloc, octets, asked, told, transport);
     }
     let sets = sets_of(alloc, chain)?;
+    let (soa, rcode) = end_of(chain.last());
     let sections = SectionsRef {
         answers: &sets,
-        authority,
+        authority: soa.as_slice(),
         rcode,
     };
     put_sections(alloc, octets, asked, sections, transport)
@@ -114,8 +129,7 @@ pub fn put_answer<A: Allocator + Copy>(
     ensures { Gives (λ _. octets.new.items) result (answer_of asked.entry (lent chain.now) moment transport) }
 {
     if let [held] = chain {
-        let told = ToldRef::at(held, moment);
-        return put_told(alloc, octets, asked, &[told], transport);
+        return put_one(alloc, octets, asked, &ToldRef::at(held, moment), transport);
     }
     let sets = sets_at(alloc, chain, moment)?;
     let last = last_at(chain, moment);

@@ -9,4 +9,5 @@ use Rattle.answer_builder.proofs.building.build.Goals as goal
 pub returns : goal.returns
 returns g c =
     let told = none_past c.args.moment c.args.chain.now in
-    gives_as _ c.build_stale.result _ _ (ap (λ (told : List Told). text_of c.args.asked.now (sections_told told) c.args.transport) told) c.build_stale.ensures
+    let text = ap (λ (told : List Told). text_of c.args.asked.now (sections_told told) c.args.transport) told in
+    gives_as _ c.build_stale.result _ _ text c.build_stale.ensures

@@ -16,9 +16,13 @@ put_text-requires-clause-short g c =
 pub returns : goal.returns
 returns g c =
     let is = c.sections.view_is in
-    let header = c.header_of.ensures.header ∙ ap (λ (s : Sections). answer_header c.args.asked false s.rcode (0 ∷ 0 ∷ 0 ∷ 0 ∷ [])) is in
+    let asked = c.args.asked in
+    let code = ap (λ (s : Sections). answer_header asked false s.rcode (0 ∷ 0 ∷ 0 ∷ 0 ∷ [])) is in
+    let header = c.header_of.ensures.header ∙ code in
     let question = ap (λ (a : Asked). a.question) c.asked.view_is in
     let answers = ap (λ (s : Sections). s.answers) is in
     let authority = ap (λ (s : Sections). s.authority) is in
-    let same = sent_text c.args.asked c.args.sections c.args.transport c.header_of.result c.asked.inside.question c.sections.inside.answers.now c.sections.inside.authority.now header question answers authority in
+    let sets = c.sections.inside in
+    let same = sent_text asked c.args.sections c.args.transport c.header_of.result c.asked.inside.question sets.answers.now
+      sets.authority.now header question answers authority in
     gives_as _ c.put_text.result _ _ same c.put_text.ensures

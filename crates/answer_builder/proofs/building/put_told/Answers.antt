@@ -9,7 +9,9 @@ use Rattle.answer_builder.proofs.building.put_told.Goals as goal
 pub returns : goal.returns
 returns g c =
     let last = c.last.ensures.value ∙ last_is c.args.chain.now in
-    let soa = listed_slice c.end_of-soa.result.0 c.as_slice-authority.result.now c.as_slice-authority.ensures ∙ c.end_of-soa.ensures.soa in
+    let authority = c.as_slice in
+    let soa = listed_slice c.end_of-soa.result.0 authority.result.now authority.ensures ∙ c.end_of-soa.ensures.soa in
     let all = ap records_in c.deref.ensures.value ∙ c.in_ok-sets.ensures in
     let sections = told_sections c.args.chain.now _ _ _ _ all soa c.end_of-soa.ensures.code last in
-    gives_as _ c.put_sections-2.result _ _ (ap (λ (s : Sections). text_of c.args.asked s c.args.transport) sections) c.put_sections-2.ensures
+    let text = ap (λ (s : Sections). text_of c.args.asked s c.args.transport) sections in
+    gives_as _ c.put_sections.result _ _ text c.put_sections.ensures
