@@ -1,7 +1,7 @@
 //! Names in concrete octets (RFC 1035 2.3.4, 3.1), and what no contract can say: that memory is found where there is
 //! some.
 
-use crate::{Name, NameFault, NameKey};
+use dns_name::{Name, NameFault, NameKey};
 use refusing_allocator::Refusing;
 use std::alloc::{AllocError, Allocator, Global};
 use std::hash::{BuildHasher, BuildHasherDefault, FoldHasher};
