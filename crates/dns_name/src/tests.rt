@@ -214,8 +214,8 @@ fn refuse(heap: &Refusing<Global>, growths: u64, is_alone: bool) {
     }
 }
 
-/// How many growths are refused one after another, alone or with each one behind it, until there are so many labels; `None`
-/// where anything else is told than want of memory.
+/// How many growths are refused one after another, alone or with each one behind it, until there are so many labels;
+/// `None` where anything else is told than want of memory.
 fn growths_of(heap: &Refusing<Global>, text: &str, labels: usize, is_alone: bool) -> Option<u64> {
     for count in 0..100u64 {
         refuse(heap, count, is_alone);
@@ -228,8 +228,8 @@ fn growths_of(heap: &Refusing<Global>, text: &str, labels: usize, is_alone: bool
     None
 }
 
-/// A name, how many labels its copy and its parent have together, and how many growths are wanted: up to 30 octets lie in
-/// place; more of them take one growth for the name, one for its copy and one for its parent.
+/// A name, how many labels its copy and its parent have together, and how many growths are wanted: up to 30 octets
+/// lie in place; more of them take one growth for the name, one for its copy and one for its parent.
 const GROWTHS: [(&str, usize, u64); 4] = [
     ("a.example", 3, 0),
     (SHORT, 3, 0),

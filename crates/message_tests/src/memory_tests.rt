@@ -1,5 +1,5 @@
-//! Each growth that a call wants is refused in turn, alone and with each one behind it, until what the call gives is right:
-//! copies are compared with what they copy.
+//! Each growth that a call wants is refused in turn, alone and with each one behind it, until what the call gives is
+//! right: copies are compared with what they copy.
 
 use crate::equal::{is_equal_question, is_equal_record};
 use crate::messages::{LONG_REPLY, REPLY};
@@ -21,9 +21,9 @@ enum Call {
 
 /// Each call, the message that it is over, and how many growths it wants at least and at most.
 ///
-/// What lies in place wants none. Of what doesn't a copy wants one for each list of octets; a message that is read one for the
-/// name of its question, one for an owner, one for the data, and, as each message, one for each of the two lists; one that is
-/// written one for its octets, and one for the names in it where they are more than 16.
+/// What lies in place wants none. Of what doesn't a copy wants one for each list of octets; a message that is read
+/// one for the name of its question, one for an owner, one for the data, and, as each message, one for each of the
+/// two lists; one that is written one for its octets, and one for the names in it where they are more than 16.
 const CALLS: [(Call, &[u8], u64, u64); 14] = [
     (Call::Question, REPLY, 0, 0),
     (Call::Question, LONG_REPLY, 1, 1),
@@ -115,7 +115,8 @@ fn write_message(heap: &Refusing<Global>, octets: &[u8], refused: Refused) -> Re
     Ok(write(heap, &message, 512)?.as_slice() == octets)
 }
 
-/// Makes a call, with ample memory for what it is handed; whether what it gives is right. `Memory` where a growth was refused.
+/// Makes a call, with ample memory for what it is handed; whether what it gives is right. `Memory` where a growth was
+/// refused.
 fn make(
     heap: &Refusing<Global>,
     call: Call,
@@ -134,8 +135,8 @@ fn make(
     }
 }
 
-/// How many growths a call is refused one after another until it is made right; 64 where it is not, or where something else
-/// than want of memory is told.
+/// How many growths a call is refused one after another until it is made right; 64 where it is not, or where
+/// something else than want of memory is told.
 fn growths_of(heap: &Refusing<Global>, call: Call, octets: &[u8], is_alone: bool) -> u64 {
     for growth in 0..64u64 {
         match make(heap, call, octets, Refused { growth, is_alone }) {
