@@ -3,6 +3,7 @@
 use crate::arguments::{LONGEST, are, argument, text};
 use crate::fault::Fault;
 use crate::files::Opened;
+use crate::saying::{say, say_unread, unopened};
 use crate::serving::serve_config;
 use replay_script::{ReplayFault, read_config, replay_run};
 use std::io;
@@ -42,25 +43,33 @@ fn turns_in(digits: &str) -> Option<u64> {
 }
 
 /// The configuration in the file with this name. `Device` where the file can't be read or passes 16,777,216 octets,
-/// `Config` where the configuration is refused, `Memory` where memory ran out.
-pub fn load<R: AllocGlobal>(rt: &R, name: &[u8]) -> Result<Config, ReplayFault> {
-    let mut file = Opened::open(name)?;
-    read_config(rt.alloc(), rt.alloc(), &mut file)
+/// `Config` where the configuration is refused, `Memory` where memory ran out. Where the file can't be read or the
+/// configuration is refused, standard output says why.
+pub fn load<R: Print + AllocGlobal>(rt: &R, name: &[u8]) -> Result<Config, ReplayFault> {
+    let mut file = match Opened::open(name) {
+        Ok(file) => file,
+        Err(error) => return Err(unopened(rt, name, error)),
+    };
+    let loaded = read_config(rt.alloc(), rt.alloc(), &mut file);
+    match &loaded {
+        Err(ReplayFault::Config(fault)) => say(rt, fault),
+        Err(ReplayFault::Device) => say_unread(rt, name, &file),
+        _ => {}
+    }
+    loaded
 }
 
 /// The configuration in the file that the second argument names, as [`load`]; a name that is too long for a file is one
-/// that can't be read. Where the configuration is refused, prints what it has to say in place of what it says.
+/// that can't be read.
 fn named_config<R: Env + Print + AllocGlobal>(rt: &R) -> Result<Config, ReplayFault> {
     let mut room = [0u8; LONGEST];
-    let Ok(name) = argument(rt, 2, &mut room) else {
-        return Err(ReplayFault::Device);
-    };
-    let loaded = load(rt, name);
-    if let Err(ReplayFault::Config(fault)) = &loaded {
-        // Where standard output fails too, the status tells the refusal.
-        let _ = println!(rt; "{fault}");
+    match argument(rt, 2, &mut room) {
+        Ok(name) => load(rt, name),
+        Err(_) => {
+            say(rt, &"the name of the file has more than 4095 octets");
+            Err(ReplayFault::Device)
+        }
     }
-    loaded
 }
 
 /// Serves as many turns as the third argument says by the configuration that the second one names, and prints what was

@@ -9,6 +9,8 @@ use std::os::fd::{AsRawFd, OwnedFd};
 #[derive(Drop)]
 pub struct Opened {
     descriptor: OwnedFd,
+    /// The system's number for why the last reading failed.
+    failed: Option<i32>,
 }
 
 impl Opened {
@@ -20,7 +22,15 @@ impl Opened {
         }
         // The descriptor was opened here, and nothing else closes it.
         let descriptor = unsafe { OwnedFd::from_raw_fd(number) };
-        Ok(Opened { descriptor })
+        Ok(Opened {
+            descriptor,
+            failed: None,
+        })
+    }
+
+    /// Why the last reading failed; `None` where it didn't.
+    pub fn failure(&self) -> Option<io::Error> {
+        self.failed.map(io::Error::from_raw_os_error)
     }
 }
 
@@ -28,7 +38,9 @@ impl Read for Opened {
     fn read(&mut self, buffer: &mut [u8]) -> io::Result<usize> {
         let count = libc::read(self.descriptor.as_raw_fd(), buffer);
         if count < 0 {
-            return Err(io::Error::from_raw_os_error(os::errno()));
+            let number = os::errno();
+            self.failed = Some(number);
+            return Err(io::Error::from_raw_os_error(number));
         }
         match usize::try_from(count) {
             Ok(count) if count <= buffer.len() => Ok(count),

@@ -6,6 +6,7 @@ mod arguments;
 mod commands;
 mod fault;
 mod files;
+mod saying;
 mod serving;
 #[cfg(test)]
 mod tests;

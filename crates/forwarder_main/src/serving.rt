@@ -1,5 +1,6 @@
 //! The service: a forwarder over sockets.
 
+use crate::saying::unlistened;
 use forwarder_core::Forwarder;
 use network_model::{Served, Wire, serve};
 use replay_script::ReplayFault;
@@ -12,14 +13,18 @@ use std::rt::Clock;
 use suffix_routes::Config;
 
 /// Makes a forwarder of the configuration and serves so many turns at its address. `Device` where the address can't be
-/// listened at, `Memory` where memory ran out.
-pub fn serve_config<R: Net + Clock + RandomSource, A: Allocator + Copy>(
+/// listened at, which standard output says with the system's reason; `Memory` where memory ran out.
+pub fn serve_config<R: Print + Net + Clock + RandomSource, A: Allocator + Copy>(
     rt: &R,
     alloc: A,
     config: Config<A>,
     turns: u64,
 ) -> Result<Served, ReplayFault> {
-    let mut wire = MioWire::new(rt, alloc, config.listen, config.limits.deadline_ms)?;
+    let listen = config.listen;
+    let mut wire = match MioWire::new(rt, alloc, listen, config.limits.deadline_ms) {
+        Ok(wire) => wire,
+        Err(error) => return Err(unlistened(rt, listen, error)),
+    };
     serve_over(rt, alloc, &mut wire, config, turns)
 }
 

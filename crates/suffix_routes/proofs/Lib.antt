@@ -1,7 +1,10 @@
 pub mod RouteLaws
 pub mod ExcerptOf
 pub mod ReadLaws
+pub mod VersionLaws
 pub mod ReadRoutes
+pub mod FirstVersion
+pub mod Worked
 pub mod PeerLaws
 pub mod CallerLemmas
 mod PositionLaws

@@ -1,4 +1,4 @@
-//! Routes: a suffix and the group of servers for the names under it.
+//! Routes: a suffix, and the group of servers for the names under it or that these are denied.
 
 ghost use Rattle.std.specs.Prelude.{◌≡◌, IfOk};
 
@@ -8,12 +8,14 @@ use plain_list::PlainList;
 use std::alloc::{AllocError, Allocator, Global};
 use std::marker::Model;
 
-/// A route: names under its suffix are asked of its servers.
+/// A route: names under its suffix are asked of its servers, or denied.
 #[derive(Drop)]
 pub struct Route<A: Allocator = Global> {
     /// The suffix.
     pub suffix: Name<A>,
-    /// The group of servers in the order of the configuration, 1 to 8.
+    /// Whether the names are denied; nothing is asked for them.
+    pub deny: bool,
+    /// The group of servers in the order of the configuration, 1 to 8, or none where the route denies.
     pub servers: PlainList<Peer, A>,
 }
 
@@ -22,9 +24,9 @@ impl<A: Allocator> Model for Route<A> {
 
     ghost Value = { Route };
 
-    ghost view = { λ r. record { suffix = r.suffix; servers = r.servers } };
+    ghost view = { λ r. record { suffix = r.suffix; deny = r.deny; servers = r.servers } };
 
-    ghost invariant = { λ r. IsRoute (record { suffix = r.suffix; servers = r.servers }) };
+    ghost invariant = { λ r. IsRoute (record { suffix = r.suffix; deny = r.deny; servers = r.servers }) };
 }
 
 impl<A: Allocator + Copy> Route<A> {
@@ -34,6 +36,7 @@ impl<A: Allocator + Copy> Route<A> {
     {
         Ok(Route {
             suffix: self.suffix.copy(alloc)?,
+            deny: self.deny,
             servers: PlainList::copied(alloc, self.servers.as_slice())?,
         })
     }
