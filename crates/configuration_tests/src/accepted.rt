@@ -34,6 +34,7 @@ fn what_is_read(rt: HostRuntime) -> Result<(), Fail> {
         tries: 4,
         ask_ms: 1500,
         deadline_ms: 8000,
+        stale_s: 0,
     };
     let few = Limits {
         tries: 2,

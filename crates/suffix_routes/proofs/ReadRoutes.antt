@@ -107,15 +107,15 @@ pub record IsNewRoute (earlier : List Route) (r : Route) : Type 0 where
 route_is_new : (earlier : List Route) (d : Data) (r : Route) → route_in earlier d ≡ Ok r → IsNewRoute earlier r
 unfolding route_in
 route_is_new earlier d r is =
-    let made : List (List ℕ) → List Peer → Result Route ConfigFault = λ suffix servers. Ok (record { suffix = suffix; servers = servers }) in
+    let made : List (List ℕ) → List Peer → Result Route ConfigFault = λ suffix servers. Ok (record { suffix = suffix; deny = false; servers = servers }) in
     let behind : Members → List (List ℕ) → Result Route ConfigFault = λ ms suffix. servers_in (length earlier) ms >>= made suffix in
     let inner : Members → Result Route ConfigFault = λ ms. known_keys (place.Route (length earlier)) ms >>= λ _. suffix_in earlier ms >>= behind ms in
     let table = bind_ok (table_in (place.Route (length earlier)) d) inner r is in
     let keys = bind_ok (known_keys (place.Route (length earlier)) table.value) (λ _. suffix_in earlier table.value >>= behind table.value) r table.next in
     let suffix = bind_ok (suffix_in earlier table.value) (behind table.value) r keys.next in
     let servers = bind_ok (servers_in (length earlier) table.value) (made suffix.value) r suffix.next in
-    let whole : Ok (record { suffix = suffix.value; servers = servers.value }) ≡ Ok r = servers.next in
-    let one : record { suffix = suffix.value; servers = servers.value } ≡ r = cc in
+    let whole : Ok (record { suffix = suffix.value; deny = false; servers = servers.value }) ≡ Ok r = servers.next in
+    let one : record { suffix = suffix.value; deny = false; servers = servers.value } ≡ r = cc in
     let new = suffix_is_new earlier table.value suffix.value suffix.there in
     subst (IsNewRoute earlier) one (record {
       route = record { suffix = new.name; servers = servers_range (length earlier) table.value servers.value servers.there };

@@ -147,6 +147,7 @@ all_limits_in ms =
       tries = tries;
       ask_ms = ask_ms;
       deadline_ms = deadline_ms;
+      stale_s = 0;
     })
 
 abbrev pub limits_of : Option Data → Result Limits ConfigFault
@@ -199,7 +200,7 @@ route_in earlier d =
     known_keys (place.Route (length earlier)) ms >>= λ _.
     suffix_in earlier ms >>= λ suffix.
     servers_in (length earlier) ms >>= λ servers.
-    Ok (record { suffix = suffix; servers = servers })
+    Ok (record { suffix = suffix; deny = false; servers = servers })
 
 -- ---- the routes
 

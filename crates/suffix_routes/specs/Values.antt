@@ -1,5 +1,5 @@
 -- What a configuration is: plain values, and what holds of each that was accepted.
-use Rattle.std.specs.Prelude.{ℕ, ◌≤◌, List, [], ◌∷◌, length}
+use Rattle.std.specs.Prelude.{ℕ, Bool, ◌≤◌, List, [], ◌∷◌, length}
 use Rattle.std.specs.List.{AllByRecursion}
 use Rattle.dns_name.specs.Labels.{IsName, IsSame}
 use Rattle.suffix_routes.specs.declared.peer.Peer.{Peer}
@@ -7,6 +7,7 @@ use Rattle.suffix_routes.specs.declared.limits.Limits.{Limits}
 
 pub record Route : Type 0 where
   pub suffix : List (List ℕ)
+  pub deny : Bool
   pub servers : List Peer
 
 pub record Config : Type 0 where
@@ -25,6 +26,7 @@ pub record AreLimits (limits : Limits) : Type 0 where
   pub tries : IsWithin 1 16 limits.tries
   pub ask_ms : IsWithin 100 10000 limits.ask_ms
   pub deadline_ms : IsWithin 500 30000 limits.deadline_ms
+  pub stale_s : IsWithin 0 86400 limits.stale_s
 
 -- the limits of a configuration that names none
 abbrev pub default_limits : Limits
@@ -35,6 +37,7 @@ default_limits = record {
   tries = 4;
   ask_ms = 1500;
   deadline_ms = 8000;
+  stale_s = 0;
 }
 
 -- a suffix that is a name, and 1 to 8 servers

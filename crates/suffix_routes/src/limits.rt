@@ -18,6 +18,8 @@ pub struct Limits {
     pub ask_ms: u64,
     /// How many milliseconds a question may wait, 500 to 30,000.
     pub deadline_ms: u64,
+    /// For how many seconds past its end a set may still be answered where all tries failed, 0 to 86,400.
+    pub stale_s: u32,
 }
 
 impl Limits {
@@ -32,6 +34,7 @@ impl Limits {
             tries: 4,
             ask_ms: 1500,
             deadline_ms: 8000,
+            stale_s: 0,
         }
     }
 }

@@ -126,5 +126,6 @@ fn read_all_limits(table: &Table) -> Result<Limits, ConfigFault>
         tries: tries as u8,
         ask_ms,
         deadline_ms,
+        stale_s: 0,
     })
 }

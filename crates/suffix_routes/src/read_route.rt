@@ -64,7 +64,11 @@ fn read_route<A: Allocator + Copy>(
     check_keys(table, Place::Route(place))?;
     let suffix = read_suffix(alloc, table, earlier)?;
     let servers = read_servers(alloc, table, place)?;
-    Ok(Route { suffix, servers })
+    Ok(Route {
+        suffix,
+        deny: false,
+        servers,
+    })
 }
 
 /// The suffix of a route, which no earlier route has.

@@ -13,6 +13,8 @@ use std::marker::Model;
 pub struct Route<A: Allocator = Global> {
     /// The suffix.
     pub suffix: Name<A>,
+    /// Whether names of this route are denied.
+    pub deny: bool,
     /// The group of servers in the order of the configuration, 1 to 8.
     pub servers: PlainList<Peer, A>,
 }
@@ -22,9 +24,9 @@ impl<A: Allocator> Model for Route<A> {
 
     ghost Value = { Route };
 
-    ghost view = { λ r. record { suffix = r.suffix; servers = r.servers } };
+    ghost view = { λ r. record { suffix = r.suffix; deny = r.deny; servers = r.servers } };
 
-    ghost invariant = { λ r. IsRoute (record { suffix = r.suffix; servers = r.servers }) };
+    ghost invariant = { λ r. IsRoute (record { suffix = r.suffix; deny = r.deny; servers = r.servers }) };
 }
 
 impl<A: Allocator + Copy> Route<A> {
@@ -34,6 +36,7 @@ impl<A: Allocator + Copy> Route<A> {
     {
         Ok(Route {
             suffix: self.suffix.copy(alloc)?,
+            deny: self.deny,
             servers: PlainList::copied(alloc, self.servers.as_slice())?,
         })
     }
