@@ -16,7 +16,7 @@ abbrev server : Peer
 server = record { ip = 192 ∷ 0 ∷ 2 ∷ 1 ∷ []; port = 53 }
 
 abbrev routes : List Route
-routes = record { suffix = []; servers = server ∷ [] } ∷ record { suffix = (122 ∷ []) ∷ []; servers = server ∷ [] } ∷ []
+routes = record { suffix = []; deny = false; servers = server ∷ [] } ∷ record { suffix = (122 ∷ []) ∷ []; deny = false; servers = server ∷ [] } ∷ []
 
 -- the name e, and a name of one letter more before a name
 abbrev e : List (List ℕ)
