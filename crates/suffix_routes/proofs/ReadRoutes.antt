@@ -8,11 +8,13 @@ use Rattle.std.proofs.lemmas.List.{length-append}
 use Rattle.std.proofs.lemmas.List.Sums.{position_or_len_is}
 use Rattle.std.proofs.lemmas.Option.{slice_get_within, get_or_from_slice_get, slice_get-get_or}
 use Rattle.suffix_routes.specs.declared.place.Place.TheVariants as place
-use Rattle.toml.specs.Data.{Data, Members}
+use Rattle.toml.specs.Data.{Data, Members, get_member}
 use Rattle.dns_name.specs.Labels.{IsName, IsSame}
 use Rattle.dns_name.specs.Text.{name_in}
 use Rattle.dns_name.specs.declared.fault.NameFault.{NameFault}
 use Rattle.dns_name.proofs.CallerLemmas.{name_in_text}
+use Rattle.suffix_routes.specs.declared.version.Version.{Version}
+use Rattle.suffix_routes.specs.declared.version.Version.TheVariants.{One}
 use Rattle.suffix_routes.specs.declared.fault.ConfigFault.{ConfigFault}
 use Rattle.suffix_routes.specs.declared.fault.ConfigFault.TheVariants as fault
 use Rattle.suffix_routes.specs.declared.peer.Peer.{Peer}
@@ -20,8 +22,9 @@ use Rattle.suffix_routes.specs.Values.{Route, IsRoute, IsWithin, HasNoSuffix, Al
 use Rattle.suffix_routes.specs.Excerpts.{excerpt}
 use Rattle.suffix_routes.specs.Routes.{route_at}
 use Rattle.first_fault.proofs.CallerLemmas.{fault_fails, fault_before_next}
-use Rattle.suffix_routes.specs.Reading.{◌>>=◌, wants_memory, Fails, required, text_in, array_in, table_in, known_keys, suffix_name, new_suffix, servers_after, counted_servers, servers_in, suffix_in, route_in, routes_after, counted_routes, routes_in}
+use Rattle.suffix_routes.specs.Reading.{◌>>=◌, wants_memory, Fails, required, text_in, array_in, table_in, known_keys, suffix_name, new_suffix, servers_after, counted_servers, servers_in, suffix_in, deny_of, deny_in, no_servers, group_in, route_in, routes_after, counted_routes, routes_in}
 use Rattle.suffix_routes.proofs.RouteLaws.{no_own}
+use Rattle.suffix_routes.proofs.VersionLaws.{deny_is_strange}
 
 -- ---- a fault is passed on
 
@@ -71,6 +74,17 @@ servers_range route ms servers is =
     let items = bind_ok (array_in (place.Servers route) value.value) (counted_servers route) servers value.next in
     counted route items.value servers items.next
 
+-- a route that denies has none
+none_named : (route : ℕ) (named : Option Data) (servers : List Peer) → no_servers route named ≡ Ok servers → length servers ≡ 0
+none_named route None servers is = let one : [] ≡ servers = cc in rw (← one) refl
+none_named route (Some d) servers is = absurd (let no : Err (fault.DenyWithServers route) ≡ Ok servers = is in cc)
+
+pub group_range : (deny : Bool) (route : ℕ) (ms : Members) (servers : List Peer) → group_in deny route ms ≡ Ok servers
+    → (deny ≡ false → IsWithin 1 8 (length servers)) × (deny ≡ true → length servers ≡ 0)
+unfolding group_in
+group_range true route ms servers is = (λ no. absurd cc, λ _. none_named route (get_member (codes "servers") ms) servers is)
+group_range false route ms servers is = (λ _. servers_range route ms servers is, λ no. absurd cc)
+
 -- ---- suffixes
 
 name_of : (place : ℕ) (text : List ℕ) (r : Result (List (List ℕ)) NameFault) (name : List (List ℕ)) → suffix_name place text r ≡ Ok name → r ≡ Ok name
@@ -100,31 +114,46 @@ suffix_is_new earlier ms suffix is =
 
 -- ---- routes
 
-pub record IsNewRoute (earlier : List Route) (r : Route) : Type 0 where
+pub record IsNewRoute (version : Version) (earlier : List Route) (r : Route) : Type 0 where
   pub route : IsRoute r
   pub new : route_at earlier r.suffix ≡ None
+  pub serves : version ≡ One → r.deny ≡ false
 
-route_is_new : (earlier : List Route) (d : Data) (r : Route) → route_in earlier d ≡ Ok r → IsNewRoute earlier r
+-- in the first version no key says that a route denies
+first_serves : (version : Version) (route : ℕ) (ms : Members) (known : Unit {0}) (deny : Bool) → known_keys version (place.Route route) ms ≡ Ok known → deny_in route ms ≡ Ok deny
+    → version ≡ One → deny ≡ false
+unfolding deny_in
+first_serves version route ms known deny keys is first =
+    let none : get_member (codes "deny") ms ≡ None = deny_is_strange route ms known (rw first at keys) in
+    let one : Ok false ≡ Ok deny = rw none at is in
+    cc
+
+route_is_new : (version : Version) (earlier : List Route) (d : Data) (r : Route) → route_in version earlier d ≡ Ok r → IsNewRoute version earlier r
 unfolding route_in
-route_is_new earlier d r is =
-    let made : List (List ℕ) → List Peer → Result Route ConfigFault = λ suffix servers. Ok (record { suffix = suffix; deny = false; servers = servers }) in
-    let behind : Members → List (List ℕ) → Result Route ConfigFault = λ ms suffix. servers_in (length earlier) ms >>= made suffix in
-    let inner : Members → Result Route ConfigFault = λ ms. known_keys (place.Route (length earlier)) ms >>= λ _. suffix_in earlier ms >>= behind ms in
+route_is_new version earlier d r is =
+    let made : List (List ℕ) → Bool → List Peer → Result Route ConfigFault = λ suffix deny servers. Ok (record { suffix = suffix; deny = deny; servers = servers }) in
+    let group : Members → List (List ℕ) → Bool → Result Route ConfigFault = λ ms suffix deny. group_in deny (length earlier) ms >>= made suffix deny in
+    let behind : Members → List (List ℕ) → Result Route ConfigFault = λ ms suffix. deny_in (length earlier) ms >>= group ms suffix in
+    let inner : Members → Result Route ConfigFault = λ ms. known_keys version (place.Route (length earlier)) ms >>= λ _. suffix_in earlier ms >>= behind ms in
     let table = bind_ok (table_in (place.Route (length earlier)) d) inner r is in
-    let keys = bind_ok (known_keys (place.Route (length earlier)) table.value) (λ _. suffix_in earlier table.value >>= behind table.value) r table.next in
+    let keys = bind_ok (known_keys version (place.Route (length earlier)) table.value) (λ _. suffix_in earlier table.value >>= behind table.value) r table.next in
     let suffix = bind_ok (suffix_in earlier table.value) (behind table.value) r keys.next in
-    let servers = bind_ok (servers_in (length earlier) table.value) (made suffix.value) r suffix.next in
-    let whole : Ok (record { suffix = suffix.value; deny = false; servers = servers.value }) ≡ Ok r = servers.next in
-    let one : record { suffix = suffix.value; deny = false; servers = servers.value } ≡ r = cc in
+    let deny = bind_ok (deny_in (length earlier) table.value) (group table.value suffix.value) r suffix.next in
+    let servers = bind_ok (group_in deny.value (length earlier) table.value) (made suffix.value deny.value) r deny.next in
+    let route : Route = record { suffix = suffix.value; deny = deny.value; servers = servers.value } in
+    let whole : Ok route ≡ Ok r = servers.next in
+    let one : route ≡ r = cc in
     let new = suffix_is_new earlier table.value suffix.value suffix.there in
-    subst (IsNewRoute earlier) one (record {
-      route = record { suffix = new.name; servers = servers_range (length earlier) table.value servers.value servers.there };
+    let range = group_range deny.value (length earlier) table.value servers.value servers.there in
+    subst (IsNewRoute version earlier) {x = route} one (record {
+      route = record { suffix = new.name; serves = range.0; denies = range.1 };
       new = new.new;
+      serves = first_serves version (length earlier) table.value keys.value deny.value keys.there deny.there;
     })
 
-each_push : (routes : List Route) (r : Route) → AllByRecursion IsRoute routes → IsRoute r → AllByRecursion IsRoute (routes ++ r ∷ [])
-each_push [] r each one = (one, tt)
-each_push (x ∷ xs) r each one = (each.0, each_push xs r each.1 one)
+each_push : (P : Route → Type 0) (routes : List Route) (r : Route) → AllByRecursion P routes → P r → AllByRecursion P (routes ++ r ∷ [])
+each_push P [] r each one = (one, tt)
+each_push P (x ∷ xs) r each one = (each.0, each_push P xs r each.1 one)
 
 none_push : (suffix : List (List ℕ)) (routes : List Route) (r : Route) → HasNoSuffix suffix routes → (IsSame suffix r.suffix → ⊥) → HasNoSuffix suffix (routes ++ r ∷ [])
 none_push suffix [] r none one = (one, tt)
@@ -135,39 +164,42 @@ differ_push [] r differ new = (tt, tt)
 differ_push (x ∷ xs) r differ new =
     (none_push x.suffix xs r differ.0 (λ same. new 0 x refl (sym same)), differ_push xs r differ.1 (λ k other there. new (suc k) other there))
 
-pub record AreRoutes (routes : List Route) : Type 0 where
+pub record AreRoutes (version : Version) (routes : List Route) : Type 0 where
   pub each : AllByRecursion IsRoute routes
   pub differ : AllDiffer routes
+  pub serve : version ≡ One → AllByRecursion (λ r. r.deny ≡ false) routes
 
-routes_hold : (earlier : List Route) (ds : List Data) (routes : List Route) → routes_after earlier ds ≡ Ok routes → AreRoutes earlier → AreRoutes routes × (length routes ≡ length earlier + length ds)
-routes_hold earlier [] routes is holds = let one : earlier ≡ routes = cc in rw (← one) (holds, omega arith)
-routes_hold earlier (d ∷ ds) routes is holds =
-    let b = bind_ok (route_in earlier d) (λ r. routes_after (earlier ++ r ∷ []) ds) routes is in
-    let new = route_is_new earlier d b.value b.there in
-    let more : AreRoutes (earlier ++ b.value ∷ []) = record {
-      each = each_push earlier b.value holds.each new.route;
+routes_hold : (version : Version) (earlier : List Route) (ds : List Data) (routes : List Route) → routes_after version earlier ds ≡ Ok routes → AreRoutes version earlier
+    → AreRoutes version routes × (length routes ≡ length earlier + length ds)
+routes_hold version earlier [] routes is holds = let one : earlier ≡ routes = cc in rw (← one) (holds, omega arith)
+routes_hold version earlier (d ∷ ds) routes is holds =
+    let b = bind_ok (route_in version earlier d) (λ r. routes_after version (earlier ++ r ∷ []) ds) routes is in
+    let new = route_is_new version earlier d b.value b.there in
+    let more : AreRoutes version (earlier ++ b.value ∷ []) = record {
+      each = each_push IsRoute earlier b.value holds.each new.route;
       differ = differ_push earlier b.value holds.differ (no_own earlier b.value.suffix new.new);
+      serve = λ first. each_push (λ r. r.deny ≡ false) earlier b.value (holds.serve first) (new.serves first);
     } in
-    let all = routes_hold (earlier ++ b.value ∷ []) ds routes b.next more in
+    let all = routes_hold version (earlier ++ b.value ∷ []) ds routes b.next more in
     (all.0, omega (arith, all.1, length-append earlier (b.value ∷ [])))
 
-counted_hold : (ds : List Data) (routes : List Route) → counted_routes ds ≡ Ok routes → AreRoutes routes × IsWithin 1 64 (length routes)
-counted_hold [] routes is = absurd (let no : Err (fault.MissingKey place.Routes) ≡ Ok routes = is in cc)
-counted_hold (d ∷ ds) routes is =
+counted_hold : (version : Version) (ds : List Data) (routes : List Route) → counted_routes version ds ≡ Ok routes → AreRoutes version routes × IsWithin 1 64 (length routes)
+counted_hold version [] routes is = absurd (let no : Err (fault.MissingKey place.Routes) ≡ Ok routes = is in cc)
+counted_hold version (d ∷ ds) routes is =
     elim (cases_lt 64 (length (d ∷ ds))) [
       | inl lt ↦ absurd (let no : Err (fault.TooManyRoutes (length (d ∷ ds))) ≡ Ok routes = rw (some (length ds), lt-ltb 64 (length (d ∷ ds)) lt) at is in cc)
       | inr le ↦
-          let all : routes_after [] (d ∷ ds) ≡ Ok routes = rw (some (length ds), le-ltb 64 (length (d ∷ ds)) le) at is in
-          let hold = routes_hold [] (d ∷ ds) routes all (record { each = tt; differ = tt }) in
+          let all : routes_after version [] (d ∷ ds) ≡ Ok routes = rw (some (length ds), le-ltb 64 (length (d ∷ ds)) le) at is in
+          let hold = routes_hold version [] (d ∷ ds) routes all (record { each = tt; differ = tt; serve = λ _. tt }) in
           (hold.0, (omega (arith, hold.1), omega (arith, hold.1, le)))
     ]
 
-pub routes_accepted : (ms : Members) (routes : List Route) → routes_in ms ≡ Ok routes → AreRoutes routes × IsWithin 1 64 (length routes)
+pub routes_accepted : (version : Version) (ms : Members) (routes : List Route) → routes_in version ms ≡ Ok routes → AreRoutes version routes × IsWithin 1 64 (length routes)
 unfolding routes_in
-routes_accepted ms routes is =
-    let value = bind_ok (required place.Routes (codes "route") ms) (λ d. array_in place.Routes d >>= counted_routes) routes is in
-    let items = bind_ok (array_in place.Routes value.value) counted_routes routes value.next in
-    counted_hold items.value routes items.next
+routes_accepted version ms routes is =
+    let value = bind_ok (required place.Routes (codes "route") ms) (λ d. array_in place.Routes d >>= counted_routes version) routes is in
+    let items = bind_ok (array_in place.Routes value.value) (counted_routes version) routes value.next in
+    counted_hold version items.value routes items.next
 
 -- ---- the first place of a suffix
 

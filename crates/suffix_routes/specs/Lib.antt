@@ -7,3 +7,4 @@ pub mod Excerpts
 pub mod ExcerptLaws
 pub mod Kinds
 pub mod Reading
+pub mod Laws

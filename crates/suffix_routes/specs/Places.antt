@@ -2,8 +2,10 @@
 use Rattle.std.specs.Prelude.{ℕ, Bool, false, List, [], ◌∷◌, codes, nat_eq}
 use Rattle.std.specs.List.{list_any}
 use Rattle.std.specs.Cmp.Lexicographic.{pointwise}
+use Rattle.suffix_routes.specs.declared.version.Version.{Version}
+use Rattle.suffix_routes.specs.declared.version.Version.TheVariants.{One, Two}
 use Rattle.suffix_routes.specs.declared.place.Limit.{Limit}
-use Rattle.suffix_routes.specs.declared.place.Limit.TheVariants.{Questions, Inquiries, Cache, Tries, AskMs, DeadlineMs}
+use Rattle.suffix_routes.specs.declared.place.Limit.TheVariants.{Questions, Inquiries, Cache, Tries, AskMs, DeadlineMs, StaleS}
 use Rattle.suffix_routes.specs.declared.place.Place.{Place}
 use Rattle.suffix_routes.specs.declared.place.Place.TheVariants.{Document, Limits, Route}
 use Rattle.suffix_routes.specs.declared.fault.ConfigFault.{ConfigFault}
@@ -18,6 +20,7 @@ limit_key Cache = codes "cache"
 limit_key Tries = codes "tries"
 limit_key AskMs = codes "ask_ms"
 limit_key DeadlineMs = codes "deadline_ms"
+limit_key StaleS = codes "stale_s"
 
 abbrev pub default_of : Limit → ℕ
 default_of Questions = 1024
@@ -26,6 +29,7 @@ default_of Cache = 4096
 default_of Tries = 4
 default_of AskMs = 1500
 default_of DeadlineMs = 8000
+default_of StaleS = 0
 
 abbrev pub lowest : Limit → ℕ
 lowest Questions = 1
@@ -34,6 +38,7 @@ lowest Cache = 1
 lowest Tries = 1
 lowest AskMs = 100
 lowest DeadlineMs = 500
+lowest StaleS = 0
 
 abbrev pub highest : Limit → ℕ
 highest Questions = 4096
@@ -42,27 +47,36 @@ highest Cache = 65536
 highest Tries = 16
 highest AskMs = 10000
 highest DeadlineMs = 30000
+highest StaleS = 86400
 
--- ---- the keys of each table
+-- ---- the keys of each table: version 2 has one more of a limit, and one more of a route
 
 abbrev pub document_keys : List (List ℕ)
 document_keys = codes "version" ∷ codes "listen" ∷ codes "limits" ∷ codes "route" ∷ []
 
-abbrev pub limit_keys : List (List ℕ)
-limit_keys = limit_key Questions ∷ limit_key Inquiries ∷ limit_key Cache ∷ limit_key Tries ∷ limit_key AskMs ∷ limit_key DeadlineMs ∷ []
+abbrev pub first_limit_keys : List (List ℕ)
+first_limit_keys = limit_key Questions ∷ limit_key Inquiries ∷ limit_key Cache ∷ limit_key Tries ∷ limit_key AskMs ∷ limit_key DeadlineMs ∷ []
 
-abbrev pub route_keys : List (List ℕ)
-route_keys = codes "suffix" ∷ codes "servers" ∷ []
+abbrev pub limit_keys : Version → List (List ℕ)
+limit_keys One = first_limit_keys
+limit_keys Two = limit_key StaleS ∷ first_limit_keys
+
+abbrev pub first_route_keys : List (List ℕ)
+first_route_keys = codes "suffix" ∷ codes "servers" ∷ []
+
+abbrev pub route_keys : Version → List (List ℕ)
+route_keys One = first_route_keys
+route_keys Two = codes "deny" ∷ first_route_keys
 
 abbrev pub is_among : List (List ℕ) → List ℕ → Bool
 is_among keys key = list_any (λ k. pointwise nat_eq key k) keys
 
--- a table at this place may have the key
-abbrev pub knows : Place → List ℕ → Bool
-knows Document key = is_among document_keys key
-knows Limits key = is_among limit_keys key
-knows (Route place) key = is_among route_keys key
-knows _ key = false
+-- a table at this place may have the key in this version
+abbrev pub knows : Version → Place → List ℕ → Bool
+knows version Document key = is_among document_keys key
+knows version Limits key = is_among (limit_keys version) key
+knows version (Route place) key = is_among (route_keys version) key
+knows version _ key = false
 
 -- ---- the numbers by which programs tell a fault
 
@@ -78,5 +92,6 @@ number_of (fault.TooManyServers route count) = 7
 number_of (fault.TwiceSuffix route earlier) = 8
 number_of (fault.TooManyRoutes count) = 9
 number_of (fault.NoServers route) = 10
-number_of (fault.UnknownKey place key) = 11
+number_of (fault.UnknownKey version place key) = 11
 number_of fault.Memory = 12
+number_of (fault.DenyWithServers route) = 13

@@ -4,18 +4,21 @@ use Rattle.std.specs.Ordering.{int_eq}
 use Rattle.std.specs.List.{find}
 use Rattle.first_fault.specs.Reading as reading
 pub use Rattle.first_fault.specs.Reading.{◌>>=◌}
-use Rattle.toml.specs.Data.{Data, Items, no_items, item, Members, no_members, member, get_member, as_str, as_integer, as_array, as_table}
+use Rattle.toml.specs.Data.{Data, Items, no_items, item, Members, no_members, member, get_member, as_str, as_integer, as_bool, as_array, as_table}
 use Rattle.toml.specs.Parse.{parse_document}
 use Rattle.dns_name.specs.Text.{name_in}
 use Rattle.dns_name.specs.declared.fault.NameFault.{NameFault}
 use Rattle.suffix_routes.specs.declared.peer.Peer.{Peer}
 use Rattle.suffix_routes.specs.declared.limits.Limits.{Limits}
+use Rattle.suffix_routes.specs.declared.version.Version.{Version}
+use Rattle.suffix_routes.specs.declared.version.Version.TheVariants.{One, Two}
 use Rattle.suffix_routes.specs.declared.place.Limit.{Limit}
 use Rattle.suffix_routes.specs.declared.place.Limit.TheVariants as limit
 use Rattle.suffix_routes.specs.declared.place.Place.{Place}
 use Rattle.suffix_routes.specs.declared.place.Place.TheVariants as place
 use Rattle.suffix_routes.specs.declared.fault.ConfigFault.{ConfigFault}
-use Rattle.suffix_routes.specs.declared.fault.ConfigFault.TheVariants.{Toml, Version, MissingKey, WrongKind, BadName, BadPeer, Range, TooManyServers, TwiceSuffix, TooManyRoutes, NoServers, UnknownKey, Memory}
+use Rattle.suffix_routes.specs.declared.fault.ConfigFault.TheVariants as fault
+use Rattle.suffix_routes.specs.declared.fault.ConfigFault.TheVariants.{Toml, MissingKey, WrongKind, BadName, BadPeer, Range, TooManyServers, TwiceSuffix, TooManyRoutes, NoServers, UnknownKey, DenyWithServers, Memory}
 use Rattle.suffix_routes.specs.Values.{Route, Config, default_limits}
 use Rattle.suffix_routes.specs.Places.{limit_key, lowest, highest, default_of, knows}
 use Rattle.suffix_routes.specs.Positions.{position_of}
@@ -47,10 +50,6 @@ abbrev pub ok_or : {X : Type 0} → Option X → ConfigFault → Result X Config
 ok_or (Some x) fault = Ok x
 ok_or None fault = Err fault
 
--- a test, else the fault
-abbrev pub unless : Bool → ConfigFault → Result (Unit {0}) ConfigFault
-unless test fault = if test then Ok tt else Err fault
-
 -- ---- parts of a table
 
 abbrev pub keys_of : Members → List (List ℕ)
@@ -61,18 +60,18 @@ abbrev pub list_of : Items → List Data
 list_of no_items = []
 list_of (item d ds) = d ∷ list_of ds
 
--- a key that the table at this place may not have
-abbrev pub is_strange : Place → List ℕ → Bool
-is_strange place key = not (knows place key)
+-- a key that the table at this place may not have in this version
+abbrev pub is_strange : Version → Place → List ℕ → Bool
+is_strange version place key = not (knows version place key)
 
 -- a fault where such a key was met
-abbrev pub no_strange : Place → Option (List ℕ) → Result (Unit {0}) ConfigFault
-no_strange place None = Ok tt
-no_strange place (Some key) = Err (UnknownKey place (excerpt key))
+abbrev pub no_strange : Version → Place → Option (List ℕ) → Result (Unit {0}) ConfigFault
+no_strange version place None = Ok tt
+no_strange version place (Some key) = Err (UnknownKey version place (excerpt key))
 
 -- no key but those that the table at this place may have, else the first that it may not have
-unfoldable pub known_keys : Place → Members → Result (Unit {0}) ConfigFault
-known_keys place ms = no_strange place (find (is_strange place) (keys_of ms))
+unfoldable pub known_keys : Version → Place → Members → Result (Unit {0}) ConfigFault
+known_keys version place ms = no_strange version place (find (is_strange version place) (keys_of ms))
 
 -- the value at a key that has to be there
 abbrev pub required : Place → List ℕ → Members → Result Data ConfigFault
@@ -85,6 +84,9 @@ text_in place d = ok_or (as_str d) (WrongKind place (kind_of d))
 
 abbrev pub integer_in : Place → Data → Result ℤ ConfigFault
 integer_in place d = ok_or (as_integer d) (WrongKind place (kind_of d))
+
+abbrev pub boolean_in : Place → Data → Result Bool ConfigFault
+boolean_in place d = ok_or (as_bool d) (WrongKind place (kind_of d))
 
 abbrev pub array_in : Place → Data → Result (List Data) ConfigFault
 array_in place d = ok_or (option_map list_of (as_array d)) (WrongKind place (kind_of d))
@@ -112,12 +114,14 @@ limit_in limit ms = limit_of limit (get_member (limit_key limit) ms)
 
 -- ---- the keys of the document
 
--- there, an integer, and 1
-unfoldable pub version_in : Members → Result (Unit {0}) ConfigFault
+abbrev pub version_of : ℤ → Result Version ConfigFault
+version_of z = if int_eq z (pos 1) then Ok One else (if int_eq z (pos 2) then Ok Two else Err (fault.Version z))
+
+-- there, an integer, and 1 or 2
+unfoldable pub version_in : Members → Result Version ConfigFault
 version_in ms =
     required place.Version (codes "version") ms >>= λ d.
-    integer_in place.Version d >>= λ z.
-    unless (int_eq z (pos 1)) (Version z)
+    integer_in place.Version d >>= version_of
 
 -- 127.0.0.1:53
 abbrev pub default_listen : Peer
@@ -131,15 +135,16 @@ unfoldable pub listen_in : Members → Result Peer ConfigFault
 listen_in ms = listen_of (get_member (codes "listen") ms)
 
 -- the limits in their order
-unfoldable pub all_limits_in : Members → Result Limits ConfigFault
-all_limits_in ms =
-    known_keys place.Limits ms >>= λ _.
+unfoldable pub all_limits_in : Version → Members → Result Limits ConfigFault
+all_limits_in version ms =
+    known_keys version place.Limits ms >>= λ _.
     limit_in limit.Questions ms >>= λ questions.
     limit_in limit.Inquiries ms >>= λ inquiries.
     limit_in limit.Cache ms >>= λ cache.
     limit_in limit.Tries ms >>= λ tries.
     limit_in limit.AskMs ms >>= λ ask_ms.
     limit_in limit.DeadlineMs ms >>= λ deadline_ms.
+    limit_in limit.StaleS ms >>= λ stale_s.
     Ok (record {
       questions = questions;
       inquiries = inquiries;
@@ -147,15 +152,15 @@ all_limits_in ms =
       tries = tries;
       ask_ms = ask_ms;
       deadline_ms = deadline_ms;
-      stale_s = 0;
+      stale_s = stale_s;
     })
 
-abbrev pub limits_of : Option Data → Result Limits ConfigFault
-limits_of None = Ok default_limits
-limits_of (Some d) = table_in place.Limits d >>= all_limits_in
+abbrev pub limits_of : Version → Option Data → Result Limits ConfigFault
+limits_of version None = Ok default_limits
+limits_of version (Some d) = table_in place.Limits d >>= all_limits_in version
 
-unfoldable pub limits_in : Members → Result Limits ConfigFault
-limits_in ms = limits_of (get_member (codes "limits") ms)
+unfoldable pub limits_in : Version → Members → Result Limits ConfigFault
+limits_in version ms = limits_of version (get_member (codes "limits") ms)
 
 -- ---- a route
 
@@ -193,42 +198,60 @@ servers_in route ms =
     array_in (place.Servers route) d >>= λ items.
     counted_servers route items
 
+-- the route denies where it says so
+abbrev pub deny_of : ℕ → Option Data → Result Bool ConfigFault
+deny_of route None = Ok false
+deny_of route (Some d) = boolean_in (place.Deny route) d
+
+unfoldable pub deny_in : ℕ → Members → Result Bool ConfigFault
+deny_in route ms = deny_of route (get_member (codes "deny") ms)
+
+-- a route that denies has no servers, and may not name any
+abbrev pub no_servers : ℕ → Option Data → Result (List Peer) ConfigFault
+no_servers route None = Ok []
+no_servers route (Some d) = Err (DenyWithServers route)
+
+unfoldable pub group_in : Bool → ℕ → Members → Result (List Peer) ConfigFault
+group_in true route ms = no_servers route (get_member (codes "servers") ms)
+group_in false route ms = servers_in route ms
+
 -- a route behind the earlier ones
-unfoldable pub route_in : List Route → Data → Result Route ConfigFault
-route_in earlier d =
+unfoldable pub route_in : Version → List Route → Data → Result Route ConfigFault
+route_in version earlier d =
     table_in (place.Route (length earlier)) d >>= λ ms.
-    known_keys (place.Route (length earlier)) ms >>= λ _.
+    known_keys version (place.Route (length earlier)) ms >>= λ _.
     suffix_in earlier ms >>= λ suffix.
-    servers_in (length earlier) ms >>= λ servers.
-    Ok (record { suffix = suffix; deny = false; servers = servers })
+    deny_in (length earlier) ms >>= λ deny.
+    group_in deny (length earlier) ms >>= λ servers.
+    Ok (record { suffix = suffix; deny = deny; servers = servers })
 
 -- ---- the routes
 
-abbrev pub routes_after : List Route → List Data → Result (List Route) ConfigFault
-routes_after earlier [] = Ok earlier
-routes_after earlier (d ∷ ds) = route_in earlier d >>= λ route. routes_after (earlier ++ route ∷ []) ds
+abbrev pub routes_after : Version → List Route → List Data → Result (List Route) ConfigFault
+routes_after version earlier [] = Ok earlier
+routes_after version earlier (d ∷ ds) = route_in version earlier d >>= λ route. routes_after version (earlier ++ route ∷ []) ds
 
 -- 1 to 64 of them
-abbrev pub counted_routes : List Data → Result (List Route) ConfigFault
-counted_routes ds =
+abbrev pub counted_routes : Version → List Data → Result (List Route) ConfigFault
+counted_routes version ds =
     if length ds == 0 then Err (MissingKey place.Routes)
-    else (if nat_lt 64 (length ds) then Err (TooManyRoutes (length ds)) else routes_after [] ds)
+    else (if nat_lt 64 (length ds) then Err (TooManyRoutes (length ds)) else routes_after version [] ds)
 
-unfoldable pub routes_in : Members → Result (List Route) ConfigFault
-routes_in ms =
+unfoldable pub routes_in : Version → Members → Result (List Route) ConfigFault
+routes_in version ms =
     required place.Routes (codes "route") ms >>= λ d.
     array_in place.Routes d >>= λ items.
-    counted_routes items
+    counted_routes version items
 
 -- ---- the whole
 
 unfoldable pub config_in : Members → Result Config ConfigFault
 config_in ms =
-    version_in ms >>= λ _.
-    known_keys place.Document ms >>= λ _.
+    version_in ms >>= λ version.
+    known_keys version place.Document ms >>= λ _.
     listen_in ms >>= λ listen.
-    limits_in ms >>= λ limits.
-    routes_in ms >>= λ routes.
+    limits_in version ms >>= λ limits.
+    routes_in version ms >>= λ routes.
     Ok (record { listen = listen; limits = limits; routes = routes })
 
 -- the fault of a text that is no TOML, which tells the position of an octet of it or of its end
@@ -245,3 +268,11 @@ IsTold text (Some ms) answer = Gives (λ c. c) answer (config_in ms)
 -- what was read in a text: its configuration, else its first fault
 abbrev pub IsReadIn : List ℕ → Result Config ConfigFault → Type 0
 IsReadIn text answer = IsTold text (parse_document text) answer
+
+-- a text of this version
+abbrev pub HasVersion : Version → Option Members → Type 0
+HasVersion version None = ⊥
+HasVersion version (Some ms) = version_in ms ≡ Ok version
+
+abbrev pub IsTextOf : Version → List ℕ → Type 0
+IsTextOf version text = HasVersion version (parse_document text)

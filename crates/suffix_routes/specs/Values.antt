@@ -1,5 +1,5 @@
 -- What a configuration is: plain values, and what holds of each that was accepted.
-use Rattle.std.specs.Prelude.{ℕ, Bool, ◌≤◌, List, [], ◌∷◌, length}
+use Rattle.std.specs.Prelude.{◌≡◌, ℕ, Bool, true, false, ◌≤◌, List, [], ◌∷◌, length}
 use Rattle.std.specs.List.{AllByRecursion}
 use Rattle.dns_name.specs.Labels.{IsName, IsSame}
 use Rattle.suffix_routes.specs.declared.peer.Peer.{Peer}
@@ -40,10 +40,11 @@ default_limits = record {
   stale_s = 0;
 }
 
--- a suffix that is a name, and 1 to 8 servers
+-- a suffix that is a name, and 1 to 8 servers, or none where the route denies
 pub record IsRoute (route : Route) : Type 0 where
   pub suffix : IsName route.suffix
-  pub servers : IsWithin 1 8 (length route.servers)
+  pub serves : route.deny ≡ false → IsWithin 1 8 (length route.servers)
+  pub denies : route.deny ≡ true → length route.servers ≡ 0
 
 -- no suffix of the routes is this name
 abbrev pub HasNoSuffix : List (List ℕ) → List Route → Type 0
@@ -59,3 +60,8 @@ pub record IsConfig (config : Config) : Type 0 where
   pub count : IsWithin 1 64 (length config.routes)
   pub each : AllByRecursion IsRoute config.routes
   pub differ : AllDiffer config.routes
+
+-- no window for answers past their end, and no route that denies: nothing that the second version has more than the first
+pub record HasNeither (config : Config) : Type 0 where
+  pub window : config.limits.stale_s ≡ 0
+  pub routes : AllByRecursion (λ r. r.deny ≡ false) config.routes

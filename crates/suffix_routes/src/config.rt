@@ -12,8 +12,8 @@ use plain_list::PlainList;
 use std::alloc::{AllocError, Allocator, Global};
 use std::marker::Model;
 
-/// A configuration that was accepted: its limits are in range, it has 1 to 64 routes, each has 1 to 8 servers, and no
-/// two suffixes are the same name.
+/// A configuration that was accepted: its limits are in range, it has 1 to 64 routes, each has 1 to 8 servers, or none
+/// where it denies, and no two suffixes are the same name.
 #[derive(Drop)]
 pub struct Config<A: Allocator = Global> {
     /// Where clients are served, over UDP and TCP.

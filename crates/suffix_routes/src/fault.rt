@@ -8,6 +8,7 @@ use crate::excerpt::Excerpt;
 use crate::kind::Kind;
 use crate::place::{Limit, Place};
 use crate::position::Position;
+use crate::version::Version;
 use dns_name::NameFault;
 use std::alloc::AllocError;
 use thiserror::Error;
@@ -19,8 +20,8 @@ pub enum ConfigFault {
     /// The text is no TOML; where its reader stopped.
     #[error("the text is no TOML: see {0}")]
     Toml(Position),
-    /// `version` is this number.
-    #[error("`version` is {0}, and has to be 1")]
+    /// `version` is this number, which is neither 1 nor 2.
+    #[error("`version` is {0}, and has to be 1 or 2")]
     Version(i64),
     /// Nothing stands at this place, or no route in the array of routes.
     #[error("{} is {}, and has to be {}", .0, .0.absence(), .0.wanted())]
@@ -49,9 +50,13 @@ pub enum ConfigFault {
     /// The route at this place has no servers.
     #[error("{} is empty, and has to have 1 to 8", Place::Servers(*.0))]
     NoServers(usize),
-    /// The table at this place has this key, which is not known. Of several it is the least by its octets.
-    #[error("{} has the key {}, which is none of {}", .0, .1, .0.keys())]
-    UnknownKey(Place, Excerpt),
+    /// In a text of this version the table at this place has this key, which is not known there. Of several it is the
+    /// least by its octets.
+    #[error("{} has the key {}, which {} {}", .1, .2, .1.refusal(*.0, .2), .1.remedy(*.0, .2))]
+    UnknownKey(Version, Place, Excerpt),
+    /// The route at this place denies, and has the key `servers`.
+    #[error("{} is there, and has to be missing where `deny` is true", Place::Servers(*.0))]
+    DenyWithServers(usize),
     /// Memory ran out.
     #[error("memory ran out")]
     Memory,
@@ -59,7 +64,8 @@ pub enum ConfigFault {
 
 impl ConfigFault {
     /// The number by which programs tell the fault: 1 no TOML, 2 version, 3 missing key, 4 wrong kind, 5 bad name, 6 bad
-    /// peer, 7 out of range, 8 suffix twice, 9 too many routes, 10 no servers, 11 unknown key, 12 memory.
+    /// peer, 7 out of range, 8 suffix twice, 9 too many routes, 10 no servers, 11 unknown key, 12 memory,
+    /// 13 servers of a route that denies.
     pub fn number(&self) -> u8
         ensures { result ≡ number_of self.now }
     {
@@ -74,8 +80,9 @@ impl ConfigFault {
             ConfigFault::TwiceSuffix(_, _) => 8,
             ConfigFault::TooManyRoutes(_) => 9,
             ConfigFault::NoServers(_) => 10,
-            ConfigFault::UnknownKey(_, _) => 11,
+            ConfigFault::UnknownKey(_, _, _) => 11,
             ConfigFault::Memory => 12,
+            ConfigFault::DenyWithServers(_) => 13,
         }
     }
 }

@@ -1,8 +1,11 @@
 //! Places in a configuration, and the limits by their keys.
 
 ghost use Rattle.std.specs.Prelude.{◌≡◌, pos};
-ghost use Rattle.suffix_routes.specs.Places.{limit_key, lowest, highest, default_of, knows};
+ghost use Rattle.suffix_routes.specs.declared.version.Version.TheVariants.{One};
+ghost use Rattle.suffix_routes.specs.Places.{limit_key, limit_keys, route_keys, is_among, lowest, highest, default_of, knows};
 
+use crate::excerpt::Excerpt;
+use crate::version::Version;
 use std::fmt;
 
 /// A limit, by its key in the table `limits`.
@@ -20,6 +23,8 @@ pub enum Limit {
     AskMs,
     /// `deadline_ms`
     DeadlineMs,
+    /// `stale_s`
+    StaleS,
 }
 
 impl Limit {
@@ -34,6 +39,7 @@ impl Limit {
             Limit::Tries => "tries",
             Limit::AskMs => "ask_ms",
             Limit::DeadlineMs => "deadline_ms",
+            Limit::StaleS => "stale_s",
         }
     }
 
@@ -45,6 +51,7 @@ impl Limit {
             Limit::Questions | Limit::Inquiries | Limit::Cache | Limit::Tries => 1,
             Limit::AskMs => 100,
             Limit::DeadlineMs => 500,
+            Limit::StaleS => 0,
         }
     }
 
@@ -59,6 +66,7 @@ impl Limit {
             Limit::Tries => 16,
             Limit::AskMs => 10_000,
             Limit::DeadlineMs => 30_000,
+            Limit::StaleS => 86_400,
         }
     }
 
@@ -73,6 +81,7 @@ impl Limit {
             Limit::Tries => 4,
             Limit::AskMs => 1500,
             Limit::DeadlineMs => 8000,
+            Limit::StaleS => 0,
         }
     }
 }
@@ -96,6 +105,8 @@ pub enum Place {
     Route(usize),
     /// The key `suffix` of a route.
     Suffix(usize),
+    /// The key `deny` of a route.
+    Deny(usize),
     /// The array `servers` of a route.
     Servers(usize),
     /// A server of a route: the route's place, then the server's.
@@ -107,9 +118,10 @@ impl Place {
     pub fn wanted(&self) -> &'static str {
         match self {
             Place::Document | Place::Limits | Place::Route(_) => "a table",
-            Place::Version => "the integer 1",
+            Place::Version => "the integer 1 or 2",
             Place::Limit(_) => "an integer",
             Place::Listen | Place::Suffix(_) | Place::Server(_, _) => "a string",
+            Place::Deny(_) => "a boolean",
             Place::Routes => "an array of 1 to 64 tables",
             Place::Servers(_) => "an array of 1 to 8 strings",
         }
@@ -123,34 +135,76 @@ impl Place {
         }
     }
 
-    /// The keys that a table at this place may have.
-    pub fn keys(&self) -> &'static str {
-        match self {
-            Place::Document => "`version`, `listen`, `limits`, `route`",
-            Place::Limits => "`questions`, `inquiries`, `cache`, `tries`, `ask_ms`, `deadline_ms`",
-            Place::Route(_) => "`suffix`, `servers`",
+    /// The keys that a table at this place may have in this version.
+    pub fn keys(&self, version: Version) -> &'static str {
+        match (self, version) {
+            (Place::Document, _) => "`version`, `listen`, `limits`, `route`",
+            (Place::Limits, Version::One) => {
+                "`questions`, `inquiries`, `cache`, `tries`, `ask_ms`, `deadline_ms`"
+            }
+            (Place::Limits, Version::Two) => {
+                "`questions`, `inquiries`, `cache`, `tries`, `ask_ms`, `deadline_ms`, `stale_s`"
+            }
+            (Place::Route(_), Version::One) => "`suffix`, `servers`",
+            (Place::Route(_), Version::Two) => "`suffix`, `deny`, `servers`",
             _ => "none",
         }
     }
 
-    /// Whether a table at this place may have the key.
-    pub(crate) fn knows(&self, key: &str) -> bool
-        ensures { result ≡ knows self.now key.now }
+    /// Why a key is refused that a table at this place may not have in this version; `remedy` follows it.
+    pub(crate) fn refusal(&self, version: Version, key: &Excerpt) -> &'static str {
+        if self.needs_second(version, key) {
+            "needs"
+        } else {
+            "is none of"
+        }
+    }
+
+    /// What is to be written for such a key, or beside it.
+    pub(crate) fn remedy(&self, version: Version, key: &Excerpt) -> &'static str {
+        if self.needs_second(version, key) {
+            "`version = 2`"
+        } else {
+            self.keys(version)
+        }
+    }
+
+    /// Whether it is this version that keeps a key from standing at this place.
+    fn needs_second(&self, version: Version, key: &Excerpt) -> bool {
+        match (self, version) {
+            (Place::Limits, Version::One) => key.octets() == b"stale_s".as_slice(),
+            (Place::Route(_), Version::One) => key.octets() == b"deny".as_slice(),
+            _ => false,
+        }
+    }
+
+    /// Whether a table at this place may have the key in this version.
+    pub(crate) fn knows(&self, version: Version, key: &str) -> bool
+        ensures { result ≡ knows version self.now key.now }
     {
         match self {
             Place::Document => key == "version"
                 || key == "listen"
                 || key == "limits"
                 || key == "route",
-            Place::Limits => is_limit_key(key),
-            Place::Route(_) => key == "suffix" || key == "servers",
+            Place::Limits => is_limit_key(version, key),
+            Place::Route(_) => is_route_key(version, key),
             _ => false,
         }
     }
 }
 
-fn is_limit_key(key: &str) -> bool
-    ensures { result ≡ knows Place.Limits key.now }
+fn is_limit_key(version: Version, key: &str) -> bool
+    ensures { result ≡ is_among (limit_keys version) key.now }
+{
+    match version {
+        Version::One => is_first_limit_key(key),
+        Version::Two => key == "stale_s" || is_first_limit_key(key),
+    }
+}
+
+fn is_first_limit_key(key: &str) -> bool
+    ensures { result ≡ is_among (limit_keys One) key.now }
 {
     key == "questions"
         || key == "inquiries"
@@ -158,6 +212,21 @@ fn is_limit_key(key: &str) -> bool
         || key == "tries"
         || key == "ask_ms"
         || key == "deadline_ms"
+}
+
+fn is_route_key(version: Version, key: &str) -> bool
+    ensures { result ≡ is_among (route_keys version) key.now }
+{
+    match version {
+        Version::One => is_first_route_key(key),
+        Version::Two => key == "deny" || is_first_route_key(key),
+    }
+}
+
+fn is_first_route_key(key: &str) -> bool
+    ensures { result ≡ is_among (route_keys One) key.now }
+{
+    key == "suffix" || key == "servers"
 }
 
 impl fmt::Display for Place {
@@ -171,6 +240,7 @@ impl fmt::Display for Place {
             Place::Routes => write!(f, "`route`"),
             Place::Route(route) => write!(f, "route {}", route.saturating_add(1)),
             Place::Suffix(route) => write!(f, "`suffix` of route {}", route.saturating_add(1)),
+            Place::Deny(route) => write!(f, "`deny` of route {}", route.saturating_add(1)),
             Place::Servers(route) => write!(f, "`servers` of route {}", route.saturating_add(1)),
             Place::Server(route, server) => {
                 let (server, route) = (server.saturating_add(1), route.saturating_add(1));

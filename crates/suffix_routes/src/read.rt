@@ -15,19 +15,21 @@ use crate::place::{Limit, Place};
 use crate::position::Position;
 use crate::read_route::read_routes;
 use crate::table::{check_keys, integer_at, limit_at, peer_at, require, table_at, value_of};
+use crate::version::Version;
 use std::alloc::{Allocator, Global};
 use toml::Table;
 
 impl<A: Allocator + Copy> Config<A> {
     /// The configuration that a TOML text holds.
     ///
-    /// `version` has to be 1. `listen` is the peer at which clients are served, `127.0.0.1:53` where it is absent. The
+    /// `version` has to be 1 or 2. `listen` is the peer at which clients are served, `127.0.0.1:53` where it is absent. The
     /// table `limits` may have the keys of `Limits`; one that is absent has its default. `route` is an array of 1 to 64
-    /// tables with a `suffix`, read by `Name::from_text`, and 1 to 8 `servers`, read by `Peer::from_text`.
+    /// tables with a `suffix`, read by `Name::from_text`, and 1 to 8 `servers`, read by `Peer::from_text`. In version 2 alone
+    /// `limits` may have `stale_s`, and a route may have `deny`; one with `deny = true` may not have `servers`.
     ///
     /// The fault is the first in this order: a text that is no TOML; `version`; a key of the document that is not known;
     /// `listen`; `limits`, first its unknown keys and then each limit; `route` and the count of routes; each route in
-    /// turn: its kind, its unknown keys, its suffix, its servers and their count, each server. `Memory` comes where a
+    /// turn: its kind, its unknown keys, its suffix, `deny`, its servers and their count, each server. `Memory` comes where a
     /// growth was refused, `heap` being used for the table that is read and `alloc` for the configuration.
     pub fn read(heap: Global, alloc: A, text: &str) -> Result<Config<A>, ConfigFault>
         ensures { IsReadIn text.now result }
@@ -46,11 +48,11 @@ impl<A: Allocator + Copy> Config<A> {
     pub(crate) fn from_table(alloc: A, table: &Table) -> Result<Config<A>, ConfigFault>
         ensures { Gives (λ c. c) result (config_in (table_view table.now)) }
     {
-        check_version(table)?;
-        check_keys(table, Place::Document)?;
+        let version = read_version(table)?;
+        check_keys(table, version, Place::Document)?;
         let listen = read_listen(table)?;
-        let limits = read_limits(table)?;
-        let routes = read_routes(alloc, table)?;
+        let limits = read_limits(table, version)?;
+        let routes = read_routes(alloc, table, version)?;
         Ok(Config {
             listen,
             limits,
@@ -67,16 +69,16 @@ fn not_toml(text: &str, at: usize) -> ConfigFault
     ConfigFault::Toml(Position::behind(&text.as_bytes()[..at]))
 }
 
-/// The version has to be 1.
+/// The version, which has to be 1 or 2.
 #[tactic(auto, unfolding(crate::specs::Reading::version_in))]
-fn check_version(table: &Table) -> Result<(), ConfigFault>
+fn read_version(table: &Table) -> Result<Version, ConfigFault>
     ensures { result ≡ version_in (table_view table.now) }
 {
     let version = integer_at(require(table, "version", Place::Version)?, Place::Version)?;
-    if version == 1 {
-        Ok(())
-    } else {
-        Err(ConfigFault::Version(version))
+    match version {
+        1 => Ok(Version::One),
+        2 => Ok(Version::Two),
+        _ => Err(ConfigFault::Version(version)),
     }
 }
 
@@ -96,29 +98,30 @@ fn read_listen(table: &Table) -> Result<Peer, ConfigFault>
 
 /// The limits, those of a configuration that names none where there is no table of them.
 #[tactic(auto, unfolding(crate::specs::Reading::limits_in))]
-fn read_limits(table: &Table) -> Result<Limits, ConfigFault>
-    ensures given { result ≡ limits_in (table_view table.now) }
+fn read_limits(table: &Table, version: Version) -> Result<Limits, ConfigFault>
+    ensures given { result ≡ limits_in version (table_view table.now) }
     ensures accepted { IfOk result AreLimits }
 {
     match value_of(table, "limits") {
         None => Ok(Limits::defaults()),
-        Some(value) => read_all_limits(table_at(value, Place::Limits)?),
+        Some(value) => read_all_limits(table_at(value, Place::Limits)?, version),
     }
 }
 
 /// Each limit in its order.
 #[tactic(auto, unfolding(crate::specs::Reading::all_limits_in))]
-fn read_all_limits(table: &Table) -> Result<Limits, ConfigFault>
-    ensures given { result ≡ all_limits_in (table_view table.now) }
+fn read_all_limits(table: &Table, version: Version) -> Result<Limits, ConfigFault>
+    ensures given { result ≡ all_limits_in version (table_view table.now) }
     ensures accepted { IfOk result AreLimits }
 {
-    check_keys(table, Place::Limits)?;
+    check_keys(table, version, Place::Limits)?;
     let questions = limit_at(table, Limit::Questions)?;
     let inquiries = limit_at(table, Limit::Inquiries)?;
     let cache = limit_at(table, Limit::Cache)?;
     let tries = limit_at(table, Limit::Tries)?;
     let ask_ms = limit_at(table, Limit::AskMs)?;
     let deadline_ms = limit_at(table, Limit::DeadlineMs)?;
+    let stale_s = limit_at(table, Limit::StaleS)?;
     Ok(Limits {
         questions: questions as usize,
         inquiries: inquiries as usize,
@@ -126,6 +129,6 @@ fn read_all_limits(table: &Table) -> Result<Limits, ConfigFault>
         tries: tries as u8,
         ask_ms,
         deadline_ms,
-        stale_s: 0,
+        stale_s: stale_s as u32,
     })
 }

@@ -4,14 +4,17 @@ ghost use Rattle.std.specs.Prelude.{◌≡◌, [], map};
 ghost use Rattle.toml.specs.View.{view, table_view};
 ghost use Rattle.dns_name.specs.Text.{name_in};
 ghost use Rattle.suffix_routes.specs.Routes.{route_at};
-ghost use Rattle.suffix_routes.specs.Reading.{Gives, suffix_name, suffix_in, servers_after, servers_in, route_in, routes_after, routes_in};
+ghost use Rattle.suffix_routes.specs.Reading.{Gives, suffix_name, suffix_in, servers_after, servers_in, deny_in, group_in, route_in, routes_after, routes_in};
 
 use crate::excerpt::Excerpt;
 use crate::fault::ConfigFault;
 use crate::peer::Peer;
 use crate::place::Place;
 use crate::route::Route;
-use crate::table::{array_at, check_keys, peer_at, require, table_at, text_at};
+use crate::table::{
+    array_at, boolean_at, check_keys, peer_at, require, table_at, text_at, value_of,
+};
+use crate::version::Version;
 use dns_name::{Name, NameFault};
 use plain_list::PlainList;
 use std::alloc::Allocator;
@@ -22,8 +25,9 @@ use toml::{Table, Value};
 pub(crate) fn read_routes<A: Allocator + Copy>(
     alloc: A,
     table: &Table,
+    version: Version,
 ) -> Result<PlainList<Route<A>, A>, ConfigFault>
-    ensures { Gives (λ l. l) result (routes_in (table_view table.now)) }
+    ensures { Gives (λ l. l) result (routes_in version (table_view table.now)) }
 {
     let items = array_at(require(table, "route", Place::Routes)?, Place::Routes)?;
     if items.is_empty() {
@@ -32,19 +36,20 @@ pub(crate) fn read_routes<A: Allocator + Copy>(
     if items.len() > 64 {
         return Err(ConfigFault::TooManyRoutes(items.len()));
     }
-    read_each_route(alloc, items)
+    read_each_route(alloc, items, version)
 }
 
 /// The routes, one for each item.
 fn read_each_route<A: Allocator + Copy>(
     alloc: A,
     items: &[Value],
+    version: Version,
 ) -> Result<PlainList<Route<A>, A>, ConfigFault>
-    ensures { Gives (λ l. l) result (routes_after [] (map view items.now)) }
+    ensures { Gives (λ l. l) result (routes_after version [] (map view items.now)) }
 {
     let mut routes = PlainList::new(alloc);
     for item in items {
-        let route = read_route(alloc, item, routes.as_slice())?;
+        let route = read_route(alloc, item, version, routes.as_slice())?;
         routes.push(route)?;
     }
     Ok(routes)
@@ -55,18 +60,20 @@ fn read_each_route<A: Allocator + Copy>(
 fn read_route<A: Allocator + Copy>(
     alloc: A,
     value: &Value,
+    version: Version,
     earlier: &[Route<A>],
 ) -> Result<Route<A>, ConfigFault>
-    ensures { Gives (λ r. r) result (route_in earlier.now (view value.now)) }
+    ensures { Gives (λ r. r) result (route_in version earlier.now (view value.now)) }
 {
     let place = earlier.len();
     let table = table_at(value, Place::Route(place))?;
-    check_keys(table, Place::Route(place))?;
+    check_keys(table, version, Place::Route(place))?;
     let suffix = read_suffix(alloc, table, earlier)?;
-    let servers = read_servers(alloc, table, place)?;
+    let deny = read_deny(table, place)?;
+    let servers = read_group(alloc, table, place, deny)?;
     Ok(Route {
         suffix,
-        deny: false,
+        deny,
         servers,
     })
 }
@@ -112,6 +119,36 @@ fn place_of<A: Allocator>(routes: &[Route<A>], name: &Name<A>) -> Option<usize>
         }
     }
     None
+}
+
+/// Whether the route at this place denies: it does not where nothing is said.
+#[tactic(auto, unfolding(crate::specs::Reading::deny_in))]
+fn read_deny(table: &Table, route: usize) -> Result<bool, ConfigFault>
+    ensures { result ≡ deny_in route (table_view table.now) }
+{
+    match value_of(table, "deny") {
+        None => Ok(false),
+        Some(value) => boolean_at(value, Place::Deny(route)),
+    }
+}
+
+/// The group of the route at this place: none where it denies, and then the key `servers` may not be there.
+#[tactic(auto, unfolding(crate::specs::Reading::group_in))]
+fn read_group<A: Allocator + Copy>(
+    alloc: A,
+    table: &Table,
+    route: usize,
+    deny: bool,
+) -> Result<PlainList<Peer, A>, ConfigFault>
+    ensures { Gives (λ l. l) result (group_in deny route (table_view table.now)) }
+{
+    if !deny {
+        return read_servers(alloc, table, route);
+    }
+    match value_of(table, "servers") {
+        None => Ok(PlainList::new(alloc)),
+        Some(_) => Err(ConfigFault::DenyWithServers(route)),
+    }
 }
 
 /// The servers of the route at this place: 1 to 8.

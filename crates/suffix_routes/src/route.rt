@@ -1,4 +1,4 @@
-//! Routes: a suffix and the group of servers for the names under it.
+//! Routes: a suffix, and the group of servers for the names under it or that these are denied.
 
 ghost use Rattle.std.specs.Prelude.{◌≡◌, IfOk};
 
@@ -8,14 +8,14 @@ use plain_list::PlainList;
 use std::alloc::{AllocError, Allocator, Global};
 use std::marker::Model;
 
-/// A route: names under its suffix are asked of its servers.
+/// A route: names under its suffix are asked of its servers, or denied.
 #[derive(Drop)]
 pub struct Route<A: Allocator = Global> {
     /// The suffix.
     pub suffix: Name<A>,
-    /// Whether names of this route are denied.
+    /// Whether the names are denied; nothing is asked for them.
     pub deny: bool,
-    /// The group of servers in the order of the configuration, 1 to 8.
+    /// The group of servers in the order of the configuration, 1 to 8, or none where the route denies.
     pub servers: PlainList<Peer, A>,
 }
 

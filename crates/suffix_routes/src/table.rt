@@ -6,13 +6,14 @@ ghost use Rattle.std.specs.List.{find};
 ghost use Rattle.toml.specs.Data.{get_member};
 ghost use Rattle.toml.specs.View.{view, table_view};
 ghost use Rattle.suffix_routes.specs.Places.{knows, limit_key, lowest, highest};
-ghost use Rattle.suffix_routes.specs.Reading.{Shows, known_keys, required, peer_in, limit_in, in_range, text_in, array_in, table_in, integer_in};
+ghost use Rattle.suffix_routes.specs.Reading.{Shows, known_keys, required, peer_in, limit_in, in_range, text_in, array_in, table_in, integer_in, boolean_in};
 
 use crate::excerpt::Excerpt;
 use crate::fault::ConfigFault;
 use crate::kind::Kind;
 use crate::peer::Peer;
 use crate::place::{Limit, Place};
+use crate::version::Version;
 use toml::{Table, Value};
 
 /// The value at a key.
@@ -36,21 +37,21 @@ pub(crate) fn require<'a>(
     }
 }
 
-/// No key but those that a table at this place may have.
-pub(crate) fn check_keys(table: &Table, place: Place) -> Result<(), ConfigFault>
-    ensures { result ≡ known_keys place (table_view table.now) }
+/// No key but those that a table at this place may have in this version.
+pub(crate) fn check_keys(table: &Table, version: Version, place: Place) -> Result<(), ConfigFault>
+    ensures { result ≡ known_keys version place (table_view table.now) }
 {
-    match unknown_key(table, place) {
+    match unknown_key(table, version, place) {
         None => Ok(()),
-        Some(key) => Err(ConfigFault::UnknownKey(place, Excerpt::of(key.as_str()))),
+        Some(key) => Err(ConfigFault::UnknownKey(version, place, Excerpt::of(key.as_str()))),
     }
 }
 
-/// The first key, in the table's order, that a table at this place may not have.
-fn unknown_key<'a>(table: &'a Table, place: Place) -> Option<&'a String>
-    ensures { option_copied result ≡ find (λ k. not (knows place (string_bytes k))) (keys table.now) }
+/// The first key, in the table's order, that a table at this place may not have in this version.
+fn unknown_key<'a>(table: &'a Table, version: Version, place: Place) -> Option<&'a String>
+    ensures { option_copied result ≡ find (λ k. not (knows version place (string_bytes k))) (keys table.now) }
 {
-    table.keys().find(|key| !place.knows(key.as_str()))
+    table.keys().find(|key| !place.knows(version, key.as_str()))
 }
 
 /// A string.
@@ -89,6 +90,16 @@ pub(crate) fn integer_at(value: &Value, place: Place) -> Result<i64, ConfigFault
 {
     match value.as_integer() {
         Some(integer) => Ok(integer),
+        None => Err(ConfigFault::WrongKind(place, Kind::of(value))),
+    }
+}
+
+/// A boolean.
+pub(crate) fn boolean_at(value: &Value, place: Place) -> Result<bool, ConfigFault>
+    ensures { result ≡ boolean_in place (view value.now) }
+{
+    match value.as_bool() {
+        Some(boolean) => Ok(boolean),
         None => Err(ConfigFault::WrongKind(place, Kind::of(value))),
     }
 }

@@ -1,0 +1,9 @@
+//! What the second version leaves of the first.
+
+ghost use Rattle.suffix_routes.specs.Laws.{FirstVersionHasNeither};
+
+/// The configuration of a text of version 1 has a window of 0 seconds for answers past their end, and no route that
+/// denies.
+pub fn first_version_has_neither()
+    ensures { FirstVersionHasNeither }
+{}
