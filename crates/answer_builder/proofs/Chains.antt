@@ -1,56 +1,110 @@
 -- An answer that ends with the last piece of a chain.
-use Rattle.std.proofs.Common.{◌≡◌, ℕ, suc, ◌+◌, ◌-◌, ◌<◌, ◌≤◌, List, [], ◌∷◌, ◌++◌, length, take, get_or, refl, sym, ap, ◌∙◌, Option, Some, None, Bor, MatchOption, arith}
+use Rattle.std.proofs.Common.{◌≡◌, ℕ, zero, suc, ◌+◌, ◌-◌, ◌<◌, List, [], ◌∷◌, ◌++◌, length, map, take, drop, get_or}
+use Rattle.std.proofs.Common.{refl, sym, ap, subst, ◌∙◌, append_assoc, drop-cons, arith}
+use Rattle.std.proofs.Common.{Option, Some, None, Bor, MatchOption}
 use Rattle.std.proofs.lemmas.List.{append-nil, take_more, map-append}
-use Rattle.std.specs.Option.{option_copied, IfSome}
 use Rattle.std.specs.List.{flat_map, slice_get, AllByRecursion}
-use Rattle.record_cache.specs.Values.{Held}
-use Rattle.answer_builder.specs.Answers.{answers_of, last_of, sections_of}
+use Rattle.std.specs.Prelude.{option_map}
+use Rattle.std.specs.Option.{option_copied, IfSome}
 use Rattle.dns_message.specs.Values.{Record}
 use Rattle.dns_message.specs.Borrowed.{records_in}
-use Rattle.answer_builder.specs.Building.{ending, lent, listed}
+use Rattle.record_cache.specs.Values.{Held}
+use Rattle.answer_builder.specs.Values.{Told}
+use Rattle.answer_builder.specs.Answers.{answers_of, told_at, told_stale, sections_told}
+use Rattle.answer_builder.specs.Building.{end_of, end_authority, end_rcode, ending, lent, listed}
 
--- the piece at the end of a chain
-abbrev pub end_of : List Held → Option Held
-end_of [] = None
-end_of (h ∷ chain) = Some (last_of h chain)
+ending_is : (chain : List Told) → ending (flat_map answers_of chain) (end_of chain) ≡ sections_told chain
+ending_is [] = refl
+ending_is (t ∷ chain) = refl
 
-ending_is : (moment : ℕ) (chain : List Held) → ending (flat_map (answers_of moment) chain) moment (end_of chain) ≡ sections_of moment chain
-ending_is moment [] = refl
-ending_is moment (h ∷ chain) = refl
+-- sections of the records of a chain that end with its last piece
+pub told_sections : (chain : List Told) (records authority : List Record) (rcode : ℕ) (last : Option Told)
+    → records ≡ flat_map answers_of chain → authority ≡ end_authority last → rcode ≡ end_rcode last
+    → last ≡ end_of chain
+    → record { answers = records; authority = authority; rcode = rcode } ≡ sections_told chain
+told_sections chain records authority rcode last all soa code is =
+    (λ i. record { answers = all i; authority = soa i; rcode = code i })
+      ∙ ap (ending (flat_map answers_of chain)) is ∙ ending_is chain
 
-pub ends_chain : (moment : ℕ) (chain : List Held) (records : List Record) (last : Option Held) → records ≡ flat_map (answers_of moment) chain → last ≡ end_of chain → ending records moment last ≡ sections_of moment chain
-ends_chain moment chain records last all is = (λ i. ending (all i) moment (is i)) ∙ ending_is moment chain
+-- it is the last one
+pub last_is : (chain : List Told) → slice_get chain (length chain - 1) ≡ end_of chain
+last_is [] = refl
+last_is (t ∷ []) = refl
+last_is (t ∷ other ∷ chain) =
+    let one : length (t ∷ other ∷ chain) - 1 ≡ suc (length chain) = omega arith in
+    let none : length chain ≡ length (other ∷ chain) - 1 = omega arith in
+    ap (λ (n : ℕ). slice_get (t ∷ other ∷ chain) n) one ∙ ap (λ (n : ℕ). slice_get (other ∷ chain) n) none
+      ∙ last_is (other ∷ chain)
+
+-- one more is told, behind others
+pub told_more : {X Y : Type 0} (f : X → Y) (before items more : List Y) (y : Y) (xs : List X) (i : ℕ) (x : X)
+    → i < length xs → x ≡ get_or xs i x → y ≡ f x → items ≡ before ++ map f (take i xs) → more ≡ items ++ y ∷ []
+    → more ≡ before ++ map f (take (i + 1) xs)
+told_more {X = X} {Y = Y} f before items more y xs i x lt is told so_far pushed =
+    let next : map f (take i xs) ++ y ∷ [] ≡ map f (take (i + 1) xs) =
+    (λ j. map f (take i xs) ++ told j ∷ []) ∙ sym (map-append f (take i xs) (x ∷ []))
+    ∙ (λ j. map f (take i xs ++ is j ∷ [])) ∙ sym (ap (map f) (take_more xs i x lt)) in
+    pushed ∙ (λ j. so_far j ++ y ∷ []) ∙ append_assoc before (map f (take i xs)) (y ∷ [])
+      ∙ ap (λ (zs : List Y). before ++ zs) next
+
+-- ---- what holds of each piece
+
+pub drop_more : {X : Type 0} (P : X → Type 0) (xs : List X) (i : ℕ) (x : X) → i < length xs
+    → AllByRecursion P (drop i xs) → AllByRecursion P (drop (i + 1) xs)
+drop_more P xs i x lt all =
+    let rest = subst (AllByRecursion P) (drop-cons xs i x lt) all in
+    let next : suc i ≡ i + 1 = omega arith in
+    subst (λ (n : ℕ). AllByRecursion P (drop n xs)) next rest.1
+
+pub of_first : {X : Type 0} (P : X → Type 0) (n : ℕ) (xs : List X) → AllByRecursion P xs → AllByRecursion P (take n xs)
+of_first P zero [] all = tt
+of_first P (suc n) [] all = tt
+of_first P zero (x ∷ xs) all = tt
+of_first P (suc n) (x ∷ xs) all = (all.0, of_first P n xs all.1)
+
+pub of_rest : {X : Type 0} (P : X → Type 0) (n : ℕ) (xs : List X) → AllByRecursion P xs → AllByRecursion P (drop n xs)
+of_rest P zero [] all = tt
+of_rest P (suc n) [] all = tt
+of_rest P zero (x ∷ xs) all = all
+of_rest P (suc n) (x ∷ xs) all = of_rest P n xs all.1
+
+-- none past their end
+pub none_past : (moment : ℕ) (chain : List Held) → told_stale (length chain) moment chain ≡ map (told_at moment) chain
+none_past moment [] = refl
+none_past moment (h ∷ chain) = ap (λ (told : List Told). told_at moment h ∷ told) (none_past moment chain)
+
+-- ---- held pieces, borrowed, by what is left of them
+
+-- the last one, if any
+abbrev pub last_of_lent : List (Bor Held) → Option Held
+last_of_lent refs = option_copied (slice_get refs (length refs - 1))
+
+-- behind another one it stays the last
+one_more : (r s : Bor Held) (refs : List (Bor Held)) → last_of_lent (s ∷ refs) ≡ last_of_lent (r ∷ s ∷ refs)
+one_more r s refs =
+    let longer : length (r ∷ s ∷ refs) - 1 ≡ suc (length refs) = omega arith in
+    let shorter : length refs ≡ length (s ∷ refs) - 1 = omega arith in
+    sym (ap (λ (n : ℕ). option_copied (slice_get (s ∷ refs) n)) shorter)
+      ∙ sym (ap (λ (n : ℕ). option_copied (slice_get (r ∷ s ∷ refs) n)) longer)
+
+-- the end of what is told of them is told of the last of them
+pub last_lent : (moment : ℕ) (refs : List (Bor Held))
+    → end_of (map (told_at moment) (lent refs)) ≡ option_map (told_at moment) (last_of_lent refs)
+last_lent moment [] = refl
+last_lent moment (r ∷ []) = refl
+last_lent moment (r ∷ s ∷ refs) =
+    last_lent moment (s ∷ refs) ∙ ap (λ (last : Option Held). option_map (told_at moment) last) (one_more r s refs)
 
 -- each was accepted by then, so the last was
-pub end_earlier : (P : Held → Type 0) (chain : List Held) → AllByRecursion P chain → IfSome (end_of chain) P
-end_earlier P [] all = tt
-end_earlier P (h ∷ []) all = all.0
-end_earlier P (h ∷ other ∷ chain) all = end_earlier P (other ∷ chain) all.1
-
--- ---- borrowed pieces
-
--- the last of them is the last piece
-pub last_lent : (refs : List (Bor Held)) → option_copied (slice_get refs (length refs - 1)) ≡ end_of (lent refs)
-last_lent [] = refl
-last_lent (r ∷ []) = refl
-last_lent (r ∷ s ∷ refs) =
-    let one : length (r ∷ s ∷ refs) - 1 ≡ suc (length refs) = omega arith in
-    let none : length refs ≡ length (s ∷ refs) - 1 = omega arith in
-    ap (λ (n : ℕ). option_copied (slice_get (r ∷ s ∷ refs) n)) one ∙ ap (λ (n : ℕ). option_copied (slice_get (s ∷ refs) n)) none ∙ last_lent (s ∷ refs)
-
--- one more is borrowed
-pub lent_more : {X : Type 0} (refs more : List (Bor X)) (r : Bor X) (xs : List X) (i : ℕ) → i < length xs → r.now ≡ get_or xs i r.now → lent refs ≡ take i xs → more ≡ refs ++ r ∷ []
-    → lent more ≡ take (i + 1) xs
-lent_more {X = X} refs more r xs i lt is so_far pushed =
-    ap lent pushed ∙ map-append (λ (x : Bor X). x.now) refs (r ∷ []) ∙ (λ j. so_far j ++ is j ∷ []) ∙ sym (take_more xs i r.now lt)
+pub last_earlier : (P : Held → Type 0) (refs : List (Bor Held)) → AllByRecursion P (lent refs)
+    → IfSome (last_of_lent refs) P
+last_earlier P [] all = tt
+last_earlier P (r ∷ []) all = all.0
+last_earlier P (r ∷ s ∷ refs) all =
+    subst (λ (last : Option Held). IfSome last P) (one_more r s refs) (last_earlier P (s ∷ refs) all.1)
 
 -- a set that may be missing, as a slice
-pub listed_slice : (soa : Option (List Record)) (sets : List (List Record)) → MatchOption soa (sets ≡ []) (λ x. sets ≡ x ∷ []) → records_in sets ≡ listed soa
+pub listed_slice : (soa : Option (List Record)) (sets : List (List Record))
+    → MatchOption soa (sets ≡ []) (λ x. sets ≡ x ∷ []) → records_in sets ≡ listed soa
 listed_slice None sets is = ap records_in is
 listed_slice (Some records) sets is = ap records_in is ∙ append-nil records
-
--- a list of one
-pub only_one : {X : Type 0} (xs : List X) (x : X) → 1 ≤ length xs → length xs < 2 → x ≡ get_or xs 0 x → x ∷ [] ≡ xs
-only_one [] x some few is = absurd (omega (arith, some))
-only_one (y ∷ []) x some few is = ap (λ z. z ∷ []) is
-only_one (y ∷ z ∷ xs) x some few is = absurd (omega (arith, few))

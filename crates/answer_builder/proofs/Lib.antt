@@ -1,3 +1,4 @@
 pub mod Texts
 pub mod Chains
 pub mod Worked
+pub mod WorkedPast

@@ -13,18 +13,18 @@ use Rattle.answer_builder.specs.Values.{Asked}
 use Rattle.answer_builder.specs.Answers.{sections_of, full_answer, error_response}
 use Rattle.answer_builder.specs.Transports.{answer_of}
 
-abbrev example : List ℕ
+abbrev pub example : List ℕ
 example = 0x65 ∷ 0x78 ∷ 0x61 ∷ 0x6d ∷ 0x70 ∷ 0x6c ∷ 0x65 ∷ []
 
 -- a name of one letter, below example
-abbrev below : ℕ → List (List ℕ)
+abbrev pub below : ℕ → List (List ℕ)
 below letter = (letter ∷ []) ∷ example ∷ []
 
-abbrev asks : ℕ → ℕ → List (List ℕ) → Asked
+abbrev pub asks : ℕ → ℕ → List (List ℕ) → Asked
 asks id kind name = record { id = id; opcode = 0; rd = true; question = Some (record { name = name; kind = kind; class = 1 }) }
 
 -- what was accepted at 1020
-abbrev held : List (List ℕ) → Option ℕ → Body → ℕ → Held
+abbrev pub held : List (List ℕ) → Option ℕ → Body → ℕ → Held
 held owner kind body lifetime = record { piece = record { owner = owner; slot = record { key = owner; class = 1; kind = kind }; body = body; lifetime = lifetime; rank = 3; route = 0 }; accepted = 1020 }
 
 abbrev host : ℕ → List ℕ
@@ -36,7 +36,7 @@ text a chain moment = written (full_answer a (sections_of moment chain))
 
 -- ---- a set
 
-abbrev address : Held
+abbrev pub address : Held
 address = held (below 0x61) (Some 1) (rows (host 5 ∷ [])) 300
 
 -- ten and a half seconds later, 289 whole seconds are left

@@ -1,13 +1,13 @@
 -- The messages that clients get: RFC 1035 4.1, RFC 2308 2 and 3.
-use Rattle.std.specs.Prelude.{◌≤◌, ℕ, Bool, true, false, List, [], ◌∷◌, length, map, Option, Some, None}
+use Rattle.std.specs.Prelude.{◌≤◌, ℕ, Bool, true, false, if◌then◌else◌, List, [], ◌∷◌, ◌++◌, length, map, take, drop, Option, Some, None}
 use Rattle.std.specs.List.{flat_map}
 use Rattle.dns_message.specs.Header.{Header}
 use Rattle.dns_message.specs.Values.{Record, Message}
 use Rattle.dns_message.specs.Borrowed.{questions_of}
 use Rattle.trust_rank.specs.Values.{Body, rows, no_data, denied, Piece}
 use Rattle.record_cache.specs.Values.{Held}
-use Rattle.record_cache.specs.Ageing.{seconds_left}
-use Rattle.answer_builder.specs.Values.{Asked, Sections}
+use Rattle.record_cache.specs.Ageing.{is_alive, seconds_left}
+use Rattle.answer_builder.specs.Values.{Told, Asked, Sections}
 
 -- ---- the records of a piece, with so many seconds to live
 
@@ -41,27 +41,49 @@ rcode_of (rows each) = 0
 rcode_of (no_data soa) = 0
 rcode_of (denied soa) = 3
 
+-- ---- what is told of pieces
+
+-- the whole seconds that are left of it at the moment: RFC 1035 3.2.1, RFC 2181 5.2
+abbrev pub told_at : ℕ → Held → Told
+told_at moment h = record { piece = h.piece; seconds = seconds_left moment h }
+
+-- the same of what is alive; what has ended is told for 30 seconds: RFC 8767 4
+abbrev pub told_past : ℕ → Held → Told
+told_past moment h = record { piece = h.piece; seconds = if is_alive moment h then seconds_left moment h else 30 }
+
+-- so many pieces by what is left of them, and those behind them past their end
+abbrev pub told_stale : ℕ → ℕ → List Held → List Told
+told_stale past moment chain = map (told_at moment) (take past chain) ++ map (told_past moment) (drop past chain)
+
 -- ---- a chain: aliases, each at the name that the one before it leads to, and the set or denial at its end
 
--- all records of a piece have the whole seconds that are left of it at the moment: RFC 1035 3.2.1, RFC 2181 5.2
-abbrev pub answers_of : ℕ → Held → List Record
-answers_of moment h = set_records (seconds_left moment h) h.piece
+-- all records of a piece have the seconds that are told of it
+abbrev pub answers_of : Told → List Record
+answers_of t = set_records t.seconds t.piece
 
-abbrev pub last_of : Held → List Held → Held
-last_of h [] = h
-last_of h (other ∷ chain) = last_of other chain
+abbrev pub last_of : Told → List Told → Told
+last_of t [] = t
+last_of t (other ∷ chain) = last_of other chain
 
-abbrev pub authority_of : ℕ → Held → List Record
-authority_of moment h = soa_records (seconds_left moment h) h.piece.body
+abbrev pub authority_of : Told → List Record
+authority_of t = soa_records t.seconds t.piece.body
 
 -- the answer section has the aliases in order and the set; the authority section, the SOA of the denial at the end
-abbrev pub sections_of : ℕ → List Held → Sections
-sections_of moment [] = record { answers = []; authority = []; rcode = 0 }
-sections_of moment (h ∷ chain) = record {
-  answers = flat_map (answers_of moment) (h ∷ chain);
-  authority = authority_of moment (last_of h chain);
-  rcode = rcode_of (last_of h chain).piece.body;
+abbrev pub sections_told : List Told → Sections
+sections_told [] = record { answers = []; authority = []; rcode = 0 }
+sections_told (t ∷ chain) = record {
+  answers = flat_map answers_of (t ∷ chain);
+  authority = authority_of (last_of t chain);
+  rcode = rcode_of (last_of t chain).piece.body;
 }
+
+-- the same of held pieces by what is left of them
+abbrev pub sections_of : ℕ → List Held → Sections
+sections_of moment chain = sections_told (map (told_at moment) chain)
+
+-- aliases that lead to a name whose route denies, which is a name error without SOA: RFC 1035 4.1.1, RFC 2308 2.1
+abbrev pub local_sections : List Told → Sections
+local_sections chain = record { answers = flat_map answers_of chain; authority = []; rcode = 3 }
 
 -- each was accepted at the moment or before it
 abbrev pub IsEarlier : ℕ → Held → Type 0

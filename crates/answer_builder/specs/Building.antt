@@ -1,10 +1,9 @@
 -- How an answer is put together from borrowed things.
-use Rattle.std.specs.Prelude.{ℕ, if◌then◌else◌, map, nat_le, true, List, [], length, Option, Some, None}
+use Rattle.std.specs.Prelude.{ℕ, if◌then◌else◌, map, nat_le, true, List, [], ◌∷◌, length, Option, Some, None}
 use denote.Ref.{Bor}
 use Rattle.dns_message.specs.Values.{Record, Message}
-use Rattle.record_cache.specs.Values.{Held}
-use Rattle.answer_builder.specs.Values.{Sections}
-use Rattle.answer_builder.specs.Answers.{authority_of, rcode_of}
+use Rattle.answer_builder.specs.Values.{Told, Sections}
+use Rattle.answer_builder.specs.Answers.{authority_of, last_of, rcode_of}
 
 -- what is borrowed, as it is
 abbrev pub lent : {T : Type 0} → List (Bor T) → List T
@@ -25,14 +24,19 @@ fitting limit text = if nat_le (length text) limit then Some text else None
 
 -- ---- an answer that ends with this piece, if any
 
-abbrev pub end_authority : ℕ → Option Held → List Record
-end_authority moment None = []
-end_authority moment (Some h) = authority_of moment h
+-- the piece at the end of a chain
+abbrev pub end_of : List Told → Option Told
+end_of [] = None
+end_of (t ∷ chain) = Some (last_of t chain)
 
-abbrev pub end_rcode : Option Held → ℕ
+abbrev pub end_authority : Option Told → List Record
+end_authority None = []
+end_authority (Some t) = authority_of t
+
+abbrev pub end_rcode : Option Told → ℕ
 end_rcode None = 0
-end_rcode (Some h) = rcode_of h.piece.body
+end_rcode (Some t) = rcode_of t.piece.body
 
 -- with these records
-abbrev pub ending : List Record → ℕ → Option Held → Sections
-ending records moment last = record { answers = records; authority = end_authority moment last; rcode = end_rcode last }
+abbrev pub ending : List Record → Option Told → Sections
+ending records last = record { answers = records; authority = end_authority last; rcode = end_rcode last }

@@ -1,5 +1,5 @@
 -- What is sent of an answer: RFC 1035 4.2.
-use Rattle.std.specs.Prelude.{ℕ, if◌then◌else◌, nat_le, List, length, Result, Ok, Err}
+use Rattle.std.specs.Prelude.{ℕ, if◌then◌else◌, nat_le, List, length, map, Result, Ok, Err}
 use Rattle.dns_message.specs.Writing.{written}
 use Rattle.record_cache.specs.Values.{Held}
 use Rattle.answer_builder.specs.declared.asked.Transport.{Transport}
@@ -7,7 +7,7 @@ use Rattle.answer_builder.specs.declared.asked.Transport.TheVariants.{Udp, Tcp}
 use Rattle.answer_builder.specs.declared.fault.Fault.{Fault}
 use Rattle.answer_builder.specs.declared.fault.Fault.TheVariants.{TooLarge}
 use Rattle.answer_builder.specs.Values.{Asked, Sections}
-use Rattle.answer_builder.specs.Answers.{sections_of, full_answer, cut_answer}
+use Rattle.answer_builder.specs.Answers.{told_at, told_stale, sections_told, sections_of, local_sections, full_answer, cut_answer}
 
 -- what passes 512 octets is cut: RFC 1035 4.2.1
 abbrev pub over_udp : List ℕ → List ℕ → List ℕ
@@ -28,3 +28,11 @@ text_of a s transport = sent_over transport (written (full_answer a s)) (written
 -- the octets of the answer from a chain
 abbrev pub answer_of : Asked → List Held → ℕ → Transport → Result (List ℕ) Fault
 answer_of a chain moment transport = text_of a (sections_of moment chain) transport
+
+-- that of the answer from a chain, the pieces behind the first ones past their end
+abbrev pub stale_answer_of : Asked → List Held → ℕ → ℕ → Transport → Result (List ℕ) Fault
+stale_answer_of a chain past moment transport = text_of a (sections_told (told_stale past moment chain)) transport
+
+-- that of the answer from aliases that lead to a name whose route denies
+abbrev pub local_answer_of : Asked → List Held → ℕ → Transport → Result (List ℕ) Fault
+local_answer_of a aliases moment transport = text_of a (local_sections (map (told_at moment) aliases)) transport

@@ -1,6 +1,7 @@
 -- What a contract sees of questions and answers.
 use Rattle.std.specs.Prelude.{ℕ, Bool, List, Option}
 use Rattle.dns_message.specs.Values.{Question, Record}
+use Rattle.trust_rank.specs.Values.{Piece}
 
 -- what a client asked, as far as its answer repeats it: RFC 1035 4.1.1 and 4.1.2
 pub record Asked : Type 0 where
@@ -8,6 +9,11 @@ pub record Asked : Type 0 where
   pub opcode : ℕ
   pub rd : Bool
   pub question : Option Question
+
+-- a piece, and the seconds that an answer tells to be left of it
+pub record Told : Type 0 where
+  pub piece : Piece
+  pub seconds : ℕ
 
 -- what an answer says of the question: two sections and the response code
 pub record Sections : Type 0 where

@@ -1,20 +1,20 @@
 //! The answer from a chain of pieces, and the answer to a question that failed.
 
-ghost use Rattle.std.specs.Prelude.{◌≡◌, ◌<◌, IfOk, OnOk};
+ghost use Rattle.std.specs.Prelude.{◌≡◌, ◌<◌, ◌≤◌, [], ◌∷◌, length, IfOk, OnOk};
 ghost use Rattle.std.specs.List.{AllByRecursion};
-ghost use Rattle.std.specs.Option.{option_copied, IfSome};
-ghost use Rattle.dns_message.specs.Borrowed.{records_in};
 ghost use Rattle.dns_message.specs.Writing.{written};
-ghost use Rattle.answer_builder.specs.Answers.{error_response, IsEarlier};
+ghost use Rattle.answer_builder.specs.Answers.{error_response, local_sections, sections_told, IsEarlier};
 ghost use Rattle.answer_builder.specs.Faults.{Gives};
-ghost use Rattle.answer_builder.specs.Building.{ending, lent};
-ghost use Rattle.answer_builder.specs.Transports.{answer_of, text_of};
+ghost use Rattle.answer_builder.specs.Building.{lent};
+ghost use Rattle.answer_builder.specs.Transports.{answer_of, local_answer_of, stale_answer_of, text_of};
 
 use crate::asked::{Asked, AskedRef, Transport};
 use crate::fault::Fault;
-use crate::records::{end_of, set_of, sets_of, ttl_of};
+use crate::records::{NAME_ERROR, end_of, set_of, sets_at, sets_of};
+use crate::sections::SectionsRef;
 use crate::text::{header_of, put_bare, put_text};
-use dns_message::{MessageParts, RowsRef};
+use crate::told::{ToldRef, last_at, told_left, told_stale};
+use dns_message::MessageParts;
 use plain_list::Octets;
 use record_cache::Held;
 use std::alloc::{AllocError, Allocator};
@@ -22,34 +22,100 @@ use std::alloc::{AllocError, Allocator};
 /// Room for what UDP carries (RFC 1035 4.2.1).
 const ROOM: usize = 512;
 
-/// Writes the answer with these records, which ends with this piece.
-fn put_sets<'a, A: Allocator + Copy>(
+/// Writes the answer with these sections.
+fn put_sections<A: Allocator + Copy>(
     alloc: A,
     octets: &mut Vec<u8, A>,
-    asked: AskedRef<'a>,
-    sets: &'a [RowsRef<'a, A>],
-    last: Option<&'a Held<A>>,
-    moment: u64,
+    asked: AskedRef<'_>,
+    sections: SectionsRef<'_, A>,
     transport: Transport,
 ) -> Result<(), Fault>
     requires opcode { asked.opcode < 16 }
-    requires earlier { IfSome (option_copied last) (IsEarlier moment) }
-    ensures { Gives (λ _. octets.new.items) result (text_of asked.entry (ending (records_in sets.now) moment (option_copied last.entry)) transport) }
+    requires rcode { sections.rcode < 16 }
+    ensures { Gives (λ _. octets.new.items) result (text_of asked.entry sections.entry transport) }
 {
-    let (soa, rcode) = end_of(last, moment);
     let message = MessageParts {
-        header: header_of(&asked, rcode),
+        header: header_of(&asked, sections.rcode),
         question: asked.question,
-        answers: sets,
-        authority: soa.as_slice(),
+        answers: sections.answers,
+        authority: sections.authority,
     };
     put_text(alloc, octets, message, transport)
 }
 
-/// Writes the answer that `build` gives, from borrowed pieces, in the place of the octets.
+/// Writes the answer from one piece, without a list of it: most answers from the cache are such.
+#[inline(always)]
+fn put_one<A: Allocator + Copy>(
+    alloc: A,
+    octets: &mut Vec<u8, A>,
+    asked: AskedRef<'_>,
+    told: &ToldRef<'_, A>,
+    transport: Transport,
+) -> Result<(), Fault>
+    requires opcode { asked.opcode < 16 }
+    ensures { Gives (λ _. octets.new.items) result (text_of asked.entry (sections_told (told.now ∷ [])) transport) }
+{
+    let set = set_of(told);
+    let (soa, rcode) = end_of(Some(told));
+    let sections = SectionsRef {
+        answers: set.as_slice(),
+        authority: soa.as_slice(),
+        rcode,
+    };
+    put_sections(alloc, octets, asked, sections, transport)
+}
+
+/// Writes the answer from pieces with the seconds that are told to be left of them, in the place of the octets: aliases in
+/// order, then a set or a denial. Faults are those of `build`.
 ///
 /// A vector with room for it is not made larger. Memory is taken beside it only where there is more than one piece, or
 /// where more than a few names begin in the octets. Where it fails, nothing is said of the octets, which keep their room.
+pub fn put_told<A: Allocator + Copy>(
+    alloc: A,
+    octets: &mut Vec<u8, A>,
+    asked: AskedRef<'_>,
+    chain: &[ToldRef<'_, A>],
+    transport: Transport,
+) -> Result<(), Fault>
+    requires opcode { asked.opcode < 16 }
+    ensures { Gives (λ _. octets.new.items) result (text_of asked.entry (sections_told chain.now) transport) }
+{
+    if let [told] = chain {
+        return put_one(alloc, octets, asked, told, transport);
+    }
+    let sets = sets_of(alloc, chain)?;
+    let (soa, rcode) = end_of(chain.last());
+    let sections = SectionsRef {
+        answers: &sets,
+        authority: soa.as_slice(),
+        rcode,
+    };
+    put_sections(alloc, octets, asked, sections, transport)
+}
+
+/// Writes the answer from aliases that lead to a name whose route denies, with the seconds that are told to be left of
+/// them, in the place of the octets. Faults are those of `build_local`, and of memory holds what `put_told` says.
+pub fn put_local<A: Allocator + Copy>(
+    alloc: A,
+    octets: &mut Vec<u8, A>,
+    asked: AskedRef<'_>,
+    aliases: &[ToldRef<'_, A>],
+    transport: Transport,
+) -> Result<(), Fault>
+    requires opcode { asked.opcode < 16 }
+    ensures { Gives (λ _. octets.new.items) result (text_of asked.entry (local_sections aliases.now) transport) }
+{
+    let sets = sets_of(alloc, aliases)?;
+    let sections = SectionsRef {
+        answers: &sets,
+        authority: &[],
+        rcode: NAME_ERROR,
+    };
+    put_sections(alloc, octets, asked, sections, transport)
+}
+
+/// Writes the answer that `build` gives, from borrowed pieces, in the place of the octets. Of memory holds what `put_told`
+/// says.
 pub fn put_answer<A: Allocator + Copy>(
     alloc: A,
     octets: &mut Vec<u8, A>,
@@ -63,27 +129,17 @@ pub fn put_answer<A: Allocator + Copy>(
     ensures { Gives (λ _. octets.new.items) result (answer_of asked.entry (lent chain.now) moment transport) }
 {
     if let [held] = chain {
-        let set = set_of(&held.piece, ttl_of(held, moment));
-        return put_sets(
-            alloc,
-            octets,
-            asked,
-            set.as_slice(),
-            Some(held),
-            moment,
-            transport,
-        );
+        return put_one(alloc, octets, asked, &ToldRef::at(held, moment), transport);
     }
-    let sets = sets_of(alloc, chain, moment)?;
-    put_sets(
-        alloc,
-        octets,
-        asked,
-        &sets,
-        chain.last().copied(),
-        moment,
-        transport,
-    )
+    let sets = sets_at(alloc, chain, moment)?;
+    let last = last_at(chain, moment);
+    let (soa, rcode) = end_of(last.as_ref());
+    let sections = SectionsRef {
+        answers: &sets,
+        authority: soa.as_slice(),
+        rcode,
+    };
+    put_sections(alloc, octets, asked, sections, transport)
 }
 
 /// The octets of the answer to a question whose opcode has 4 bits, from the pieces that answer it: aliases in order, then
@@ -105,50 +161,53 @@ pub fn build<A: Allocator + Copy>(
     requires earlier { AllByRecursion (IsEarlier moment) chain.now }
     ensures { Gives (λ text. text) result (answer_of asked.now chain.now moment transport) }
 {
+    build_stale(alloc, asked, chain, chain.len(), moment, transport)
+}
+
+/// The octets of the answer that `build` gives, but where pieces have ended: each of those from index `past` on, which is
+/// at most their number, that has ended at the moment has 30 seconds left (RFC 8767 4); all others have what is left of
+/// them, 0 where they have ended. Faults are those of `build`.
+pub fn build_stale<A: Allocator + Copy>(
+    alloc: A,
+    asked: &Asked<A>,
+    chain: &[Held<A>],
+    past: usize,
+    moment: u64,
+    transport: Transport,
+) -> Result<Octets<A>, Fault>
+    requires opcode { asked.now.opcode < 16 }
+    requires earlier { AllByRecursion (IsEarlier moment) chain.now }
+    requires within { past ≤ length chain.now }
+    ensures { Gives (λ text. text) result (stale_answer_of asked.now chain.now past moment transport) }
+{
+    let told = told_stale(alloc, chain, past, moment)?;
     let mut octets = Vec::with_capacity(alloc, ROOM)?;
-    put_owned(
-        alloc,
-        &mut octets,
-        asked.borrowed(),
-        chain,
-        moment,
-        transport,
-    )?;
+    put_told(alloc, &mut octets, asked.borrowed(), &told, transport)?;
     Ok(Octets::from_vec(octets))
 }
 
-/// Writes the answer from a chain of pieces in the place of the octets.
-fn put_owned<A: Allocator + Copy>(
+/// The octets of the answer to a question whose opcode has 4 bits, from the aliases that lead from its name to one whose
+/// route denies, none to 8, none accepted after the moment, in milliseconds.
+///
+/// The header is that of `build` with response code 3, a name error. The answer section has the aliases in order, each
+/// with the whole seconds that are left of it; the authority section is empty (RFC 2308 2.1). Over UDP, where this is more
+/// than 512 octets, the same header with TC and the question alone (RFC 1035 4.2.1). Over TCP, `TooLarge` where it is more
+/// than 65,535 (RFC 1035 4.2.2). `Memory` where a growth was refused.
+pub fn build_local<A: Allocator + Copy>(
     alloc: A,
-    octets: &mut Vec<u8, A>,
-    asked: AskedRef<'_>,
-    chain: &[Held<A>],
+    asked: &Asked<A>,
+    aliases: &[Held<A>],
     moment: u64,
     transport: Transport,
-) -> Result<(), Fault>
-    requires opcode { asked.opcode < 16 }
-    requires earlier { AllByRecursion (IsEarlier moment) chain.now }
-    ensures { Gives (λ _. octets.new.items) result (answer_of asked.entry chain.now moment transport) }
+) -> Result<Octets<A>, Fault>
+    requires opcode { asked.now.opcode < 16 }
+    requires earlier { AllByRecursion (IsEarlier moment) aliases.now }
+    ensures { Gives (λ text. text) result (local_answer_of asked.now aliases.now moment transport) }
 {
-    if let [held] = chain {
-        return put_answer(alloc, octets, asked, &[held], moment, transport);
-    }
-    let refs = borrowed(alloc, chain)?;
-    put_answer(alloc, octets, asked, &refs, moment, transport)
-}
-
-/// The pieces, borrowed.
-fn borrowed<A: Allocator + Copy>(
-    alloc: A,
-    chain: &[Held<A>],
-) -> Result<Vec<&Held<A>, A>, AllocError>
-    ensures { IfOk result (λ refs. lent refs.items ≡ chain.now) }
-{
-    let mut refs = Vec::with_capacity(alloc, chain.len())?;
-    for held in chain {
-        refs.push(held)?;
-    }
-    Ok(refs)
+    let told = told_left(alloc, aliases, moment)?;
+    let mut octets = Vec::with_capacity(alloc, ROOM)?;
+    put_local(alloc, &mut octets, asked.borrowed(), &told, transport)?;
+    Ok(Octets::from_vec(octets))
 }
 
 /// Writes the octets that `failure` gives in the place of the octets. A vector with room for 271 is not made larger. Where

@@ -5,8 +5,13 @@ mod asked;
 mod building;
 mod fault;
 mod records;
+mod sections;
 mod text;
+mod told;
 
 pub use asked::{Asked, AskedRef, Transport};
-pub use building::{build, failure, put_answer, put_failure};
+pub use building::{
+    build, build_local, build_stale, failure, put_answer, put_failure, put_local, put_told,
+};
 pub use fault::Fault;
+pub use told::ToldRef;

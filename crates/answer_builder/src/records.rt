@@ -1,32 +1,22 @@
 //! The records that an answer has of a piece, borrowed from it.
 
-ghost use Rattle.std.specs.Prelude.{◌≡◌, ◌≤◌, ◌<◌, map, IfOk, Some};
+ghost use Rattle.std.specs.Prelude.{◌≡◌, ◌<◌, map, IfOk, Some};
 ghost use Rattle.std.specs.List.{flat_map, AllByRecursion};
 ghost use Rattle.std.specs.Option.{option_copied, IfSome};
 ghost use Rattle.dns_message.specs.Borrowed.{data_of, records_in};
 ghost use Rattle.dns_message.specs.Data.{IsShaped};
 ghost use Rattle.trust_rank.specs.Values.{unboxed};
-ghost use Rattle.record_cache.specs.Ageing.{seconds_left};
-ghost use Rattle.answer_builder.specs.Answers.{aged, answers_of, rcode_of, record_of, set_records, soa_records, IsEarlier};
+ghost use Rattle.answer_builder.specs.Answers.{aged, answers_of, authority_of, rcode_of, record_of, told_at, IsEarlier};
 ghost use Rattle.answer_builder.specs.Building.{end_authority, end_rcode, lent, listed};
 
+use crate::told::ToldRef;
 use dns_message::{DataRef, Record, RowsRef};
 use record_cache::Held;
 use std::alloc::{AllocError, Allocator};
 use trust_rank::{Body, Piece};
 
 /// The response code of a name error (RFC 1035 4.1.1).
-const NAME_ERROR: u8 = 3;
-
-/// The whole seconds that are left of a piece at a moment, in milliseconds, as the TTL of its records.
-pub(crate) fn ttl_of<A: Allocator>(held: &Held<A>, moment: u64) -> u32
-    requires { held.now.accepted ≤ moment }
-    ensures { result ≡ seconds_left moment held.now }
-{
-    let left = held.seconds_left(moment);
-    prove!(left <= u64::from(held.piece.lifetime));
-    left as u32
-}
+pub(crate) const NAME_ERROR: u8 = 3;
 
 /// The response code of an answer that ends with this piece.
 fn rcode_of<A: Allocator>(piece: &Piece<A>) -> u8
@@ -59,11 +49,12 @@ fn rows_of<'a, A: Allocator>(
 }
 
 /// The records of a set; `None` for a denial.
-pub(crate) fn set_of<A: Allocator>(piece: &Piece<A>, ttl: u32) -> Option<RowsRef<'_, A>>
-    ensures { listed result ≡ set_records ttl piece.now }
+pub(crate) fn set_of<'a, A: Allocator>(told: &ToldRef<'a, A>) -> Option<RowsRef<'a, A>>
+    ensures { listed result ≡ answers_of told.now }
 {
+    let piece = told.piece;
     match (piece.kind, &piece.body) {
-        (Some(kind), Body::Rows(rows)) => Some(rows_of(piece, kind, rows.data(), ttl)),
+        (Some(kind), Body::Rows(rows)) => Some(rows_of(piece, kind, rows.data(), told.seconds)),
         _ => None,
     }
 }
@@ -71,15 +62,31 @@ pub(crate) fn set_of<A: Allocator>(piece: &Piece<A>, ttl: u32) -> Option<RowsRef
 /// The records of a chain, set after set.
 pub(crate) fn sets_of<'a, A: Allocator + Copy>(
     alloc: A,
+    chain: &[ToldRef<'a, A>],
+) -> Result<Vec<RowsRef<'a, A>, A>, AllocError>
+    ensures { IfOk result (λ sets. records_in sets.items ≡ flat_map answers_of chain.now) }
+{
+    let mut sets = Vec::with_capacity(alloc, chain.len())?;
+    for told in chain {
+        if let Some(set) = set_of(told) {
+            sets.push(set)?;
+        }
+    }
+    Ok(sets)
+}
+
+/// The same of a chain of held pieces, with what is left of them at a moment, in milliseconds.
+pub(crate) fn sets_at<'a, A: Allocator + Copy>(
+    alloc: A,
     chain: &[&'a Held<A>],
     moment: u64,
 ) -> Result<Vec<RowsRef<'a, A>, A>, AllocError>
     requires { AllByRecursion (IsEarlier moment) (lent chain.now) }
-    ensures { IfOk result (λ sets. records_in sets.items ≡ flat_map (answers_of moment) (lent chain.now)) }
+    ensures { IfOk result (λ sets. records_in sets.items ≡ flat_map answers_of (map (told_at moment) (lent chain.now))) }
 {
     let mut sets = Vec::with_capacity(alloc, chain.len())?;
     for held in chain {
-        if let Some(set) = set_of(&held.piece, ttl_of(held, moment)) {
+        if let Some(set) = set_of(&ToldRef::at(held, moment)) {
             sets.push(set)?;
         }
     }
@@ -112,31 +119,27 @@ fn aged_soa<A: Allocator>(soa: &Record<A>, ttl: u32) -> RowsRef<'_, A>
 }
 
 /// The SOA of a denial, if it has one; a set has none.
-fn soa_of<A: Allocator>(piece: &Piece<A>, ttl: u32) -> Option<RowsRef<'_, A>>
-    ensures { listed result ≡ soa_records ttl piece.now.body }
+fn soa_of<'a, A: Allocator>(told: &ToldRef<'a, A>) -> Option<RowsRef<'a, A>>
+    ensures { listed result ≡ authority_of told.now }
 {
+    let piece = told.piece;
     match &piece.body {
         Body::Rows(_) => None,
-        Body::NoData(soa) => aged(soa, ttl),
-        Body::Denied(soa) => aged(soa, ttl),
+        Body::NoData(soa) => aged(soa, told.seconds),
+        Body::Denied(soa) => aged(soa, told.seconds),
     }
 }
 
-/// The SOA and the response code of an answer that ends with this piece, if any, at a moment in milliseconds.
+/// The SOA and the response code of an answer that ends with this piece, if any.
 pub(crate) fn end_of<'a, A: Allocator>(
-    last: Option<&'a Held<A>>,
-    moment: u64,
+    last: Option<&ToldRef<'a, A>>,
 ) -> (Option<RowsRef<'a, A>>, u8)
-    requires { IfSome (option_copied last) (IsEarlier moment) }
-    ensures soa { listed result.0 ≡ end_authority moment (option_copied last.entry) }
+    ensures soa { listed result.0 ≡ end_authority (option_copied last.entry) }
     ensures code { result.1 ≡ end_rcode (option_copied last.entry) }
     ensures small { result.1 < 16 }
 {
     match last {
         None => (None, 0),
-        Some(held) => (
-            soa_of(&held.piece, ttl_of(held, moment)),
-            rcode_of(&held.piece),
-        ),
+        Some(told) => (soa_of(told), rcode_of(told.piece)),
     }
 }

@@ -1,32 +1,61 @@
 //! Refused growths.
 
-use crate::samples::{ADDRESS, ALIAS, NAME_ERROR, answer, asked, growths_beside_room};
+use crate::samples::{
+    ADDRESS, ALIAS, Case, Kind, NAME_ERROR, TO_LAN, answer, asked, growths_beside_room,
+};
 use answer_builder::{Fault, Transport, failure, put_failure};
 use dns_message::MessageRef;
 use refusing_allocator::Refusing;
 use std::alloc::Global;
 use std::test::Fail;
 
-/// How many growths of an answer over this transport are refused one after another, until it is there.
-fn refusals(table_heap: Global, transport: Transport) -> Result<u64, Fail> {
+/// How many growths of the answer from a reply to its own question are refused one after another, until it is there.
+fn refusals(
+    table_heap: Global,
+    kind: Kind,
+    reply: &str,
+    transport: Transport,
+) -> Result<u64, Fail> {
     let heap = Refusing::new(table_heap);
-    let octets = hex::decode(table_heap, ALIAS)?;
+    let octets = hex::decode(table_heap, reply)?;
+    let case = Case {
+        kind,
+        question: &octets,
+        reply: &octets,
+    };
     let mut refused = 0u64;
     for growths in 0..100u64 {
-        match answer(table_heap, &heap, &octets, &octets, transport, growths)? {
-            Ok(_) => break,
+        match answer(table_heap, &heap, case, transport, growths)? {
+            Ok(_) => return Ok(refused),
             Err(Fault::Memory) => refused = refused.saturating_add(1),
             Err(Fault::TooLarge) => return Err(Fail::from("too large")),
         }
     }
-    Ok(refused)
+    Err(Fail::from("no answer"))
+}
+
+/// The same over UDP and over TCP.
+fn refusals_of(table_heap: Global, kind: Kind, reply: &str) -> Result<(u64, u64), Fail> {
+    let udp = refusals(table_heap, kind, reply, Transport::Udp)?;
+    let tcp = refusals(table_heap, kind, reply, Transport::Tcp)?;
+    Ok((udp, tcp))
 }
 
 #[test]
 fn each_growth_of_an_answer_is_refused(rt: HostRuntime) -> Result<(), Fail> {
-    let udp = refusals(rt.alloc(), Transport::Udp)?;
-    let tcp = refusals(rt.alloc(), Transport::Tcp)?;
-    assert_eq!(rt; (udp, tcp), (3, 3));
+    assert_eq!(rt; refusals_of(rt.alloc(), Kind::Left, ALIAS)?, (3, 3));
+    Ok(())
+}
+
+#[test]
+fn each_growth_of_an_answer_past_its_end_is_refused(rt: HostRuntime) -> Result<(), Fail> {
+    assert_eq!(rt; refusals_of(rt.alloc(), Kind::Past(1), ALIAS)?, (3, 3));
+    Ok(())
+}
+
+#[test]
+fn each_growth_of_a_denial_by_a_route_is_refused(rt: HostRuntime) -> Result<(), Fail> {
+    assert_eq!(rt; refusals_of(rt.alloc(), Kind::Local, TO_LAN)?, (3, 3));
     Ok(())
 }
 

@@ -1,10 +1,10 @@
 //! Questions, and the chains that answer them, from the octets of replies.
 
-ghost use Rattle.std.specs.Prelude.{◌<◌, IfOk};
+ghost use Rattle.std.specs.Prelude.{◌<◌, ◌≤◌, IfOk};
 ghost use Rattle.std.specs.List.{AllByRecursion};
 ghost use Rattle.answer_builder.specs.Answers.{IsEarlier};
 
-use answer_builder::{Asked, Fault, Transport, build, put_answer};
+use answer_builder::{Asked, Fault, Transport, build, build_local, build_stale, put_answer};
 use dns_message::{MessageRef, Question};
 use plain_list::{Octets, PlainList};
 use record_cache::Held;
@@ -28,6 +28,10 @@ pub(crate) const ALIAS: &str =
 /// x.example is not there; its SOA says ten minutes.
 pub(crate) const NAME_ERROR: &str =
     "0008850300010000000100000178076578616d706c650000010001c00e0006000100000e10001d026e73c00e0168c00e0000000100000002000000030000000400000258";
+
+/// a.example is an alias of h.lan, for a minute.
+pub(crate) const TO_LAN: &str =
+    "0008850000010001000000000161076578616d706c650000010001c00c000500010000003c00070168036c616e00";
 
 /// One route for all names.
 const CONFIG: &str = r#"version = 1
@@ -61,12 +65,14 @@ pub(crate) fn asked<A: Allocator>(id: u16, question: Question<A>) -> Asked<A>
     }
 }
 
-/// The pieces, all of which came at one moment.
+/// The pieces, all of which came at one moment, not after this one.
 fn chain_of<A: Allocator + Copy>(
     alloc: A,
     pieces: &[Piece<A>],
+    moment: u64,
 ) -> Result<PlainList<Held<A>, A>, AllocError>
-    ensures { IfOk result (λ chain. AllByRecursion (IsEarlier 1020) chain) }
+    requires { 1020 ≤ moment }
+    ensures { IfOk result (λ chain. AllByRecursion (IsEarlier moment) chain) }
 {
     let mut chain = PlainList::new(alloc);
     for piece in pieces {
@@ -81,22 +87,74 @@ fn chain_of<A: Allocator + Copy>(
 /// What came of an answer: its octets, that it is too large, or that it wants memory.
 pub(crate) type Built<'h> = Result<Octets<&'h Refusing<Global>>, Fault>;
 
-/// The answer from a reply to a question, both in octets, with so many growths granted.
+/// Which answer is built of the pieces.
+#[derive(Clone, Copy)]
+pub(crate) enum Kind {
+    /// With what is left of each when they came.
+    Left,
+    /// Past their end from this index on, when the address has just ended.
+    Past(usize),
+    /// Of a route that denies, a second after they came.
+    Local,
+}
+
+/// The moment of an answer, in milliseconds.
+fn moment_of(kind: Kind) -> u64
+    ensures { 1020 ≤ result }
+{
+    match kind {
+        Kind::Left => ACCEPTED,
+        Kind::Past(_) => ACCEPTED + 300_000,
+        Kind::Local => ACCEPTED + 1000,
+    }
+}
+
+/// A question, and the reply whose pieces answer it, both in octets.
+#[derive(Clone, Copy)]
+pub(crate) struct Case<'c> {
+    pub kind: Kind,
+    pub question: &'c [u8],
+    pub reply: &'c [u8],
+}
+
+/// The answer to a question with so many growths granted.
 pub(crate) fn answer<'h>(
     table_heap: Global,
     heap: &'h Refusing<Global>,
-    question: &[u8],
-    reply: &[u8],
+    case: Case<'_>,
     transport: Transport,
     growths: u64,
 ) -> Result<Built<'h>, Fail> {
-    let walk = walked(table_heap, heap, reply)?;
-    let chain = chain_of(heap, walk.pieces.as_slice())?;
-    let asked = asked(0x1234, MessageRef::view(question)?.question(heap)?);
+    let walk = walked(table_heap, heap, case.reply)?;
+    let moment = moment_of(case.kind);
+    let list = chain_of(heap, walk.pieces.as_slice(), moment)?;
+    let chain = list.as_slice();
+    let asked = asked(0x1234, MessageRef::view(case.question)?.question(heap)?);
     heap.allow(growths);
-    let built = build(heap, &asked, chain.as_slice(), ACCEPTED, transport);
+    let built = match case.kind {
+        Kind::Left => build(heap, &asked, chain, moment, transport),
+        Kind::Past(past) if past <= chain.len() => {
+            build_stale(heap, &asked, chain, past, moment, transport)
+        }
+        Kind::Past(_) => return Err(Fail::from("too few pieces")),
+        Kind::Local => build_local(heap, &asked, chain, moment, transport),
+    };
     heap.allow(u64::MAX);
     Ok(built)
+}
+
+/// The octets of the answer to a question, with ample memory; `None` where it is too large.
+pub(crate) fn text<'h>(
+    table_heap: Global,
+    heap: &'h Refusing<Global>,
+    case: Case<'_>,
+    transport: Transport,
+) -> Result<Option<Octets<&'h Refusing<Global>>>, Fail> {
+    match answer(table_heap, heap, case, transport, u64::MAX)? {
+        Ok(text) => Ok(Some(text)),
+        Err(Fault::TooLarge) => Ok(None),
+        Err(Fault::Memory) => Err(Fail::from("memory ran out")),
+    }
 }
 
 /// Writes the answer over UDP from one piece, or from an alias and a piece, into a vector.
@@ -148,7 +206,7 @@ fn growths_of<'h>(
 pub(crate) fn growths_beside_room(table_heap: Global, reply: &[u8]) -> Result<Option<u64>, Fail> {
     let heap = Refusing::new(table_heap);
     let walk = walked(table_heap, &heap, reply)?;
-    let chain = chain_of(&heap, walk.pieces.as_slice())?;
+    let chain = chain_of(&heap, walk.pieces.as_slice(), ACCEPTED)?;
     let asked = asked(0x1234, MessageRef::view(reply)?.question(&heap)?);
     let mut octets = Vec::with_capacity(&heap, 512)?;
     Ok(growths_of(&heap, &mut octets, &asked, chain.as_slice()))

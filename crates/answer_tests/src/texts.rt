@@ -1,6 +1,6 @@
 //! The largest answer, and what is said of a fault.
 
-use crate::samples::answer;
+use crate::samples::{ADDRESS, ALIAS, Case, Kind, TO_LAN, text};
 use answer_builder::{Fault, Transport};
 use refusing_allocator::Refusing;
 use std::alloc::Global;
@@ -23,20 +23,112 @@ fn long_reply(heap: Global, len: u16) -> Result<Vec<u8>, Fail> {
 /// a.example TXT, with a capital letter, so that the owner of its answer is written out.
 const CAPITAL_QUESTION: &str = "1234010000010000000000000141076578616d706c650000100001";
 
-#[test]
-fn past_65535_octets_tcp_gets_nothing(rt: HostRuntime) -> Result<(), Fail> {
-    let heap = rt.alloc();
-    let question = hex::decode(heap, CAPITAL_QUESTION)?;
-    for (len, expected) in [(65_494u16, Some(65_535usize)), (65_495, None)] {
+/// How many octets each answer from a text of so many has; `None` where it is too large.
+fn lengths_of(
+    heap: Global,
+    kind: Kind,
+    question: &[u8],
+    transport: Transport,
+    lens: [u16; 2],
+) -> Result<[Option<usize>; 2], Fail> {
+    let mut lengths = [None; 2];
+    for (length, len) in lengths.iter_mut().zip(lens) {
         let reply = long_reply(heap, len)?;
         let refusing = Refusing::new(heap);
-        match answer(heap, &refusing, &question, &reply, Transport::Tcp, u64::MAX)? {
-            Ok(text) => assert_eq!(rt; Some(text.as_slice().len()), expected),
-            Err(fault) => {
-                assert_eq!(rt; fault, Fault::TooLarge);
-                assert_eq!(rt; expected, None);
-            }
-        }
+        let case = Case {
+            kind,
+            question,
+            reply: &reply,
+        };
+        *length = text(heap, &refusing, case, transport)?.map(|text| text.as_slice().len());
+    }
+    Ok(lengths)
+}
+
+/// The kinds of answers. No chain of aliases is as long as TCP allows, so a text stands for one.
+const KINDS: [Kind; 3] = [Kind::Left, Kind::Past(0), Kind::Local];
+
+#[test]
+fn past_65535_octets_tcp_gets_nothing(rt: HostRuntime) -> Result<(), Fail> {
+    let question = hex::decode(rt.alloc(), CAPITAL_QUESTION)?;
+    for kind in KINDS {
+        let lens = [65_494, 65_495];
+        let lengths = lengths_of(rt.alloc(), kind, &question, Transport::Tcp, lens)?;
+        assert_eq!(rt; lengths, [Some(65_535), None]);
+    }
+    Ok(())
+}
+
+#[test]
+fn past_512_octets_udp_gets_the_question(rt: HostRuntime) -> Result<(), Fail> {
+    let question = hex::decode(rt.alloc(), CAPITAL_QUESTION)?;
+    for kind in KINDS {
+        let lens = [471, 472];
+        let lengths = lengths_of(rt.alloc(), kind, &question, Transport::Udp, lens)?;
+        assert_eq!(rt; lengths, [Some(512), Some(27)]);
+    }
+    Ok(())
+}
+
+/// The answer from a reply over UDP, both in hexadecimal digits.
+fn answered(heap: Global, kind: Kind, question: &str, reply: &str) -> Result<String, Fail> {
+    let refusing = Refusing::new(heap);
+    let question = hex::decode(heap, question)?;
+    let reply = hex::decode(heap, reply)?;
+    let case = Case {
+        kind,
+        question: &question,
+        reply: &reply,
+    };
+    match text(heap, &refusing, case, Transport::Udp)? {
+        Some(text) => Ok(hex::encode(heap, text.as_slice())?),
+        None => Err(Fail::from("too large")),
+    }
+}
+
+/// The address of a.example has ended, and has 30 seconds.
+const PAST: &str =
+    "1234818000010001000000000161076578616d706c650000010001c00c000100010000001e0004c6336405";
+
+/// The alias was held and ended: none is left. The address has 300 of its 600 seconds.
+const HELD_ALIAS: &str = "123481800001000200000000\
+     0162076578616d706c650000010001c00c000500010000000000040161c00ec027000100010000012c0004c6336409";
+
+/// The alias was found, and has 30 seconds.
+const FOUND_ALIAS: &str = "123481800001000200000000\
+     0162076578616d706c650000010001c00c000500010000001e00040161c00ec027000100010000012c0004c6336409";
+
+#[test]
+fn an_answer_past_its_end_has_30_seconds(rt: HostRuntime) -> Result<(), Fail> {
+    for (past, reply, expected) in [
+        (0, ADDRESS, PAST),
+        (1, ALIAS, HELD_ALIAS),
+        (0, ALIAS, FOUND_ALIAS),
+    ] {
+        let text = answered(rt.alloc(), Kind::Past(past), reply, reply)?;
+        assert_eq!(rt; text.as_str(), expected);
+    }
+    Ok(())
+}
+
+/// h.lan A.
+const LAN_QUESTION: &str = "1234010000010000000000000168036c616e0000010001";
+
+/// A reply that carries nothing: a.example has no address, and there is no SOA.
+const NOTHING: &str = "0008850000010000000000000161076578616d706c650000010001";
+
+/// The header with response code 3, and the question.
+const LAN: &str = "1234818300010000000000000168036c616e0000010001";
+
+/// The same behind the alias, a second of which has passed.
+const LAN_ALIAS: &str =
+    "1234818300010001000000000161076578616d706c650000010001c00c000500010000003b00070168036c616e00";
+
+#[test]
+fn a_route_denies_behind_aliases(rt: HostRuntime) -> Result<(), Fail> {
+    for (question, reply, expected) in [(LAN_QUESTION, NOTHING, LAN), (TO_LAN, TO_LAN, LAN_ALIAS)] {
+        let text = answered(rt.alloc(), Kind::Local, question, reply)?;
+        assert_eq!(rt; text.as_str(), expected);
     }
     Ok(())
 }

@@ -1,4 +1,4 @@
-//! The memory that the list of asks takes, and what is said of a refusal.
+//! A listed ask is found, the memory that the list of asks takes, and what is said of a refusal.
 
 ghost use Rattle.std.specs.Prelude.{◌≡◌, IfOk};
 
@@ -38,11 +38,49 @@ fn ask_for<'a>(
     })
 }
 
-/// Lists an ask where only so many growths are granted; whether it is listed.
-fn is_begun(heap: &Refusing<Global>, growths: u64) -> Result<bool, Fail> {
-    let ask = ask_for(heap, "a.example", Path::Udp(1024), 1000)?;
+/// Whether it is the ask that `ask_for` makes for a.example on port 1032 at 1000.
+fn is_worked<'a>(ask: &Ask<&'a Refusing<Global>>) -> bool {
+    let question = &ask.question;
+    let is_asked = question.name.octets() == b"\x01a\x07example".as_slice()
+        && question.kind == 1
+        && question.class == 1;
+    let is_sent = ask.route.place == 0
+        && ask.server == 0
+        && ask.peer.ip == [192, 0, 2, 1]
+        && ask.peer.port == 53;
+    is_asked
+        && is_sent
+        && ask.used == 1
+        && ask.path == Path::Udp(1032)
+        && ask.id == 8
+        && ask.asked == 1000
+}
+
+#[test]
+fn a_listed_ask_is_found(rt: HostRuntime) -> Result<(), Fail> {
+    let heap = Refusing::new(rt.alloc());
+    let ask = ask_for(&heap, "a.example", Path::Udp(1032), 1000)?;
+    let mut inquiries = Inquiries::new(&heap, 1);
+    let is_begun = inquiries.begin(ask).is_ok();
+    let is_found = inquiries.by_path(Path::Udp(1032)).is_some_and(is_worked);
+    let is_elsewhere = inquiries.by_path(Path::Udp(1033)).is_some();
+    assert!(rt; is_begun && is_found && !is_elsewhere);
+    Ok(())
+}
+
+/// A name of 33 octets, which don't lie in place.
+const LONG: &str = "a.abcdefghijklmnopqrstuv.example";
+
+/// Lists an ask where one growth is refused, alone or with each one behind it, after so many are granted; whether it is
+/// listed.
+fn is_begun(heap: &Refusing<Global>, growths: u64, is_alone: bool) -> Result<bool, Fail> {
+    let ask = ask_for(heap, LONG, Path::Udp(1024), 1000)?;
     let mut inquiries = Inquiries::new(heap, 1);
-    heap.allow(growths);
+    if is_alone {
+        heap.refuse_one(growths);
+    } else {
+        heap.allow(growths);
+    }
     let begun = inquiries.begin(ask);
     heap.allow(u64::MAX);
     match begun {
@@ -55,11 +93,27 @@ fn is_begun(heap: &Refusing<Global>, growths: u64) -> Result<bool, Fail> {
 #[test]
 fn each_growth_of_begin_is_refused(rt: HostRuntime) -> Result<(), Fail> {
     let heap = Refusing::new(rt.alloc());
-    for growths in 0..5 {
-        assert!(rt; !is_begun(&heap, growths)?, "with {growths} granted");
+    for is_alone in &[false, true] {
+        for growths in 0..5 {
+            assert!(rt;
+                !is_begun(&heap, growths, *is_alone)?,
+                "with {growths} granted"
+            );
+        }
+        assert!(rt; is_begun(&heap, 5, *is_alone)?);
     }
-    assert!(rt; is_begun(&heap, 5)?);
     Ok(())
+}
+
+/// One growth that is allowed stays unspent where a list is made.
+#[test]
+fn an_empty_list_takes_no_memory(rt: HostRuntime) {
+    let heap = Refusing::new(rt.alloc());
+    heap.allow(1);
+    let inquiries = Inquiries::new(&heap, 1024);
+    let is_left = Box::new(&heap, 0u8).is_ok();
+    let is_last = Box::new(&heap, 0u8).is_err();
+    assert!(rt; inquiries.len() == 0 && is_left && is_last);
 }
 
 /// Draws and look-ups find the ask that is listed, and its like.

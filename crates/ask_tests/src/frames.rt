@@ -1,7 +1,7 @@
-//! The memory that frames (RFC 1035 4.2.2) take, and what is said of a fault.
+//! Frames in concrete octets (RFC 1035 4.2.2), the memory that they take, and what is said of a fault.
 
 use refusing_allocator::Refusing;
-use std::alloc::Global;
+use std::alloc::{AllocError, Global};
 use std::test::Fail;
 use tcp_frames::{FrameFault, FrameReader, frame};
 
@@ -20,6 +20,41 @@ fn a_frame_is_the_length_and_the_octets(rt: HostRuntime) -> Result<(), Fail> {
     Ok(())
 }
 
+/// What is given behind each octet of the frames of "abc" and of no octets.
+const OCTET_BY_OCTET: [(u8, Option<&[u8]>); 7] = [
+    (0, None),
+    (3, None),
+    (b'a', None),
+    (b'b', None),
+    (b'c', Some(b"abc")),
+    (0, None),
+    (0, Some(b"")),
+];
+
+/// Whether a reader that is fed one more octet gives this message, or none.
+fn gives(
+    reader: &mut FrameReader<Global>,
+    octet: u8,
+    wanted: Option<&[u8]>,
+) -> Result<bool, AllocError> {
+    reader.feed(&[octet])?;
+    match reader.take()? {
+        Some(message) => Ok(wanted == Some(message.as_slice())),
+        None => Ok(wanted.is_none()),
+    }
+}
+
+#[test]
+fn a_stream_that_comes_octet_by_octet(rt: HostRuntime) -> Result<(), Fail> {
+    let octets = frame(rt.alloc(), b"abc")?;
+    assert_eq!(rt; octets.as_slice(), b"\x00\x03abc".as_slice());
+    let mut reader = FrameReader::new(rt.alloc());
+    for (octet, wanted) in &OCTET_BY_OCTET {
+        assert!(rt; gives(&mut reader, *octet, *wanted)?, "{octet}");
+    }
+    Ok(())
+}
+
 #[test]
 fn what_is_said_of_a_fault(rt: HostRuntime) -> Result<(), Fail> {
     let heap = rt.alloc();
@@ -30,36 +65,69 @@ fn what_is_said_of_a_fault(rt: HostRuntime) -> Result<(), Fail> {
     Ok(())
 }
 
-/// Whether each growth of a reader is refused in turn, and granted the next time.
+/// Refuses the next growth: alone, or with each one behind it.
+fn refuse(heap: &Refusing<Global>, is_alone: bool) {
+    if is_alone {
+        heap.refuse_one(0);
+    } else {
+        heap.allow(0);
+    }
+}
+
+/// Whether each growth of a reader is refused in turn, and what it has stays: a piece, a piece behind another one, for which
+/// it needs more room, and the message of both.
 fn are_refused_in_turn<'a>(
     heap: &'a Refusing<Global>,
     reader: &mut FrameReader<&'a Refusing<Global>>,
-) -> bool {
-    heap.allow(0);
-    let is_piece_refused = reader.feed(b"\x00\x01a").is_err();
+    is_alone: bool,
+) -> Result<bool, AllocError> {
+    refuse(heap, is_alone);
+    let is_piece_refused = reader.feed(b"\x00\x41a").is_err();
     heap.allow(1);
-    let is_piece_alone_taken = reader.feed(b"\x00\x01b").is_ok() && reader.take().is_err();
+    reader.feed(b"\x00\x41b")?;
+    refuse(heap, is_alone);
+    let is_more_refused = reader.feed(&[b'a'; 64]).is_err();
     heap.allow(1);
-    let is_message_taken = match reader.take() {
-        Ok(Some(message)) => message.as_slice() == b"b".as_slice(),
-        _ => false,
-    };
-    is_piece_refused && is_piece_alone_taken && is_message_taken
+    reader.feed(&[b'c'; 64])?;
+    refuse(heap, is_alone);
+    let is_message_refused = reader.take().is_err();
+    Ok(is_piece_refused && is_more_refused && is_message_refused)
+}
+
+/// Whether the message of 65 octets is taken with one growth.
+fn is_taken<'a>(
+    heap: &'a Refusing<Global>,
+    reader: &mut FrameReader<&'a Refusing<Global>>,
+) -> Result<bool, AllocError> {
+    heap.allow(1);
+    match reader.take()? {
+        Some(message) => Ok(
+            message.as_slice().len() == 65
+                && message.as_slice().starts_with(b"bcc")
+                && message.as_slice().ends_with(b"ccc"),
+        ),
+        None => Ok(false),
+    }
 }
 
 #[test]
 fn each_growth_of_a_reader_is_refused(rt: HostRuntime) -> Result<(), Fail> {
     let heap = Refusing::new(rt.alloc());
-    let mut reader = FrameReader::new(&heap);
-    assert!(rt; are_refused_in_turn(&heap, &mut reader));
+    for is_alone in &[false, true] {
+        let mut reader = FrameReader::new(&heap);
+        assert!(rt; are_refused_in_turn(&heap, &mut reader, *is_alone)?);
+        assert!(rt; is_taken(&heap, &mut reader)?);
+    }
     Ok(())
 }
 
 #[test]
 fn each_growth_of_a_frame_is_refused(rt: HostRuntime) -> Result<(), Fail> {
     let heap = Refusing::new(rt.alloc());
-    heap.allow(0);
-    assert_eq!(rt; frame(&heap, b"a").err(), Some(FrameFault::Memory));
+    for is_alone in &[false, true] {
+        refuse(&heap, *is_alone);
+        assert_eq!(rt; frame(&heap, b"a").err(), Some(FrameFault::Memory));
+    }
     heap.allow(1);
     let octets = frame(&heap, b"c")?;
     assert_eq!(rt; octets.as_slice(), b"\x00\x01c".as_slice());

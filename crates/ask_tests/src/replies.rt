@@ -1,4 +1,4 @@
-//! The longest reply.
+//! A reply that is cut anywhere, and the longest one.
 
 use dns_message::Question;
 use dns_name::{Name, NameFault};
@@ -34,6 +34,25 @@ fn ask(heap: Global) -> Result<Ask, NameFault> {
         id: 8,
         asked: 1000,
     })
+}
+
+/// What a beginning of the reply of so many octets is judged as: it needs its header and its question to be one.
+fn wanted(octets: usize) -> Verdict {
+    match octets {
+        0..=26 => Verdict::Stranger,
+        27..=42 => Verdict::Malformed,
+        _ => Verdict::Whole,
+    }
+}
+
+#[test]
+fn beginnings_of_the_reply(rt: HostRuntime) -> Result<(), Fail> {
+    let ask = ask(rt.alloc())?;
+    for octets in 0..=REPLY.len() {
+        let verdict = judge(&ask, SERVER, &REPLY[..octets]).verdict();
+        assert_eq!(rt; verdict, wanted(octets), "{octets} octets");
+    }
+    Ok(())
 }
 
 #[test]

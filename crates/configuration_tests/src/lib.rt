@@ -5,6 +5,8 @@
 #[cfg(test)]
 mod accepted;
 #[cfg(test)]
+mod copied;
+#[cfg(test)]
 mod memory;
 #[cfg(test)]
 mod said;

@@ -8,7 +8,7 @@ use std::test::Fail;
 use suffix_routes::{Config, ConfigFault};
 
 /// Two routes with one server each.
-const TEXT: &str = r#"version = 1
+const SERVING: &str = r#"version = 1
 [[route]]
 suffix = "."
 servers = ["192.0.2.1:53"]
@@ -17,9 +17,25 @@ suffix = "corp.example"
 servers = ["192.0.2.9:53"]
 "#;
 
-/// How many routes a configuration and its copy have together.
-fn read_and_copied(table_heap: Global, heap: &Refusing<Global>) -> Result<usize, ConfigFault> {
-    let config = Config::read(table_heap, heap, TEXT)?;
+/// A route with one server, and one that denies, whose suffix is too long to take no memory.
+const DENYING: &str = r#"version = 2
+[limits]
+stale_s = 600
+[[route]]
+suffix = "."
+servers = ["192.0.2.1:53"]
+[[route]]
+suffix = "names-that-nobody-is-to-be-asked-for.example"
+deny = true
+"#;
+
+/// How many routes the configuration of a text and its copy have together.
+fn read_and_copied(
+    table_heap: Global,
+    heap: &Refusing<Global>,
+    text: &str,
+) -> Result<usize, ConfigFault> {
+    let config = Config::read(table_heap, heap, text)?;
     let copy = config.copy(heap)?;
     let count = config.routes().len();
     Ok(copy.routes().len().saturating_add(count))
@@ -28,15 +44,17 @@ fn read_and_copied(table_heap: Global, heap: &Refusing<Global>) -> Result<usize,
 #[test]
 fn each_growth_may_be_refused(rt: HostRuntime) {
     let heap = Refusing::new(rt.alloc());
-    for count in 0..6u64 {
-        heap.allow(count);
-        assert_eq!(rt;
-            read_and_copied(rt.alloc(), &heap),
-            Err(ConfigFault::Memory)
-        );
+    for text in [SERVING, DENYING] {
+        for count in 0..6u64 {
+            heap.allow(count);
+            assert_eq!(rt;
+                read_and_copied(rt.alloc(), &heap, text),
+                Err(ConfigFault::Memory)
+            );
+        }
+        heap.allow(6);
+        assert_eq!(rt; read_and_copied(rt.alloc(), &heap, text), Ok(4));
     }
-    heap.allow(6);
-    assert_eq!(rt; read_and_copied(rt.alloc(), &heap), Ok(4));
 }
 
 /// So many labels of one letter each.

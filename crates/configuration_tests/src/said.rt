@@ -12,8 +12,16 @@ servers = ["192.0.2.1:53"]
 [[route]]
 "#;
 
+/// The same in version 2.
+const ROUTE_2: &str = r#"version = 2
+[[route]]
+suffix = "."
+servers = ["192.0.2.1:53"]
+[[route]]
+"#;
+
 /// What is said: the beginning of a text, its rest, and what its first fault says.
-const SAID: [(&str, &str, &str); 28] = [
+const SAID: [(&str, &str, &str); 43] = [
     // Where the reader of TOML stopped: behind the end where more is wanted, else at what can't stand there, and at a key
     // that is there already. A column counts characters.
     (
@@ -42,13 +50,18 @@ const SAID: [(&str, &str, &str); 28] = [
         "the text is no TOML: see line 4, column 15",
     ),
     // The document.
-    ("", "", "`version` is missing, and has to be the integer 1"),
+    (
+        "",
+        "",
+        "`version` is missing, and has to be the integer 1 or 2",
+    ),
     (
         "version = \"1\"",
         "",
-        "`version` is a string, and has to be the integer 1",
+        "`version` is a string, and has to be the integer 1 or 2",
     ),
-    ("version = 3", "", "`version` is 3, and has to be 1"),
+    ("version = 3", "", "`version` is 3, and has to be 1 or 2"),
+    ("version = 0", "", "`version` is 0, and has to be 1 or 2"),
     (
         "version = 1",
         "\ncolour = 1\nalpha = 1",
@@ -104,6 +117,42 @@ const SAID: [(&str, &str, &str); 28] = [
         "\nroute = [{},{},{},{},{},{},{},{},{},{},{},{},{},{},{},{},{},{},{},{},{},{},{},{},{},{},{},{},{},{},{},{},{},{},{},{},{},{},{},{},{},{},{},{},{},{},{},{},{},{},{},{},{},{},{},{},{},{},{},{},{},{},{},{},{}]",
         "there are 65 routes, and have to be 1 to 64",
     ),
+    // The limit that version 2 has alone: in version 1 the version is what to change, at its own place and no other.
+    (
+        "version = 1",
+        "\nlimits = { stale_s = 600 }",
+        "`limits` has the key \"stale_s\", which needs `version = 2`",
+    ),
+    (
+        "version = 1",
+        "\nlimits = { stale_s = 600, colour = 1 }",
+        "`limits` has the key \"colour\", which is none of `questions`, `inquiries`, `cache`, `tries`, `ask_ms`, `deadline_ms`",
+    ),
+    (
+        "version = 1",
+        "\nlimits = { deny = true }",
+        "`limits` has the key \"deny\", which is none of `questions`, `inquiries`, `cache`, `tries`, `ask_ms`, `deadline_ms`",
+    ),
+    (
+        "version = 1",
+        "\nstale_s = 600",
+        "the document has the key \"stale_s\", which is none of `version`, `listen`, `limits`, `route`",
+    ),
+    (
+        "version = 2",
+        "\nlimits = { stale = 600 }",
+        "`limits` has the key \"stale\", which is none of `questions`, `inquiries`, `cache`, `tries`, `ask_ms`, `deadline_ms`, `stale_s`",
+    ),
+    (
+        "version = 2",
+        "\nlimits = { stale_s = 86401 }",
+        "`stale_s` in `limits` is 86401, and has to be 0 to 86400",
+    ),
+    (
+        "version = 2",
+        "\nlimits = { stale_s = false }",
+        "`stale_s` in `limits` is a boolean, and has to be an integer",
+    ),
     // A route.
     (
         ROUTE,
@@ -149,6 +198,42 @@ const SAID: [(&str, &str, &str); 28] = [
         ROUTE,
         "suffix = \"a\"\nservers = [\"192.0.2.1:053\"]",
         "server 1 of route 2 is \"192.0.2.1:053\", and has to be four numbers from 0 to 255 with dots between, a colon, and a port from 1 to 65535",
+    ),
+    // A route that denies.
+    (
+        ROUTE,
+        "suffix = \"lan\"\ndeny = true",
+        "route 2 has the key \"deny\", which needs `version = 2`",
+    ),
+    (
+        ROUTE,
+        "suffix = \"lan\"\nstale_s = 600",
+        "route 2 has the key \"stale_s\", which is none of `suffix`, `servers`",
+    ),
+    (
+        ROUTE_2,
+        "suffix = \"lan\"\ndenied = true",
+        "route 2 has the key \"denied\", which is none of `suffix`, `deny`, `servers`",
+    ),
+    (
+        ROUTE_2,
+        "suffix = \"lan\"\ndeny = 1",
+        "`deny` of route 2 is an integer, and has to be a boolean",
+    ),
+    (
+        ROUTE_2,
+        "suffix = \"lan\"\ndeny = true\nservers = [\"192.0.2.9:53\"]",
+        "`servers` of route 2 is there, and has to be missing where `deny` is true",
+    ),
+    (
+        ROUTE_2,
+        "suffix = \"lan\"\ndeny = false",
+        "`servers` of route 2 is missing, and has to be an array of 1 to 8 strings",
+    ),
+    (
+        ROUTE_2,
+        "suffix = \"lan\"\ndeny = false\nservers = []",
+        "`servers` of route 2 is empty, and has to have 1 to 8",
     ),
 ];
 

@@ -3,8 +3,8 @@
 use crate::files::Opened;
 use replay_script::ReplayFault;
 use std::fmt::Display;
-use std::io;
-use std::str;
+use std::io::ErrorKind;
+use std::{io, str};
 use suffix_routes::Peer;
 
 /// A line that a person reads.
@@ -25,9 +25,16 @@ fn say_of_file<R: Print, T: Display>(rt: &R, name: &[u8], reason: &T) {
     }
 }
 
+/// Whether memory ran out, of which nothing is said.
+fn is_want_of_memory(error: &io::Error) -> bool {
+    error.kind() == ErrorKind::OutOfMemory
+}
+
 /// The fault of a file that the system doesn't open.
 pub fn unopened<R: Print>(rt: &R, name: &[u8], error: io::Error) -> ReplayFault {
-    say_of_file(rt, name, &error);
+    if !is_want_of_memory(&error) {
+        say_of_file(rt, name, &error);
+    }
     ReplayFault::from(error)
 }
 
@@ -41,6 +48,8 @@ pub fn say_unread<R: Print>(rt: &R, name: &[u8], file: &Opened) {
 
 /// The fault of an address that can't be listened at.
 pub fn unlistened<R: Print>(rt: &R, listen: Peer, error: io::Error) -> ReplayFault {
-    say_of(rt, &listen, &error);
+    if !is_want_of_memory(&error) {
+        say_of(rt, &listen, &error);
+    }
     ReplayFault::from(error)
 }

@@ -3,6 +3,12 @@
 #![tactic(auto)]
 
 #[cfg(test)]
+mod copying_tests;
+#[cfg(test)]
+mod equal;
+#[cfg(test)]
+mod memory_tests;
+#[cfg(test)]
 mod messages;
 #[cfg(test)]
 mod reading_tests;

@@ -1,5 +1,15 @@
 //! Messages of worked examples: questions, replies and answers of every shape that they have.
 
+/// A reply: a.example, A, IN has the address 198.51.100.5 for 300 seconds.
+pub const REPLY: &[u8] =
+    b"\x00\x08\x85\x00\x00\x01\x00\x01\x00\x00\x00\x00\x01a\x07example\x00\x00\x01\x00\x01\xc0\x0c\x00\x01\x00\x01\x00\x00\x01\x2c\x00\x04\xc63d\x05";
+
+/// A reply with names that don't lie in place: a question for a name of 20 labels, and its alias to another one of 20, which
+/// differs from it in the first.
+pub const LONG_REPLY: &[u8] =
+    b"\x00\x08\x85\x00\x00\x01\x00\x01\x00\x00\x00\x00\x01a\x01a\x01a\x01a\x01a\x01a\x01a\x01a\
+\x01a\x01a\x01a\x01a\x01a\x01a\x01a\x01a\x01a\x01a\x01a\x01a\x00\x00\x01\x00\x01\xc0\x0c\x00\x05\x00\x01\x00\x00\x01\x2c\x00\x04\x01b\xc0\x0e";
+
 /// In hexadecimal digits, the shorter ones first.
 pub const MESSAGES: [&str; 71] = [
     "1234010000010000000000",

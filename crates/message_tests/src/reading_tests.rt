@@ -1,8 +1,7 @@
-//! Messages that are read, their faults, and each growth refused in turn.
+//! Messages that are read, and their faults.
 
-use dns_message::{Fault, MessageRef, Record};
-use refusing_allocator::Refusing;
-use std::alloc::{AllocError, Allocator, Global};
+use dns_message::{Fault, MessageRef};
+use std::alloc::Global;
 use std::test::Fail;
 
 /// Octets that are no message, and the first fault from the front.
@@ -76,10 +75,12 @@ fn the_first_fault_is_told(rt: HostRuntime) -> Result<(), Fail> {
     Ok(())
 }
 
-/// Owners in front of a name of 127 labels, at the offset 12, and of its last 126, at 14: of 255 octets and of 256.
-const LONG_OWNERS: [(&[u8], Option<Fault>); 2] = [
-    (b"\x01a\xc0\x0e", None),
-    (b"\x02aa\xc0\x0e", Some(Fault::NameLong)),
+/// Owners that end with a name of 127 labels, at the offset 12, or with its last 126, at 14; and how many labels they have, or
+/// the fault: one has 255 octets, the others 257 and 256.
+const LONG_OWNERS: [(&[u8], Result<usize, Fault>); 3] = [
+    (b"\x01a\xc0\x0e", Ok(127)),
+    (b"\x01a\xc0\x0c", Err(Fault::NameLong)),
+    (b"\x02aa\xc0\x0e", Err(Fault::NameLong)),
 ];
 
 /// A message whose question has 127 labels of one octet, and an address with this owner.
@@ -94,11 +95,20 @@ fn under_127_labels(alloc: Global, owner: &[u8]) -> Result<Vec<u8>, Fail> {
     Ok(octets)
 }
 
+/// How many labels the owner of the only answer has.
+fn labels_of_owner(alloc: Global, octets: &[u8]) -> Result<usize, Fault> {
+    let message = MessageRef::view(octets)?.read_whole(alloc)?;
+    match message.answers.as_slice() {
+        [record] => Ok(record.owner.labels().count()),
+        _ => Err(Fault::Short),
+    }
+}
+
 #[test]
 fn a_name_has_at_most_255_octets(rt: HostRuntime) -> Result<(), Fail> {
-    for (owner, fault) in &LONG_OWNERS {
+    for (owner, wanted) in &LONG_OWNERS {
         let octets = under_127_labels(rt.alloc(), owner)?;
-        assert_eq!(rt; fault_of(rt.alloc(), &octets), *fault);
+        assert_eq!(rt; labels_of_owner(rt.alloc(), &octets), *wanted);
     }
     Ok(())
 }
@@ -121,55 +131,5 @@ fn what_is_said_of_a_fault(rt: HostRuntime) -> Result<(), Fail> {
         let said = format!(in rt.alloc(); "{fault}")?;
         assert_eq!(rt; said.as_str(), *wanted);
     }
-    Ok(())
-}
-
-/// The first question, read and copied.
-fn copy_question<A: Allocator + Copy>(alloc: A, view: &MessageRef<'_>) -> Result<(), Fault> {
-    let question = view.question(alloc)?;
-    question.copy(alloc)?;
-    Ok(())
-}
-
-/// Copies of a record and of its data, and the name in that.
-fn copy_record<A: Allocator + Copy>(alloc: A, record: &Record<A>) -> Result<(), AllocError> {
-    let copy = record.copy(alloc)?;
-    let data = copy.rdata.copy(alloc)?;
-    data.name(alloc)?;
-    Ok(())
-}
-
-/// Every call that takes memory, over this message. `Err` where a growth was refused.
-fn every_call<A: Allocator + Copy>(alloc: A, octets: &[u8]) -> Result<(), Fault> {
-    let view = MessageRef::view(octets)?;
-    copy_question(alloc, &view)?;
-    let message = view.read_whole(alloc)?;
-    for record in message.answers.as_slice() {
-        copy_record(alloc, record)?;
-    }
-    Ok(())
-}
-
-/// How many growths these calls take; 64 where that isn't enough, or where something else than want of memory is told.
-fn growths_of_every_call(heap: &Refusing<Global>, octets: &[u8]) -> u64 {
-    for growths in 0..64u64 {
-        heap.allow(growths);
-        match every_call(heap, octets) {
-            Ok(()) => return growths,
-            Err(Fault::Memory) => {}
-            Err(_) => return 64,
-        }
-    }
-    64
-}
-
-#[test]
-fn each_refused_growth_is_want_of_memory(rt: HostRuntime) -> Result<(), Fail> {
-    let octets = decoded(
-        rt.alloc(),
-        "0008850000010001000000000161076578616d706c650000010001c00c000500010000003c00040162c00e",
-    )?;
-    let heap = Refusing::new(rt.alloc());
-    assert_eq!(rt; growths_of_every_call(&heap, &octets), 3);
     Ok(())
 }

@@ -1,14 +1,11 @@
 //! Messages that are written.
 
+use crate::equal::is_equal_message;
+use crate::messages::REPLY;
 use dns_message::{Fault, Message, MessageRef, write};
 use plain_list::Octets;
-use refusing_allocator::Refusing;
 use std::alloc::{Allocator, Global};
 use std::test::Fail;
-
-/// A reply of a.example, A, IN with the address 198.51.100.5 for 300 seconds.
-const REPLY: &str =
-    "0008850000010001000000000161076578616d706c650000010001c00c000100010000012c0004c6336405";
 
 /// `write`, for a header whose numbers fit their bits.
 fn written<A: Allocator + Copy>(
@@ -38,13 +35,12 @@ fn rewritten(alloc: Global, digits: &str) -> Result<String, Fail> {
 
 #[test]
 fn a_reply_is_written_back(rt: HostRuntime) -> Result<(), Fail> {
-    let octets = hex::decode(rt.alloc(), REPLY)?;
     for limit in &[512, 43] {
-        let text = written_again(rt.alloc(), &octets, *limit)?;
-        assert!(rt; text.as_slice() == octets.as_slice(), "at {limit}");
+        let text = written_again(rt.alloc(), REPLY, *limit)?;
+        assert!(rt; text.as_slice() == REPLY, "at {limit}");
     }
     for limit in &[0, 11, 12, 26, 27, 42] {
-        let fault = written_again(rt.alloc(), &octets, *limit).err();
+        let fault = written_again(rt.alloc(), REPLY, *limit).err();
         assert_eq!(rt; fault, Some(Fault::TooLarge), "at {limit}");
     }
     Ok(())
@@ -85,6 +81,30 @@ fn a_name_is_a_pointer_where_it_stood_first(rt: HostRuntime) -> Result<(), Fail>
     Ok(())
 }
 
+/// A service at a.example (RFC 2782), its target as a pointer and written out.
+const SERVICES: [&[u8]; 2] = [
+    b"\x00\x08\x85\x00\x00\x01\x00\x01\x00\x00\x00\x00\x01a\x07example\x00\x00\x01\x00\x01\xc0\x0c\x00\x21\x00\x01\x00\x00\x01\x2c\x00\x08\x00\x00\x00\x00\x005\xc0\x0c",
+    b"\x00\x08\x85\x00\x00\x01\x00\x01\x00\x00\x00\x00\x01a\x07example\x00\x00\x01\x00\x01\xc0\x0c\x00\x21\x00\x01\x00\x00\x01\x2c\x00\x11\x00\x00\x00\x00\x005\x01a\x07example\x00",
+];
+
+/// Whether two texts spell one message.
+fn spell_one(alloc: Global, one: &[u8], other: &[u8]) -> Result<bool, Fault> {
+    let one = MessageRef::view(one)?.read_whole(alloc)?;
+    let other = MessageRef::view(other)?.read_whole(alloc)?;
+    Ok(is_equal_message(&one, &other))
+}
+
+#[test]
+fn two_spellings_are_one_message(rt: HostRuntime) -> Result<(), Fail> {
+    let [_, out] = SERVICES;
+    for octets in &SERVICES {
+        assert!(rt; spell_one(rt.alloc(), octets, out)?);
+        let text = written_again(rt.alloc(), octets, 512)?;
+        assert!(rt; text.as_slice() == out);
+    }
+    Ok(())
+}
+
 /// How many octets stand in front of a name that comes twice, besides 28, and its second place: a pointer leads to the offset
 /// 16,383 at most (RFC 1035 4.1.4).
 const LAST_PLACES: [(u16, &[u8]); 2] = [(16355, b"\xff\xff"), (16356, b"\x01x\x00")];
@@ -113,35 +133,5 @@ fn a_pointer_leads_to_16383_at_most(rt: HostRuntime) -> Result<(), Fail> {
         let text = written_again(rt.alloc(), &octets, 65535)?;
         assert!(rt; text.as_slice() == octets.as_slice(), "behind {length}");
     }
-    Ok(())
-}
-
-/// Whether the message is written as these octets, which it came from, where so many growths are granted. `Memory` where one
-/// was refused.
-fn is_written(heap: &Refusing<Global>, octets: &[u8], growths: u64) -> Result<bool, Fault> {
-    heap.allow(u64::MAX);
-    let message = MessageRef::view(octets)?.read_whole(heap)?;
-    heap.allow(growths);
-    Ok(written(heap, &message, 512)?.as_slice() == octets)
-}
-
-/// How many growths it takes to write the message; 64 where that isn't enough, or where something else than want of memory
-/// is told.
-fn growths_of_writing(heap: &Refusing<Global>, octets: &[u8]) -> u64 {
-    for growths in 0..64u64 {
-        match is_written(heap, octets, growths) {
-            Ok(true) => return growths,
-            Err(Fault::Memory) => {}
-            _ => return 64,
-        }
-    }
-    64
-}
-
-#[test]
-fn each_refused_growth_of_writing_is_want_of_memory(rt: HostRuntime) -> Result<(), Fail> {
-    let heap = Refusing::new(rt.alloc());
-    let octets = hex::decode(rt.alloc(), REPLY)?;
-    assert_eq!(rt; growths_of_writing(&heap, &octets), 3);
     Ok(())
 }

@@ -21,15 +21,15 @@ module _ {M : Type 1} {𝓤 : Ura M} (𝓛 : Logic 𝓤) (at_mem : Memory → SP
   abbrev pub Counts : Contract 𝓤
   Counts = triple_of 𝓛 is_spent.signature (is_spent.spec 𝓛 at_mem run)
 
-  abbrev pub at_counts : Lft → Share → ℕ × ℕ → Counts.Ghost
-  at_counts κ q c = (((κ, tt), (q, tt), tt, (record { ref_ptr = c; now = record { value = tt } }, tt), (vptr c.0 c.1 ∷ [], tt)), tt)
+  abbrev pub at_counts : Lft → Share → ℕ × ℕ → Count.Denot → Counts.Ghost
+  at_counts κ q c n = (((κ, tt), (q, tt), tt, (record { ref_ptr = c; now = n }, tt), (vptr c.0 c.1 ∷ [], tt)), tt)
 
-  module _ (κ : Lft) (q : Share) (c : ℕ × ℕ) where
+  module _ (κ : Lft) (q : Share) (c : ℕ × ℕ) (n : Count.Denot) where
     open 𝓛 use {H, A}
 
-    pub counts_goes : ent 𝓤 (sep 𝓤 (sem 𝓛 (hidden_shr Count κ (record { value = tt }) c.0 c.1)) (A.lft κ q)) (Counts.pre (at_counts κ q c))
+    pub counts_goes : ent 𝓤 (sep 𝓤 (sem 𝓛 (hidden_shr Count κ n c.0 c.1)) (A.lft κ q)) (Counts.pre (at_counts κ q c n))
     counts_goes =
-        qed 𝓛 (‵ (hidden_shr Count κ (record { value = tt }) c.0 c.1) ∷ ‵ (flft κ q) ∷ []) ∵
+        qed 𝓛 (‵ (hidden_shr Count κ n c.0 c.1) ∷ ‵ (flft κ q) ∷ []) ∵
         feq_i ! (List Val) (vptr c.0 c.1 ∷ []) (vptr c.0 c.1 ∷ []) refl $ fjoin ! $ nothing ! $ move ! (1 ∷ []) $ fjoin ! $
         nothing ! $ move ! (2 ∷ []) $ join ! $ join ! $ nothing ! $ move ! (1 ∷ []) $ done !
 
@@ -37,9 +37,9 @@ module _ {M : Type 1} {𝓤 : Ura M} (𝓛 : Logic 𝓤) (at_mem : Memory → SP
     abbrev pub Said : Val → SProp 𝓤
     Said v = ex 𝓤 (λ (spent : Bool). guard 𝓤 (v ≡ vbool spent) (A.lft κ q))
 
-    pub counts_says : (v : Val) → ent 𝓤 (Counts.post (at_counts κ q c) v) (H.⇛ (Said v))
+    pub counts_says : (v : Val) → ent 𝓤 (Counts.post (at_counts κ q c n) v) (H.⇛ (Said v))
     counts_says v =
-        qed 𝓛 (raw (Counts.post (at_counts κ q c) v) ∷ []) ∵ updating ! $
+        qed 𝓛 (raw (Counts.post (at_counts κ q c n) v) ∷ []) ∵ updating ! $
         use1 𝓛 (later (some (λ (spent : Bool). ((‵ (flft κ q) ⊛ ‵ ftrue) ⊛ ‵ (bool.own_val spent (v ∷ []))) ⊛
         some (λ (ws : Unit {0} × Unit {0}). ‵ (fsep ftrue ftrue) ⊛ ‵ ftrue)))) (id⊢ 𝓤 _) $ await ! tt $ pick ! (λ spent.
         split ! $ split ! $ move ! (1 ∷ []) $ feq_l ! (λ e. split ! $ at_once ! $

@@ -1,4 +1,4 @@
--- A `&Refusing<B>` as the two walks see it: a `&` to the allocator within and a `&` to the count. Assumes `Logic`.
+-- A `&Refusing<B>` as the two walks see it: a `&` to the allocator within and a `&` to the counts. Assumes `Logic`.
 use Rattle.std.proofs.Common.{ℕ, ◌+◌, [], ◌∷◌, Bor}
 use seplogic.Ra.Ura.{Ura}
 use mir.Syntax.{Args, a_type, dnil, dcons}
@@ -11,14 +11,14 @@ use denote.RattleType.{RattleType}
 use denote.Memory.{hidden_shr}
 use denote.Opens.{unhide}
 use denote.Param.{bounded, param}
-use denote.Builtin.{u64, RefOf}
+use denote.Builtin.{RefOf}
 use denote.Signature.{Slot, plain}
 use Rattle.std.proofs.alloc.Calls.{Al, α, seen}
-use Rattle.std.specs.contracts.cell.Cell as Cell
+use Rattle.refusing_allocator.specs.contracts.Growths as Growths
 use Rattle.refusing_allocator.specs.contracts.Refusing as Refusing
 
 abbrev pub Count : RattleType
-Count = Cell.the_row u64
+Count = Growths.the_row
 
 module _ (Z : Al) where
   abbrev pub Whole : RattleType
@@ -40,9 +40,9 @@ module _ (Z : Al) where
 module _ (Z : Al) {M : Type 1} {𝓤 : Ura M} (𝓛 : Logic 𝓤) (κ : Lft) (r : Bor (Refusing.the_row Z.row).Denot) where
   pub parts : ent 𝓤 (sem 𝓛 (hidden_shr (Whole Z) κ r.now r.ref_ptr.0 r.ref_ptr.1))
       (sep 𝓤 (sem 𝓛 (seen Z κ (inner_place Z r.ref_ptr) r.now.inner))
-      (sem 𝓛 (hidden_shr Count κ (record { value = tt }) (count_place Z r.ref_ptr).0 (count_place Z r.ref_ptr).1)))
+      (sem 𝓛 (hidden_shr Count κ r.now.growths (count_place Z r.ref_ptr).0 (count_place Z r.ref_ptr).1)))
   parts =
       qed 𝓛 (‵ (hidden_shr (Whole Z) κ r.now r.ref_ptr.0 r.ref_ptr.1) ∷ []) ∵ unhide ! $ fsplit ! $ fsplit ! $
       use1 𝓛 (‵ (seen Z κ (inner_place Z r.ref_ptr) r.now.inner)) (id⊢ 𝓤 _) $ move ! (1 ∷ []) $ fsplit ! $
-      use1 𝓛 (‵ (hidden_shr Count κ (record { value = tt }) (count_place Z r.ref_ptr).0 (count_place Z r.ref_ptr).1)) (id⊢ 𝓤 _) $
+      use1 𝓛 (‵ (hidden_shr Count κ r.now.growths (count_place Z r.ref_ptr).0 (count_place Z r.ref_ptr).1)) (id⊢ 𝓤 _) $
       keep ! (2 ∷ 0 ∷ []) $ join ! $ done !

@@ -1,4 +1,4 @@
-//! An allocator for tests: it grants as many growths as it was told, and then refuses each one.
+//! An allocator for tests: it grants as many growths as it was told, and then refuses each one, or the next one alone.
 #![tactic(auto)]
 
 use std::alloc::{AllocError, Allocator};
@@ -9,9 +9,9 @@ const AMPLE: u64 = u64::MAX;
 
 /// A handle on the memory of `inner` that can be told to run out of it.
 ///
-/// A test makes one, sets its state up with ample memory, calls `allow` with 0, 1, 2, .. before the step that it
-/// tests, and looks at what the step does where its first, second, third, .. growth is refused. Collections take it by
-/// reference, as `&Refusing<Global>`, so that the test still has it in hand.
+/// A test makes one, sets its state up with ample memory, calls `allow` or `refuse_one` with 0, 1, 2, .. before the step
+/// that it tests, and looks at what the step does where its first, second, third, .. growth is refused: with each one after
+/// it, or alone. Collections take it by reference, as `&Refusing<Global>`, so that the test still has it in hand.
 ///
 /// A growth is one call of `allocate`; a collection that moves its items to a larger block asks once for it. Giving
 /// memory back is never refused, and gives no growth back.
@@ -19,7 +19,14 @@ const AMPLE: u64 = u64::MAX;
 pub struct Refusing<B: Allocator> {
     // The order of the two fields counts: the proofs below `proofs/RefusingAllocator` name their places.
     inner: B,
+    growths: Growths,
+}
+
+/// How many more growths are granted before one is refused, and how many more after each that is refused.
+#[derive(Drop)]
+struct Growths {
     left: Cell<u64>,
+    refill: Cell<u64>,
 }
 
 impl<B: Allocator> Refusing<B> {
@@ -27,23 +34,37 @@ impl<B: Allocator> Refusing<B> {
     pub fn new(inner: B) -> Refusing<B> {
         Refusing {
             inner,
-            left: Cell::new(AMPLE),
+            growths: Growths {
+                left: Cell::new(AMPLE),
+                refill: Cell::new(0),
+            },
         }
     }
 
     /// From now on `count` more growths are granted, and each one after them is refused. At `u64::MAX` none is.
     pub fn allow(&self, count: u64) {
-        self.left.set(count);
+        self.growths.left.set(count);
+        self.growths.refill.set(0);
+    }
+
+    /// From now on `count` more growths are granted, the one after them is refused, and each later one is granted. At
+    /// `u64::MAX` none is refused.
+    pub fn refuse_one(&self, count: u64) {
+        self.growths.left.set(count);
+        self.growths.refill.set(AMPLE);
     }
 }
 
 /// Whether the next growth is refused. It counts the growth where it is not.
-fn is_spent(left: &Cell<u64>) -> bool {
-    match left.get() {
-        0 => true,
+fn is_spent(growths: &Growths) -> bool {
+    match growths.left.get() {
+        0 => {
+            growths.left.set(growths.refill.get());
+            true
+        }
         AMPLE => false,
         count => {
-            left.set(count - 1);
+            growths.left.set(count - 1);
             false
         }
     }
@@ -54,7 +75,7 @@ unsafe impl<B: Allocator> Allocator for Refusing<B> {
     ghost dealloc_token = { λ heap layout block. B.dealloc_token heap.inner layout block };
 
     fn allocate(&self, size: usize, align: usize) -> Result<*mut u8, AllocError> {
-        if is_spent(&self.left) {
+        if is_spent(&self.growths) {
             return Err(AllocError);
         }
         self.inner.allocate(size, align)
@@ -99,6 +120,27 @@ mod tests {
         for _again in 0..100u8 {
             assert_eq!(rt; blocks(&heap), 3, "ample again");
         }
+    }
+
+    #[test]
+    fn one_growth_alone_is_refused(rt: HostRuntime) {
+        let heap = Refusing::new(rt.alloc());
+        for (count, granted) in [(0, 2), (1, 2), (2, 2), (3, 3), (u64::MAX, 3)] {
+            heap.refuse_one(count);
+            assert_eq!(rt;
+                blocks(&heap),
+                granted,
+                "of three, with one refused after {count}"
+            );
+            assert_eq!(rt;
+                Box::new(&heap, 4u8).is_ok(),
+                count != 3,
+                "a fourth, with one refused after {count}"
+            );
+            assert_eq!(rt; blocks(&heap), 3, "ample after the refused one");
+        }
+        heap.allow(0);
+        assert_eq!(rt; blocks(&heap), 0, "none again");
     }
 
     #[test]

@@ -11,12 +11,13 @@ use Rattle.dns_message.specs.Writing.{written}
 use Rattle.dns_message.specs.Written.{IsQuestion, IsRecord, IsMessage}
 use Rattle.dns_message.proofs.CallerLemmas.{written_message_is_spelled, one_message_is_spelled}
 use Rattle.trust_rank.specs.Values.{Body, rows, no_data, denied, Piece}
-use Rattle.trust_rank.specs.Formed.{FitsKind, IsSoa}
+use Rattle.trust_rank.specs.Formed.{FitsKind, IsPiece, IsSoa}
 use Rattle.trust_rank.specs.Writable.{IsWritableBody, IsWritable}
 use Rattle.record_cache.specs.Values.{Held}
 use Rattle.record_cache.specs.Ageing.{seconds_left}
-use Rattle.answer_builder.specs.Values.{Asked, Sections}
-use Rattle.answer_builder.specs.Answers.{record_of, records_in, aged, soa_records, rcode_of, answers_of, authority_of, last_of, sections_of, full_answer, cut_answer, answer_message, bare}
+use Rattle.answer_builder.specs.Values.{Told, Asked, Sections}
+use Rattle.answer_builder.specs.Answers.{record_of, records_in, aged, soa_records, rcode_of, told_at, answers_of, authority_of, last_of}
+use Rattle.answer_builder.specs.Answers.{sections_told, sections_of, full_answer, cut_answer, answer_message, bare}
 use Rattle.step_values.specs.declared.event.Client.{Client}
 use Rattle.step_values.specs.declared.event.Client.TheVariants.{Udp, Tcp}
 use Rattle.step_history.specs.Replies.{sized_for, FitsTransport}
@@ -26,53 +27,63 @@ use Rattle.step_keeping.specs.Laws.{AnswersAreSpelled}
 use Rattle.step_keeping.proofs.Short.{question_short}
 use Rattle.step_keeping.proofs.Lists.{All-append}
 
+-- what is told of it can be written
+record CanTell (x : Told) : Type 0 where
+  pub formed : IsPiece x.piece
+  pub writable : IsWritable x.piece
+  pub seconds : x.seconds < 4294967296
+
 -- what is left of a lifetime fits 32 bits
-seconds_fit : (t : ℕ) (h : Held) → CanBeTold t h → seconds_left t h < 4294967296
-seconds_fit t h told =
+left_can : (t : ℕ) (h : Held) → CanBeTold t h → CanTell (told_at t h)
+left_can t h told =
     let short : h.piece.lifetime ≤ 604800 = told.formed.lifetime in
     let before : h.accepted ≤ t = told.earlier in
     let most : seconds_left t h ≤ 604800 = omega (arith, short, before) in
-    omega (arith, most)
+    record { formed = told.formed; writable = told.writable; seconds = omega (arith, most) }
+
+all_left_can : (t : ℕ) (chain : List Held) → AllByRecursion (CanBeTold t) chain → AllByRecursion CanTell (map (told_at t) chain)
+all_left_can t [] all = tt
+all_left_can t (h ∷ chain) all = (left_can t h all.0, all_left_can t chain all.1)
 
 -- ---- the records of an answer
 
 abbrev Tells : Record → Type 0
 Tells r = IsRecord r × IsShaped r.kind r.rdata
 
-rows_tell : (t kind : ℕ) (p : Piece) (ttl : ℕ) → ttl < 4294967296 → IsWritable p → kind < 65536 → (each : List (List ℕ)) → AllByRecursion (IsShaped kind) each → AllByRecursion Tells (map (record_of ttl p kind) each)
-rows_tell t kind p ttl small can k [] all = tt
-rows_tell t kind p ttl small can k (row ∷ each) all = ((record { owner = can.owner; kind = k; class = can.class; ttl = small }, all.0), rows_tell t kind p ttl small can k each all.1)
+rows_tell : (kind : ℕ) (p : Piece) (ttl : ℕ) → ttl < 4294967296 → IsWritable p → kind < 65536 → (each : List (List ℕ)) → AllByRecursion (IsShaped kind) each → AllByRecursion Tells (map (record_of ttl p kind) each)
+rows_tell kind p ttl small can k [] all = tt
+rows_tell kind p ttl small can k (row ∷ each) all = ((record { owner = can.owner; kind = k; class = can.class; ttl = small }, all.0), rows_tell kind p ttl small can k each all.1)
 
-set_tells : (t : ℕ) (h : Held) → CanBeTold t h → AllByRecursion Tells (answers_of t h)
-set_tells t h told = by h.piece.slot.kind h.piece.body told.formed.body told.writable.kind
+set_tells : (x : Told) → CanTell x → AllByRecursion Tells (answers_of x)
+set_tells x can = by x.piece.slot.kind x.piece.body can.formed.body can.writable.kind
   where
-    by : (k : Option ℕ) (b : Body) → FitsKind k b → IfSome k (λ kind. kind < 65536) → AllByRecursion Tells (records_in (seconds_left t h) h.piece k b)
-    by (Some kind) (rows each) fits small = rows_tell t kind h.piece (seconds_left t h) (seconds_fit t h told) told.writable small each fits.shaped
+    by : (k : Option ℕ) (b : Body) → FitsKind k b → IfSome k (λ kind. kind < 65536) → AllByRecursion Tells (records_in x.seconds x.piece k b)
+    by (Some kind) (rows each) fits small = rows_tell kind x.piece x.seconds can.seconds can.writable small each fits.shaped
     by (Some kind) (no_data soa) fits small = tt
     by (Some kind) (denied soa) fits small = tt
     by None b fits small = tt
 
-soa_tells : (t : ℕ) (h : Held) → CanBeTold t h → AllByRecursion Tells (authority_of t h)
-soa_tells t h told = by h.piece.slot.kind h.piece.body told.formed.body told.writable.body
+soa_tells : (x : Told) → CanTell x → AllByRecursion Tells (authority_of x)
+soa_tells x can = by x.piece.slot.kind x.piece.body can.formed.body can.writable.body
   where
-    one : (soa : Option Record) → IfSome soa IsSoa → IfSome soa IsRecord → AllByRecursion Tells (aged (seconds_left t h) soa)
-    one None is can = tt
-    one (Some r) is can = ((record { owner = can.owner; kind = can.kind; class = can.class; ttl = seconds_fit t h told }, subst (λ (k : ℕ). IsShaped k r.rdata) (sym is.kind) is.shaped), tt)
+    one : (soa : Option Record) → IfSome soa IsSoa → IfSome soa IsRecord → AllByRecursion Tells (aged x.seconds soa)
+    one None is writable = tt
+    one (Some r) is writable = ((record { owner = writable.owner; kind = writable.kind; class = writable.class; ttl = can.seconds }, subst (λ (k : ℕ). IsShaped k r.rdata) (sym is.kind) is.shaped), tt)
 
-    by : (k : Option ℕ) (b : Body) → FitsKind k b → IsWritableBody b → AllByRecursion Tells (soa_records (seconds_left t h) b)
-    by k (rows each) fits can = tt
-    by (Some kind) (no_data soa) fits can = one soa fits can
-    by None (no_data soa) fits can = absurd fits
-    by None (denied soa) fits can = one soa fits can
-    by (Some kind) (denied soa) fits can = absurd fits
+    by : (k : Option ℕ) (b : Body) → FitsKind k b → IsWritableBody b → AllByRecursion Tells (soa_records x.seconds b)
+    by k (rows each) fits writable = tt
+    by (Some kind) (no_data soa) fits writable = one soa fits writable
+    by None (no_data soa) fits writable = absurd fits
+    by None (denied soa) fits writable = one soa fits writable
+    by (Some kind) (denied soa) fits writable = absurd fits
 
-all_tell : (t : ℕ) (chain : List Held) → AllByRecursion (CanBeTold t) chain → AllByRecursion Tells (flat_map (answers_of t) chain)
-all_tell t [] all = tt
-all_tell t (h ∷ chain) all = All-append Tells (answers_of t h) (flat_map (answers_of t) chain) (set_tells t h all.0) (all_tell t chain all.1)
+all_tell : (chain : List Told) → AllByRecursion CanTell chain → AllByRecursion Tells (flat_map answers_of chain)
+all_tell [] all = tt
+all_tell (x ∷ chain) all = All-append Tells (answers_of x) (flat_map answers_of chain) (set_tells x all.0) (all_tell chain all.1)
 
-last_told : (t : ℕ) (h : Held) (chain : List Held) → CanBeTold t h → AllByRecursion (CanBeTold t) chain → CanBeTold t (last_of h chain)
-last_told t h [] told all = told
-last_told t h (other ∷ chain) told all = last_told t other chain all.0 all.1
+last_can : (x : Told) (chain : List Told) → CanTell x → AllByRecursion CanTell chain → CanTell (last_of x chain)
+last_can x [] can all = can
+last_can x (other ∷ chain) can all = last_can other chain all.0 all.1
 
 small_code : (b : Body) → rcode_of b < 16
 small_code (rows each) = omega arith
@@ -85,13 +96,16 @@ record CanBeWritten (s : Sections) : Type 0 where
   pub authority : AllByRecursion Tells s.authority
   pub rcode : s.rcode < 16
 
-sections_can : (t : ℕ) (chain : List Held) → AllByRecursion (CanBeTold t) chain → CanBeWritten (sections_of t chain)
-sections_can t [] all = record { answers = tt; authority = tt; rcode = omega arith }
-sections_can t (h ∷ chain) all = record {
-  answers = all_tell t (h ∷ chain) all;
-  authority = soa_tells t (last_of h chain) (last_told t h chain all.0 all.1);
-  rcode = small_code (last_of h chain).piece.body;
+told_can : (chain : List Told) → AllByRecursion CanTell chain → CanBeWritten (sections_told chain)
+told_can [] all = record { answers = tt; authority = tt; rcode = omega arith }
+told_can (x ∷ chain) all = record {
+  answers = all_tell (x ∷ chain) all;
+  authority = soa_tells (last_of x chain) (last_can x chain all.0 all.1);
+  rcode = small_code (last_of x chain).piece.body;
 }
+
+sections_can : (t : ℕ) (chain : List Held) → AllByRecursion (CanBeTold t) chain → CanBeWritten (sections_of t chain)
+sections_can t chain all = told_can (map (told_at t) chain) (all_left_can t chain all)
 
 records_of : (rs : List Record) → AllByRecursion Tells rs → AllByRecursion IsRecord rs
 records_of [] all = tt

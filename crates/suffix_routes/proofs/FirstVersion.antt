@@ -46,7 +46,7 @@ all_limits_window ms limits is =
     let made : Limits = record { questions = q.value; inquiries = i.value; cache = c.value; tries = t.value; ask_ms = a.value; deadline_ms = d.value; stale_s = s.value } in
     let whole : Ok made ≡ Ok limits = s.next in
     let same : made ≡ limits = cc in
-    sym (ap (λ (l : Limits). l.stale_s) same) ∙ none
+    sym (ap (λ (l : Limits). l.stale_s) {x = made} same) ∙ none
 
 limits_window : (stands : Option Data) (limits : Limits) → limits_of One stands ≡ Ok limits → limits.stale_s ≡ 0
 limits_window None limits is = let same : default_limits ≡ limits = cc in sym (ap (λ (l : Limits). l.stale_s) same)
@@ -71,7 +71,7 @@ has_neither ms config first is =
     let same : made ≡ config = cc in
     let window : limits.value.stale_s ≡ 0 = limits_window (get_member (codes "limits") ms) limits.value limits.there in
     let serve : AllByRecursion (λ (r : Route). r.deny ≡ false) routes.value = (routes_accepted One ms routes.value routes.there).0.serve refl in
-    subst HasNeither same (record { window = window; routes = serve })
+    subst HasNeither {x = made} same (record { window = window; routes = serve })
 
 has_neither_told : (text : List ℕ) (read : Option Members) (config : Config) → HasVersion One read → IsTold text read (Ok config) → HasNeither config
 has_neither_told text None config first told = absurd first

@@ -1,13 +1,8 @@
-use Rattle.std.proofs.Common.{◌≡◌, take, drop}
+use Rattle.std.proofs.Common.{◌≡◌, take}
 use Rattle.std.specs.Prelude.{flat_map}
-use Rattle.std.specs.List.{AllByRecursion}
 use Rattle.dns_message.specs.Borrowed.{records_in}
-use Rattle.answer_builder.specs.Answers.{answers_of, IsEarlier}
-use Rattle.answer_builder.specs.Building.{lent}
+use Rattle.answer_builder.specs.Answers.{answers_of}
 use Rattle.answer_builder.proofs.records.sets_of.Given as goal
 
-abbrev pub invariant-loop-held : goal.invariant-loop-held
-invariant-loop-held g l = record {
-  earlier : AllByRecursion (IsEarlier l.moment) (lent (drop l.held-index l.chain));
-  listed : records_in l.sets.items ≡ flat_map (answers_of l.moment) (lent (take l.held-index l.chain));
-}
+abbrev pub invariant-loop-told : goal.invariant-loop-told
+invariant-loop-told g l = records_in l.sets.items ≡ flat_map answers_of (take l.told-index l.chain)

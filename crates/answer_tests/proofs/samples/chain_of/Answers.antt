@@ -10,4 +10,4 @@ put_last P (other ∷ hs) h all here = (all.0, put_last P hs h all.1 here)
 
 pub loop-piece-preserved : goal.loop-piece-preserved
 loop-piece-preserved g c =
-    subst (AllByRecursion (IsEarlier 1020)) (sym c.in_ok-push.ensures.ok) (put_last (IsEarlier 1020) c.loop-piece.chain _ c.loop-piece.invariant (omega arith))
+    subst (AllByRecursion (IsEarlier c.args.moment)) (sym c.in_ok-push.ensures.ok) (put_last (IsEarlier c.args.moment) c.loop-piece.chain _ c.loop-piece.invariant (c.requires))

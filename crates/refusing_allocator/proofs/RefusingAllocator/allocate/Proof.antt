@@ -97,21 +97,21 @@ module _ (Z : Al) {M : Type 1} {𝓤 : Ura M} (𝓛 : Logic 𝓤) (at_mem : Memo
         let p : ℕ × ℕ = inner_place Z r.ref_ptr in
         let c : ℕ × ℕ = count_place Z r.ref_ptr in
         let y : (Takes Z 𝓛 at_mem run).Ghost = at_takes Z 𝓛 at_mem run κ₁ q₁ p inner n a τ in
-        let z : (Counts 𝓛 at_mem run).Ghost = at_counts 𝓛 at_mem run κ₁ q₁ c in
+        let z : (Counts 𝓛 at_mem run).Ghost = at_counts 𝓛 at_mem run κ₁ q₁ c r.now.growths in
         qed 𝓛 (((‵ (flft κ₁ q₁) ⊛ ‵ (flft κ₂ q₂) ⊛ ‵ ftrue) ⊛ ‵ (owns (types_at (ended Z).signature.params bound.0.0) bound.0.3 bound.0.4)) ∷
         (raw (fact 𝓤 (κ₂ ⊑ Z.row.lives)) ⊛ raw (fact 𝓤 Fits)) ∷ []) ∵
         move ! (1 ∷ []) $ split ! $ heard ! (κ₂ ⊑ Z.row.lives) (λ lives. heard ! Fits (λ fits. split ! $ split3 ! $
         -- [two tokens; nothing; the parameters]
         move ! (3 ∷ []) $ fsplit ! $ fsplit ! $ move ! (1 ∷ []) $
-        use1 𝓛 (‵ (seen Z κ₁ p inner) ⊛ ‵ (hidden_shr Count κ₁ (record { value = tt }) c.0 c.1)) (parts Z 𝓛 κ₁ r) $ split ! $
+        use1 𝓛 (‵ (seen Z κ₁ p inner) ⊛ ‵ (hidden_shr Count κ₁ r.now.growths c.0 c.1)) (parts Z 𝓛 κ₁ r) $ split ! $
         -- [the allocator within; the count; ..; the tokens at 4 and 5]
         keep ! (1 ∷ 4 ∷ 0 ∷ 5 ∷ []) $
-        use2 𝓛 (raw ((Counts 𝓛 at_mem run).pre z)) (counts_goes 𝓛 at_mem run κ₁ q₁ c) $
+        use2 𝓛 (raw ((Counts 𝓛 at_mem run).pre z)) (counts_goes 𝓛 at_mem run κ₁ q₁ c r.now.growths) $
         enter ! 𝓣.C 𝓣.Λ (here Z) passed _ $ alloc_all ! (λ l.
         pass_all ! refl ((tt, tt), ((tt, record { fits = small_n }), ((tt, record { fits = small_a }), tt))) $
         sets ! (addr ! (through ! refl (fld ! refl (stop !)))) refl (tt, tt) $
         calls_at ! (fm_of 𝓤 H 𝓛.laws 𝓣) (Counts 𝓛 at_mem run) counts z (and_then ! (get ! refl) (no_more !)) (λ u.
-        use1 𝓛 (later (some (λ (spent : Bool). given (u ≡ vbool spent) (‵ (flft κ₁ q₁))))) (counts_says 𝓛 at_mem run κ₁ q₁ c u) $
+        use1 𝓛 (later (some (λ (spent : Bool). given (u ≡ vbool spent) (‵ (flft κ₁ q₁))))) (counts_says 𝓛 at_mem run κ₁ q₁ c r.now.growths u) $
         await ! tt $ pick ! (λ spent. learn ! (λ is_answer. lands_as ! is_answer refl (tt, tt) $
         -- [a token; the allocator within; the other token]
         first ! $ branches ! (get ! refl)

@@ -1,0 +1,28 @@
+use Rattle.std.proofs.Common.{[], ◌∷◌, true, false, ap, sym, subst, ◌∙◌, arith}
+use Rattle.std.specs.Option.{IfSome}
+use Rattle.dns_name.specs.Labels.{IsName}
+use Rattle.dns_message.proofs.CallerLemmas.{bare_message_is_short}
+use Rattle.answer_builder.specs.Values.{Asked, Sections}
+use Rattle.answer_builder.specs.Answers.{answer_header}
+use Rattle.answer_builder.proofs.Texts.{sent_text, gives_as}
+use Rattle.answer_builder.proofs.building.put_sections.Goals as goal
+
+pub put_text-requires-clause-short : goal.put_text-requires-clause-short
+put_text-requires-clause-short g c =
+    let named = subst (λ (a : Asked). IfSome a.question (λ q. IsName q.name)) (sym c.asked.view_is) c.header_of.ensures.named in
+    let short = bare_message_is_short (record c.header_of.result { tc = true }) c.asked.inside.question named in
+    omega (arith, short)
+
+pub returns : goal.returns
+returns g c =
+    let is = c.sections.view_is in
+    let asked = c.args.asked in
+    let code = ap (λ (s : Sections). answer_header asked false s.rcode (0 ∷ 0 ∷ 0 ∷ 0 ∷ [])) is in
+    let header = c.header_of.ensures.header ∙ code in
+    let question = ap (λ (a : Asked). a.question) c.asked.view_is in
+    let answers = ap (λ (s : Sections). s.answers) is in
+    let authority = ap (λ (s : Sections). s.authority) is in
+    let sets = c.sections.inside in
+    let same = sent_text asked c.args.sections c.args.transport c.header_of.result c.asked.inside.question sets.answers.now
+      sets.authority.now header question answers authority in
+    gives_as _ c.put_text.result _ _ same c.put_text.ensures

@@ -1,0 +1,97 @@
+//! Values of messages that are copied and compared: copies of each, the name in data, and data of a vector.
+
+use crate::equal::{is_equal_question, is_equal_record};
+use crate::messages::{LONG_REPLY, REPLY};
+use dns_message::{Fault, MessageRef, Rdata, Record};
+use refusing_allocator::Refusing;
+use std::alloc::{AllocError, Allocator, Global};
+use std::test::Fail;
+
+/// A reply whose names and data lie in place, and one whose do not.
+const COPIED: [&[u8]; 2] = [REPLY, LONG_REPLY];
+
+/// Whether the copy of the first question is equal to it.
+fn is_question_copied(alloc: Global, octets: &[u8]) -> Result<bool, Fault> {
+    let question = MessageRef::view(octets)?.question(alloc)?;
+    let copy = question.copy(alloc)?;
+    Ok(is_equal_question(&question, &copy))
+}
+
+/// Whether the copies of a record and of its data are equal to them.
+fn is_record_copied(alloc: Global, record: &Record) -> Result<bool, AllocError> {
+    let copy = record.copy(alloc)?;
+    let data = record.rdata.copy(alloc)?;
+    Ok(is_equal_record(record, &copy) && record.rdata.octets() == data.octets())
+}
+
+/// Whether the only answer is copied so.
+fn is_answer_copied(alloc: Global, octets: &[u8]) -> Result<bool, Fault> {
+    let message = MessageRef::view(octets)?.read_whole(alloc)?;
+    match message.answers.as_slice() {
+        [record] => Ok(is_record_copied(alloc, record)?),
+        _ => Ok(false),
+    }
+}
+
+#[test]
+fn copies_are_equal(rt: HostRuntime) -> Result<(), Fail> {
+    for octets in &COPIED {
+        assert!(rt; is_question_copied(rt.alloc(), octets)?);
+        assert!(rt; is_answer_copied(rt.alloc(), octets)?);
+    }
+    Ok(())
+}
+
+/// Data, and the octets of the name that it is, without the zero octet at their end.
+const NAMES: [(&[u8], Option<&[u8]>); 2] = [
+    (b"\x01a\x07example\x00", Some(b"\x01a\x07example")),
+    (b"\xc63d\x05", None),
+];
+
+/// Whether the name in the data is this one; for `None`, whether the data is no name.
+fn has_name(alloc: Global, data: &[u8], wanted: Option<&[u8]>) -> Result<bool, AllocError> {
+    let data = Rdata::from_octets(alloc, data)?;
+    match data.name(alloc)? {
+        Some(name) => Ok(wanted == Some(name.octets())),
+        None => Ok(wanted.is_none()),
+    }
+}
+
+#[test]
+fn data_is_a_name_or_none(rt: HostRuntime) -> Result<(), Fail> {
+    for (data, wanted) in &NAMES {
+        assert!(rt; has_name(rt.alloc(), data, *wanted)?, "{data:?}");
+    }
+    Ok(())
+}
+
+/// How many octets data has that is made of a vector: up to 30 lie in place.
+const LENGTHS: [u16; 4] = [3, 30, 31, 300];
+
+/// So many octets, which count up.
+fn counting<A: Allocator>(alloc: A, length: u16) -> Result<Vec<u8, A>, AllocError> {
+    let mut octets = Vec::new(alloc);
+    for place in 0..length {
+        octets.push((place & 255) as u8)?;
+    }
+    Ok(octets)
+}
+
+/// Whether data of a vector of so many octets has these octets, where no growth is granted.
+fn is_made_in_place(heap: &Refusing<Global>, length: u16) -> Result<bool, AllocError> {
+    heap.allow(u64::MAX);
+    let octets = counting(heap, length)?;
+    let wanted = counting(heap, length)?;
+    heap.allow(0);
+    let data = Rdata::new(octets);
+    Ok(data.octets() == wanted.as_slice())
+}
+
+#[test]
+fn data_of_a_vector_takes_no_memory(rt: HostRuntime) -> Result<(), Fail> {
+    let heap = Refusing::new(rt.alloc());
+    for length in &LENGTHS {
+        assert!(rt; is_made_in_place(&heap, *length)?, "of {length}");
+    }
+    Ok(())
+}

@@ -1,0 +1,199 @@
+//! Names in concrete octets (RFC 1035 2.3.4, 3.1), and what no contract can say: that memory is found where there is
+//! some.
+
+use dns_name::{Name, NameFault, NameKey};
+use refusing_allocator::Refusing;
+use std::alloc::{AllocError, Allocator, Global};
+use std::hash::{BuildHasher, BuildHasherDefault, FoldHasher};
+use std::test::Fail;
+
+/// How many labels the name of a text has, or its fault.
+fn label_count(heap: Global, text: &str) -> Result<usize, NameFault> {
+    Ok(Name::from_text(heap, text)?.labels().count())
+}
+
+#[test]
+fn texts_and_their_first_fault(rt: HostRuntime) {
+    for (text, wanted) in [
+        (".", Ok(0)),
+        ("a.example", Ok(2)),
+        ("a.example.", Ok(2)),
+        ("_dns-1.A0", Ok(2)),
+        ("", Err(NameFault::EmptyLabel)),
+        ("..", Err(NameFault::EmptyLabel)),
+        (".a", Err(NameFault::EmptyLabel)),
+        ("a..b", Err(NameFault::EmptyLabel)),
+        ("a..", Err(NameFault::EmptyLabel)),
+        ("a b", Err(NameFault::BadCharacter)),
+        ("\u{e4}", Err(NameFault::BadCharacter)),
+        ("a*..b", Err(NameFault::BadCharacter)),
+        ("a..b*", Err(NameFault::EmptyLabel)),
+    ] {
+        assert_eq!(rt; label_count(rt.alloc(), text), wanted, "of {text}");
+    }
+}
+
+/// A text of so many labels, each of so many letters and followed by a dot.
+fn text_of(heap: Global, labels: usize, letters: usize) -> Result<String, AllocError> {
+    let mut text = String::new(heap);
+    for _ in 0..labels {
+        for _ in 0..letters {
+            text.push('a')?;
+        }
+        text.push('.')?;
+    }
+    Ok(text)
+}
+
+#[test]
+fn the_longest_labels_and_names(rt: HostRuntime) -> Result<(), Fail> {
+    let heap = rt.alloc();
+    for (labels, letters, wanted) in [
+        (127, 1, Ok(127)),
+        (128, 1, Err(NameFault::NameLong)),
+        (1, 63, Ok(1)),
+        (1, 64, Err(NameFault::LabelLong)),
+        (200, 64, Err(NameFault::LabelLong)),
+    ] {
+        let text = text_of(heap, labels, letters)?;
+        assert_eq!(rt; label_count(heap, text.as_str()), wanted, "{labels} labels");
+        let mut parts = Vec::new(heap);
+        for _ in 0..labels {
+            parts.push(vec![in heap; b'a'; letters]?)?;
+        }
+        let told = Name::from_labels(heap, parts.as_slice()).map(|name| name.labels().count());
+        assert_eq!(rt; told, wanted, "{labels} labels");
+    }
+    let longest = Name::from_text(heap, text_of(heap, 127, 1)?.as_str())?;
+    assert_eq!(rt; longest.octets().len(), 254);
+    Ok(())
+}
+
+/// What a hasher makes of a key.
+fn hash_of(key: &NameKey) -> u64 {
+    let hasher: BuildHasherDefault<FoldHasher> = BuildHasherDefault::default();
+    hasher.hash_one(key)
+}
+
+/// Whether the names are the same, their keys are equal, and the hashes of these.
+fn sameness(heap: Global, one: &str, other: &str) -> Result<[bool; 3], NameFault> {
+    let one = Name::from_text(heap, one)?;
+    let other = Name::from_text(heap, other)?;
+    Ok([
+        one.same(&other),
+        one.key() == other.key(),
+        hash_of(&one.key()) == hash_of(&other.key()),
+    ])
+}
+
+#[test]
+fn names_that_are_the_same(rt: HostRuntime) -> Result<(), Fail> {
+    for (one, other, is_same) in [
+        ("a.example", "A.EXAMPLE.", true),
+        ("a.example", "b.example", false),
+    ] {
+        let told = sameness(rt.alloc(), one, other)?;
+        assert_eq!(rt; told, [is_same; 3], "{one} and {other}");
+    }
+    Ok(())
+}
+
+/// Whether the first name is at or under the second one, and its key is.
+fn is_under(heap: Global, name: &str, suffix: &str) -> Result<[bool; 2], NameFault> {
+    let name = Name::from_text(heap, name)?;
+    let suffix = Name::from_text(heap, suffix)?;
+    Ok([name.is_under(&suffix), name.key().is_under(&suffix)])
+}
+
+#[test]
+fn names_under_names(rt: HostRuntime) -> Result<(), Fail> {
+    for (name, suffix, wanted) in [
+        ("A.EXAMPLE.", "example", true),
+        ("a.example", ".", true),
+        ("notexample", "example", false),
+        ("example", "a.example", false),
+    ] {
+        let told = is_under(rt.alloc(), name, suffix)?;
+        assert_eq!(rt; told, [wanted; 2], "{name} under {suffix}");
+    }
+    Ok(())
+}
+
+/// Whether the name has these octets, and its copy too.
+fn has_octets(heap: Global, name: &str, octets: &[u8]) -> Result<bool, NameFault> {
+    let name = Name::from_text(heap, name)?;
+    let copy = name.copy(heap)?;
+    Ok(name.octets() == octets && copy.octets() == octets)
+}
+
+/// Whether the parent of the first name is the second one, and that of its key is.
+fn has_parent(heap: Global, name: &str, parent: &str) -> Result<bool, NameFault> {
+    let name = Name::from_text(heap, name)?;
+    let wanted = Name::from_text(heap, parent)?;
+    match name.parent(heap)? {
+        Some(parent) => Ok(
+            parent.octets() == wanted.octets() && name.key().parent() == Some(wanted.key()),
+        ),
+        None => Ok(false),
+    }
+}
+
+#[test]
+fn parents_and_copies(rt: HostRuntime) -> Result<(), Fail> {
+    let heap = rt.alloc();
+    assert!(rt; has_octets(heap, "a.example", b"\x01a\x07example")?);
+    assert!(rt; has_octets(heap, ".", b"")?);
+    assert!(rt; has_octets(heap, LONG, b"\x01a\x16abcdefghijklmnopqrstuv\x07example")?);
+    assert!(rt; has_parent(heap, "a.example", "example")?);
+    assert!(rt; has_parent(heap, LONG, LONGER)?);
+    let root: Name = Name::root();
+    assert!(rt; root.parent(heap)?.is_none());
+    assert!(rt; root.key().parent().is_none());
+    Ok(())
+}
+
+/// A name of 30 octets.
+const SHORT: &str = "abcdefghijklmnopqrstu.example";
+
+/// A name of 31 octets.
+const LONGER: &str = "abcdefghijklmnopqrstuv.example";
+
+/// A name of 33 octets, whose parent has 31.
+const LONG: &str = "a.abcdefghijklmnopqrstuv.example";
+
+/// How many labels the copy and the parent of a name have together.
+fn made<A: Allocator + Copy>(heap: A, text: &str) -> Result<usize, NameFault> {
+    let name = Name::from_text(heap, text)?;
+    let copy = name.copy(heap)?;
+    let parent = name.parent(heap)?;
+    let count = copy.labels().count();
+    Ok(count + parent.map_or(0, |parent| parent.labels().count()))
+}
+
+/// How many growths are refused one after another, until there are so many labels; `None` where anything else is told than
+/// want of memory.
+fn growths_of(heap: &Refusing<Global>, text: &str, labels: usize) -> Option<u64> {
+    for count in 0..100u64 {
+        heap.allow(count);
+        match made(heap, text) {
+            Ok(made) if made == labels => return Some(count),
+            Err(NameFault::Memory) => {}
+            _ => return None,
+        }
+    }
+    None
+}
+
+/// Up to 30 octets lie in place; more of them take one growth for the name, one for its copy and one for its parent.
+#[test]
+fn each_growth_may_be_refused(rt: HostRuntime) {
+    let heap = Refusing::new(rt.alloc());
+    for (text, labels, growths) in [
+        ("a.example", 3, 0),
+        (SHORT, 3, 0),
+        (LONGER, 3, 2),
+        (LONG, 5, 3),
+    ] {
+        assert_eq!(rt; growths_of(&heap, text, labels), Some(growths), "{text}");
+    }
+}
