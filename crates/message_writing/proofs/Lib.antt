@@ -11,4 +11,5 @@ pub mod Short
 pub mod RoundTrip
 pub mod RoundTripData
 pub mod RoundTripMessage
+mod Worked
 pub mod CallerLemmas

@@ -10,4 +10,5 @@ pub mod Keeping
 pub mod Texts
 pub mod Caching
 pub mod Hits
+mod Worked
 pub mod CallerLemmas

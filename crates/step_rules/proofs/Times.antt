@@ -1,5 +1,6 @@
--- Worked steps of time, computed: an ask at its time, the ask that follows it, deadlines, what is due, and which server is asked first.
-use Rattle.std.proofs.Common.{◌≡◌, ℕ, List, [], ◌∷◌, Some, false, true, refl}
+-- Worked steps of time, computed: an ask at its time, the ask that follows it, deadlines, which moments count, what is due
+-- and what is left to do, and which server is asked first.
+use Rattle.std.proofs.Common.{◌≡◌, ℕ, ◌+◌, ◌^◌, List, [], ◌∷◌, Some, false, true, refl}
 use Rattle.suffix_routes.specs.declared.peer.Peer.{Peer}
 use Rattle.suffix_routes.specs.Values.{Config, default_limits}
 use Rattle.dns_message.specs.Values.{Question}
@@ -16,7 +17,8 @@ use Rattle.step_values.specs.Values.{restart, ask_udp, ask_tcp, close_udp, send_
 use Rattle.step_rules.specs.State.{Waiting, State}
 use Rattle.step_rules.specs.Attempts.{first_ask}
 use Rattle.step_rules.specs.Steps.{Done, idle_step, preferring, start, with_entries}
-use Rattle.step_rules.specs.Row.{Happens, is_due_at, row_of_failure, row_of_tick}
+use Rattle.step_rules.specs.Row.{Happens, effective, is_due_at, row_of_failure, row_of_tick}
+use Rattle.step_rules.specs.Progress.{left_to_do}
 
 abbrev first : Peer
 first = record { ip = 192 ∷ 0 ∷ 2 ∷ 1 ∷ []; port = 53 }
@@ -106,6 +108,21 @@ one_of_two = refl
 due : (is_due_at config 2499 (state ask (question 1000 ∷ [])) ≡ false) × (is_due_at config 2500 (state ask (question 1000 ∷ [])) ≡ true)
     × (is_due_at config 8999 (state (record ask { asked = 8000 }) (question 1000 ∷ [])) ≡ false) × (is_due_at config 9000 (state (record ask { asked = 8000 }) (question 1000 ∷ [])) ≡ true)
 due = (refl, refl, refl, refl)
+
+-- ---- which moments count
+
+-- one that is handed in earlier than the last doesn't, and none after 2^62 milliseconds
+moments : (effective 999 (state ask []) ≡ 1000) × (effective 1001 (state ask []) ≡ 1001)
+    × (effective (2 ^ 62 + 1) (state ask []) ≡ 2 ^ 62)
+moments = (refl, refl, refl)
+
+-- ---- what is left to do
+
+-- each question that waits, and each ask with the tries that its inquiry has left; so the last try counts too
+left : (left_to_do config (state ask (question 1000 ∷ question 1001 ∷ [])) ≡ 6)
+    × (left_to_do config (state last_ask (question 1000 ∷ [])) ≡ 2) × (left_to_do config (state last_ask []) ≡ 1)
+    × (left_to_do config (start config) ≡ 0)
+left = (refl, refl, refl, refl)
 
 -- ---- which server is asked first
 

@@ -20,4 +20,5 @@ pub mod SendingOn
 pub mod Deliveries
 pub mod Theorem
 pub mod Runs
+mod Worked
 pub mod CallerLemmas

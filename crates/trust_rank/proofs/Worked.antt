@@ -1,5 +1,5 @@
 -- Worked replies, computed: what they carry, how their walks end, and which piece takes the place of which.
-use Rattle.std.proofs.Common.{◌≡◌, ℕ, ◌^◌, Bool, true, false, List, [], ◌∷◌, map, Option, Some, None, refl}
+use Rattle.std.proofs.Common.{◌≡◌, ℕ, ◌^◌, ◌<◌, Bool, true, false, List, [], ◌∷◌, map, Option, Some, None, refl, arith}
 use Rattle.dns_message.specs.Values.{Question, Record, Message}
 use Rattle.dns_message.specs.Data.{name_of_rdata}
 use Rattle.dns_message.specs.Names.{step as name_step, walk_in, name_within}
@@ -9,6 +9,7 @@ use Rattle.suffix_routes.specs.Routes.{route_of}
 use Rattle.trust_rank.specs.Values.{Body, rows, no_data, denied, Piece, End, found, ends_no_data, ends_denied, elsewhere, lame, Walk}
 use Rattle.trust_rank.specs.Walks.{walk_from, servers_from, walk_of}
 use Rattle.trust_rank.specs.Replacing.{takes_place_of}
+use Rattle.trust_rank.specs.Writable.{IsWritable}
 
 -- ---- names under two routes: the root's, and that of the suffix z
 
@@ -196,3 +197,21 @@ error_takes_error = refl
 set_takes_error : (takes_place_of (set_at a 1 1) (error_at ((101 ∷ []) ∷ []) 3) ≡ true) × (takes_place_of (set_at a 1 1) (error_at a 3) ≡ true) × (takes_place_of (set_at a 3 3) (error_at a 1) ≡ false)
     × (takes_place_of (set_at ((101 ∷ []) ∷ []) 1 3) (error_at a 1) ≡ false) × (takes_place_of (piece_at a 1 (Some 1) (no_data None) 0 1) (error_at ((101 ∷ []) ∷ []) 3) ≡ true)
 set_takes_error = (refl, refl, refl, refl, refl)
+
+-- ---- what can be written
+
+-- addresses of a.e, of this class
+abbrev of_class : ℕ → Piece
+of_class class = record { owner = a; slot = record { key = a; class = class; kind = Some 1 }; body = rows ((192 ∷ 0 ∷ 2 ∷ 5 ∷ []) ∷ []); lifetime = 300; rank = 3; route = 0 }
+
+-- the greatest class of 16 bits can, and no greater one
+greatest_class : IsWritable (of_class 65535)
+greatest_class = record {
+  owner = record { each = (record { some = omega arith; short = omega arith }, (record { some = omega arith; short = omega arith }, tt)); short = omega arith };
+  class = omega arith;
+  kind = omega arith;
+  body = tt;
+}
+
+too_great_class : IsWritable (of_class 65536) → ⊥
+too_great_class h = let fits : 65536 < 65536 = h.class in omega (arith, fits)
