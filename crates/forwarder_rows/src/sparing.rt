@@ -72,6 +72,8 @@ enum End {
 #[derive(Drop)]
 struct Made {
     end: End,
+    /// It called for nothing.
+    is_idle: bool,
     /// The lines that a row has of it.
     lines: Vec<u8>,
     /// How many pieces of a reply it could not keep.
@@ -120,14 +122,13 @@ fn tell_first<W: Write>(
     is_of_client: bool,
     made: &Made,
 ) -> Result<(), ReplayFault> {
-    let is_idle = made.lines.is_empty();
     if made.unkept > 0 || made.end == End::Borne {
         writeln!(writer, "{number} bears a refusal of its first growth")?;
     }
-    if !is_idle && made.end == End::Spared {
+    if !made.is_idle && made.end == End::Spared {
         writeln!(writer, "{number} no growth was refused")?;
     }
-    if is_idle && made.end == End::Again && !is_of_client {
+    if made.is_idle && made.end == End::Again && !is_of_client {
         writeln!(writer, "{number} took memory for nothing")?;
     }
     Ok(())
@@ -244,6 +245,7 @@ fn made_of<'a>(
     let lines = lines_of(trial.alloc, trial.heap, trial.script, trial.number, outcome)?;
     Ok(Made {
         end,
+        is_idle: outcome.actions.as_slice().is_empty(),
         lines,
         unkept: outcome.unkept,
     })
