@@ -2,13 +2,15 @@
 
 ghost use Rattle.std.specs.Prelude.{◌≤◌};
 
-use crate::script::{Heap, Runner, Script, begin, handed_in, lines_of, run_first};
-use forwarder_core::Event;
+use crate::script::{Heap, Runner, Script, handed_in, lines_of, read_in, run_first};
+use forwarder_core::{Event, Handed, Outcome, Step};
+use network_model::run_list;
 use replay_script::{MOST_LINES, ReplayFault};
 use std::alloc::Global;
 use std::io::Write;
 
-/// Tells where a restart behind this line does something, or where what follows it differs from what a new forwarder does.
+/// Tells where a restart behind this line does something, or where what follows it differs from a run over the lines behind
+/// it alone.
 pub(crate) fn tell_restart<W: Write>(
     alloc: Global,
     heap: Heap<'_>,
@@ -37,7 +39,8 @@ fn tell_deed<W: Write>(
     Ok(())
 }
 
-/// Tells the first line behind this one at which a restarted forwarder does something else than a new one.
+/// Tells the first line behind this one at which a restarted forwarder does something else than a run over the lines behind
+/// this one alone does.
 fn tell_rest<'a, W: Write>(
     alloc: Global,
     heap: Heap<'a>,
@@ -46,8 +49,8 @@ fn tell_rest<'a, W: Write>(
     restarted: &mut Runner<'a>,
     writer: &mut W,
 ) -> Result<(), ReplayFault> {
-    let mut anew = begin(alloc, heap, script)?;
-    let differing = differing_behind(alloc, heap, script, number, restarted, &mut anew)?;
+    let steps = run_behind(alloc, heap, script, number)?;
+    let differing = first_differing(alloc, heap, script, number, restarted, &steps)?;
     tell_differing(writer, number, differing)
 }
 
@@ -63,65 +66,88 @@ fn tell_differing<W: Write>(
     Ok(())
 }
 
-/// The first line behind this one at which two forwarders do not do the same. A line that is refused ends what is compared.
-fn differing_behind<'a>(
+/// A run over the lines behind this one.
+fn run_behind<'a>(
     alloc: Global,
     heap: Heap<'a>,
     script: Script<'_>,
     number: u32,
-    one: &mut Runner<'a>,
-    other: &mut Runner<'a>,
-) -> Result<Option<u32>, ReplayFault> {
+) -> Result<Vec<Step<Heap<'a>>, Heap<'a>>, ReplayFault> {
+    let config = read_in(alloc, heap, script)?;
+    let handed = handed_behind(heap, script, number)?;
+    Ok(run_list(heap, &config, &handed)?)
+}
+
+/// What the lines behind this one hand in. A line that is refused ends it.
+fn handed_behind<'a>(
+    heap: Heap<'a>,
+    script: Script<'_>,
+    number: u32,
+) -> Result<Vec<Handed<Heap<'a>>, Heap<'a>>, ReplayFault> {
+    let mut handed = Vec::new(heap);
     let mut lines = script.events.split(|octet| *octet == b'\n');
     for before in 0..MOST_LINES {
         let Some(line) = lines.next() else {
-            return Ok(None);
+            return Ok(handed);
         };
         if before < number {
             continue;
         }
-        let later = before + 1;
-        match is_same_at(alloc, heap, script, later, line, one, other) {
-            Ok(true) => {}
-            Ok(false) => return Ok(Some(later)),
-            Err(ReplayFault::Line(_)) => return Ok(None),
+        handed.reserve(1)?;
+        match handed_in(heap, script, before + 1, line) {
+            Ok(entry) => handed.push_reserved(entry),
+            Err(ReplayFault::Line(_)) => return Ok(handed),
             Err(fault) => return Err(fault),
+        }
+    }
+    Ok(handed)
+}
+
+/// The line of the first of these steps, which are of the lines behind this one, that a forwarder makes otherwise.
+fn first_differing<'a>(
+    alloc: Global,
+    heap: Heap<'a>,
+    script: Script<'_>,
+    number: u32,
+    forwarder: &mut Runner<'a>,
+    steps: &[Step<Heap<'a>>],
+) -> Result<Option<u32>, ReplayFault> {
+    let mut later = number;
+    for step in steps {
+        later = later.saturating_add(1);
+        if !is_made_so(alloc, heap, script, later, forwarder, step)? {
+            return Ok(Some(later));
         }
     }
     Ok(None)
 }
 
-/// Whether two forwarders do the same at a line.
-fn is_same_at<'a>(
+/// Whether a forwarder that is handed what a step was handed makes that step, with ample memory.
+fn is_made_so<'a>(
     alloc: Global,
     heap: Heap<'a>,
     script: Script<'_>,
     number: u32,
-    line: &[u8],
-    one: &mut Runner<'a>,
-    other: &mut Runner<'a>,
-) -> Result<bool, ReplayFault>
-    requires { number ≤ MOST_LINES }
-{
-    let by_one = done_at(alloc, heap, script, number, line, one)?;
-    let by_other = done_at(alloc, heap, script, number, line, other)?;
-    Ok(by_one.as_slice() == by_other.as_slice())
+    forwarder: &mut Runner<'a>,
+    step: &Step<Heap<'a>>,
+) -> Result<bool, ReplayFault> {
+    let handed = &step.handed;
+    let event = handed.event.copy(heap)?;
+    let outcome = forwarder.step(handed.now, handed.words, event)?;
+    let made = told_of(alloc, heap, script, number, &outcome)?;
+    let wanted = told_of(alloc, heap, script, number, &step.outcome)?;
+    Ok(made.as_slice() == wanted.as_slice())
 }
 
-/// Runs a line with ample memory: the lines that it prints, how many pieces were not kept, and whether more is due.
-fn done_at<'a>(
+/// All that an outcome tells: the lines that it prints, how many pieces were not kept, and whether more is due.
+fn told_of<'a>(
     alloc: Global,
     heap: Heap<'a>,
     script: Script<'_>,
     number: u32,
-    line: &[u8],
-    forwarder: &mut Runner<'a>,
-) -> Result<Vec<u8>, ReplayFault>
-    requires { number ≤ MOST_LINES }
-{
-    let handed = handed_in(heap, script, number, line)?;
-    let outcome = forwarder.step(handed.now, handed.words, handed.event)?;
-    let mut lines = lines_of(alloc, heap, script, number, &outcome)?;
+    outcome: &Outcome<Heap<'a>>,
+) -> Result<Vec<u8>, ReplayFault> {
+    let mut lines = lines_of(alloc, heap, script, number, outcome)?;
     let unkept = outcome.unkept;
     let more = outcome.more;
     writeln!(lines, "{unkept} {more}")?;

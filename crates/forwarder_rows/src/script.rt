@@ -8,6 +8,7 @@ use refusing_allocator::Refusing;
 use replay_script::{MOST_LINES, ReplayFault, handed_by, parts, print, read_config};
 use std::alloc::Global;
 use std::io::Write;
+use suffix_routes::Config;
 
 /// Memory that can be refused.
 pub(crate) type Heap<'a> = &'a Refusing<Global>;
@@ -54,14 +55,23 @@ fn count_lines(lines: &[u8]) -> u32 {
     count
 }
 
+/// The configuration of a script.
+pub(crate) fn read_in<'a>(
+    alloc: Global,
+    heap: Heap<'a>,
+    script: Script<'_>,
+) -> Result<Config<Heap<'a>>, ReplayFault> {
+    let mut config = script.config;
+    read_config(alloc, heap, &mut config)
+}
+
 /// A new forwarder with the configuration of a script.
 pub(crate) fn begin<'a>(
     alloc: Global,
     heap: Heap<'a>,
     script: Script<'_>,
 ) -> Result<Runner<'a>, ReplayFault> {
-    let mut config = script.config;
-    let config = read_config(alloc, heap, &mut config)?;
+    let config = read_in(alloc, heap, script)?;
     Ok(Forwarder::new(heap, config, DefaultHasher::default())?)
 }
 

@@ -5,24 +5,83 @@ ghost use Rattle.std.specs.Prelude.{◌≤◌};
 use crate::script::{Heap, Runner, Script, handed_in, lines_of, run_first};
 use forwarder_core::{Event, Handed, Outcome};
 use replay_script::{MOST_LINES, ReplayFault};
-use std::alloc::{AllocError, Global};
+use std::alloc::Global;
 use std::io::Write;
 
 /// No step of a row takes as many growths.
 const MOST_GROWTHS: u64 = 10_000;
 
+/// A line whose step is made again and again, and what it is made with.
+#[derive(Clone, Copy)]
+struct Trial<'t, 'a, 's> {
+    alloc: Global,
+    heap: Heap<'a>,
+    script: Script<'s>,
+    /// The number of the line, from 1.
+    number: u32,
+    /// What the line hands in.
+    handed: &'t Handed<Heap<'a>>,
+}
+
+/// Which growths of a step are refused.
+#[derive(Clone, Copy)]
+enum Refused {
+    /// The one after so many, alone.
+    One(u64),
+    /// Each one after so many.
+    Rest(u64),
+}
+
+impl Refused {
+    /// From now on this memory refuses those growths.
+    fn begin(self, heap: Heap<'_>) {
+        match self {
+            Refused::One(granted) => heap.refuse_one(granted),
+            Refused::Rest(granted) => heap.allow(granted),
+        }
+    }
+
+    /// Ends what `begin` began. The answer is whether the one growth is still to be refused: of one more than were granted one
+    /// is. Where all the rest are refused, that can't be seen.
+    fn end(self, heap: Heap<'_>) -> bool {
+        let probes = match self {
+            Refused::One(granted) => granted.saturating_add(1),
+            Refused::Rest(_) => 0,
+        };
+        let mut is_to_come = false;
+        for _probe in 0..probes {
+            is_to_come = is_to_come || Box::new(heap, 0u8).is_err();
+        }
+        heap.allow(u64::MAX);
+        is_to_come
+    }
+}
+
+/// How a step ended of which growths were to be refused.
+#[derive(Clone, Copy, PartialEq, Eq)]
+enum End {
+    /// It was made, and took no more than it was granted.
+    Spared,
+    /// It was made, although one was refused.
+    Borne,
+    /// It was refused, and made again with ample memory.
+    Again,
+}
+
 /// A step that was made.
 #[derive(Drop)]
 struct Made {
-    /// How many growths it was granted.
-    granted: u64,
-    /// The lines that a row has of it, and those that tell where it took memory amiss.
+    end: End,
+    /// It called for nothing.
+    is_idle: bool,
+    /// The lines that a row has of it.
     lines: Vec<u8>,
     /// How many pieces of a reply it could not keep.
     unkept: u32,
 }
 
-/// Runs one line, each growth of whose step is refused in turn.
+/// Runs one line, and tells where its step is not what it has to be with each of its growths refused in turn, alone and with
+/// all after it.
 pub(crate) fn run_line<'a, W: Write>(
     alloc: Global,
     heap: Heap<'a>,
@@ -35,98 +94,20 @@ pub(crate) fn run_line<'a, W: Write>(
     requires { number ≤ MOST_LINES }
 {
     let handed = handed_in(heap, script, number, line)?;
-    run_handed(alloc, heap, script, forwarder, number, &handed, writer)
-}
-
-/// Makes one step: with no growth granted, then with one, and so on until it has what it takes. A refused step has
-/// changed nothing, so the same forwarder makes it again. One that could not keep a piece has done all else as the row
-/// says; a forwarder that has run the lines before makes it again.
-fn run_handed<'a, W: Write>(
-    alloc: Global,
-    heap: Heap<'a>,
-    script: Script<'_>,
-    forwarder: &mut Runner<'a>,
-    number: u32,
-    handed: &Handed<Heap<'a>>,
-    writer: &mut W,
-) -> Result<(), ReplayFault>
-    requires { number ≤ MOST_LINES }
-{
-    let mut before = Made {
-        granted: 0,
-        lines: Vec::new(alloc),
-        unkept: 0,
+    let trial = Trial {
+        alloc,
+        heap,
+        script,
+        number,
+        handed: &handed,
     };
-    for granted in 0..MOST_GROWTHS {
-        let made = made_with(alloc, heap, script, forwarder, number, handed, granted)?;
-        let Some(made) = made else {
-            continue;
-        };
-        tell_difference(writer, number, &before, &made)?;
-        if made.unkept == 0 {
-            writer.write_all(&made.lines)?;
-            return Ok(());
-        }
-        before = made;
-        *forwarder = run_first(alloc, heap, script, number.saturating_sub(1))?;
-    }
-    Err(ReplayFault::Memory)
-}
-
-/// Tells where a step with one growth more is not what it has to be beside the one before it, which could not keep a piece:
-/// made again, with the same actions, and with one piece more kept. There may be none before it: then nothing is told. One
-/// growth may keep all that are left, since they may have one room: in a cache of one entry each takes that of the one
-/// before it, and an alias that leads to itself is one entry however often it was met.
-fn tell_difference<W: Write>(
-    writer: &mut W,
-    number: u32,
-    before: &Made,
-    made: &Made,
-) -> Result<(), ReplayFault> {
-    if before.unkept == 0 {
-        return Ok(());
-    }
-    if made.granted != before.granted.saturating_add(1) {
-        writeln!(writer, "{number} refused with more memory")?;
-    }
-    if made.lines.as_slice() != before.lines.as_slice() {
-        writeln!(writer, "{number} other actions where a piece was not kept")?;
-    }
-    if made.unkept > 0 && made.unkept.saturating_add(1) != before.unkept {
-        writeln!(
-            writer,
-            "{number} another count of pieces that were not kept"
-        )?;
+    let whole = made_with(&trial, forwarder, Refused::One(0))?;
+    tell_first(writer, number, is_of_client(&handed.event), &whole)?;
+    writer.write_all(&whole.lines)?;
+    if whole.end == End::Again {
+        refuse_each(&trial, &whole, writer)?;
     }
     Ok(())
-}
-
-/// The step with so many growths granted; `None` where it was refused for want of more.
-fn made_with<'a>(
-    alloc: Global,
-    heap: Heap<'a>,
-    script: Script<'_>,
-    forwarder: &mut Runner<'a>,
-    number: u32,
-    handed: &Handed<Heap<'a>>,
-    granted: u64,
-) -> Result<Option<Made>, ReplayFault> {
-    let Ok(outcome) = step_with(heap, forwarder, handed, granted)? else {
-        return Ok(None);
-    };
-    let mut lines = lines_of(alloc, heap, script, number, &outcome)?;
-    let is_idle = outcome.actions.as_slice().is_empty();
-    if !is_idle && granted == 0 {
-        writeln!(lines, "{number} no growth was refused")?;
-    }
-    if is_idle && granted > 0 && !is_of_client(&handed.event) {
-        writeln!(lines, "{number} took memory for nothing")?;
-    }
-    Ok(Some(Made {
-        granted,
-        lines,
-        unkept: outcome.unkept,
-    }))
 }
 
 /// Whether an event is a client's message: its question may wait with others, which takes memory and calls for no action.
@@ -134,16 +115,138 @@ fn is_of_client(event: &Event<Heap<'_>>) -> bool {
     matches!(event, Event::Client { .. })
 }
 
-/// A step with so many growths granted.
-fn step_with<'a>(
-    heap: Heap<'a>,
-    forwarder: &mut Runner<'a>,
-    handed: &Handed<Heap<'a>>,
+/// Tells where a step whose first growth was refused does not want one for what it does, or wants one for nothing.
+fn tell_first<W: Write>(
+    writer: &mut W,
+    number: u32,
+    is_of_client: bool,
+    made: &Made,
+) -> Result<(), ReplayFault> {
+    if made.unkept > 0 || made.end == End::Borne {
+        writeln!(writer, "{number} bears a refusal of its first growth")?;
+    }
+    if !made.is_idle && made.end == End::Spared {
+        writeln!(writer, "{number} no growth was refused")?;
+    }
+    if made.is_idle && made.end == End::Again && !is_of_client {
+        writeln!(writer, "{number} took memory for nothing")?;
+    }
+    Ok(())
+}
+
+/// Makes a step of which nothing is refused again and again, with each of its growths refused in turn.
+fn refuse_each<W: Write>(
+    trial: &Trial<'_, '_, '_>,
+    whole: &Made,
+    writer: &mut W,
+) -> Result<(), ReplayFault>
+    requires { trial.now.number ≤ MOST_LINES }
+{
+    let mut unkept = 0;
+    for granted in 0..MOST_GROWTHS {
+        let end = refuse_one(trial, whole, granted, writer)?;
+        if end == End::Spared {
+            return Ok(());
+        }
+        unkept = refuse_rest(trial, whole, granted, unkept, writer)?;
+    }
+    Err(ReplayFault::Memory)
+}
+
+/// A step with the growth after so many refused alone. Tells where it is not what it has to be: refused, and made again with
+/// memory, or made but for one piece.
+fn refuse_one<W: Write>(
+    trial: &Trial<'_, '_, '_>,
+    whole: &Made,
     granted: u64,
-) -> Result<Result<Outcome<Heap<'a>>, AllocError>, ReplayFault> {
-    let event = handed.event.copy(heap)?;
-    heap.allow(granted);
+    writer: &mut W,
+) -> Result<End, ReplayFault>
+    requires { trial.now.number ≤ MOST_LINES }
+{
+    let made = made_anew(trial, Refused::One(granted))?;
+    let wanted = u32::from(made.end == End::Borne);
+    if made.unkept != wanted || made.lines.as_slice() != whole.lines.as_slice() {
+        let number = trial.number;
+        writeln!(writer, "{number} otherwise without growth {granted}")?;
+    }
+    Ok(made.end)
+}
+
+/// A step with each growth after so many refused. Tells where it is not what it has to be: refused, and made again with
+/// memory, or made but for pieces that were not kept, one fewer than with one growth less. The answer is how many these were;
+/// with one growth less they were `before`, none where the step was refused.
+fn refuse_rest<W: Write>(
+    trial: &Trial<'_, '_, '_>,
+    whole: &Made,
+    granted: u64,
+    before: u32,
+    writer: &mut W,
+) -> Result<u32, ReplayFault>
+    requires { trial.now.number ≤ MOST_LINES }
+{
+    let made = made_anew(trial, Refused::Rest(granted))?;
+    let is_right = match made.end {
+        End::Borne => made.unkept > 0 && (before == 0 || made.unkept.saturating_add(1) == before),
+        End::Again => made.unkept == 0 && before == 0,
+        End::Spared => false,
+    };
+    if !is_right || made.lines.as_slice() != whole.lines.as_slice() {
+        let number = trial.number;
+        writeln!(writer, "{number} otherwise with {granted} growths")?;
+    }
+    Ok(made.unkept)
+}
+
+/// The step with these growths refused, of a forwarder that has run the lines before with ample memory.
+fn made_anew(trial: &Trial<'_, '_, '_>, refused: Refused) -> Result<Made, ReplayFault>
+    requires { trial.now.number ≤ MOST_LINES }
+{
+    let before = trial.number.saturating_sub(1);
+    let mut forwarder = run_first(trial.alloc, trial.heap, trial.script, before)?;
+    made_with(trial, &mut forwarder, refused)
+}
+
+/// The step with these growths refused; where it is refused, it has changed nothing, so the same forwarder makes it again with
+/// ample memory.
+fn made_with<'a>(
+    trial: &Trial<'_, 'a, '_>,
+    forwarder: &mut Runner<'a>,
+    refused: Refused,
+) -> Result<Made, ReplayFault> {
+    let handed = trial.handed;
+    let event = handed.event.copy(trial.heap)?;
+    refused.begin(trial.heap);
     let outcome = forwarder.step(handed.now, handed.words, event);
-    heap.allow(u64::MAX);
-    Ok(outcome)
+    let is_spared = refused.end(trial.heap);
+    match outcome {
+        Ok(outcome) if is_spared => made_of(trial, End::Spared, &outcome),
+        Ok(outcome) => made_of(trial, End::Borne, &outcome),
+        Err(_) => made_again(trial, forwarder),
+    }
+}
+
+/// The step with ample memory.
+fn made_again<'a>(
+    trial: &Trial<'_, 'a, '_>,
+    forwarder: &mut Runner<'a>,
+) -> Result<Made, ReplayFault> {
+    let handed = trial.handed;
+    let event = handed.event.copy(trial.heap)?;
+    let outcome = forwarder.step(handed.now, handed.words, event)?;
+    made_of(trial, End::Again, &outcome)
+}
+
+/// What a step came to that ended so.
+fn made_of<'a>(
+    trial: &Trial<'_, 'a, '_>,
+    end: End,
+    outcome: &Outcome<Heap<'a>>,
+) -> Result<Made, ReplayFault> {
+    let lines = lines_of(trial.alloc, trial.heap, trial.script, trial.number, outcome)?;
+    Ok(Made {
+        end,
+        is_idle: outcome.actions.as_slice().is_empty(),
+        lines,
+        unkept: outcome.unkept,
+    })
 }

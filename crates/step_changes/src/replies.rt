@@ -134,11 +134,15 @@ fn put_answers<'a, A: Allocator + Copy>(
     Ok(())
 }
 
-/// Entries, borrowed.
+/// Entries, borrowed. `Err` where memory ran out: `collect` would make do with less room where all of it is refused.
 fn borrowed<A: Allocator + Copy>(alloc: A, held: &[Held<A>]) -> Result<Vec<&Held<A>, A>, AllocError>
     ensures { IfOk result (λ refs. lent refs.items ≡ held.now) }
 {
-    held.iter().collect(alloc)
+    let mut refs = Vec::with_capacity(alloc, held.len())?;
+    for entry in held {
+        refs.push(entry)?;
+    }
+    Ok(refs)
 }
 
 /// The query is closed, and each question that waits for it is answered from the aliases that it holds and these pieces, none

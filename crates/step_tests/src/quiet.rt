@@ -114,3 +114,15 @@ fn a_restart_by_its_call_takes_no_memory(rt: HostRuntime) -> Result<(), Fail> {
     assert!(rt; Box::new(&heap, 0u8).is_ok());
     Ok(())
 }
+
+/// When the query's time is up, 1,500 milliseconds after it was sent.
+#[test]
+fn what_is_due_next_takes_no_memory(rt: HostRuntime) -> Result<(), Fail> {
+    let heap = Refusing::new(rt.alloc());
+    let forwarder = asked(&heap)?;
+    heap.allow(1);
+    let due = forwarder.next_due();
+    assert!(rt; Box::new(&heap, 0u8).is_ok());
+    assert_eq!(rt; due, Some(2500));
+    Ok(())
+}

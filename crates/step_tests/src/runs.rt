@@ -7,7 +7,7 @@ use network_model::{Recorded, run_list};
 use refusing_allocator::Refusing;
 use std::alloc::{AllocError, Allocator, Global};
 use std::test::Fail;
-use step_values::{Handed, Step};
+use step_values::{Handed, Outcome, Step};
 
 /// The question is asked at 1000.
 fn first<A: Allocator + Copy>(alloc: A) -> Result<Handed<A>, AllocError> {
@@ -42,66 +42,147 @@ fn are_worked<A: Allocator>(steps: &[Step<A>], unkept: u32) -> bool {
 
 /// The step was handed this moment; so many pieces were not kept, and nothing more is due.
 fn is_plain<A: Allocator>(step: &Step<A>, now: u64, unkept: u32) -> bool {
-    step.handed.now == now && step.outcome.unkept == unkept && !step.outcome.more
+    step.handed.now == now && is_done(&step.outcome, unkept)
+}
+
+/// So many pieces were not kept, and nothing more is due.
+fn is_done<A: Allocator>(outcome: &Outcome<A>, unkept: u32) -> bool {
+    outcome.unkept == unkept && !outcome.more
+}
+
+/// The same two steps by calls of a forwarder's own.
+fn are_worked_by_calls(alloc: Global) -> Result<bool, AllocError> {
+    let mut forwarder = Forwarder::new(alloc, config(alloc)?, DefaultHasher::default())?;
+    let asks = forwarder.step(1000, WORDS, sends(alloc, &QUESTION)?)?;
+    let answers = forwarder.step(1020, WORDS, replies(alloc)?)?;
+    Ok(
+        send_alone(asks.actions.as_slice(), &QUERY)
+            && answer_whole(answers.actions.as_slice())
+            && is_done(&asks, 0)
+            && is_done(&answers, 0),
+    )
 }
 
 #[test]
-fn a_run_over_a_list(rt: HostRuntime) -> Result<(), Fail> {
-    let heap = Refusing::new(rt.alloc());
-    let config = config(&heap)?;
-    let mut handed = Vec::new(&heap);
-    handed.push(first(&heap)?)?;
-    handed.push(second(&heap)?)?;
-    let (mut refused, mut unkept) = (0u64, 0u64);
-    for count in 0..200u64 {
-        heap.allow(count);
-        let steps = run_list(&heap, &config, &handed);
-        heap.allow(u64::MAX);
-        let Ok(steps) = steps else {
-            refused = refused.saturating_add(1);
-            continue;
-        };
-        if are_worked(&steps, 0) {
-            break;
-        }
-        assert!(rt; are_worked(&steps, 1), "after {count}");
-        unkept = unkept.saturating_add(1);
-    }
-    // The configuration takes 2 growths and a new forwarder 7, all but one for its cache; a step takes one more for each
-    // of its two copies, and the first for the list. Of the 12 of the first step, 5 are for the ask and 4 for the question
-    // that waits: a slab and lists of keys. With the last growth refused, the set is not kept.
-    assert_eq!(rt; (refused, unkept), (2 + 7 + (12 + 3) + (8 + 2), 1));
+fn the_steps_by_calls(rt: HostRuntime) -> Result<(), Fail> {
+    assert!(rt; are_worked_by_calls(rt.alloc())?);
     Ok(())
 }
 
-/// A new forwarder, which is granted so many growths; whether it was made. Its configuration has ample memory.
-fn is_forwarder_with(heap: &Refusing<Global>, count: u64) -> Result<bool, AllocError> {
+/// Which growths are refused.
+#[derive(Clone, Copy)]
+enum Refused {
+    /// One alone.
+    One,
+    /// One, and each one after it.
+    Rest,
+}
+
+impl Refused {
+    /// From now on so many growths are granted before one is refused.
+    fn begin(self, heap: &Refusing<Global>, granted: u64) {
+        match self {
+            Refused::One => heap.refuse_one(granted),
+            Refused::Rest => heap.allow(granted),
+        }
+    }
+}
+
+/// What is handed in, in its order.
+fn handed_in<'a>(
+    heap: &'a Refusing<Global>,
+) -> Result<Vec<Handed<&'a Refusing<Global>>, &'a Refusing<Global>>, AllocError> {
+    let mut handed = Vec::new(heap);
+    handed.push(first(heap)?)?;
+    handed.push(second(heap)?)?;
+    Ok(handed)
+}
+
+/// Each growth of a run over the list is refused in turn: with how many the run is refused, and with how many a piece is not
+/// kept. `None` where it does anything else.
+fn refusals_of_list(
+    heap: &Refusing<Global>,
+    refused: Refused,
+) -> Result<Option<(u64, u64)>, AllocError> {
     let config = config(heap)?;
-    heap.allow(count);
+    let handed = handed_in(heap)?;
+    let (mut lost, mut unkept) = (0u64, 0u64);
+    for granted in 0..200 {
+        refused.begin(heap, granted);
+        let steps = run_list(heap, &config, &handed);
+        heap.allow(u64::MAX);
+        match steps {
+            Err(_) => lost = lost.saturating_add(1),
+            Ok(steps) if are_worked(&steps, 0) => return Ok(Some((lost, unkept))),
+            Ok(steps) if are_worked(&steps, 1) => unkept = unkept.saturating_add(1),
+            Ok(_) => return Ok(None),
+        }
+    }
+    Ok(None)
+}
+
+/// The configuration takes 2 growths and a new forwarder 7, all but one for its cache; a step takes one more for each of its
+/// two copies, and the first for the list. Of the 12 of the first step, 5 are for the ask and 4 for the question that waits: a
+/// slab and lists of keys. With the last growth refused, the set is not kept.
+#[test]
+fn a_run_over_a_list(rt: HostRuntime) -> Result<(), Fail> {
+    let heap = Refusing::new(rt.alloc());
+    let one = refusals_of_list(&heap, Refused::One)?;
+    let rest = refusals_of_list(&heap, Refused::Rest)?;
+    assert_eq!(rt; rest, Some((2 + 7 + (12 + 3) + (8 + 2), 1)));
+    assert_eq!(rt; one, rest);
+    Ok(())
+}
+
+/// A new forwarder, with a growth refused after so many; whether it was made. Its configuration has ample memory.
+fn is_forwarder_with(
+    heap: &Refusing<Global>,
+    refused: Refused,
+    granted: u64,
+) -> Result<bool, AllocError> {
+    let config = config(heap)?;
+    refused.begin(heap, granted);
     let forwarder = Forwarder::new(heap, config, DefaultHasher::default());
     heap.allow(u64::MAX);
     Ok(forwarder.is_ok())
 }
 
 /// The same of a run that has made no step.
-fn is_recorded_with(heap: &Refusing<Global>, count: u64) -> Result<bool, AllocError> {
+fn is_recorded_with(
+    heap: &Refusing<Global>,
+    refused: Refused,
+    granted: u64,
+) -> Result<bool, AllocError> {
     let config = config(heap)?;
-    heap.allow(count);
+    refused.begin(heap, granted);
     let recorded = Recorded::new(heap, config, DefaultHasher::default());
     heap.allow(u64::MAX);
     Ok(recorded.is_ok())
+}
+
+/// With how few growths granted before one is refused both are made; `None` where one of them is made with fewer than the
+/// other.
+fn growths_of_new(heap: &Refusing<Global>, refused: Refused) -> Result<Option<u64>, AllocError> {
+    for granted in 0..64 {
+        let is_forwarder = is_forwarder_with(heap, refused, granted)?;
+        let is_recorded = is_recorded_with(heap, refused, granted)?;
+        if is_forwarder && is_recorded {
+            return Ok(Some(granted));
+        }
+        if is_forwarder || is_recorded {
+            return Ok(None);
+        }
+    }
+    Ok(None)
 }
 
 /// All but one are for the cache, and the list of steps takes none.
 #[test]
 fn each_growth_of_a_new_forwarder_is_refused(rt: HostRuntime) -> Result<(), Fail> {
     let heap = Refusing::new(rt.alloc());
-    for count in 0..7 {
-        assert!(rt; !is_forwarder_with(&heap, count)?, "with {count} granted");
-        assert!(rt; !is_recorded_with(&heap, count)?, "with {count} granted");
-    }
-    assert!(rt; is_forwarder_with(&heap, 7)?);
-    assert!(rt; is_recorded_with(&heap, 7)?);
+    let one = growths_of_new(&heap, Refused::One)?;
+    let rest = growths_of_new(&heap, Refused::Rest)?;
+    assert_eq!(rt; (one, rest), (Some(7), Some(7)));
     Ok(())
 }
 
@@ -114,14 +195,15 @@ fn begun<'a>(
     Ok(recorded)
 }
 
-/// The second step, which is granted so many growths; whether it was made.
+/// The second step, with a growth refused after so many; whether it was made.
 fn made_with<'a>(
     heap: &'a Refusing<Global>,
     recorded: &mut Recorded<DefaultHasher, &'a Refusing<Global>>,
-    count: u64,
+    refused: Refused,
+    granted: u64,
 ) -> Result<bool, AllocError> {
     let handed = second(heap)?;
-    heap.allow(count);
+    refused.begin(heap, granted);
     let outcome = recorded.step(handed);
     heap.allow(u64::MAX);
     Ok(outcome.is_ok())
@@ -137,23 +219,80 @@ fn is_made_again<'a>(
     Ok(was_first_alone && are_worked(recorded.steps(), 0))
 }
 
+/// What came of a step.
+#[derive(Clone, Copy)]
+enum Fate {
+    /// It was refused, and made again.
+    Again,
+    /// It was made, but a piece was not kept.
+    Unkept,
+    /// It was made whole.
+    Whole,
+    Other,
+}
+
+/// What came of the second step, with a growth refused after so many.
+fn fate_of_second(
+    heap: &Refusing<Global>,
+    refused: Refused,
+    granted: u64,
+) -> Result<Fate, AllocError> {
+    let mut recorded = begun(heap)?;
+    if !made_with(heap, &mut recorded, refused, granted)? {
+        let is_made = is_made_again(heap, &mut recorded)?;
+        return Ok(if is_made { Fate::Again } else { Fate::Other });
+    }
+    Ok(if are_worked(recorded.steps(), 0) {
+        Fate::Whole
+    } else if are_worked(recorded.steps(), 1) {
+        Fate::Unkept
+    } else {
+        Fate::Other
+    })
+}
+
+/// Each growth of the second step is refused in turn: with how many it is refused, and with how many a piece is not kept.
+/// `None` where it does anything else.
+fn refusals_of_second(
+    heap: &Refusing<Global>,
+    refused: Refused,
+) -> Result<Option<(u64, u64)>, AllocError> {
+    let (mut lost, mut unkept) = (0u64, 0u64);
+    for granted in 0..200 {
+        match fate_of_second(heap, refused, granted)? {
+            Fate::Again => lost = lost.saturating_add(1),
+            Fate::Unkept => unkept = unkept.saturating_add(1),
+            Fate::Whole => return Ok(Some((lost, unkept))),
+            Fate::Other => return Ok(None),
+        }
+    }
+    Ok(None)
+}
+
+/// Those of the step, and the copy of its event.
 #[test]
 fn a_recorded_run(rt: HostRuntime) -> Result<(), Fail> {
     let heap = Refusing::new(rt.alloc());
-    let (mut refused, mut unkept) = (0u64, 0u64);
-    for count in 0..200u64 {
-        let mut recorded = begun(&heap)?;
-        if !made_with(&heap, &mut recorded, count)? {
-            assert!(rt; is_made_again(&heap, &mut recorded)?, "after {count}");
-            refused = refused.saturating_add(1);
-        } else if are_worked(recorded.steps(), 0) {
-            break;
-        } else {
-            assert!(rt; are_worked(recorded.steps(), 1), "after {count}");
-            unkept = unkept.saturating_add(1);
-        }
-    }
-    // Those of the step, and the copy of its event.
-    assert_eq!(rt; (refused, unkept), (8 + 1, 1));
+    let one = refusals_of_second(&heap, Refused::One)?;
+    let rest = refusals_of_second(&heap, Refused::Rest)?;
+    assert_eq!(rt; rest, Some((8 + 1, 1)));
+    assert_eq!(rt; one, rest);
+    Ok(())
+}
+
+/// The steps so far, of which there is one, are seen without memory: of one growth that is allowed, one is left.
+fn are_seen_without_memory(heap: &Refusing<Global>) -> Result<bool, AllocError> {
+    let recorded = begun(heap)?;
+    heap.allow(1);
+    let count = recorded.steps().len();
+    let is_left = Box::new(heap, 0u8).is_ok();
+    heap.allow(u64::MAX);
+    Ok(count == 1 && is_left)
+}
+
+#[test]
+fn steps_are_seen_without_memory(rt: HostRuntime) -> Result<(), Fail> {
+    let heap = Refusing::new(rt.alloc());
+    assert!(rt; are_seen_without_memory(&heap)?);
     Ok(())
 }

@@ -1,14 +1,41 @@
 //! Turns over a wire that refuses calls, and turns without memory.
 
+use crate::turns::is_asked_alone;
 use crate::worked::{
-    SECOND, SERVER, asks_at, counted, fails, forwarder, gives_up, question, serve_anew, wire,
-    wire_of_two_pieces,
+    SECOND, SERVER, answers, asks_at, closes, counted, fails, forwarder, gives_up, question, reply,
+    serve_anew, wire, wire_of_two_pieces,
 };
 use network_model::{Arrival, Served, Wire, serve};
 use refusing_allocator::Refusing;
 use std::alloc::{AllocError, Allocator, Global};
 use std::test::Fail;
 use step_values::Action;
+
+/// The ask that is refused, the close of its path, the ask of the second server, which answers.
+fn is_answered_by_the_second<A: Allocator>(puts: &[(Action<A>, bool)]) -> bool {
+    match puts {
+        [first, second, third, fourth, fifth] => {
+            asks_at(first, SERVER, false)
+                && closes(second)
+                && asks_at(third, SECOND, true)
+                && closes(fourth)
+                && answers(fifth)
+        }
+        _ => false,
+    }
+}
+
+/// The first call is the arrival of the question, the second one the ask. A refused ask is no refused put: its path has failed.
+#[test]
+fn behind_a_refused_ask_the_next_server_is_asked(rt: HostRuntime) -> Result<(), Fail> {
+    let heap = Refusing::new(rt.alloc());
+    let mut wire = wire(&heap, question(&heap)?, reply(&heap, SECOND)?, &[1])?;
+    let served = serve_anew(&heap, &mut wire, &[SERVER, SECOND], 3)?;
+    assert_eq!(rt; served, counted(3, 0));
+    assert_eq!(rt; wire.faults(), 1);
+    assert!(rt; is_answered_by_the_second(wire.puts()));
+    Ok(())
+}
 
 /// The actions of a turn of which every put is refused: of each try the ask and the close, in turn to both servers.
 fn is_refused<A: Allocator>(place: usize, put: &(Action<A>, bool)) -> bool {
@@ -36,17 +63,17 @@ fn every_put_is_refused(rt: HostRuntime) -> Result<(), Fail> {
 }
 
 /// Two turns in which the question comes in two pieces, while the readers of pieces are granted so many growths of this
-/// heap: how many puts there were, or `None` where memory ran out.
-fn puts_with<'a>(
+/// heap: whether the question was asked, and no more, or `None` where memory ran out.
+fn is_asked_with<'a>(
     ample: &'a Refusing<Global>,
     heap: &'a Refusing<Global>,
     count: u64,
-) -> Result<Option<usize>, AllocError> {
+) -> Result<Option<bool>, AllocError> {
     let mut forwarder = forwarder(ample)?;
     let mut wire = wire_of_two_pieces(ample)?;
     heap.allow(count);
     match serve(heap, &mut wire, &mut forwarder, 2) {
-        Ok(_) => Ok(Some(wire.puts().len())),
+        Ok(_) => Ok(Some(is_asked_alone(wire.puts()))),
         Err(_) => Ok(None),
     }
 }
@@ -57,12 +84,12 @@ fn a_reader_without_memory_ends_the_call(rt: HostRuntime) -> Result<(), Fail> {
     let heap = Refusing::new(rt.alloc());
     for count in 0..4 {
         assert_eq!(rt;
-            puts_with(&ample, &heap, count)?,
+            is_asked_with(&ample, &heap, count)?,
             None,
             "with {count} growths"
         );
     }
-    assert_eq!(rt; puts_with(&ample, &heap, 4)?, Some(1));
+    assert_eq!(rt; is_asked_with(&ample, &heap, 4)?, Some(true));
     Ok(())
 }
 

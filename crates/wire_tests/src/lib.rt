@@ -1,11 +1,13 @@
 //! Tests of the loop over a wire in memory, of what no contract says: that memory is there, and what the wire's script
-//! gives and refuses.
+//! gives and refuses. And over sockets: that what is sent reaches whom it should.
 #![tactic(auto)]
 
 #[cfg(test)]
 mod faults;
 #[cfg(test)]
 mod refusals;
+#[cfg(test)]
+mod sockets;
 #[cfg(test)]
 mod turns;
 #[cfg(test)]

@@ -37,7 +37,7 @@ pub(crate) const QUESTION: [u8; 27] =
     *b"\x12\x34\x01\x00\x00\x01\x00\x00\x00\x00\x00\x00\x01a\x07example\x00\x00\x01\x00\x01";
 
 /// The same as a query.
-const QUERY: [u8; 27] =
+pub(crate) const QUERY: [u8; 27] =
     *b"\x00\x08\x01\x00\x00\x01\x00\x00\x00\x00\x00\x00\x01a\x07example\x00\x00\x01\x00\x01";
 
 /// The server's reply: 198.51.100.5, for 300 seconds.
@@ -45,7 +45,7 @@ pub(crate) const REPLY: &[u8] =
     b"\x00\x08\x85\x00\x00\x01\x00\x01\x00\x00\x00\x00\x01a\x07example\x00\x00\x01\x00\x01\xc0\x0c\x00\x01\x00\x01\x00\x00\x01\x2c\x00\x04\xc6\x33\x64\x05";
 
 /// What the client gets.
-const ANSWER: &[u8] =
+pub(crate) const ANSWER: &[u8] =
     b"\x12\x34\x81\x80\x00\x01\x00\x01\x00\x00\x00\x00\x01a\x07example\x00\x00\x01\x00\x01\xc0\x0c\x00\x01\x00\x01\x00\x00\x01\x2c\x00\x04\xc6\x33\x64\x05";
 
 /// What the client gets where every try failed.
@@ -88,11 +88,11 @@ pub(crate) fn question<A: Allocator + Copy>(alloc: A) -> Result<Arrival<A>, Allo
     })
 }
 
-/// The server's reply comes at the port of the query.
-pub(crate) fn reply<A: Allocator + Copy>(alloc: A) -> Result<Arrival<A>, AllocError> {
+/// The reply comes from this server at the port of the query.
+pub(crate) fn reply<A: Allocator + Copy>(alloc: A, from: Peer) -> Result<Arrival<A>, AllocError> {
     Ok(Arrival::ServerDatagram {
         port: 1032,
-        from: SERVER,
+        from,
         bytes: PlainList::copied(alloc, REPLY)?,
     })
 }
@@ -109,13 +109,12 @@ pub(crate) fn piece<A: Allocator + Copy>(
     })
 }
 
-/// A wire on which these two arrive, at 1000 and at 1020, and that refuses the calls with these numbers.
-pub(crate) fn wire<A: Allocator + Copy>(
+/// Turns in which these two arrive, at 1000 and at 1020.
+pub(crate) fn turns<A: Allocator + Copy>(
     alloc: A,
     first: Arrival<A>,
     second: Arrival<A>,
-    refuse: &[u64],
-) -> Result<ScriptWire<A>, AllocError> {
+) -> Result<Vec<ScriptTurn<A>, A>, AllocError> {
     let mut turns = Vec::new(alloc);
     turns.push(ScriptTurn {
         arrival: first,
@@ -127,6 +126,17 @@ pub(crate) fn wire<A: Allocator + Copy>(
         moment: 1020,
         words: WORDS,
     })?;
+    Ok(turns)
+}
+
+/// A wire on which these two arrive, at 1000 and at 1020, and that refuses the calls with these numbers.
+pub(crate) fn wire<A: Allocator + Copy>(
+    alloc: A,
+    first: Arrival<A>,
+    second: Arrival<A>,
+    refuse: &[u64],
+) -> Result<ScriptWire<A>, AllocError> {
+    let turns = turns(alloc, first, second)?;
     Ok(ScriptWire::new(alloc, turns, Vec::from_slice(alloc, refuse)?))
 }
 

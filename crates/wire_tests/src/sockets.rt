@@ -1,0 +1,188 @@
+//! A question and its answer over sockets of this machine, by UDP and over TCP. The server and the client are the
+//! test's own, and turns are made one after another, so there is one thread. Ports 15353 to 15356 have to be free.
+//!
+//! A wire is forgotten, since each test has a process of its own: to let go of one would have to be proved here.
+
+use crate::worked::{ANSWER, QUERY, QUESTION, REPLY};
+use forwarder_core::Forwarder;
+use lru::DefaultHasher;
+use mio::net::{TcpStream, UdpSocket};
+use network_model::serve;
+use socket_wire::MioWire;
+use std::alloc::Global;
+use std::io::{Read, Write};
+use std::mem::forget;
+use std::net::{Ipv4Addr, SocketAddr, SocketAddrV4};
+use std::test::Fail;
+use suffix_routes::{Config, Peer};
+
+/// How often `serve` is called at most until a packet has come.
+const CALLS: u32 = 400;
+
+/// The configuration where the question comes by UDP. On a slow machine too nothing times out: an ask and a question wait as
+/// long as a configuration can say.
+const BY_UDP: &str = "version = 1
+listen = \"127.0.0.1:15353\"
+[limits]
+ask_ms = 10000
+deadline_ms = 30000
+[[route]]
+suffix = \".\"
+servers = [\"127.0.0.1:15354\"]
+";
+
+/// The same where it comes over TCP.
+const OVER_TCP: &str = "version = 1
+listen = \"127.0.0.1:15355\"
+[limits]
+ask_ms = 10000
+deadline_ms = 30000
+[[route]]
+suffix = \".\"
+servers = [\"127.0.0.1:15356\"]
+";
+
+/// A forwarder with the configuration of this text.
+fn forwarder_of(alloc: Global, text: &str) -> Result<Forwarder<DefaultHasher>, Fail> {
+    let config = Config::read(alloc, alloc, text)?;
+    Ok(Forwarder::new(alloc, config, DefaultHasher::default())?)
+}
+
+/// This port of this machine.
+const fn local(port: u16) -> Peer {
+    Peer {
+        ip: [127, 0, 0, 1],
+        port,
+    }
+}
+
+fn address(port: u16) -> SocketAddr {
+    SocketAddr::V4(SocketAddrV4::new(Ipv4Addr::LOCALHOST, port))
+}
+
+/// What came or went is what it should be.
+fn expected(is_so: bool) -> Result<(), Fail> {
+    if is_so {
+        Ok(())
+    } else {
+        Err(Fail::from("other octets than expected"))
+    }
+}
+
+/// Replies where the query has come: under its identifier, to whom it came from. The answer is whether it has come.
+fn is_query_replied(server: &UdpSocket) -> Result<bool, Fail> {
+    let mut query = [0u8; 64];
+    let Ok((count, from)) = server.recv_from(&mut query) else {
+        return Ok(false);
+    };
+    expected(count == QUERY.len() && query[2..27] == QUERY[2..])?;
+    let mut reply = [0u8; 43];
+    reply.copy_from_slice(REPLY);
+    reply[..2].copy_from_slice(&query[..2]);
+    server.send_to(&reply, from)?;
+    Ok(true)
+}
+
+/// Calls of so many turns until the query has come, which gets its reply.
+fn reply_to_query(
+    alloc: Global,
+    wire: &mut MioWire<'_, HostRuntime>,
+    forwarder: &mut Forwarder<DefaultHasher>,
+    turns: u64,
+    server: &UdpSocket,
+) -> Result<(), Fail> {
+    for _ in 0..CALLS {
+        serve(alloc, wire, forwarder, turns)?;
+        if is_query_replied(server)? {
+            return Ok(());
+        }
+    }
+    Err(Fail::from("no query came"))
+}
+
+/// Turns until the answer has come by UDP.
+fn answer_by_udp(
+    alloc: Global,
+    wire: &mut MioWire<'_, HostRuntime>,
+    forwarder: &mut Forwarder<DefaultHasher>,
+    client: &UdpSocket,
+) -> Result<(), Fail> {
+    let mut answer = [0u8; 64];
+    for _ in 0..CALLS {
+        serve(alloc, wire, forwarder, 1)?;
+        if let Ok((count, from)) = client.recv_from(&mut answer) {
+            return expected(from == address(15353) && &answer[..count] == ANSWER);
+        }
+    }
+    Err(Fail::from("no answer came"))
+}
+
+/// The question by UDP, over a wire that listens at 15353.
+fn ask_by_udp(rt: &HostRuntime, wire: &mut MioWire<'_, HostRuntime>) -> Result<(), Fail> {
+    let server = UdpSocket::bind(rt, address(15354))?;
+    let client = UdpSocket::bind(rt, address(0))?;
+    let mut forwarder = forwarder_of(rt.alloc(), BY_UDP)?;
+    client.send_to(&QUESTION, address(15353))?;
+    reply_to_query(rt.alloc(), wire, &mut forwarder, 1, &server)?;
+    answer_by_udp(rt.alloc(), wire, &mut forwarder, &client)
+}
+
+#[test]
+fn a_question_by_udp(rt: HostRuntime) -> Result<(), Fail> {
+    let mut wire = MioWire::new(&rt, rt.alloc(), local(15353), 30_000)?;
+    let asked = ask_by_udp(&rt, &mut wire);
+    forget(wire);
+    asked
+}
+
+/// What has come over TCP goes behind so many octets; the answer is how many more these are.
+fn received(client: &mut TcpStream, answer: &mut [u8], count: usize) -> usize {
+    match answer.get_mut(count..) {
+        Some(room) => client.read(room).unwrap_or(0),
+        None => 0,
+    }
+}
+
+/// Turns until the answer has come over TCP.
+fn answer_over_tcp(
+    alloc: Global,
+    wire: &mut MioWire<'_, HostRuntime>,
+    forwarder: &mut Forwarder<DefaultHasher>,
+    client: &mut TcpStream,
+) -> Result<(), Fail> {
+    let mut answer = [0u8; 64];
+    let mut count = 0usize;
+    for _ in 0..CALLS {
+        serve(alloc, wire, forwarder, 20)?;
+        count = count.saturating_add(received(client, &mut answer, count));
+        if count >= 45 {
+            return expected(count == 45 && answer[..2] == [0, 43] && &answer[2..45] == ANSWER);
+        }
+    }
+    Err(Fail::from("no answer came"))
+}
+
+/// Sends the question in two pieces.
+fn send_in_two_pieces(client: &mut TcpStream) -> Result<(), Fail> {
+    client.set_nodelay(true)?;
+    expected(client.write(b"\x00\x1b\x12")? == 3)?;
+    expected(client.write(&QUESTION[1..])? == 26)
+}
+
+/// The question over TCP in two pieces, over a wire that listens at 15355.
+fn ask_over_tcp(rt: &HostRuntime, wire: &mut MioWire<'_, HostRuntime>) -> Result<(), Fail> {
+    let server = UdpSocket::bind(rt, address(15356))?;
+    let mut forwarder = forwarder_of(rt.alloc(), OVER_TCP)?;
+    let mut client = TcpStream::connect(rt, address(15355))?;
+    send_in_two_pieces(&mut client)?;
+    reply_to_query(rt.alloc(), wire, &mut forwarder, 20, &server)?;
+    answer_over_tcp(rt.alloc(), wire, &mut forwarder, &mut client)
+}
+
+#[test]
+fn a_question_over_tcp_in_two_pieces(rt: HostRuntime) -> Result<(), Fail> {
+    let mut wire = MioWire::new(&rt, rt.alloc(), local(15355), 30_000)?;
+    let asked = ask_over_tcp(&rt, &mut wire);
+    forget(wire);
+    asked
+}
