@@ -1,5 +1,6 @@
 -- What the proofs of crates above cite of routes.
-use Rattle.std.proofs.Common.{◌≡◌, ℕ, ◌<◌, ◌≤◌, List, length, Some}
+use Rattle.std.proofs.Common.{◌≡◌, ℕ, ◌<◌, ◌≤◌, List, length, Some, arith, inl, inr}
+use Rattle.std.proofs.lemmas.Bool.{cases_Bool}
 use Rattle.std.specs.Prelude.{slice_get}
 use Rattle.std.specs.List.{AllByRecursion}
 use Rattle.dns_name.specs.Labels.{IsSame, IsUnder, lowered, size_of}
@@ -37,3 +38,11 @@ pub routes_above_differ : (routes : List Route) (name above : List (List ℕ)) (
     → slice_get routes k ≡ Some other → IsUnder name other.suffix → size_of above < size_of other.suffix
     → route_of routes above ≡ route_of routes name → ⊥
 routes_above_differ = routes.route_of-longer
+
+-- a route has no more than 8 servers, whether it denies or not
+pub route_has_few_servers : (route : Route) → IsRoute route → length route.servers ≤ 8
+route_has_few_servers route is =
+    elim (cases_Bool route.deny) [
+      | inl deny ↦ omega (arith, is.denies deny)
+      | inr serve ↦ (is.serves serve).1
+    ]
