@@ -24,7 +24,7 @@ pub told_sections : (chain : List Told) (records authority : List Record) (rcode
     → record { answers = records; authority = authority; rcode = rcode } ≡ sections_told chain
 told_sections chain records authority rcode last all soa code is =
     (λ i. record { answers = all i; authority = soa i; rcode = code i })
-      ∙ ap (ending (flat_map answers_of chain)) is ∙ ending_is chain
+    ∙ ap (ending (flat_map answers_of chain)) is ∙ ending_is chain
 
 -- it is the last one
 pub last_is : (chain : List Told) → slice_get chain (length chain - 1) ≡ end_of chain
@@ -34,7 +34,7 @@ last_is (t ∷ other ∷ chain) =
     let one : length (t ∷ other ∷ chain) - 1 ≡ suc (length chain) = omega arith in
     let none : length chain ≡ length (other ∷ chain) - 1 = omega arith in
     ap (λ (n : ℕ). slice_get (t ∷ other ∷ chain) n) one ∙ ap (λ (n : ℕ). slice_get (other ∷ chain) n) none
-      ∙ last_is (other ∷ chain)
+    ∙ last_is (other ∷ chain)
 
 -- one more is told, behind others
 pub told_more : {X Y : Type 0} (f : X → Y) (before items more : List Y) (y : Y) (xs : List X) (i : ℕ) (x : X)
@@ -45,7 +45,7 @@ told_more {X = X} {Y = Y} f before items more y xs i x lt is told so_far pushed 
     (λ j. map f (take i xs) ++ told j ∷ []) ∙ sym (map-append f (take i xs) (x ∷ []))
     ∙ (λ j. map f (take i xs ++ is j ∷ [])) ∙ sym (ap (map f) (take_more xs i x lt)) in
     pushed ∙ (λ j. so_far j ++ y ∷ []) ∙ append_assoc before (map f (take i xs)) (y ∷ [])
-      ∙ ap (λ (zs : List Y). before ++ zs) next
+    ∙ ap (λ (zs : List Y). before ++ zs) next
 
 -- ---- what holds of each piece
 
@@ -85,7 +85,7 @@ one_more r s refs =
     let longer : length (r ∷ s ∷ refs) - 1 ≡ suc (length refs) = omega arith in
     let shorter : length refs ≡ length (s ∷ refs) - 1 = omega arith in
     sym (ap (λ (n : ℕ). option_copied (slice_get (s ∷ refs) n)) shorter)
-      ∙ sym (ap (λ (n : ℕ). option_copied (slice_get (r ∷ s ∷ refs) n)) longer)
+    ∙ sym (ap (λ (n : ℕ). option_copied (slice_get (r ∷ s ∷ refs) n)) longer)
 
 -- the end of what is told of them is told of the last of them
 pub last_lent : (moment : ℕ) (refs : List (Bor Held))

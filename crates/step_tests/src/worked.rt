@@ -52,6 +52,7 @@ pub(crate) const ANSWER: &[u8] =
 pub(crate) fn config<A: Allocator + Copy>(alloc: A) -> Result<Config<A>, AllocError> {
     let route = Route {
         suffix: Name::root(),
+        deny: false,
         servers: PlainList::copied(alloc, &[SERVER, SECOND])?,
     };
     let mut routes = PlainList::new(alloc);

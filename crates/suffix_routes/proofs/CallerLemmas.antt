@@ -1,5 +1,6 @@
 -- What the proofs of crates above cite of routes.
-use Rattle.std.proofs.Common.{◌≡◌, ℕ, ◌<◌, ◌≤◌, false, List, length, Option, Some, ap}
+use Rattle.std.proofs.Common.{◌≡◌, ℕ, ◌<◌, ◌≤◌, false, List, length, Option, Some, ap, arith, inl, inr}
+use Rattle.std.proofs.lemmas.Bool.{cases_Bool}
 use Rattle.std.specs.Prelude.{slice_get}
 use Rattle.std.specs.List.{AllByRecursion}
 use Rattle.dns_name.specs.Labels.{IsSame, IsUnder, lowered, size_of}
@@ -55,3 +56,11 @@ serving_respects_same routes n m same = ap (serving routes) (route_of_respects_s
 
 pub serving_lowered : (routes : List Route) (name : List (List ℕ)) → serving_route_of routes (lowered name) ≡ serving_route_of routes name
 serving_lowered routes name = ap (serving routes) (route_of_lowered routes name)
+
+-- a route has no more than 8 servers, whether it denies or not
+pub route_has_few_servers : (route : Route) → IsRoute route → length route.servers ≤ 8
+route_has_few_servers route is =
+    elim (cases_Bool route.deny) [
+      | inl deny ↦ omega (arith, is.denies deny)
+      | inr serve ↦ (is.serves serve).1
+    ]

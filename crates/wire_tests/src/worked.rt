@@ -68,6 +68,7 @@ pub(crate) fn forwarder_to<A: Allocator + Copy>(
 {
     let route = Route {
         suffix: Name::root(),
+        deny: false,
         servers: PlainList::copied(alloc, servers)?,
     };
     let mut routes = PlainList::new(alloc);

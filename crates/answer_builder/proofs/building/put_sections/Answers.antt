@@ -24,5 +24,5 @@ returns g c =
     let authority = ap (λ (s : Sections). s.authority) is in
     let sets = c.sections.inside in
     let same = sent_text asked c.args.sections c.args.transport c.header_of.result c.asked.inside.question sets.answers.now
-      sets.authority.now header question answers authority in
+    sets.authority.now header question answers authority in
     gives_as _ c.put_text.result _ _ same c.put_text.ensures

@@ -12,5 +12,5 @@ loop-held-preserved g c =
     record {
       earlier = drop_more (IsEarlier c.args.moment) chain i held lt all.earlier;
       told = told_more (told_at c.args.moment) c.args.told.now.items c.loop-held.told.items c.push.new.self.items _ chain i
-        held lt c.held-item.is c.at.ensures all.told c.in_ok-push.ensures.items;
+          held lt c.held-item.is c.at.ensures all.told c.in_ok-push.ensures.items;
     }

@@ -17,4 +17,4 @@ pub returns-in-Some : goal.returns-in-Some
 returns-in-Some g c =
     let last = ap (λ (o : Option (Bor Held)). option_copied o) c.in-Some.ensures.value in
     ap (λ (t : Told). Some t) c.at.ensures ∙ ap (λ (o : Option Held). option_map (told_at c.args.moment) o) last
-      ∙ sym (last_lent c.args.moment c.args.chain.now)
+    ∙ sym (last_lent c.args.moment c.args.chain.now)
