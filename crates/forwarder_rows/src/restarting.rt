@@ -9,8 +9,8 @@ use replay_script::{MOST_LINES, ReplayFault};
 use std::alloc::Global;
 use std::io::Write;
 
-/// Tells where a restart behind this line does something, or where what follows it differs from a run over the lines behind
-/// it alone.
+/// Tells where a restart behind this line does something, or where what follows it differs from a run over the lines
+/// behind it alone.
 pub(crate) fn tell_restart<W: Write>(
     alloc: Global,
     heap: Heap<'_>,
@@ -39,8 +39,8 @@ fn tell_deed<W: Write>(
     Ok(())
 }
 
-/// Tells the first line behind this one at which a restarted forwarder does something else than a run over the lines behind
-/// this one alone does.
+/// Tells the first line behind this one at which a restarted forwarder does something else than a run over the lines
+/// behind this one alone does.
 fn tell_rest<'a, W: Write>(
     alloc: Global,
     heap: Heap<'a>,

@@ -41,8 +41,8 @@ impl Refused {
         }
     }
 
-    /// Ends what `begin` began. The answer is whether the one growth is still to be refused: of one more than were granted one
-    /// is. Where all the rest are refused, that can't be seen.
+    /// Ends what `begin` began. The answer is whether the one growth is still to be refused: of one more than were
+    /// granted one is. Where all the rest are refused, that can't be seen.
     fn end(self, heap: Heap<'_>) -> bool {
         let probes = match self {
             Refused::One(granted) => granted.saturating_add(1),
@@ -80,8 +80,8 @@ struct Made {
     unkept: u32,
 }
 
-/// Runs one line, and tells where its step is not what it has to be with each of its growths refused in turn, alone and with
-/// all after it.
+/// Runs one line, and tells where its step is not what it has to be with each of its growths refused in turn, alone and
+/// with all after it.
 pub(crate) fn run_line<'a, W: Write>(
     alloc: Global,
     heap: Heap<'a>,
@@ -110,7 +110,8 @@ pub(crate) fn run_line<'a, W: Write>(
     Ok(())
 }
 
-/// Whether an event is a client's message: its question may wait with others, which takes memory and calls for no action.
+/// Whether an event is a client's message: its question may wait with others, which takes memory and calls for no
+/// action.
 fn is_of_client(event: &Event<Heap<'_>>) -> bool {
     matches!(event, Event::Client { .. })
 }
@@ -153,8 +154,8 @@ fn refuse_each<W: Write>(
     Err(ReplayFault::Memory)
 }
 
-/// A step with the growth after so many refused alone. Tells where it is not what it has to be: refused, and made again with
-/// memory, or made but for one piece.
+/// A step with the growth after so many refused alone. Tells where it is not what it has to be: refused, and made again
+/// with memory, or made but for one piece.
 fn refuse_one<W: Write>(
     trial: &Trial<'_, '_, '_>,
     whole: &Made,
@@ -173,8 +174,8 @@ fn refuse_one<W: Write>(
 }
 
 /// A step with each growth after so many refused. Tells where it is not what it has to be: refused, and made again with
-/// memory, or made but for pieces that were not kept, one fewer than with one growth less. The answer is how many these were;
-/// with one growth less they were `before`, none where the step was refused.
+/// memory, or made but for pieces that were not kept, one fewer than with one growth less. The answer is how many these
+/// were; with one growth less they were `before`, none where the step was refused.
 fn refuse_rest<W: Write>(
     trial: &Trial<'_, '_, '_>,
     whole: &Made,
@@ -206,8 +207,8 @@ fn made_anew(trial: &Trial<'_, '_, '_>, refused: Refused) -> Result<Made, Replay
     made_with(trial, &mut forwarder, refused)
 }
 
-/// The step with these growths refused; where it is refused, it has changed nothing, so the same forwarder makes it again with
-/// ample memory.
+/// The step with these growths refused; where it is refused, it has changed nothing, so the same forwarder makes it
+/// again with ample memory.
 fn made_with<'a>(
     trial: &Trial<'_, 'a, '_>,
     forwarder: &mut Runner<'a>,

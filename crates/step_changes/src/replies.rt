@@ -78,8 +78,8 @@ pub fn failures<A: Allocator + Copy>(
 /// No question takes more aliases.
 const MOST_ALIASES: usize = 8;
 
-/// The answer of a question from the aliases that it holds and the chain of these answers, which has so many pieces, or that it
-/// would hold too many aliases.
+/// The answer of a question from the aliases that it holds and the chain of these answers, which has so many pieces, or
+/// that it would hold too many aliases.
 fn answer_or_fail<'a, A: Allocator + Copy>(
     alloc: A,
     answers: &mut Answers<'a, A>,
@@ -145,8 +145,9 @@ fn borrowed<A: Allocator + Copy>(alloc: A, held: &[Held<A>]) -> Result<Vec<&Held
     Ok(refs)
 }
 
-/// The query is closed, and each question that waits for it is answered from the aliases that it holds and these pieces, none
-/// accepted after the moment, in milliseconds, or fails where these are too many aliases. `Err` where memory ran out.
+/// The query is closed, and each question that waits for it is answered from the aliases that it holds and these
+/// pieces, none accepted after the moment, in milliseconds, or fails where these are too many aliases. `Err` where
+/// memory ran out.
 pub fn answers_to<A: Allocator + Copy>(
     alloc: A,
     query: &Ask<A>,

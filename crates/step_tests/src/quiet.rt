@@ -46,8 +46,8 @@ const OTHER_PORT: Peer = Peer {
     port: 5353,
 };
 
-/// What comes once the query was sent at 1000, with its moment. The query may be answered for 1,500 milliseconds, and an
-/// earlier moment counts as the latest one.
+/// What comes once the query was sent at 1000, with its moment. The query may be answered for 1,500 milliseconds, and
+/// an earlier moment counts as the latest one.
 const ROWS: [(u64, Row); 16] = [
     (1001, Row::Sends(REPLY)),
     (

@@ -98,8 +98,8 @@ fn handed_in<'a>(
     Ok(handed)
 }
 
-/// Each growth of a run over the list is refused in turn: with how many the run is refused, and with how many a piece is not
-/// kept. `None` where it does anything else.
+/// Each growth of a run over the list is refused in turn: with how many the run is refused, and with how many a piece
+/// is not kept. `None` where it does anything else.
 fn refusals_of_list(
     heap: &Refusing<Global>,
     refused: Refused,
@@ -121,9 +121,9 @@ fn refusals_of_list(
     Ok(None)
 }
 
-/// The configuration takes 2 growths and a new forwarder 7, all but one for its cache; a step takes one more for each of its
-/// two copies, and the first for the list. Of the 12 of the first step, 5 are for the ask and 4 for the question that waits: a
-/// slab and lists of keys. With the last growth refused, the set is not kept.
+/// The configuration takes 2 growths and a new forwarder 7, all but one for its cache; a step takes one more for each
+/// of its two copies, and the first for the list. Of the 12 of the first step, 5 are for the ask and 4 for the question
+/// that waits: a slab and lists of keys. With the last growth refused, the set is not kept.
 #[test]
 fn a_run_over_a_list(rt: HostRuntime) -> Result<(), Fail> {
     let heap = Refusing::new(rt.alloc());
@@ -160,8 +160,8 @@ fn is_recorded_with(
     Ok(recorded.is_ok())
 }
 
-/// With how few growths granted before one is refused both are made; `None` where one of them is made with fewer than the
-/// other.
+/// With how few growths granted before one is refused both are made; `None` where one of them is made with fewer than
+/// the other.
 fn growths_of_new(heap: &Refusing<Global>, refused: Refused) -> Result<Option<u64>, AllocError> {
     for granted in 0..64 {
         let is_forwarder = is_forwarder_with(heap, refused, granted)?;
@@ -251,8 +251,8 @@ fn fate_of_second(
     })
 }
 
-/// Each growth of the second step is refused in turn: with how many it is refused, and with how many a piece is not kept.
-/// `None` where it does anything else.
+/// Each growth of the second step is refused in turn: with how many it is refused, and with how many a piece is not
+/// kept. `None` where it does anything else.
 fn refusals_of_second(
     heap: &Refusing<Global>,
     refused: Refused,

@@ -25,7 +25,8 @@ fn is_answered_by_the_second<A: Allocator>(puts: &[(Action<A>, bool)]) -> bool {
     }
 }
 
-/// The first call is the arrival of the question, the second one the ask. A refused ask is no refused put: its path has failed.
+/// The first call is the arrival of the question, the second one the ask. A refused ask is no refused put: its path has
+/// failed.
 #[test]
 fn behind_a_refused_ask_the_next_server_is_asked(rt: HostRuntime) -> Result<(), Fail> {
     let heap = Refusing::new(rt.alloc());

@@ -19,8 +19,8 @@ use suffix_routes::{Config, Peer};
 /// How often `serve` is called at most until a packet has come.
 const CALLS: u32 = 400;
 
-/// The configuration where the question comes by UDP. On a slow machine too nothing times out: an ask and a question wait as
-/// long as a configuration can say.
+/// The configuration where the question comes by UDP. On a slow machine too nothing times out: an ask and a question
+/// wait as long as a configuration can say.
 const BY_UDP: &str = "version = 1
 listen = \"127.0.0.1:15353\"
 [limits]

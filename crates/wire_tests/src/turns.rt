@@ -61,7 +61,8 @@ fn a_frame_in_two_pieces_is_one_question(rt: HostRuntime) -> Result<(), Fail> {
     Ok(())
 }
 
-/// A wire of turns that are there is made, and its puts are seen, without memory: of one growth that is allowed, one is left.
+/// A wire of turns that are there is made, and its puts are seen, without memory: of one growth that is allowed, one is
+/// left.
 fn is_made_without_memory(heap: &Refusing<Global>) -> Result<bool, AllocError> {
     let turns = turns(heap, question(heap)?, reply(heap, SERVER)?)?;
     let refuse = Vec::from_slice(heap, &[1u64])?;
