@@ -1,5 +1,5 @@
 -- Worked answers past their end, and of routes that deny, computed. Octets are hexadecimal.
-use Rattle.std.proofs.Common.{◌≡◌, ℕ, List, [], ◌∷◌, ◌++◌, length, map, Option, Some, None, ap, refl, arith}
+use Rattle.std.proofs.Common.{◌≡◌, ℕ, List, [], ◌∷◌, ◌++◌, length, map, Some, ap, refl, arith}
 use Rattle.std.specs.Prelude.{Ok, replicate, slice_index}
 use Rattle.dns_message.specs.Names.{step as name_step, walk_in, name_within}
 use Rattle.dns_message.specs.Shapes.{shape_of}

@@ -74,8 +74,8 @@ fn refuse(heap: &Refusing<Global>, is_alone: bool) {
     }
 }
 
-/// Whether each growth of a reader is refused in turn, and what it has stays: a piece, a piece behind another one, for which
-/// it needs more room, and the message of both.
+/// Whether each growth of a reader is refused in turn, and what it has stays: a piece, a piece behind another one,
+/// for which it needs more room, and the message of both.
 fn are_refused_in_turn<'a>(
     heap: &'a Refusing<Global>,
     reader: &mut FrameReader<&'a Refusing<Global>>,

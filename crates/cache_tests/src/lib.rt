@@ -1,9 +1,13 @@
-//! Tests of the cache against a plain list and with many names, and of refused growths: of what replies carry, of copies, of
-//! the cache and of look-ups.
+//! Tests of the cache against a plain list and with many names, of copies of what replies carry and of a look-up of
+//! each kind, and of refused growths: of what replies carry, of copies, of the cache and of look-ups.
 #![tactic(auto)]
 
 #[cfg(test)]
 mod agreement;
+#[cfg(test)]
+mod copies;
+#[cfg(test)]
+mod look_ups;
 #[cfg(test)]
 mod many;
 #[cfg(test)]

@@ -3,7 +3,7 @@
 use crate::samples::Denial;
 use dns_name::{Name, NameFault};
 use lru::DefaultHasher;
-use negative_cache::{Found, find, shown};
+use negative_cache::{Found, find, find_stale, shown};
 use record_cache::{Cache, Offered};
 use refusing_allocator::Refusing;
 use std::alloc::Global;
@@ -43,7 +43,8 @@ fn each_growth_of_a_new_cache_is_refused(rt: HostRuntime) {
     );
 }
 
-/// A second name is offered with so many growths granted: what came of it, and whether the cache is as it has to be then.
+/// A second name is offered with so many growths granted: what came of it, and whether the cache is as it has to be
+/// then.
 fn second_within(heap: &Refusing<Global>, growths: u64) -> Result<(Offered, bool), Fail> {
     let mut cache = Cache::new(heap, 2, DefaultHasher::default())?;
     let first = Denial::of("a.example", None);
@@ -122,7 +123,8 @@ fn other_calls_take_no_memory(rt: HostRuntime) -> Result<(), Fail> {
     Ok(())
 }
 
-/// A cache with a name error, granted one growth, looks names up under it and beside it, and then shows the one under it.
+/// A cache with a name error, granted one growth, looks names up under it and beside it, and then shows the one under
+/// it.
 fn look_up<'a>(
     heap: &'a Refusing<Global>,
     cache: &mut Cache<DefaultHasher, &'a Refusing<Global>>,
@@ -133,7 +135,8 @@ fn look_up<'a>(
     let beside = Name::from_text(heap, "y.example")?;
     heap.allow(1);
     let is_denied = matches!(find(cache, &under, 1, 1, 2000, config), Found::Denied(_));
-    let is_missed = matches!(find(cache, &beside, 1, 1, 2000, config), Found::Miss);
+    let is_missed = matches!(find(cache, &beside, 1, 1, 2000, config), Found::Miss)
+        && matches!(find_stale(cache, &under, 1, 1, 2000, 60), Found::Miss);
     shown(cache, &under, 1);
     Ok(is_denied && is_missed && is_one_left(heap))
 }

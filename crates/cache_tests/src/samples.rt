@@ -2,15 +2,35 @@
 
 ghost use Rattle.std.specs.Prelude.{◌≢◌, []};
 
-use dns_message::Rdata;
+use dns_message::{MessageRef, Rdata};
 use dns_name::{Name, NameFault};
 use lru::DefaultHasher;
 use plain_list::PlainList;
 use record_cache::{Cache, Offered};
-use std::alloc::Allocator;
+use std::alloc::{Allocator, Global};
 use std::test::Fail;
-use suffix_routes::RouteId;
-use trust_rank::{Body, Piece, Rows, Slot};
+use suffix_routes::{Config, RouteId};
+use trust_rank::{Body, Piece, Rows, Slot, pieces};
+
+/// One route for all names.
+pub(crate) const CONFIG: &str = r#"version = 1
+[[route]]
+suffix = "."
+servers = ["192.0.2.1:53"]
+"#;
+
+/// The address of a.example is asked for. It is an alias of b.example, which has two addresses; and there is a name
+/// server of example.
+pub(crate) const ALIAS: &str =
+    "0008850000010003000100000161076578616d706c650000010001c00c000500010000003c00040162c00ec027000100010000012c0004c6336405c02700010001000002580004c6336406c00e0002000100000e100005026e73c00e";
+
+/// The name x.example is not there: TTL 3,600 and MINIMUM 600.
+pub(crate) const NAME_ERROR: &str =
+    "0008850300010000000100000178076578616d706c650000010001c00e0006000100000e10001d026e73c00e0168c00e0000000100000002000000030000000400000258";
+
+/// The name x.example has no address: with the same SOA.
+pub(crate) const NO_DATA: &str =
+    "0008850000010000000100000178076578616d706c650000010001c00e0006000100000e10001d026e73c00e0168c00e0000000100000002000000030000000400000258";
 
 /// A denial without SOA: of a type (NODATA), or of the whole name (a name error) where there is none.
 #[derive(Clone, Copy)]
@@ -93,4 +113,15 @@ fn set_of<A: Allocator>(owner: Name<A>, rows: Rows<A>) -> Piece<A>
         rank: 3,
         route: RouteId { place: 0 },
     }
+}
+
+/// The pieces that a message carries as the reply to its own question.
+pub(crate) fn pieces_of(alloc: Global, digits: &str) -> Result<PlainList<Piece, Global>, Fail> {
+    let config = Config::read(alloc, alloc, CONFIG)?;
+    let octets = hex::decode(alloc, digits)?;
+    let view = MessageRef::view(octets.as_slice())?;
+    let message = view.read_whole(alloc)?;
+    let question = view.question(alloc)?;
+    let walk = pieces(alloc, &message, &question, RouteId { place: 0 }, &config)?;
+    Ok(walk.pieces)
 }

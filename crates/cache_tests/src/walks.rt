@@ -1,27 +1,12 @@
 //! Replies in octets, and what no contract can say: that memory is found where there is some.
 
+use crate::samples::{ALIAS, CONFIG, NAME_ERROR};
 use dns_message::MessageRef;
 use refusing_allocator::Refusing;
 use std::alloc::Global;
 use std::test::Fail;
 use suffix_routes::{Config, RouteId};
 use trust_rank::{Piece, Walk, pieces};
-
-/// One route for all names.
-const CONFIG: &str = r#"version = 1
-[[route]]
-suffix = "."
-servers = ["192.0.2.1:53"]
-"#;
-
-/// The address of a.example is asked for. It is an alias of b.example, which has two addresses; and there is a name
-/// server of example.
-const ALIAS: &str =
-    "0008850000010003000100000161076578616d706c650000010001c00c000500010000003c00040162c00ec027000100010000012c0004c6336405c02700010001000002580004c6336406c00e0002000100000e100005026e73c00e";
-
-/// The name x.example is not there: TTL 3,600 and MINIMUM 600.
-const NAME_ERROR: &str =
-    "0008850300010000000100000178076578616d706c650000010001c00e0006000100000e10001d026e73c00e0168c00e0000000100000002000000030000000400000258";
 
 /// Forty addresses of a.example are counted.
 const FORTY: &str = "0008850000010028000000000161076578616d706c650000010001";

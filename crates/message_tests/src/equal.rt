@@ -1,14 +1,15 @@
 //! Values that are compared in each part, letter case included.
 
 use dns_message::{Message, Question, Record};
+use std::alloc::Allocator;
 
 /// Whether two questions are equal.
-pub fn is_equal_question(one: &Question, other: &Question) -> bool {
+pub fn is_equal_question<A: Allocator>(one: &Question<A>, other: &Question<A>) -> bool {
     one.name.octets() == other.name.octets() && one.kind == other.kind && one.class == other.class
 }
 
 /// Whether two records are equal.
-pub fn is_equal_record(one: &Record, other: &Record) -> bool {
+pub fn is_equal_record<A: Allocator>(one: &Record<A>, other: &Record<A>) -> bool {
     one.owner.octets() == other.owner.octets()
         && one.kind == other.kind
         && one.class == other.class

@@ -3,7 +3,7 @@
 #![tactic(auto)]
 
 #[cfg(test)]
-mod copying_tests;
+mod data_tests;
 #[cfg(test)]
 mod equal;
 #[cfg(test)]

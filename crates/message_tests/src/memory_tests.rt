@@ -1,9 +1,11 @@
-//! Each growth that a call wants is refused in turn: it alone, and it with each one behind it.
+//! Each growth that a call wants is refused in turn, alone and with each one behind it, until what the call gives is
+//! right: copies are compared with what they copy.
 
-use crate::messages::LONG_REPLY;
+use crate::equal::{is_equal_question, is_equal_record};
+use crate::messages::{LONG_REPLY, REPLY};
 use dns_message::{Fault, MessageRef, Record, write};
 use refusing_allocator::Refusing;
-use std::alloc::Global;
+use std::alloc::{AllocError, Global};
 
 /// A call that takes memory.
 #[derive(Clone, Copy)]
@@ -17,18 +19,26 @@ enum Call {
     Write,
 }
 
-/// Each call, and how many growths it wants at least and at most over a message whose names are longer than what lies in
-/// place. A copy wants one for each list of octets. A message that is read wants one for the name of its question, one for
-/// an owner, one for the data, and one for each of the two lists; one that is written wants one for its octets, and one for
-/// the names in it, which are more than 16.
-const CALLS: [(Call, u64, u64); 7] = [
-    (Call::Question, 1, 1),
-    (Call::QuestionCopy, 1, 1),
-    (Call::RecordCopy, 2, 2),
-    (Call::DataCopy, 1, 1),
-    (Call::DataName, 1, 1),
-    (Call::ReadWhole, 5, 60),
-    (Call::Write, 2, 60),
+/// Each call, the message that it is over, and how many growths it wants at least and at most.
+///
+/// What lies in place wants none. Of what doesn't a copy wants one for each list of octets; a message that is read
+/// one for the name of its question, one for an owner, one for the data, and, as each message, one for each of the
+/// two lists; one that is written one for its octets, and one for the names in it where they are more than 16.
+const CALLS: [(Call, &[u8], u64, u64); 14] = [
+    (Call::Question, REPLY, 0, 0),
+    (Call::Question, LONG_REPLY, 1, 1),
+    (Call::QuestionCopy, REPLY, 0, 0),
+    (Call::QuestionCopy, LONG_REPLY, 1, 1),
+    (Call::RecordCopy, REPLY, 0, 0),
+    (Call::RecordCopy, LONG_REPLY, 2, 2),
+    (Call::DataCopy, REPLY, 0, 0),
+    (Call::DataCopy, LONG_REPLY, 1, 1),
+    (Call::DataName, REPLY, 0, 0),
+    (Call::DataName, LONG_REPLY, 1, 1),
+    (Call::ReadWhole, REPLY, 2, 60),
+    (Call::ReadWhole, LONG_REPLY, 5, 60),
+    (Call::Write, REPLY, 1, 60),
+    (Call::Write, LONG_REPLY, 2, 60),
 ];
 
 /// Which growth is refused, counted from 0, and whether it is alone.
@@ -47,84 +57,92 @@ fn refuse(heap: &Refusing<Global>, refused: Refused) {
     }
 }
 
-fn read_question(heap: &Refusing<Global>, refused: Refused) -> Result<(), Fault> {
-    let view = MessageRef::view(LONG_REPLY)?;
+fn read_question(heap: &Refusing<Global>, octets: &[u8], refused: Refused) -> Result<bool, Fault> {
+    let view = MessageRef::view(octets)?;
     refuse(heap, refused);
-    view.question(heap)?;
-    Ok(())
+    let question = view.question(heap)?;
+    Ok(view.question_is(&question))
 }
 
-fn copy_question(heap: &Refusing<Global>, refused: Refused) -> Result<(), Fault> {
-    let question = MessageRef::view(LONG_REPLY)?.question(heap)?;
+fn copy_question(heap: &Refusing<Global>, octets: &[u8], refused: Refused) -> Result<bool, Fault> {
+    let question = MessageRef::view(octets)?.question(heap)?;
     refuse(heap, refused);
-    question.copy(heap)?;
-    Ok(())
+    let copy = question.copy(heap)?;
+    Ok(is_equal_question(&question, &copy))
 }
 
-/// Copies a record, or its data, or the name in it.
+/// Copies a record, or its data, or takes the name out of that, which ends with a zero octet where it is one.
 fn copy_record<'a>(
     heap: &'a Refusing<Global>,
     call: Call,
     record: &Record<&'a Refusing<Global>>,
-    refused: Refused,
-) -> Result<(), Fault> {
-    refuse(heap, refused);
+) -> Result<bool, AllocError> {
     match call {
-        Call::RecordCopy => {
-            record.copy(heap)?;
-        }
-        Call::DataCopy => {
-            record.rdata.copy(heap)?;
-        }
-        _ => {
-            record.rdata.name(heap)?;
-        }
+        Call::RecordCopy => Ok(is_equal_record(record, &record.copy(heap)?)),
+        Call::DataCopy => Ok(record.rdata.octets() == record.rdata.copy(heap)?.octets()),
+        _ => match record.rdata.name(heap)? {
+            Some(name) => Ok(record.rdata.octets().strip_suffix(b"\x00") == Some(name.octets())),
+            None => Ok(record.kind == 1),
+        },
     }
-    Ok(())
 }
 
-fn copy_answers(heap: &Refusing<Global>, call: Call, refused: Refused) -> Result<(), Fault> {
-    let message = MessageRef::view(LONG_REPLY)?.read_whole(heap)?;
-    for record in message.answers.as_slice() {
-        copy_record(heap, call, record, refused)?;
+/// The same of the only answer.
+fn copy_answer(
+    heap: &Refusing<Global>,
+    call: Call,
+    octets: &[u8],
+    refused: Refused,
+) -> Result<bool, Fault> {
+    let message = MessageRef::view(octets)?.read_whole(heap)?;
+    refuse(heap, refused);
+    match message.answers.as_slice() {
+        [record] => Ok(copy_record(heap, call, record)?),
+        _ => Ok(false),
     }
-    Ok(())
 }
 
-fn read_message(heap: &Refusing<Global>, refused: Refused) -> Result<(), Fault> {
-    let view = MessageRef::view(LONG_REPLY)?;
+fn read_message(heap: &Refusing<Global>, octets: &[u8], refused: Refused) -> Result<bool, Fault> {
+    let view = MessageRef::view(octets)?;
     refuse(heap, refused);
-    view.read_whole(heap)?;
-    Ok(())
+    let message = view.read_whole(heap)?;
+    Ok(message.answers.as_slice().len() == 1)
 }
 
-fn write_message(heap: &Refusing<Global>, refused: Refused) -> Result<(), Fault> {
-    let message = MessageRef::view(LONG_REPLY)?.read_whole(heap)?;
+fn write_message(heap: &Refusing<Global>, octets: &[u8], refused: Refused) -> Result<bool, Fault> {
+    let message = MessageRef::view(octets)?.read_whole(heap)?;
     refuse(heap, refused);
-    write(heap, &message, 512)?;
-    Ok(())
+    Ok(write(heap, &message, 512)?.as_slice() == octets)
 }
 
-/// Makes a call, with ample memory for what it is handed. `Memory` where a growth was refused.
-fn make(heap: &Refusing<Global>, call: Call, refused: Refused) -> Result<(), Fault> {
+/// Makes a call, with ample memory for what it is handed; whether what it gives is right. `Memory` where a growth was
+/// refused.
+fn make(
+    heap: &Refusing<Global>,
+    call: Call,
+    octets: &[u8],
+    refused: Refused,
+) -> Result<bool, Fault> {
     heap.allow(u64::MAX);
     match call {
-        Call::Question => read_question(heap, refused),
-        Call::QuestionCopy => copy_question(heap, refused),
-        Call::ReadWhole => read_message(heap, refused),
-        Call::Write => write_message(heap, refused),
-        Call::RecordCopy | Call::DataCopy | Call::DataName => copy_answers(heap, call, refused),
+        Call::Question => read_question(heap, octets, refused),
+        Call::QuestionCopy => copy_question(heap, octets, refused),
+        Call::ReadWhole => read_message(heap, octets, refused),
+        Call::Write => write_message(heap, octets, refused),
+        Call::RecordCopy | Call::DataCopy | Call::DataName => {
+            copy_answer(heap, call, octets, refused)
+        }
     }
 }
 
-/// How many growths a call is refused one after another until it is made; 64 where it is not, or where something else than
-/// want of memory is told.
-fn growths_of(heap: &Refusing<Global>, call: Call, is_alone: bool) -> u64 {
+/// How many growths a call is refused one after another until it is made right; 64 where it is not, or where
+/// something else than want of memory is told.
+fn growths_of(heap: &Refusing<Global>, call: Call, octets: &[u8], is_alone: bool) -> u64 {
     for growth in 0..64u64 {
-        match make(heap, call, Refused { growth, is_alone }) {
-            Ok(()) => return growth,
+        match make(heap, call, octets, Refused { growth, is_alone }) {
+            Ok(true) => return growth,
             Err(Fault::Memory) => {}
-            Err(_) => return 64,
+            _ => return 64,
         }
     }
     64
@@ -133,12 +151,12 @@ fn growths_of(heap: &Refusing<Global>, call: Call, is_alone: bool) -> u64 {
 #[test]
 fn each_refused_growth_is_want_of_memory(rt: HostRuntime) {
     let heap = Refusing::new(rt.alloc());
-    for (call, least, most) in &CALLS {
-        let growths = growths_of(&heap, *call, false);
+    for (call, octets, least, most) in &CALLS {
+        let growths = growths_of(&heap, *call, octets, false);
+        let alone = growths_of(&heap, *call, octets, true);
         assert!(rt;
-            *least <= growths && growths <= *most,
-            "{growths} of {least} to {most}"
+            *least <= growths && growths <= *most && alone == growths,
+            "{growths} of {least} to {most}, and {alone} alone"
         );
-        assert_eq!(rt; growths_of(&heap, *call, true), growths, "each alone");
     }
 }

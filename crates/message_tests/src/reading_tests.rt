@@ -75,8 +75,8 @@ fn the_first_fault_is_told(rt: HostRuntime) -> Result<(), Fail> {
     Ok(())
 }
 
-/// Owners that end with a name of 127 labels, at the offset 12, or with its last 126, at 14; and how many labels they have, or
-/// the fault: one has 255 octets, the others 257 and 256.
+/// Owners that end with a name of 127 labels, at the offset 12, or with its last 126, at 14; and how many labels they
+/// have, or the fault: one has 255 octets, the others 257 and 256.
 const LONG_OWNERS: [(&[u8], Result<usize, Fault>); 3] = [
     (b"\x01a\xc0\x0e", Ok(127)),
     (b"\x01a\xc0\x0c", Err(Fault::NameLong)),

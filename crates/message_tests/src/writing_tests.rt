@@ -105,11 +105,12 @@ fn two_spellings_are_one_message(rt: HostRuntime) -> Result<(), Fail> {
     Ok(())
 }
 
-/// How many octets stand in front of a name that comes twice, besides 28, and its second place: a pointer leads to the offset
-/// 16,383 at most (RFC 1035 4.1.4).
+/// How many octets stand in front of a name that comes twice, besides 28, and its second place: a pointer leads to
+/// the offset 16,383 at most (RFC 1035 4.1.4).
 const LAST_PLACES: [(u16, &[u8]); 2] = [(16355, b"\xff\xff"), (16356, b"\x01x\x00")];
 
-/// A reply whose first answer has so many octets of data, and two answers of one owner behind it: `x`, and as it is given.
+/// A reply whose first answer has so many octets of data, and two answers of one owner behind it: `x`, and as it is
+/// given.
 fn behind_a_filler(alloc: Global, length: u16, owner: &[u8]) -> Result<Vec<u8>, Fail> {
     let mut octets = hex::decode(
         alloc,

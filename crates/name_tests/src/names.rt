@@ -12,24 +12,27 @@ fn label_count(heap: Global, text: &str) -> Result<usize, NameFault> {
     Ok(Name::from_text(heap, text)?.labels().count())
 }
 
+/// Texts, and how many labels their names have, or the first fault.
+const TEXTS: [(&str, Result<usize, NameFault>); 13] = [
+    (".", Ok(0)),
+    ("a.example", Ok(2)),
+    ("a.example.", Ok(2)),
+    ("_dns-1.A0", Ok(2)),
+    ("", Err(NameFault::EmptyLabel)),
+    ("..", Err(NameFault::EmptyLabel)),
+    (".a", Err(NameFault::EmptyLabel)),
+    ("a..b", Err(NameFault::EmptyLabel)),
+    ("a..", Err(NameFault::EmptyLabel)),
+    ("a b", Err(NameFault::BadCharacter)),
+    ("\u{e4}", Err(NameFault::BadCharacter)),
+    ("a*..b", Err(NameFault::BadCharacter)),
+    ("a..b*", Err(NameFault::EmptyLabel)),
+];
+
 #[test]
 fn texts_and_their_first_fault(rt: HostRuntime) {
-    for (text, wanted) in [
-        (".", Ok(0)),
-        ("a.example", Ok(2)),
-        ("a.example.", Ok(2)),
-        ("_dns-1.A0", Ok(2)),
-        ("", Err(NameFault::EmptyLabel)),
-        ("..", Err(NameFault::EmptyLabel)),
-        (".a", Err(NameFault::EmptyLabel)),
-        ("a..b", Err(NameFault::EmptyLabel)),
-        ("a..", Err(NameFault::EmptyLabel)),
-        ("a b", Err(NameFault::BadCharacter)),
-        ("\u{e4}", Err(NameFault::BadCharacter)),
-        ("a*..b", Err(NameFault::BadCharacter)),
-        ("a..b*", Err(NameFault::EmptyLabel)),
-    ] {
-        assert_eq!(rt; label_count(rt.alloc(), text), wanted, "of {text}");
+    for (text, wanted) in &TEXTS {
+        assert_eq!(rt; label_count(rt.alloc(), text), *wanted, "of {text}");
     }
 }
 
@@ -45,24 +48,50 @@ fn text_of(heap: Global, labels: usize, letters: usize) -> Result<String, AllocE
     Ok(text)
 }
 
+/// How many labels there are, of how many letters each; and how many labels the name has, or the first fault.
+const LONGEST: [(usize, usize, Result<usize, NameFault>); 5] = [
+    (127, 1, Ok(127)),
+    (128, 1, Err(NameFault::NameLong)),
+    (1, 63, Ok(1)),
+    (1, 64, Err(NameFault::LabelLong)),
+    (200, 64, Err(NameFault::LabelLong)),
+];
+
+/// How many labels the name of a text of so many labels has.
+fn count_of_text(heap: Global, labels: usize, letters: usize) -> Result<usize, NameFault> {
+    let text = text_of(heap, labels, letters)?;
+    label_count(heap, text.as_str())
+}
+
+/// So many labels of so many letters.
+fn parts_of(heap: Global, labels: usize, letters: usize) -> Result<Vec<Vec<u8>>, AllocError> {
+    let mut parts = Vec::new(heap);
+    for _ in 0..labels {
+        parts.push(vec![in heap; b'a'; letters]?)?;
+    }
+    Ok(parts)
+}
+
+/// How many labels the name of so many labels has.
+fn count_of_labels(heap: Global, labels: usize, letters: usize) -> Result<usize, NameFault> {
+    let parts = parts_of(heap, labels, letters)?;
+    Ok(Name::from_labels(heap, parts.as_slice())?.labels().count())
+}
+
 #[test]
 fn the_longest_labels_and_names(rt: HostRuntime) -> Result<(), Fail> {
     let heap = rt.alloc();
-    for (labels, letters, wanted) in [
-        (127, 1, Ok(127)),
-        (128, 1, Err(NameFault::NameLong)),
-        (1, 63, Ok(1)),
-        (1, 64, Err(NameFault::LabelLong)),
-        (200, 64, Err(NameFault::LabelLong)),
-    ] {
-        let text = text_of(heap, labels, letters)?;
-        assert_eq!(rt; label_count(heap, text.as_str()), wanted, "{labels} labels");
-        let mut parts = Vec::new(heap);
-        for _ in 0..labels {
-            parts.push(vec![in heap; b'a'; letters]?)?;
-        }
-        let told = Name::from_labels(heap, parts.as_slice()).map(|name| name.labels().count());
-        assert_eq!(rt; told, wanted, "{labels} labels");
+    for (labels, letters, wanted) in &LONGEST {
+        assert_eq!(rt;
+            count_of_text(heap, *labels, *letters),
+            *wanted,
+            "{labels} labels"
+        );
+        assert_eq!(rt;
+            count_of_labels(heap, *labels, *letters),
+            *wanted,
+            "{labels} labels"
+        );
     }
     let longest = Name::from_text(heap, text_of(heap, 127, 1)?.as_str())?;
     assert_eq!(rt; longest.octets().len(), 254);
@@ -86,14 +115,17 @@ fn sameness(heap: Global, one: &str, other: &str) -> Result<[bool; 3], NameFault
     ])
 }
 
+/// Names, and whether they are the same.
+const SAME: [(&str, &str, bool); 2] = [
+    ("a.example", "A.EXAMPLE.", true),
+    ("a.example", "b.example", false),
+];
+
 #[test]
 fn names_that_are_the_same(rt: HostRuntime) -> Result<(), Fail> {
-    for (one, other, is_same) in [
-        ("a.example", "A.EXAMPLE.", true),
-        ("a.example", "b.example", false),
-    ] {
+    for (one, other, is_same) in &SAME {
         let told = sameness(rt.alloc(), one, other)?;
-        assert_eq!(rt; told, [is_same; 3], "{one} and {other}");
+        assert_eq!(rt; told, [*is_same; 3], "{one} and {other}");
     }
     Ok(())
 }
@@ -105,16 +137,19 @@ fn is_under(heap: Global, name: &str, suffix: &str) -> Result<[bool; 2], NameFau
     Ok([name.is_under(&suffix), name.key().is_under(&suffix)])
 }
 
+/// A name, another one, and whether the first is at or under it.
+const UNDER: [(&str, &str, bool); 4] = [
+    ("A.EXAMPLE.", "example", true),
+    ("a.example", ".", true),
+    ("notexample", "example", false),
+    ("example", "a.example", false),
+];
+
 #[test]
 fn names_under_names(rt: HostRuntime) -> Result<(), Fail> {
-    for (name, suffix, wanted) in [
-        ("A.EXAMPLE.", "example", true),
-        ("a.example", ".", true),
-        ("notexample", "example", false),
-        ("example", "a.example", false),
-    ] {
+    for (name, suffix, wanted) in &UNDER {
         let told = is_under(rt.alloc(), name, suffix)?;
-        assert_eq!(rt; told, [wanted; 2], "{name} under {suffix}");
+        assert_eq!(rt; told, [*wanted; 2], "{name} under {suffix}");
     }
     Ok(())
 }
@@ -170,11 +205,20 @@ fn made<A: Allocator + Copy>(heap: A, text: &str) -> Result<usize, NameFault> {
     Ok(count + parent.map_or(0, |parent| parent.labels().count()))
 }
 
-/// How many growths are refused one after another, until there are so many labels; `None` where anything else is told than
-/// want of memory.
-fn growths_of(heap: &Refusing<Global>, text: &str, labels: usize) -> Option<u64> {
+/// Grants so many growths and refuses the next one, alone or with each one behind it.
+fn refuse(heap: &Refusing<Global>, growths: u64, is_alone: bool) {
+    if is_alone {
+        heap.refuse_one(growths);
+    } else {
+        heap.allow(growths);
+    }
+}
+
+/// How many growths are refused one after another, alone or with each one behind it, until there are so many labels;
+/// `None` where anything else is told than want of memory.
+fn growths_of(heap: &Refusing<Global>, text: &str, labels: usize, is_alone: bool) -> Option<u64> {
     for count in 0..100u64 {
-        heap.allow(count);
+        refuse(heap, count, is_alone);
         match made(heap, text) {
             Ok(made) if made == labels => return Some(count),
             Err(NameFault::Memory) => {}
@@ -184,16 +228,55 @@ fn growths_of(heap: &Refusing<Global>, text: &str, labels: usize) -> Option<u64>
     None
 }
 
-/// Up to 30 octets lie in place; more of them take one growth for the name, one for its copy and one for its parent.
+/// A name, how many labels its copy and its parent have together, and how many growths are wanted: up to 30 octets
+/// lie in place; more of them take one growth for the name, one for its copy and one for its parent.
+const GROWTHS: [(&str, usize, u64); 4] = [
+    ("a.example", 3, 0),
+    (SHORT, 3, 0),
+    (LONGER, 3, 2),
+    (LONG, 5, 3),
+];
+
 #[test]
 fn each_growth_may_be_refused(rt: HostRuntime) {
     let heap = Refusing::new(rt.alloc());
-    for (text, labels, growths) in [
-        ("a.example", 3, 0),
-        (SHORT, 3, 0),
-        (LONGER, 3, 2),
-        (LONG, 5, 3),
-    ] {
-        assert_eq!(rt; growths_of(&heap, text, labels), Some(growths), "{text}");
+    for (text, labels, growths) in &GROWTHS {
+        assert_eq!(rt;
+            growths_of(&heap, text, *labels, false),
+            Some(*growths),
+            "{text}"
+        );
+        assert_eq!(rt;
+            growths_of(&heap, text, *labels, true),
+            Some(*growths),
+            "{text}"
+        );
+    }
+}
+
+/// A label that makes a name of 31 octets.
+const LABEL: [u8; 30] = [b'a'; 30];
+
+/// This label alone.
+fn one_label<A: Allocator + Copy>(heap: A) -> Result<Vec<Vec<u8, A>, A>, AllocError> {
+    let mut labels = Vec::new(heap);
+    labels.push(Vec::from_slice(heap, &LABEL)?)?;
+    Ok(labels)
+}
+
+/// How many labels its name has, where a growth is refused after so many.
+fn of_one_label(heap: &Refusing<Global>, growths: u64, is_alone: bool) -> Result<usize, NameFault> {
+    heap.allow(u64::MAX);
+    let labels = one_label(heap)?;
+    refuse(heap, growths, is_alone);
+    Ok(Name::from_labels(heap, labels.as_slice())?.labels().count())
+}
+
+#[test]
+fn each_growth_of_a_name_of_labels_may_be_refused(rt: HostRuntime) {
+    let heap = Refusing::new(rt.alloc());
+    for is_alone in &[false, true] {
+        assert_eq!(rt; of_one_label(&heap, 0, *is_alone), Err(NameFault::Memory));
+        assert_eq!(rt; of_one_label(&heap, 1, *is_alone), Ok(1));
     }
 }

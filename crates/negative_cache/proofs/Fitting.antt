@@ -20,7 +20,7 @@ use Rattle.negative_cache.proofs.Denying.{and_true}
 
 -- ---- what is found in a list
 
-find_some : (p : Held → Bool) (es : List Held) (h : Held) → find p es ≡ Some h → Among h es × (p h ≡ true)
+pub find_some : (p : Held → Bool) (es : List Held) (h : Held) → find p es ≡ Some h → Among h es × (p h ≡ true)
 find_some p [] h is = cc
 find_some p (e ∷ es) h is = (elim (p e) as (λ b. p e ≡ b → cond b (Some e) (find p es) ≡ Some h → Among h (e ∷ es) × (p h ≡ true)) [
   | true ↦ λ passes same. let e_is : e ≡ h = cc in (inl e_is, subst (λ x. p x ≡ true) e_is passes)
@@ -108,7 +108,7 @@ denial_fits routes moment entries q h is =
     }
 
 -- what was found so, or what comes next
-or_holds : (F : Found → Type 0) (so : Held → Found) (o : Option Held) (next : Found) → ((h : Held) → o ≡ Some h → F (so h)) → F next → F (found_or so o next)
+pub or_holds : (F : Found → Type 0) (so : Held → Found) (o : Option Held) (next : Found) → ((h : Held) → o ≡ Some h → F (so h)) → F next → F (found_or so o next)
 or_holds F so (Some h) next f n = f h refl
 or_holds F so None next f n = n
 

@@ -5,6 +5,8 @@ pub mod Climbing
 pub mod SlotBySlot
 pub mod Fitting
 pub mod Keeping
+pub mod PastEnds
 pub mod Forgetting
 pub mod Worked
+pub mod WorkedStale
 pub mod CallerLemmas

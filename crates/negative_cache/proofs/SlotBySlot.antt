@@ -15,15 +15,15 @@ use Rattle.record_cache.specs.Entries.{of_slot, entry_of, AreApart}
 use Rattle.record_cache.proofs.CallerLemmas.{slots_decide, slots_are_the_same, entry_has_slot, none_behind}
 use Rattle.negative_cache.specs.Values.{rows, alias, no_data, denied, miss}
 use Rattle.negative_cache.specs.Entries.{is_set, is_no_data, denies}
-use Rattle.negative_cache.specs.Finding.{is_of_type, is_on_route, set_for, nearer, nearest, denial_for, found_or, found}
-use Rattle.negative_cache.specs.BySlot.{slots_of, only, typed_entry, is_on, climbed, nearest_error, found_by_slot}
+use Rattle.negative_cache.specs.Finding.{is_of_type, is_on_route, nearer, nearest, denial_for, found_or, found}
+use Rattle.negative_cache.specs.BySlot.{slots_of, only, is_on, climbed, nearest_error, found_by_slot}
 use Rattle.negative_cache.proofs.Options.{only_some, only_both}
 use Rattle.negative_cache.proofs.Denying.{error_slot, IsLower, all_lower, denies_root, denies_higher, denies_is_short}
 use Rattle.negative_cache.proofs.Climbing.{or_none, lower_higher}
 
 -- ---- lists
 
-find_same : (p r : Held → Bool) (es : List Held) → AllByRecursion (λ h. p h ≡ r h) es → find p es ≡ find r es
+pub find_same : (p r : Held → Bool) (es : List Held) → AllByRecursion (λ h. p h ≡ r h) es → find p es ≡ find r es
 find_same p r [] same = refl
 find_same p r (e ∷ es) same = λ i. cond (same.0 i) (Some e) (find_same p r es same.1 i)
 
@@ -35,7 +35,7 @@ all_of : (P Q : Held → Type 0) → ((h : Held) → P h → Q h) → (es : List
 all_of P Q f [] h = h
 all_of P Q f (e ∷ es) h = (f e h.0, all_of P Q f es h.1)
 
-all_are : (Q : Held → Type 0) → ((h : Held) → Q h) → (es : List Held) → AllByRecursion Q es
+pub all_are : (Q : Held → Type 0) → ((h : Held) → Q h) → (es : List Held) → AllByRecursion Q es
 all_are Q f [] = tt
 all_are Q f (e ∷ es) = (f e, all_are Q f es)
 
@@ -56,21 +56,18 @@ find_entry s P (e ∷ es) apart = (elim (of_slot s e) as (λ b. of_slot s e ≡ 
   | false ↦ λ is. find_entry s P es apart.1
 ]) refl
 
-module _ (moment : ℕ) (entries : List Held) (q : Question) (apart : AreApart entries) (lower : AllByRecursion IsLower entries) (low : lowered q.name ≡ q.name) where
+module _ (entries : List Held) (q : Question) (apart : AreApart entries) (lower : AllByRecursion IsLower entries) (low : lowered q.name ≡ q.name) where
   abbrev slot : ℕ → Slot
   slot kind = record { key = q.name; class = q.class; kind = Some kind }
 
-  -- what the slot of a type has that is alive and passes a test
-  typed_is : (kind : ℕ) (P : Held → Bool) → only P (typed_entry moment (slots_of entries) q.name q.class kind) ≡ find (λ h. is_of_type q kind h && (is_alive moment h && P h)) entries
-  typed_is kind P =
-      only_both (is_alive moment) P (entry_of (slot kind) entries)
-      ∙ sym (find_entry (slot kind) (λ h. is_alive moment h && P h) entries apart)
-      ∙ find_same (λ h. of_slot (slot kind) h && (is_alive moment h && P h)) (λ h. is_of_type q kind h && (is_alive moment h && P h)) entries
-      (all_of IsLower (λ h. (of_slot (slot kind) h && (is_alive moment h && P h)) ≡ (is_of_type q kind h && (is_alive moment h && P h)))
-      (λ h l. ap (λ b. b && (is_alive moment h && P h)) (slots_are_the_same (slot kind) h.piece.slot low l)) entries lower)
-
-  alias_is : (five : Bool) → (if five then None else only is_set (typed_entry moment (slots_of entries) q.name q.class 5)) ≡ (if five then None else set_for moment entries q 5)
-  alias_is five = ap (λ o. if five then None else o) (typed_is 5 is_set)
+  -- what the slot of a type has that passes two tests
+  pub typed_is : (T P : Held → Bool) (kind : ℕ) → only P (only T (entry_of (slot kind) entries)) ≡ find (λ h. is_of_type q kind h && (T h && P h)) entries
+  typed_is T P kind =
+      only_both T P (entry_of (slot kind) entries)
+      ∙ sym (find_entry (slot kind) (λ h. T h && P h) entries apart)
+      ∙ find_same (λ h. of_slot (slot kind) h && (T h && P h)) (λ h. is_of_type q kind h && (T h && P h)) entries
+      (all_of IsLower (λ h. (of_slot (slot kind) h && (T h && P h)) ≡ (is_of_type q kind h && (T h && P h)))
+      (λ h l. ap (λ b. b && (T h && P h)) (slots_are_the_same (slot kind) h.piece.slot low l)) entries lower)
 
 -- ---- the nearest
 
@@ -206,8 +203,8 @@ pub by_slot_is_found : (routes : List Route) (moment : ℕ) (entries : List Held
     → found_by_slot routes moment (slots_of entries) q.name q.class q.kind ≡ found routes moment entries q
 by_slot_is_found routes moment entries q apart formed low =
     let lower = all_lower entries formed in
-    let set = typed_is moment entries q apart lower low q.kind is_set in
-    let other = alias_is moment entries q apart lower low (q.kind == 5) in
-    let none = typed_is moment entries q apart lower low q.kind is_no_data in
+    let set = typed_is entries q apart lower low (is_alive moment) is_set q.kind in
+    let other = typed_is entries q apart lower low (is_alive moment) is_set 5 in
+    let none = typed_is entries q apart lower low (is_alive moment) is_no_data q.kind in
     let near = denial_is routes moment entries q apart lower low in
-    λ i. found_or rows (set i) (found_or alias (other i) (found_or no_data (none i) (found_or denied (near i) miss)))
+    λ i. found_or rows (set i) (found_or alias (if q.kind == 5 then None else other i) (found_or no_data (none i) (found_or denied (near i) miss)))

@@ -16,17 +16,17 @@ abbrev server : Peer
 server = record { ip = 192 ∷ 0 ∷ 2 ∷ 1 ∷ []; port = 53 }
 
 abbrev routes : List Route
-routes = record { suffix = []; servers = server ∷ [] } ∷ record { suffix = (122 ∷ []) ∷ []; servers = server ∷ [] } ∷ []
+routes = record { suffix = []; deny = false; servers = server ∷ [] } ∷ record { suffix = (122 ∷ []) ∷ []; deny = false; servers = server ∷ [] } ∷ []
 
 -- the name e, and a name of one letter more before a name
-abbrev e : List (List ℕ)
+abbrev pub e : List (List ℕ)
 e = (101 ∷ []) ∷ []
 
-abbrev below : ℕ → List (List ℕ) → List (List ℕ)
+abbrev pub below : ℕ → List (List ℕ) → List (List ℕ)
 below letter name = (letter ∷ []) ∷ name
 
 -- kept at 1000 for so many seconds
-abbrev held : List (List ℕ) → Option ℕ → Body → ℕ → Held
+abbrev pub held : List (List ℕ) → Option ℕ → Body → ℕ → Held
 held name kind body lifetime = record {
   piece = record { owner = name; slot = record { key = name; class = 1; kind = kind }; body = body; lifetime = lifetime; rank = 3; route = 0 };
   accepted = 1000;
@@ -50,7 +50,7 @@ no_address = held (below 110 []) (Some 1) (no_data None) 60
 abbrev entries : List Held
 entries = far ∷ set ∷ near ∷ alias ∷ no_address ∷ []
 
-abbrev asked : List (List ℕ) → ℕ → Question
+abbrev pub asked : List (List ℕ) → ℕ → Question
 asked name kind = record { name = name; kind = kind; class = 1 }
 
 abbrev found_at : ℕ → List Held → Question → finds.Found

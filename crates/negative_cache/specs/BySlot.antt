@@ -10,6 +10,7 @@ use Rattle.record_cache.specs.Entries.{entry_of}
 use Rattle.negative_cache.specs.Values.{Found, rows, alias, no_data, denied, miss}
 use Rattle.negative_cache.specs.Entries.{is_set, is_no_data}
 use Rattle.negative_cache.specs.Finding.{found_or}
+use Rattle.negative_cache.specs.Stale.{is_within}
 
 -- the entries as what each slot has
 abbrev pub Slots : Type 0
@@ -68,3 +69,19 @@ found_by_slot routes moment slots key class kind =
     (found_or alias (alias_at moment slots key class kind)
     (found_or no_data (only is_no_data (typed_entry moment slots key class kind))
     (found_or denied (nearest_error routes moment slots class key) miss)))
+
+-- the entry of a name, class and type, where it is within the window
+abbrev pub entry_within : ℕ → ℕ → Slots → List (List ℕ) → ℕ → ℕ → Option Held
+entry_within window moment slots key class kind =
+    only (is_within window moment) (slots (record { key = key; class = class; kind = Some kind }))
+
+-- the alias at a name within the window
+abbrev pub alias_within : ℕ → ℕ → Slots → List (List ℕ) → ℕ → ℕ → Option Held
+alias_within window moment slots key class kind =
+    if kind == 5 then None else only is_set (entry_within window moment slots key class 5)
+
+-- what a look-up past the ends of entries finds
+abbrev pub stale_by_slot : ℕ → ℕ → Slots → List (List ℕ) → ℕ → ℕ → Found
+stale_by_slot window moment slots key class kind =
+    found_or rows (only is_set (entry_within window moment slots key class kind))
+    (found_or alias (alias_within window moment slots key class kind) miss)

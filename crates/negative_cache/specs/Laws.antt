@@ -15,6 +15,7 @@ use Rattle.record_cache.specs.Laws.{Among}
 use Rattle.negative_cache.specs.Values.{Found, rows, alias, no_data, denied, miss}
 use Rattle.negative_cache.specs.Entries.{is_set, is_no_data, denies}
 use Rattle.negative_cache.specs.Finding.{is_of_type, found}
+use Rattle.negative_cache.specs.Stale.{is_within, stale}
 
 -- one of the entries, and alive
 pub record IsLiving (moment : ℕ) (entries : List Held) (h : Held) : Type 0 where
@@ -77,3 +78,50 @@ EqualQuestionsFindTheSame = (routes : List Route) (moment : ℕ) (entries : List
 abbrev pub ShownIsReplaced : Type 0
 ShownIsReplaced = (piece : Piece) (h : Held) → IsPiece piece → is_name_error piece ≡ false
     → denies piece.owner piece.slot.class h ≡ (is_name_error h.piece && takes_place_of piece h.piece)
+
+-- one of the entries, a set within the window, in the slot of the question's name and class and of this type
+pub record IsTypedWithin (window moment : ℕ) (entries : List Held) (q : Question) (kind : ℕ) (h : Held) : Type 0 where
+  pub among : Among h entries
+  pub slot : is_of_type q kind h ≡ true
+  pub within : is_within window moment h ≡ true
+  pub set : is_set h ≡ true
+
+-- what was found past the ends of entries fits the question and the window; it is no denial
+abbrev pub FitsWithin : ℕ → ℕ → List Held → Question → Found → Type 0
+FitsWithin window moment entries q (rows h) = IsTypedWithin window moment entries q q.kind h
+FitsWithin window moment entries q (alias h) = IsTypedWithin window moment entries q 5 h × (q.kind ≢ 5)
+FitsWithin window moment entries q (no_data h) = ⊥
+FitsWithin window moment entries q (denied h) = ⊥
+FitsWithin window moment entries q miss = Unit {0}
+
+-- What a look-up past the ends of entries finds is one of them, a set in the question's slot or in the alias's, and
+-- within the window.
+abbrev pub StaleFits : Type 0
+StaleFits = (window moment : ℕ) (entries : List Held) (q : Question)
+    → FitsWithin window moment entries q (stale window moment entries q)
+
+-- the set or the alias that was found; a miss where it was something else
+abbrev pub set_or_alias : Found → Found
+set_or_alias (rows h) = rows h
+set_or_alias (alias h) = alias h
+set_or_alias (no_data h) = miss
+set_or_alias (denied h) = miss
+set_or_alias miss = miss
+
+-- Where the window is 0, what is found past the ends of entries is the set or alias that is found alive.
+abbrev pub NoWindowFindsTheLiving : Type 0
+NoWindowFindsTheLiving = (routes : List Route) (moment : ℕ) (entries : List Held) (q : Question)
+    → stale 0 moment entries q ≡ set_or_alias (found routes moment entries q)
+
+-- A promotion changes no look-up past the ends of entries.
+abbrev pub PromotionKeepsStale : Type 0
+PromotionKeepsStale = (window moment capacity : ℕ) (entries : List Held) (q : Question) (slot : Slot)
+    → AreHeld (record { capacity = capacity; entries = entries })
+    → stale window moment (promoted slot entries) q ≡ stale window moment entries q
+
+-- Equal questions find the same past the ends of entries, however their names are spelled.
+abbrev pub EqualQuestionsFindTheSameStale : Type 0
+EqualQuestionsFindTheSameStale = (window moment : ℕ) (entries : List Held) (kind class : ℕ)
+    → (name other : List (List ℕ)) → IsSame name other
+    → stale window moment entries (record { name = name; kind = kind; class = class })
+    ≡ stale window moment entries (record { name = other; kind = kind; class = class })

@@ -1,6 +1,7 @@
 pub mod Values
 pub mod Entries
 pub mod Finding
+pub mod Stale
 pub mod Showing
 pub mod BySlot
 pub mod Laws

@@ -5,8 +5,8 @@ use Rattle.record_cache.specs.Values.{Held}
 use Rattle.negative_cache.specs.declared.found.Found.{Found as OwnedFound}
 use Rattle.negative_cache.specs.declared.found.Found.TheVariants as owned
 
--- the set of the type; an alias in its place (RFC 1034 3.6.2); NODATA (RFC 2308 2.2); a name error of the name or of one
--- above it (RFC 2308 2.1, RFC 8020 2); or nothing that is alive
+-- the set of the type; an alias in its place (RFC 1034 3.6.2); NODATA (RFC 2308 2.2); a name error of the name or of
+-- one above it (RFC 2308 2.1, RFC 8020 2); or nothing that is alive
 pub data Found : Type 0 where
   rows : Held → Found
   alias : Held → Found

@@ -15,9 +15,9 @@ use std::hash::BuildHasher;
 use suffix_routes::Config;
 use trust_rank::Slot;
 
-/// The nearest living name error of the name that these octets are, whose ending this is, or of one above it whose own name
-/// has the route of the name. Routes are looked at only where a living one of a name above is met. The slot becomes that of
-/// each name in turn, so that no key is made anew.
+/// The nearest living name error of the name that these octets are, whose ending this is, or of one above it whose own
+/// name has the route of the name. Routes are looked at only where a living one of a name above is met. The slot
+/// becomes that of each name in turn, so that no key is made anew.
 pub(crate) fn nearest_name_error<'a, H: BuildHasher + Drop, A: Allocator + Copy>(
     cache: &'a Cache<H, A>,
     slot: &mut Slot,
@@ -67,8 +67,8 @@ fn nearest_above<'a, H: BuildHasher + Drop, A: Allocator + Copy>(
     None
 }
 
-/// The living name error of the name that these octets are, where that name has the route of the name that is asked for,
-/// which is below it.
+/// The living name error of the name that these octets are, where that name has the route of the name that is asked
+/// for, which is below it.
 fn name_error_on<'a, H: BuildHasher + Drop, A: Allocator + Copy>(
     cache: &'a Cache<H, A>,
     slot: &mut Slot,
@@ -114,8 +114,8 @@ fn has_route_of<A: Allocator>(config: &Config<A>, octets: &[u8], asked: &[u8]) -
     true
 }
 
-/// Whether the name that these octets are is under a suffix with more octets than so many, the zero octet at its end left out.
-/// Most suffixes are told by their length alone.
+/// Whether the name that these octets are is under a suffix with more octets than so many, the zero octet at its end
+/// left out. Most suffixes are told by their length alone.
 fn is_under_longer<A: Allocator>(octets: &[u8], suffix: &Name<A>, size: usize) -> bool
     requires { IsLaidOut octets.now }
     ensures { IsTrue result ↔ (IsUnder (labels_of octets.now) suffix.now × (size + 1 < size_of suffix.now)) }

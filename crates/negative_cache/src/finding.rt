@@ -21,9 +21,9 @@ use trust_rank::Slot;
 /// The type CNAME.
 const CNAME: u16 = 5;
 
-/// What the cache holds for a question at a moment, in milliseconds: the first that is alive of the set of the type, the
-/// alias where another type is asked for (RFC 1034 3.6.2), NODATA of the type (RFC 2308 2.2), and the nearest name error of
-/// the name or of one above it (RFC 8020 2) whose own name has the route of the name. It takes no memory.
+/// What the cache holds for a question at a moment, in milliseconds: the first that is alive of the set of the type,
+/// the alias where another type is asked for (RFC 1034 3.6.2), NODATA of the type (RFC 2308 2.2), and the nearest name
+/// error of the name or of one above it (RFC 8020 2) whose own name has the route of the name. It takes no memory.
 pub fn find<'a, H: BuildHasher + Drop, A: Allocator + Copy>(
     cache: &'a Cache<H, A>,
     name: &Name<A>,
@@ -43,9 +43,10 @@ pub fn find<'a, H: BuildHasher + Drop, A: Allocator + Copy>(
     find_by_octets(cache, &mut slot, name.octets(), class, kind, moment, config)
 }
 
-/// What `find` gives for the name that these octets are, as `Name::octets` gives them. The slot becomes that of what is found,
-/// which `promote` takes, and any where nothing is; what it was does not matter, so that one slot serves many look-ups and no
-/// key is moved. Routes are looked at only where a living name error of a name above it is met. It takes no memory.
+/// What `find` gives for the name that these octets are, as `Name::octets` gives them. The slot becomes that of what
+/// is found, which `promote` takes, and any where nothing is; what it was does not matter, so that one slot serves
+/// many look-ups and no key is moved. Routes are looked at only where a living name error of a name above it is met.
+/// It takes no memory.
 pub fn find_by_octets<'a, H: BuildHasher + Drop, A: Allocator + Copy>(
     cache: &'a Cache<H, A>,
     slot: &mut Slot,
@@ -100,8 +101,8 @@ fn look_up<'a, H: BuildHasher + Drop, A: Allocator + Copy>(
     }
 }
 
-/// The living alias at the name of a slot of this type, whose ending this is; the slot becomes that of the alias. A question
-/// for CNAME follows none. Where no alias may be of the name, none is looked up.
+/// The living alias at the name of a slot of this type, whose ending this is; the slot becomes that of the alias. A
+/// question for CNAME follows none. Where no alias may be of the name, none is looked up.
 fn alias_beside<'a, H: BuildHasher + Drop, A: Allocator + Copy>(
     cache: &'a Cache<H, A>,
     slot: &mut Slot,

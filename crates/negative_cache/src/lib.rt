@@ -7,8 +7,12 @@ mod found;
 mod laws;
 mod living;
 mod showing;
+mod stale;
 
 pub use finding::{find, find_by_octets};
 pub use found::Found;
-pub use laws::{found_fits, found_is_settled, nearest_is_found, shown_is_replaced};
+pub use laws::{
+    found_fits, found_is_settled, nearest_is_found, shown_is_replaced, stale_fits, stale_is_settled,
+};
 pub use showing::shown;
+pub use stale::{find_stale, find_stale_by_octets};

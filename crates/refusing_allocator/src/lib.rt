@@ -9,9 +9,10 @@ const AMPLE: u64 = u64::MAX;
 
 /// A handle on the memory of `inner` that can be told to run out of it.
 ///
-/// A test makes one, sets its state up with ample memory, calls `allow` or `refuse_one` with 0, 1, 2, .. before the step
-/// that it tests, and looks at what the step does where its first, second, third, .. growth is refused: with each one after
-/// it, or alone. Collections take it by reference, as `&Refusing<Global>`, so that the test still has it in hand.
+/// A test makes one, sets its state up with ample memory, calls `allow` or `refuse_one` with 0, 1, 2, .. before the
+/// step that it tests, and looks at what the step does where its first, second, third, .. growth is refused: with
+/// each one after it, or alone. Collections take it by reference, as `&Refusing<Global>`, so that the test still has
+/// it in hand.
 ///
 /// A growth is one call of `allocate`; a collection that moves its items to a larger block asks once for it. Giving
 /// memory back is never refused, and gives no growth back.

@@ -11,7 +11,8 @@ use Rattle.dns_message.specs.Messages.{message_of, Spells}
 use Rattle.dns_message.specs.Numbers.{number16}
 use Rattle.dns_message.proofs.CallerLemmas.{message_read_is_spelled, number_at_place_is_small}
 use Rattle.suffix_routes.specs.Values.{Config}
-use Rattle.suffix_routes.proofs.CallerLemmas.{route_of_lowered}
+use Rattle.suffix_routes.specs.Routes.{serving, route_of as route_among}
+use Rattle.suffix_routes.proofs.CallerLemmas.{serving_lowered, serving_is}
 use Rattle.trust_rank.specs.declared.slot.Slot.{Slot}
 use Rattle.dns_name.specs.declared.name.Name.{Name}
 use Rattle.trust_rank.specs.declared.walk.End.{End as OwnedEnd}
@@ -82,16 +83,21 @@ authority_few c m q route =
 
 -- ---- each piece is on its route
 
-piece_routed : (r : Reply) (name : List (List ℕ)) (kind : Option ℕ) (p : Piece) → IsCarriedFor r name kind p → IsRouted r.config p
-piece_routed r name kind p carried = ap (λ (s : Slot). route_of r.config s.key) carried.slot ∙ route_of_lowered r.config.routes name ∙ carried.on_route ∙ ap Some (sym carried.route)
+-- the reply came on a route that serves names
+abbrev Serves : Reply → Type 0
+Serves r = serving r.config.routes (Some r.route) ≡ Some r.route
 
-lead_routed : (r : Reply) (name last : List (List ℕ)) (ps : List Piece) → Lead r name ps last → AllByRecursion (IsRouted r.config) ps
-lead_routed r name last [] lead = tt
-lead_routed r name last (p ∷ ps) lead = (piece_routed r name (Some 5) p lead.1.carried, lead_routed r lead.0 last ps lead.2)
+piece_routed : (r : Reply) → Serves r → (name : List (List ℕ)) (kind : Option ℕ) (p : Piece) → IsCarriedFor r name kind p → IsRouted r.config p
+piece_routed r serves name kind p carried =
+    ap (λ (s : Slot). route_of r.config s.key) carried.slot ∙ serving_lowered r.config.routes name ∙ ap (serving r.config.routes) carried.on_route ∙ serves ∙ ap Some (sym carried.route)
 
-servers_routed : (r : Reply) (ps : List Piece) → AllByRecursion (IsServerSet r) ps → AllByRecursion (IsRouted r.config) ps
-servers_routed r [] fit = tt
-servers_routed r (p ∷ ps) fit = (piece_routed r p.owner (Some 2) p fit.0.carried, servers_routed r ps fit.1)
+lead_routed : (r : Reply) → Serves r → (name last : List (List ℕ)) (ps : List Piece) → Lead r name ps last → AllByRecursion (IsRouted r.config) ps
+lead_routed r serves name last [] lead = tt
+lead_routed r serves name last (p ∷ ps) lead = (piece_routed r serves name (Some 5) p lead.1.carried, lead_routed r serves lead.0 last ps lead.2)
+
+servers_routed : (r : Reply) → Serves r → (ps : List Piece) → AllByRecursion (IsServerSet r) ps → AllByRecursion (IsRouted r.config) ps
+servers_routed r serves [] fit = tt
+servers_routed r serves (p ∷ ps) fit = (piece_routed r serves p.owner (Some 2) p fit.0.carried, servers_routed r serves ps fit.1)
 
 -- ---- the end of a walk
 
@@ -134,18 +140,18 @@ walk_few r pieces authority ends_denied h = closing_few r pieces ends_denied h
 walk_few r pieces authority (elsewhere name) h = h.1
 walk_few r pieces authority lame h = subst (λ (ps : List Piece). length ps ≤ 8) (sym h.0) (omega arith)
 
-closing_routed : (r : Reply) (pieces : List Piece) (end : End) → ClosesAt r pieces end → AllByRecursion (IsRouted r.config) pieces
-closing_routed r pieces end closed =
+closing_routed : (r : Reply) → Serves r → (pieces : List Piece) (end : End) → ClosesAt r pieces end → AllByRecursion (IsRouted r.config) pieces
+closing_routed r serves pieces end closed =
     subst (AllByRecursion (IsRouted r.config)) (sym closed.whole)
-    (All-append (IsRouted r.config) closed.aliases (closed.last ∷ []) (lead_routed r r.question.name closed.last_name closed.aliases closed.lead)
-    (piece_routed r closed.last_name (last_kind r end) closed.last closed.carried, tt))
+    (All-append (IsRouted r.config) closed.aliases (closed.last ∷ []) (lead_routed r serves r.question.name closed.last_name closed.aliases closed.lead)
+    (piece_routed r serves closed.last_name (last_kind r end) closed.last closed.carried, tt))
 
-walk_routed : (r : Reply) (pieces authority : List Piece) (end : End) → EndsSo r pieces authority end → AllByRecursion (IsRouted r.config) pieces
-walk_routed r pieces authority found h = closing_routed r pieces found h
-walk_routed r pieces authority ends_no_data h = closing_routed r pieces ends_no_data h
-walk_routed r pieces authority ends_denied h = closing_routed r pieces ends_denied h
-walk_routed r pieces authority (elsewhere name) h = lead_routed r r.question.name name pieces h.2
-walk_routed r pieces authority lame h = subst (AllByRecursion (IsRouted r.config)) (sym h.0) tt
+walk_routed : (r : Reply) → Serves r → (pieces authority : List Piece) (end : End) → EndsSo r pieces authority end → AllByRecursion (IsRouted r.config) pieces
+walk_routed r serves pieces authority found h = closing_routed r serves pieces found h
+walk_routed r serves pieces authority ends_no_data h = closing_routed r serves pieces ends_no_data h
+walk_routed r serves pieces authority ends_denied h = closing_routed r serves pieces ends_denied h
+walk_routed r serves pieces authority (elsewhere name) h = lead_routed r serves r.question.name name pieces h.2
+walk_routed r serves pieces authority lame h = subst (AllByRecursion (IsRouted r.config)) (sym h.0) tt
 
 -- ---- the walk of a reply that is accepted
 
@@ -153,8 +159,11 @@ module _ (c : Config) (n : ℕ) (a : Ask) (w : Walk) (walk : IsWalkFor c a w) (o
   abbrev r : Reply
   r = reply_of c walk.message a.question a.route
 
+  own : (route_among c.routes a.question.name ≡ Some a.route) × (serving c.routes (Some a.route) ≡ Some a.route)
+  own = serving_is c.routes (route_among c.routes a.question.name) a.route on
+
   ends_so : EndsSo r w.pieces w.authority w.end
-  ends_so = subst (λ (v : Walk). EndsSo r v.pieces v.authority v.end) (sym walk.is) (walk_leads c walk.message a.question a.route walk.read.shapes on)
+  ends_so = subst (λ (v : Walk). EndsSo r v.pieces v.authority v.end) (sym walk.is) (walk_leads c walk.message a.question a.route walk.read.shapes own.0)
 
   -- fewer than 2^32, so that they can be counted
   pub carried_few : length (w.pieces ++ w.authority) < 2 ^ 32
@@ -167,8 +176,8 @@ module _ (c : Config) (n : ℕ) (a : Ask) (w : Walk) (walk : IsWalkFor c a w) (o
 
   pub carried_routed : AllByRecursion (IsRouted c) (w.pieces ++ w.authority)
   carried_routed =
-      All-append (IsRouted c) w.pieces w.authority (walk_routed r w.pieces w.authority w.end ends_so)
-      (servers_routed r w.authority (subst (λ (v : Walk). AllByRecursion (IsServerSet r) v.authority) (sym walk.is) (servers_fit c walk.message a.question a.route walk.read.shapes)))
+      All-append (IsRouted c) w.pieces w.authority (walk_routed r own.1 w.pieces w.authority w.end ends_so)
+      (servers_routed r own.1 w.authority (subst (λ (v : Walk). AllByRecursion (IsServerSet r) v.authority) (sym walk.is) (servers_fit c walk.message a.question a.route walk.read.shapes)))
 
   -- what is offered: the walk, then the name servers
   pub carried_is : (held : List Held) (pieces authority : List Piece) → held ≡ map (held_at n) (pieces ++ authority) → pieces ≡ w.pieces → authority ≡ w.authority → map (λ h. h.piece) held ≡ w.pieces ++ w.authority

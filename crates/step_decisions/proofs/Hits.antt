@@ -7,7 +7,8 @@ use Rattle.dns_name.specs.Labels.{IsSame, same}
 use Rattle.dns_name.proofs.CallerLemmas.{same_decides}
 use Rattle.dns_message.specs.Values.{Question}
 use Rattle.suffix_routes.specs.Values.{Config, Route}
-use Rattle.suffix_routes.proofs.CallerLemmas.{route_of_respects_same}
+use Rattle.suffix_routes.specs.Routes.{serving}
+use Rattle.suffix_routes.proofs.CallerLemmas.{serving_respects_same}
 use Rattle.trust_rank.specs.declared.slot.Slot.{Slot}
 use Rattle.trust_rank.specs.Replacing.{same_kind}
 use Rattle.trust_rank.specs.Walks.{target_of, most_aliases}
@@ -78,13 +79,13 @@ module _ (c : Config) (n : ℕ) (entries : List Held) (on : AllByRecursion (IsOn
       absurd (cc)
 
   no_typed : (kind : ℕ) (h : Held) → IsTyped n entries q kind h → (f : Found) → f ≡ miss
-  no_typed kind h typed = no_entry h typed.living.among (sym (route_of_respects_same c.routes q.name h.piece.slot.key (typed_route c.routes n entries q kind h typed)))
+  no_typed kind h typed = no_entry h typed.living.among (sym (serving_respects_same c.routes q.name h.piece.slot.key (typed_route c.routes n entries q kind h typed)))
 
   fits_none : (f : Found) → Fits c.routes n entries q f → f ≡ miss
   fits_none (rows h) fits = no_typed q.kind h fits.0 (rows h)
   fits_none (alias h) fits = no_typed 5 h fits.0 (alias h)
   fits_none (no_data h) fits = no_typed q.kind h fits.0 (no_data h)
-  fits_none (denied h) fits = no_entry h fits.living.among fits.route (denied h)
+  fits_none (denied h) fits = no_entry h fits.living.among (ap (serving c.routes) fits.route) (denied h)
   fits_none miss fits = refl
 
   -- nothing is found, since an entry has the route of its name

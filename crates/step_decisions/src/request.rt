@@ -60,13 +60,13 @@ pub(crate) fn is_not_served(question: &QuestionRef<'_>) -> bool
     kind == 0 || kind == 41 || (kind >= 128 && kind <= 255) || question.class() == 255
 }
 
-/// The route of a question's name. It takes no memory.
-#[tactic(auto, using(suffix_routes::proofs::CallerLemmas::route_of_respects_same, dns_name::proofs::CallerLemmas::lowered_is_same))]
+/// The route that serves a question's name. It takes no memory.
+#[tactic(auto, using(suffix_routes::proofs::CallerLemmas::serving_respects_same, dns_name::proofs::CallerLemmas::lowered_is_same))]
 pub(crate) fn route_for<A: Allocator>(
     config: &Config<A>,
     question: &QuestionRef<'_>,
 ) -> Option<RouteId>
     ensures { result ≡ route_of config.now question.now.name }
 {
-    config.route_of_key(&question.key())
+    config.serving_route_of_key(&question.key())
 }

@@ -49,11 +49,11 @@ abbrev example : List ℕ
 example = 101 ∷ 120 ∷ 97 ∷ 109 ∷ 112 ∷ 108 ∷ 101 ∷ []
 
 abbrev for_example : Route
-for_example = record { suffix = example ∷ []; servers = other_server ∷ [] }
+for_example = record { suffix = example ∷ []; deny = false; servers = other_server ∷ [] }
 
 -- names under example have a server of their own
 abbrev config : Config
-config = record { listen = server; limits = default_limits; routes = record { suffix = []; servers = server ∷ [] } ∷ for_example ∷ [] }
+config = record { listen = server; limits = default_limits; routes = record { suffix = []; deny = false; servers = server ∷ [] } ∷ for_example ∷ [] }
 
 abbrev address : Question
 address = record { name = (97 ∷ []) ∷ example ∷ []; kind = 1; class = 1 }

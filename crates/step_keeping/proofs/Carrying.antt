@@ -6,7 +6,8 @@ use Rattle.dns_name.specs.Labels.{IsSame}
 use Rattle.dns_message.specs.Values.{Question, Message}
 use Rattle.dns_message.specs.Messages.{IsSameQuestion, HasShapes}
 use Rattle.suffix_routes.specs.Values.{Config}
-use Rattle.suffix_routes.proofs.CallerLemmas.{route_of_lowered}
+use Rattle.suffix_routes.specs.Routes.{serving, route_of as route_among}
+use Rattle.suffix_routes.proofs.CallerLemmas.{serving_lowered, serving_is}
 use Rattle.trust_rank.specs.declared.slot.Slot.{Slot}
 use Rattle.trust_rank.specs.Values.{Piece, End, found, ends_no_data, ends_denied, elsewhere, lame, Walk, Reply, reply_of}
 use Rattle.trust_rank.specs.Walks.{walk_of, most_aliases}
@@ -27,49 +28,52 @@ use Rattle.step_keeping.specs.Chains.{look_from, has_last, LeadToEnd, LeadOn}
 use Rattle.step_keeping.specs.Laws.{AcceptedPiecesCanBeKept, AcceptedPiecesAnswer, AcceptedPiecesLeadOn}
 use Rattle.step_keeping.proofs.Lists.{All-append, All-first}
 use Rattle.step_keeping.proofs.Justifying.{new_is_justified}
-use Rattle.step_keeping.proofs.Walking.{ClosesAt, walk_closes, at_name, on_its_route, lead_follows, lead_follows_to, closes_ends}
+use Rattle.step_keeping.proofs.Walking.{ClosesAt, Serves, walk_closes, at_name, on_its_route, lead_follows, lead_follows_to, closes_ends}
 
 -- ---- the pieces of a walk can be kept
 
-piece_kept : (r : Reply) (name : List (List ℕ)) (kind : Option ℕ) (p : Piece) → IsCarriedFor r name kind p → IsWritable p → CanBeKept r.config p
-piece_kept r name kind p carried writable = record {
+piece_kept : (r : Reply) → Serves r → (name : List (List ℕ)) (kind : Option ℕ) (p : Piece) → IsCarriedFor r name kind p → IsWritable p → CanBeKept r.config p
+piece_kept r serves name kind p carried writable = record {
   formed = carried.piece;
-  on_route = ap (λ (s : Slot). route_of r.config s.key) carried.slot ∙ route_of_lowered r.config.routes name ∙ carried.on_route ∙ ap Some (sym carried.route);
+  on_route = ap (λ (s : Slot). route_of r.config s.key) carried.slot ∙ serving_lowered r.config.routes name ∙ ap (serving r.config.routes) carried.on_route ∙ serves ∙ ap Some (sym carried.route);
   writable = writable;
 }
 
-lead_kept : (r : Reply) (name last : List (List ℕ)) (ps : List Piece) → Lead r name ps last → AllByRecursion IsWritable ps → AllByRecursion (CanBeKept r.config) ps
-lead_kept r name last [] lead all = tt
-lead_kept r name last (p ∷ ps) lead all = (piece_kept r name (Some 5) p lead.1.carried all.0, lead_kept r lead.0 last ps lead.2 all.1)
+lead_kept : (r : Reply) → Serves r → (name last : List (List ℕ)) (ps : List Piece) → Lead r name ps last → AllByRecursion IsWritable ps → AllByRecursion (CanBeKept r.config) ps
+lead_kept r serves name last [] lead all = tt
+lead_kept r serves name last (p ∷ ps) lead all = (piece_kept r serves name (Some 5) p lead.1.carried all.0, lead_kept r serves lead.0 last ps lead.2 all.1)
 
-servers_kept : (r : Reply) (ps : List Piece) → AllByRecursion (IsServerSet r) ps → AllByRecursion IsWritable ps → AllByRecursion (CanBeKept r.config) ps
-servers_kept r [] fit all = tt
-servers_kept r (p ∷ ps) fit all = (piece_kept r p.owner (Some 2) p fit.0.carried all.0, servers_kept r ps fit.1 all.1)
+servers_kept : (r : Reply) → Serves r → (ps : List Piece) → AllByRecursion (IsServerSet r) ps → AllByRecursion IsWritable ps → AllByRecursion (CanBeKept r.config) ps
+servers_kept r serves [] fit all = tt
+servers_kept r serves (p ∷ ps) fit all = (piece_kept r serves p.owner (Some 2) p fit.0.carried all.0, servers_kept r serves ps fit.1 all.1)
 
 -- those of a walk that isn't lame, by its end
-walk_kept : (r : Reply) (ps authority : List Piece) (e : End) → EndsSo r ps authority e → is_lame e ≡ false → AllByRecursion IsWritable ps → AllByRecursion (CanBeKept r.config) ps
-walk_kept r ps authority e ends fine all = by e ends fine
+walk_kept : (r : Reply) → Serves r → (ps authority : List Piece) (e : End) → EndsSo r ps authority e → is_lame e ≡ false → AllByRecursion IsWritable ps → AllByRecursion (CanBeKept r.config) ps
+walk_kept r serves ps authority e ends fine all = by e ends fine
   where
     closed : (e : End) → Closes r most_aliases r.question.name e ps → AllByRecursion (CanBeKept r.config) ps
     closed e closes =
         let own = All-first IsWritable closes.aliases (closes.last ∷ []) (subst (AllByRecursion IsWritable) closes.whole all) in
         subst (AllByRecursion (CanBeKept r.config)) (sym closes.whole)
-        (All-append (CanBeKept r.config) closes.aliases (closes.last ∷ []) (lead_kept r r.question.name closes.last_name closes.aliases closes.lead own.0)
-        (piece_kept r closes.last_name (last_kind r e) closes.last closes.carried own.1.0, tt))
+        (All-append (CanBeKept r.config) closes.aliases (closes.last ∷ []) (lead_kept r serves r.question.name closes.last_name closes.aliases closes.lead own.0)
+        (piece_kept r serves closes.last_name (last_kind r e) closes.last closes.carried own.1.0, tt))
 
     by : (e : End) → EndsSo r ps authority e → is_lame e ≡ false → AllByRecursion (CanBeKept r.config) ps
     by found h fine = closed found h
     by ends_no_data h fine = closed ends_no_data h
     by ends_denied h fine = closed ends_denied h
-    by (elsewhere name) h fine = lead_kept r r.question.name name ps h.2 all
+    by (elsewhere name) h fine = lead_kept r serves r.question.name name ps h.2 all
     by lame h fine = absurd (cc)
 
 pub accepted_pieces_can_be_kept : AcceptedPiecesCanBeKept
 accepted_pieces_can_be_kept c m q route message shapes question on fine =
     All-append (CanBeKept c) w.pieces w.authority
-    (walk_kept r w.pieces w.authority w.end (walk_leads c m q route shapes on) fine writable.0)
-    (servers_kept r w.authority (servers_fit c m q route shapes) writable.1)
+    (walk_kept r own.1 w.pieces w.authority w.end (walk_leads c m q route shapes own.0) fine writable.0)
+    (servers_kept r own.1 w.authority (servers_fit c m q route shapes) writable.1)
   where
+    own : (route_among c.routes q.name ≡ Some route) × (serving c.routes (Some route) ≡ Some route)
+    own = serving_is c.routes (route_among c.routes q.name) route on
+
     r : Reply
     r = reply_of c m q route
 
@@ -98,6 +102,9 @@ module _ (c : Config) (asked s : Step) (before past : List Step) (os : List Held
   abbrev r : Reply
   r = reply_of c m q route
 
+  own : Serves r
+  own = (serving_is c.routes (route_among c.routes q.name) route on).1
+
   abbrev t : ℕ
   t = moment_at (s ∷ past)
 
@@ -124,7 +131,7 @@ module _ (c : Config) (asked s : Step) (before past : List Step) (os : List Held
     among_all o h = among_left t o w.pieces w.authority (subst (λ (xs : List Piece). Among o (map (held_at t) xs)) (sym closes.whole) h)
 
     led : (name : List (List ℕ)) × IsSame name closes.last_name × FollowsAliases look (here other.name) (map (held_at t) closes.aliases) (here name)
-    led = lead_follows look r t refl q.name other.name closes.last_name closes.aliases closes.lead alike.name (λ o name among. serves o name (among_all o (among_left t o closes.aliases (closes.last ∷ []) among)))
+    led = lead_follows look r t own refl q.name other.name closes.last_name closes.aliases closes.lead alike.name (λ o name among. serves o name (among_all o (among_left t o closes.aliases (closes.last ∷ []) among)))
 
     leads : LeadToEnd look t other w.pieces
     leads = record {
@@ -133,7 +140,7 @@ module _ (c : Config) (asked s : Step) (before past : List Step) (os : List Held
       whole = closes.whole;
       to = here led.0;
       follows = subst (λ (x : Question). FollowsAliases look x (map (held_at t) closes.aliases) (here led.0)) other_is led.2;
-      justified = serves (held_at t closes.last) led.0 (among_all (held_at t closes.last) (among_last t closes.aliases closes.last)) (on_its_route r closes.last_name led.0 (last_kind r w.end) closes.last closes.carried led.1);
+      justified = serves (held_at t closes.last) led.0 (among_all (held_at t closes.last) (among_last t closes.aliases closes.last)) (on_its_route r own closes.last_name led.0 (last_kind r w.end) closes.last closes.carried led.1);
       right_end = closes_ends r w.end closes.last_name led.0 closes.last fine closes.carried closes.body led.1;
     }
 
@@ -144,7 +151,7 @@ module _ (c : Config) (asked s : Step) (before past : List Step) (os : List Held
     some = h.0;
     few = h.1;
     follows = subst (λ (x : Question). FollowsAliases look x (map (held_at t) w.pieces) (asked_at x name)) other_is
-        (lead_follows_to look r t refl q.name other.name name w.pieces h.2 alike.name h.0 (λ o n among. serves o n (among_left t o w.pieces w.authority among)));
+        (lead_follows_to look r t own refl q.name other.name name w.pieces h.2 alike.name h.0 (λ o n among. serves o n (among_left t o w.pieces w.authority among)));
   }
 
 pub accepted_pieces_answer : AcceptedPiecesAnswer
@@ -153,4 +160,5 @@ accepted_pieces_answer c asked s before past os m q other route era runs carried
 pub accepted_pieces_lead_on : AcceptedPiecesLeadOn
 accepted_pieces_lead_on c asked s before past os m q other route name era runs carried carries shapes on ends alike =
     lead_on c asked s before past os m q other route era runs carried carries shapes on alike name
-    (subst (EndsSo (reply_of c m q route) (walk_of c m q route).pieces (walk_of c m q route).authority) ends (walk_leads c m q route shapes on))
+    (subst (EndsSo (reply_of c m q route) (walk_of c m q route).pieces (walk_of c m q route).authority) ends
+    (walk_leads c m q route shapes (serving_is c.routes (route_among c.routes q.name) route on).0))

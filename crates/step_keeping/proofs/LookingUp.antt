@@ -7,7 +7,8 @@ use Rattle.dns_name.specs.Labels.{is_under}
 use Rattle.dns_message.specs.Values.{Question}
 use Rattle.dns_message.specs.Messages.{IsSameQuestion}
 use Rattle.suffix_routes.specs.Values.{Route}
-use Rattle.suffix_routes.proofs.CallerLemmas.{route_of_respects_same}
+use Rattle.suffix_routes.specs.Routes.{serving}
+use Rattle.suffix_routes.proofs.CallerLemmas.{serving_respects_same}
 use Rattle.trust_rank.specs.declared.slot.Slot.{Slot}
 use Rattle.trust_rank.specs.Values.{Body, rows, no_data, denied, Piece}
 use Rattle.trust_rank.specs.Replacing.{is_name_error}
@@ -86,7 +87,7 @@ module _ (l : Look) (n : ℕ) (entries : List Held) (usable : AllByRecursion (Is
       let asked : Slot = record { key = q.name; class = q.class; kind = Some kind } in
       let one = are_one asked h.piece.slot typed.slot in
       let use_it = use_of h typed.living in
-      (use_it.0.told, use_it.0.serves q.name use_it.1 (route_of_respects_same l.config.routes q.name h.piece.slot.key one.name ∙ use_it.0.on_route), same_slot_turned asked h.piece.slot typed.slot)
+      (use_it.0.told, use_it.0.serves q.name use_it.1 (serving_respects_same l.config.routes q.name h.piece.slot.key one.name ∙ use_it.0.on_route), same_slot_turned asked h.piece.slot typed.slot)
 
   -- a name error above serves it
   denial_serves : (q : Question) (h : Held) → IsDenial l.config.routes n entries q h → IsRightEnd l n q h
@@ -95,7 +96,7 @@ module _ (l : Look) (n : ℕ) (entries : List Held) (usable : AllByRecursion (Is
       let inner = and_parts (is_name_error h.piece) (q.class == h.piece.slot.class) outer.0 in
       let use_it = use_of h denial.living in (
         use_it.0.told,
-        use_it.0.serves q.name use_it.1 (sym denial.route ∙ use_it.0.on_route),
+        use_it.0.serves q.name use_it.1 (ap (serving l.config.routes) (sym denial.route) ∙ use_it.0.on_route),
         denial_ends q h.piece h.piece.slot.kind h.piece.body refl use_it.0.formed.body inner.0 outer.1 (sym (eqb-true q.class h.piece.slot.class inner.1)),
       )
 

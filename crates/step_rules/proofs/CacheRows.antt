@@ -101,7 +101,7 @@ set_under_denial = refl
 
 -- names under a.e have a server of their own
 abbrev with_route : Config
-with_route = record config { routes = record { suffix = []; servers = server ∷ [] } ∷ record { suffix = a; servers = other_server ∷ [] } ∷ [] }
+with_route = record config { routes = record { suffix = []; deny = false; servers = server ∷ [] } ∷ record { suffix = a; deny = false; servers = other_server ∷ [] } ∷ [] }
 
 -- a denial denies no name of another route
 other_route : played with_route ((1000, asks_for 1 (address example)) ∷ (1020, hears 1032 (reply true 3 [] (soa 3600 ∷ []))) ∷ (2000, asks_for 2 (address b)) ∷ (2000, asks_for 3 (address a)) ∷ [])

@@ -115,7 +115,7 @@ abbrev pub with_cache : ℕ → Config
 with_cache capacity = record {
   listen = server;
   limits = record default_limits { cache = capacity };
-  routes = record { suffix = []; servers = server ∷ other_server ∷ [] } ∷ [];
+  routes = record { suffix = []; deny = false; servers = server ∷ other_server ∷ [] } ∷ [];
 }
 
 abbrev pub config : Config

@@ -22,7 +22,7 @@ leads_to letter = reply true 0 (alias_of_b 60 letter ∷ []) []
 
 -- names under a.e have a server of their own
 abbrev with_route : Config
-with_route = record config { routes = record { suffix = []; servers = server ∷ [] } ∷ record { suffix = a; servers = other_server ∷ [] } ∷ [] }
+with_route = record config { routes = record { suffix = []; deny = false; servers = server ∷ [] } ∷ record { suffix = a; deny = false; servers = other_server ∷ [] } ∷ [] }
 
 -- a name of another route is asked there, though the reply tells of it; the alias that is held ages until the answer
 other_route : played with_route ((1000, asks_for 1 (address b)) ∷ (1020, hears 1032 (reply true 0 (alias_of_b 60 97 ∷ host a 300 9 ∷ []) [])) ∷ (2020, hears 1040 (one_host a)) ∷ [])
@@ -70,7 +70,7 @@ on_and_on = refl
 
 -- b.e has a route, and no other name
 abbrev one_name : Config
-one_name = record config { routes = record { suffix = b; servers = server ∷ [] } ∷ [] }
+one_name = record config { routes = record { suffix = b; deny = false; servers = server ∷ [] } ∷ [] }
 
 -- by the reply, and then by the alias that is kept
 no_route : played one_name ((1000, asks_for 1 (address b)) ∷ (1010, hears 1032 (leads_to 97)) ∷ (1020, asks_for 2 (address b)) ∷ [])

@@ -29,7 +29,7 @@ client = FromUdp (record { ip = 10 ∷ 0 ∷ 0 ∷ 7 ∷ []; port = 40000 })
 
 -- names under a are asked of two servers
 abbrev config : Config
-config = record { listen = first; limits = default_limits; routes = record { suffix = []; servers = second ∷ first ∷ [] } ∷ record { suffix = (97 ∷ []) ∷ []; servers = first ∷ second ∷ [] } ∷ [] }
+config = record { listen = first; limits = default_limits; routes = record { suffix = []; deny = false; servers = second ∷ first ∷ [] } ∷ record { suffix = (97 ∷ []) ∷ []; deny = false; servers = first ∷ second ∷ [] } ∷ [] }
 
 -- a question waits as long as an ask is open
 abbrev impatient : Config

@@ -94,7 +94,7 @@ fn waits_on<A: Allocator + Copy>(
     ensures { IfOk result (λ fate. fate_in waiting.now (becomes fate)
         ≡ fate_missed waiting.now (record { held = lent chain.now; wanted = asked_at waiting.now.wanted name; met = missed; used = [] }) (route_of config.now name)) }
 {
-    if config.route_of(&name).is_none() {
+    if config.serving_route_of(&name).is_none() {
         return fails(alloc, waiting, Why::NoRoute);
     }
     let own = waiting.wanted();

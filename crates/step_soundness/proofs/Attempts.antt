@@ -1,13 +1,13 @@
 -- What is known of an ask that comes next.
-use Rattle.std.proofs.Common.{◌≡◌, ℕ, zero, suc, ◌<◌, List, [], ◌∷◌, length, refl, sym, ap, subst, arith, Option, Some, None}
+use Rattle.std.proofs.Common.{◌≡◌, ℕ, false, zero, suc, ◌<◌, List, [], ◌∷◌, length, refl, sym, ap, subst, arith, Option, Some, None}
 use Rattle.std.specs.Prelude.{map, get_or, slice_get, slice_set}
 use Rattle.std.specs.List.{AllByRecursion}
 use Rattle.std.proofs.lemmas.Option.{slice_get_within, slice_get-get_or}
 use Rattle.dns_message.specs.Values.{Question}
 use Rattle.suffix_routes.specs.declared.peer.Peer.{Peer}
 use Rattle.suffix_routes.specs.Values.{Config, Route, IsRoute}
-use Rattle.suffix_routes.specs.Routes.{IsRouteOf}
-use Rattle.suffix_routes.proofs.CallerLemmas.{route_found_is_longest}
+use Rattle.suffix_routes.specs.Routes.{IsRouteOf, route_of as route_among}
+use Rattle.suffix_routes.proofs.CallerLemmas.{route_found_is_longest, serving_is, serving_denies_nothing}
 use Rattle.outstanding.specs.declared.ask.Path.{Path}
 use Rattle.outstanding.specs.declared.ask.Path.TheVariants.{Udp, Tcp}
 use Rattle.outstanding.specs.Values.{Ask}
@@ -95,26 +95,27 @@ peer_there c route server less = (get_or (servers_in (group_of c route)) server 
 -- at first the first one of each group
 pub preferred_first : (routes : List Route) → AllByRecursion IsRoute routes → ArePreferred routes (map (λ r. 0) routes)
 preferred_first [] all = tt
-preferred_first (r ∷ routes) all = (let some = all.0.servers.0 in omega (arith, some), preferred_first routes all.1)
+preferred_first (r ∷ routes) all = (λ serves. let some = (all.0.serves serves).0 in omega (arith, some), preferred_first routes all.1)
 
--- a preferred server is there
-pub preferred_there : (routes : List Route) (places : List ℕ) (route : ℕ) → ArePreferred routes places → (r : Route) → slice_get routes route ≡ Some r → get_or places route 0 < length r.servers
-preferred_there [] places route are r e = absurd (cc)
-preferred_there (x ∷ routes) [] route are r e = absurd are
-preferred_there (x ∷ routes) (p ∷ places) zero are r e = let is : x ≡ r = cc in subst (λ (y : Route). p < length y.servers) is are.0
-preferred_there (x ∷ routes) (p ∷ places) (suc route) are r e = preferred_there routes places route are.1 r e
+-- a preferred server of a route that serves is there
+pub preferred_there : (routes : List Route) (places : List ℕ) (route : ℕ) → ArePreferred routes places → (r : Route) → slice_get routes route ≡ Some r → r.deny ≡ false → get_or places route 0 < length r.servers
+preferred_there [] places route are r e serves = absurd (cc)
+preferred_there (x ∷ routes) [] route are r e serves = absurd are
+preferred_there (x ∷ routes) (p ∷ places) zero are r e serves = let is : x ≡ r = cc in subst (λ (y : Route). y.deny ≡ false → p < length y.servers) is are.0 serves
+preferred_there (x ∷ routes) (p ∷ places) (suc route) are r e serves = preferred_there routes places route are.1 r e serves
 
 -- another server of the group may be preferred
 pub preferred_put : (routes : List Route) (places : List ℕ) (route server : ℕ) → ArePreferred routes places → ((r : Route) → slice_get routes route ≡ Some r → server < length r.servers) → ArePreferred routes (slice_set places route server)
 preferred_put [] [] route server are within = are
 preferred_put [] (p ∷ places) route server are within = absurd are
 preferred_put (x ∷ routes) [] route server are within = absurd are
-preferred_put (x ∷ routes) (p ∷ places) zero server are within = (within x refl, are.1)
+preferred_put (x ∷ routes) (p ∷ places) zero server are within = (λ serves. within x refl, are.1)
 preferred_put (x ∷ routes) (p ∷ places) (suc route) server are within = (are.0, preferred_put routes places route server are.1 within)
 
 -- the preferred server of a question's route
 pub preferred_peer : (c : Config) (q : Question) (route : ℕ) (places : List ℕ) → route_of c q.name ≡ Some route → ArePreferred c.routes places → (p : Peer) × (peer_at c route (get_or places route 0) ≡ Some p)
 preferred_peer c q route places on are =
-    let at : IsRouteOf c.routes q.name route = route_found_is_longest c.routes q.name route on in
-    let within = preferred_there c.routes places route are at.route at.there in
+    let own = serving_is c.routes (route_among c.routes q.name) route on in
+    let at : IsRouteOf c.routes q.name route = route_found_is_longest c.routes q.name route own.0 in
+    let within = preferred_there c.routes places route are at.route at.there (serving_denies_nothing c.routes route at.route own.1 at.there) in
     peer_there c route (get_or places route 0) (subst (λ (o : Option Route). get_or places route 0 < length (servers_in o)) (sym at.there) within)

@@ -9,8 +9,8 @@ use Rattle.dns_message.specs.Messages.{IsSameQuestion}
 use Rattle.dns_message.proofs.CallerLemmas.{same_question_decides}
 use Rattle.suffix_routes.specs.declared.peer.Peer.{Peer}
 use Rattle.suffix_routes.specs.Values.{Config}
-use Rattle.suffix_routes.specs.Routes.{route_of as route_among}
-use Rattle.suffix_routes.proofs.CallerLemmas.{route_of_lowered}
+use Rattle.suffix_routes.specs.Routes.{serving_route_of}
+use Rattle.suffix_routes.proofs.CallerLemmas.{serving_lowered}
 use Rattle.step_history.specs.Names.{route_of}
 use Rattle.plain_list.specs.Octets.{same_octets}
 use Rattle.plain_list.proofs.CallerLemmas.{same_octets_reflexive, same_octets_equal}
@@ -36,7 +36,7 @@ same_peer-is a b e = subst (λ (x : Peer). same_peer a x ≡ true) e (and_from (
 
 -- equal names are on one route
 pub route_of-alike : (c : Config) (a b : Question) → IsSameQuestion a b → route_of c a.name ≡ route_of c b.name
-route_of-alike c a b same = sym (route_of_lowered c.routes a.name) ∙ ap (route_among c.routes) same.name ∙ route_of_lowered c.routes b.name
+route_of-alike c a b same = sym (serving_lowered c.routes a.name) ∙ ap (serving_route_of c.routes) same.name ∙ serving_lowered c.routes b.name
 
 pub same_question-sym : (a b : Question) → same_question a b ≡ true → same_question b a ≡ true
 same_question-sym a b e =

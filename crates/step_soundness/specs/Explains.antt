@@ -72,12 +72,12 @@ abbrev pub IsBelow : ℕ → Path → Type 0
 IsBelow count (Udp port) = Unit {0}
 IsBelow count (Tcp conn) = conn < count
 
--- each route has the place of one of its servers
+-- each route that serves names has the place of one of its servers
 abbrev pub ArePreferred : List Route → List ℕ → Type 0
 ArePreferred [] [] = Unit {0}
 ArePreferred [] (p ∷ places) = ⊥
 ArePreferred (r ∷ routes) [] = ⊥
-ArePreferred (r ∷ routes) (p ∷ places) = (p < length r.servers) × ArePreferred routes places
+ArePreferred (r ∷ routes) (p ∷ places) = (r.deny ≡ false → p < length r.servers) × ArePreferred routes places
 
 pub record Explains (c : Config) (past : List Step) (w : List (List ℕ)) (s : State) : Type 0 where
   pub config : IsConfig c

@@ -1,60 +1,258 @@
-//! Values are copied whole, and a refused growth is told.
+//! Values are copied whole, and each refused growth is told.
 
 use crate::{Action, Client, Event, Handed, Path, Why};
 use plain_list::PlainList;
 use refusing_allocator::Refusing;
-use std::alloc::{AllocError, Allocator};
+use std::alloc::{AllocError, Allocator, Global};
 use std::test::Fail;
 use suffix_routes::Peer;
+
+type Heap<'a> = &'a Refusing<Global>;
 
 const PEER: Peer = Peer {
     ip: [192, 0, 2, 1],
     port: 53,
 };
 
-fn delivers<A: Allocator + Copy>(alloc: A) -> Result<Handed<A>, AllocError> {
-    Ok(Handed {
-        now: 1020,
-        words: [7; 8],
-        event: Event::Delivery {
+const OCTETS: &[u8] = b"\x00\x08";
+
+/// The places of what `event` makes, and whether it has octets.
+const EVENTS: [(u8, bool); 8] = [
+    (0, true),
+    (1, true),
+    (2, true),
+    (3, true),
+    (4, false),
+    (5, false),
+    (6, false),
+    (7, false),
+];
+
+/// The same of `action`.
+const ACTIONS: [(u8, bool); 6] = [
+    (0, true),
+    (1, true),
+    (2, false),
+    (3, false),
+    (4, true),
+    (5, true),
+];
+
+/// The event at a place: one of each kind, by UDP and over TCP.
+fn event<A: Allocator + Copy>(alloc: A, place: u8) -> Result<Event<A>, AllocError> {
+    match place {
+        0 => client_event(alloc, Client::Udp(PEER)),
+        1 => client_event(alloc, Client::Tcp(7)),
+        2 => delivery(alloc, Path::Udp(1032)),
+        3 => delivery(alloc, Path::Tcp(7)),
+        4 => Ok(Event::PathFailed {
             path: Path::Udp(1032),
-            from: PEER,
-            bytes: PlainList::copied(alloc, b"\x00\x08")?,
-        },
+        }),
+        5 => Ok(Event::PathFailed { path: Path::Tcp(7) }),
+        6 => Ok(Event::Tick),
+        _ => Ok(Event::Restart),
+    }
+}
+
+fn client_event<A: Allocator>(alloc: A, client: Client) -> Result<Event<A>, AllocError> {
+    Ok(Event::Client {
+        client,
+        bytes: PlainList::copied(alloc, OCTETS)?,
     })
 }
 
-fn is_delivery<A: Allocator>(handed: &Handed<A>) -> bool {
-    match &handed.event {
-        Event::Delivery { path, from, bytes } => {
-            *path == Path::Udp(1032) && *from == PEER && bytes.as_slice() == b"\x00\x08".as_slice()
-        }
+fn delivery<A: Allocator>(alloc: A, path: Path) -> Result<Event<A>, AllocError> {
+    Ok(Event::Delivery {
+        path,
+        from: PEER,
+        bytes: PlainList::copied(alloc, OCTETS)?,
+    })
+}
+
+/// The action at a place: one of each kind, a reply by UDP and over TCP.
+fn action<A: Allocator + Copy>(alloc: A, place: u8) -> Result<Action<A>, AllocError> {
+    match place {
+        0 => Ok(Action::AskUdp {
+            port: 1032,
+            server: PEER,
+            bytes: PlainList::copied(alloc, OCTETS)?,
+        }),
+        1 => Ok(Action::AskTcp {
+            conn: 7,
+            server: PEER,
+            bytes: PlainList::copied(alloc, OCTETS)?,
+        }),
+        2 => Ok(Action::CloseUdp { port: 1032 }),
+        3 => Ok(Action::CloseTcp { conn: 7 }),
+        4 => reply(alloc, Client::Udp(PEER), Why::Answered),
+        _ => reply(alloc, Client::Tcp(7), Why::NoRoute),
+    }
+}
+
+fn reply<A: Allocator>(alloc: A, client: Client, why: Why) -> Result<Action<A>, AllocError> {
+    Ok(Action::Reply {
+        client,
+        bytes: PlainList::copied(alloc, OCTETS)?,
+        why,
+    })
+}
+
+/// Whether two events are equal.
+fn is_equal_event<A: Allocator>(one: &Event<A>, other: &Event<A>) -> bool {
+    match (one, other) {
+        (
+            Event::Client { client, bytes },
+            Event::Client {
+                client: asker,
+                bytes: octets,
+            },
+        ) => *client == *asker && bytes.as_slice() == octets.as_slice(),
+        (
+            Event::Delivery { path, from, bytes },
+            Event::Delivery {
+                path: way,
+                from: server,
+                bytes: octets,
+            },
+        ) => *path == *way && *from == *server && bytes.as_slice() == octets.as_slice(),
+        (Event::PathFailed { path }, Event::PathFailed { path: way }) => *path == *way,
+        (Event::Tick, Event::Tick) | (Event::Restart, Event::Restart) => true,
         _ => false,
     }
 }
 
-#[test]
-fn copies_are_equal(rt: HostRuntime) -> Result<(), Fail> {
-    let heap = Refusing::new(rt.alloc());
-    let handed = delivers(&heap)?;
-    heap.allow(0);
-    assert!(rt; handed.copy(&heap).is_err());
+/// Whether two actions are equal.
+fn is_equal_action<A: Allocator>(one: &Action<A>, other: &Action<A>) -> bool {
+    match (one, other) {
+        (
+            Action::AskUdp {
+                port,
+                server,
+                bytes,
+            },
+            Action::AskUdp {
+                port: from,
+                server: to,
+                bytes: octets,
+            },
+        ) => *port == *from && *server == *to && bytes.as_slice() == octets.as_slice(),
+        (
+            Action::AskTcp {
+                conn,
+                server,
+                bytes,
+            },
+            Action::AskTcp {
+                conn: from,
+                server: to,
+                bytes: octets,
+            },
+        ) => *conn == *from && *server == *to && bytes.as_slice() == octets.as_slice(),
+        (Action::CloseUdp { port }, Action::CloseUdp { port: from }) => *port == *from,
+        (Action::CloseTcp { conn }, Action::CloseTcp { conn: from }) => *conn == *from,
+        (
+            Action::Reply { client, bytes, why },
+            Action::Reply {
+                client: asker,
+                bytes: octets,
+                why: cause,
+            },
+        ) => *client == *asker && *why == *cause && bytes.as_slice() == octets.as_slice(),
+        _ => false,
+    }
+}
+
+/// Refuses the next growth: alone, or with each one behind it.
+fn refuse(heap: &Refusing<Global>, is_alone: bool) {
+    if is_alone {
+        heap.refuse_one(0);
+    } else {
+        heap.allow(0);
+    }
+}
+
+/// Whether the copy of an event is equal to it, and is refused without memory where it has octets.
+fn is_event_copied(
+    heap: &Refusing<Global>,
+    place: u8,
+    has_octets: bool,
+    is_alone: bool,
+) -> Result<bool, AllocError> {
     heap.allow(u64::MAX);
-    assert!(rt; is_delivery(&handed.copy(&heap)?));
-    let reply = Action::Reply {
-        client: Client::Tcp(7),
-        bytes: PlainList::copied(&heap, b"\x12\x34")?,
-        why: Why::NoRoute,
+    let event = event(heap, place)?;
+    refuse(heap, is_alone);
+    let is_refused = event.copy(heap).is_err();
+    heap.allow(u64::from(has_octets));
+    let copy = event.copy(heap)?;
+    Ok(is_refused == has_octets && is_equal_event(&event, &copy))
+}
+
+/// The same of an action.
+fn is_action_copied(
+    heap: &Refusing<Global>,
+    place: u8,
+    has_octets: bool,
+    is_alone: bool,
+) -> Result<bool, AllocError> {
+    heap.allow(u64::MAX);
+    let action = action(heap, place)?;
+    refuse(heap, is_alone);
+    let is_refused = action.copy(heap).is_err();
+    heap.allow(u64::from(has_octets));
+    let copy = action.copy(heap)?;
+    Ok(is_refused == has_octets && is_equal_action(&action, &copy))
+}
+
+#[test]
+fn copies_of_events_are_equal(rt: HostRuntime) -> Result<(), Fail> {
+    let heap = Refusing::new(rt.alloc());
+    for (place, has_octets) in &EVENTS {
+        assert!(rt;
+            is_event_copied(&heap, *place, *has_octets, false)?,
+            "event {place}"
+        );
+        assert!(rt;
+            is_event_copied(&heap, *place, *has_octets, true)?,
+            "event {place}"
+        );
+    }
+    Ok(())
+}
+
+#[test]
+fn copies_of_actions_are_equal(rt: HostRuntime) -> Result<(), Fail> {
+    let heap = Refusing::new(rt.alloc());
+    for (place, has_octets) in &ACTIONS {
+        assert!(rt;
+            is_action_copied(&heap, *place, *has_octets, false)?,
+            "action {place}"
+        );
+        assert!(rt;
+            is_action_copied(&heap, *place, *has_octets, true)?,
+            "action {place}"
+        );
+    }
+    Ok(())
+}
+
+/// Whether what a step is handed is copied whole, and a refused growth of that is told.
+fn is_handed_copied(heap: Heap<'_>) -> Result<bool, AllocError> {
+    let handed = Handed {
+        now: 1020,
+        words: [7; 8],
+        event: event(heap, 2)?,
     };
     heap.allow(0);
-    assert!(rt; reply.copy(&heap).is_err());
-    heap.allow(u64::MAX);
-    match reply.copy(&heap)? {
-        Action::Reply { client, bytes, why } => {
-            assert!(rt; client == Client::Tcp(7) && why == Why::NoRoute);
-            assert_eq!(rt; bytes.as_slice(), b"\x12\x34".as_slice());
-        }
-        _ => assert!(rt; false),
-    }
+    let is_refused = handed.copy(heap).is_err();
+    heap.allow(1);
+    let copy = handed.copy(heap)?;
+    let is_equal = copy.now == 1020 && copy.words == [7; 8];
+    Ok(is_refused && is_equal && is_equal_event(&handed.event, &copy.event))
+}
+
+#[test]
+fn copies_of_what_is_handed_are_equal(rt: HostRuntime) -> Result<(), Fail> {
+    let heap = Refusing::new(rt.alloc());
+    assert!(rt; is_handed_copied(&heap)?);
     Ok(())
 }

@@ -1,11 +1,12 @@
 -- What the proofs of crates above cite of routes.
-use Rattle.std.proofs.Common.{◌≡◌, ℕ, ◌<◌, ◌≤◌, List, length, Some}
+use Rattle.std.proofs.Common.{◌≡◌, ℕ, ◌<◌, ◌≤◌, false, List, length, Option, Some, ap}
 use Rattle.std.specs.Prelude.{slice_get}
 use Rattle.std.specs.List.{AllByRecursion}
 use Rattle.dns_name.specs.Labels.{IsSame, IsUnder, lowered, size_of}
 use Rattle.suffix_routes.specs.Values.{Route, IsRoute, AllDiffer}
-use Rattle.suffix_routes.specs.Routes.{IsRouteOf, route_of}
+use Rattle.suffix_routes.specs.Routes.{IsRouteOf, route_of, serving, serving_route_of}
 use Rattle.suffix_routes.proofs.RouteLaws as routes
+use Rattle.suffix_routes.proofs.ServingLaws as those_that_serve
 
 -- names that are the same have the same route
 pub route_of_respects_same : (routes : List Route) (n m : List (List ℕ)) → IsSame n m → route_of routes n ≡ route_of routes m
@@ -37,3 +38,20 @@ pub routes_above_differ : (routes : List Route) (name above : List (List ℕ)) (
     → slice_get routes k ≡ Some other → IsUnder name other.suffix → size_of above < size_of other.suffix
     → route_of routes above ≡ route_of routes name → ⊥
 routes_above_differ = routes.route_of-longer
+
+-- ---- routes that serve names
+
+-- the route that serves a name is its route, and serves
+pub serving_is : (routes : List Route) (place : Option ℕ) (found : ℕ) → serving routes place ≡ Some found → (place ≡ Some found) × (serving routes (Some found) ≡ Some found)
+serving_is = those_that_serve.serving_is
+
+-- a route that serves does not deny
+pub serving_denies_nothing : (routes : List Route) (place : ℕ) (route : Route) → serving routes (Some place) ≡ Some place → slice_get routes place ≡ Some route → route.deny ≡ false
+serving_denies_nothing = those_that_serve.serving_denies_nothing
+
+-- names that are the same are served by the same route, or by none
+pub serving_respects_same : (routes : List Route) (n m : List (List ℕ)) → IsSame n m → serving_route_of routes n ≡ serving_route_of routes m
+serving_respects_same routes n m same = ap (serving routes) (route_of_respects_same routes n m same)
+
+pub serving_lowered : (routes : List Route) (name : List (List ℕ)) → serving_route_of routes (lowered name) ≡ serving_route_of routes name
+serving_lowered routes name = ap (serving routes) (route_of_lowered routes name)

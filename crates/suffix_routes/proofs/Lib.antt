@@ -1,4 +1,5 @@
 pub mod RouteLaws
+pub mod ServingLaws
 pub mod ExcerptOf
 pub mod ReadLaws
 pub mod VersionLaws

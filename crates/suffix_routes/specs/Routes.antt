@@ -1,5 +1,5 @@
 -- The route of a name.
-use Rattle.std.specs.Prelude.{◌≡◌, ℕ, ◌≤◌, List, [], ◌∷◌, length, slice_get, position, Option, Some, None}
+use Rattle.std.specs.Prelude.{◌≡◌, ℕ, ◌≤◌, if◌then◌else◌, List, [], ◌∷◌, length, slice_get, position, Option, Some, None}
 use Rattle.dns_name.specs.Labels.{IsUnder, same}
 use Rattle.suffix_routes.specs.Values.{Route}
 
@@ -32,3 +32,16 @@ place_or None next = next
 unfoldable pub route_of : List Route → List (List ℕ) → Option ℕ
 route_of routes [] = route_at routes []
 route_of routes (label ∷ labels) = place_or (route_at routes (label ∷ labels)) (route_of routes labels)
+
+-- the place of a route, where that serves names and does not deny them
+abbrev pub serving_at : ℕ → Option Route → Option ℕ
+serving_at place None = None
+serving_at place (Some r) = if r.deny then None else Some place
+
+abbrev pub serving : List Route → Option ℕ → Option ℕ
+serving routes None = None
+serving routes (Some place) = serving_at place (slice_get routes place)
+
+-- the route whose servers are asked for the name: its route, where that does not deny it
+abbrev pub serving_route_of : List Route → List (List ℕ) → Option ℕ
+serving_route_of routes name = serving routes (route_of routes name)

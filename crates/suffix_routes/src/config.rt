@@ -2,7 +2,7 @@
 
 ghost use Rattle.std.specs.Prelude.{◌≡◌, IfOk};
 ghost use Rattle.suffix_routes.specs.Values.{IsConfig};
-ghost use Rattle.suffix_routes.specs.Routes.{IsAnswer, route_of};
+ghost use Rattle.suffix_routes.specs.Routes.{IsAnswer, route_of, serving, serving_route_of};
 
 use crate::limits::Limits;
 use crate::peer::Peer;
@@ -59,6 +59,32 @@ impl<A: Allocator> Config<A> {
         ensures computed { result ≡ route_of self.now.routes key.now }
     {
         longest(self.routes(), key)
+    }
+
+    /// The route whose servers are asked for a name: its route, where that doesn't deny the name; else `None`. It takes no
+    /// memory.
+    pub fn serving_route_of(&self, name: &Name<A>) -> Option<RouteId>
+        ensures { result ≡ serving_route_of self.now.routes name.now }
+    {
+        self.serving(self.route_of(name))
+    }
+
+    /// The route that serves the names that have this key, as `serving_route_of` gives it. It takes no memory.
+    pub fn serving_route_of_key(&self, key: &NameKey) -> Option<RouteId>
+        ensures { result ≡ serving_route_of self.now.routes key.now }
+    {
+        self.serving(self.route_of_key(key))
+    }
+
+    /// The route, where it doesn't deny the names that are on it.
+    fn serving(&self, found: Option<RouteId>) -> Option<RouteId>
+        ensures { result ≡ serving self.now.routes found }
+    {
+        let id = found?;
+        match self.routes().get(id.place) {
+            Some(route) if !route.deny => Some(id),
+            _ => None,
+        }
     }
 }
 

@@ -16,7 +16,7 @@ abbrev server : Peer
 server = record { ip = 192 ∷ 0 ∷ 2 ∷ 1 ∷ []; port = 53 }
 
 abbrev config : Config
-config = record { listen = server; limits = default_limits; routes = record { suffix = []; servers = server ∷ [] } ∷ record { suffix = (122 ∷ []) ∷ []; servers = server ∷ [] } ∷ [] }
+config = record { listen = server; limits = default_limits; routes = record { suffix = []; deny = false; servers = server ∷ [] } ∷ record { suffix = (122 ∷ []) ∷ []; deny = false; servers = server ∷ [] } ∷ [] }
 
 -- a name of one letter, below e
 abbrev below_e : ℕ → List (List ℕ)

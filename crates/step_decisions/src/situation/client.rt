@@ -284,7 +284,7 @@ impl<'a, H: BuildHasher + Drop, A: Allocator + Copy> Situation<'a, H, A> {
         ensures row { IfOk result (λ next. (rooms : List Bool) → next_of moment rooms self.now.state next ≡ row_of_look_up self.now.config moment words request.now self.now.state (record { held = looked.entry.used; wanted = asked_at request.now.wanted name; met = missed; used = map (λ h. h.piece.slot) looked.entry.used })) }
         ensures fits { IfOk result (λ next. CanChange self.now.config moment self.now.state next) }
     {
-        let Some(route) = self.config.route_of(&name) else {
+        let Some(route) = self.config.serving_route_of(&name) else {
             return self.refuse(request, Why::NoRoute, looked.into_slots());
         };
         let sent_on = self.onward(request, &looked, name)?;

@@ -72,7 +72,7 @@ impl<'a, H: BuildHasher + Drop, A: Allocator + Copy> Situation<'a, H, A> {
         requires { ask_on answered.now.path self.now.state.asks ≡ Some answered.now }
         ensures { IfOk result (λ ask. ask ≡ first_ask_for self.now.config moment words question.now (closing_state answered.now self.now.state)) }
     {
-        let Some(route) = self.config.route_of(&question.name) else {
+        let Some(route) = self.config.serving_route_of(&question.name) else {
             return Ok(None);
         };
         let attempt = Try {

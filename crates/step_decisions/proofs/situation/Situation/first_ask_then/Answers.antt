@@ -18,7 +18,7 @@ returns g c =
     ∙ (λ i. udp_draw c.args.words (c.self.view_is i).state.asks ((c.freed_port.ensures ∙ ap (λ (a : Ask). freed_by a.path) c.answered.view_is) i))
     ∙ sym (draws_left c.args.words c.args.answered.now.path c.args.self.now.state.asks)) in
     let on : route_of c.args.self.now.config c.args.question.now.name ≡ Some c.in-Some.route =
-    sym (c.route_of.ensures.computed ∙ (λ i. route_of (c.self.view_is i).config (c.question.view_is i).name)) ∙ c.in-Some.is in
+    sym (c.serving_route_of.ensures ∙ (λ i. route_of (c.self.view_is i).config (c.question.view_is i).name)) ∙ c.in-Some.is in
     IfOk-weaker c.new_ask.result _ _ (λ ask is.
     is
     ∙ (λ i. ask_by c.args.moment c.args.question.now c.in-Some.route (c.preferred_then.ensures i) 1 (peer_at (c.self.view_is i).config c.in-Some.route (c.preferred_then.ensures i)) (drawn i))

@@ -1,46 +1,9 @@
-//! Values of messages that are copied and compared: copies of each, the name in data, and data of a vector.
+//! Data of records: the name that it is, and data of a vector.
 
-use crate::equal::{is_equal_question, is_equal_record};
-use crate::messages::{LONG_REPLY, REPLY};
-use dns_message::{Fault, MessageRef, Rdata, Record};
+use dns_message::Rdata;
 use refusing_allocator::Refusing;
 use std::alloc::{AllocError, Allocator, Global};
 use std::test::Fail;
-
-/// A reply whose names and data lie in place, and one whose do not.
-const COPIED: [&[u8]; 2] = [REPLY, LONG_REPLY];
-
-/// Whether the copy of the first question is equal to it.
-fn is_question_copied(alloc: Global, octets: &[u8]) -> Result<bool, Fault> {
-    let question = MessageRef::view(octets)?.question(alloc)?;
-    let copy = question.copy(alloc)?;
-    Ok(is_equal_question(&question, &copy))
-}
-
-/// Whether the copies of a record and of its data are equal to them.
-fn is_record_copied(alloc: Global, record: &Record) -> Result<bool, AllocError> {
-    let copy = record.copy(alloc)?;
-    let data = record.rdata.copy(alloc)?;
-    Ok(is_equal_record(record, &copy) && record.rdata.octets() == data.octets())
-}
-
-/// Whether the only answer is copied so.
-fn is_answer_copied(alloc: Global, octets: &[u8]) -> Result<bool, Fault> {
-    let message = MessageRef::view(octets)?.read_whole(alloc)?;
-    match message.answers.as_slice() {
-        [record] => Ok(is_record_copied(alloc, record)?),
-        _ => Ok(false),
-    }
-}
-
-#[test]
-fn copies_are_equal(rt: HostRuntime) -> Result<(), Fail> {
-    for octets in &COPIED {
-        assert!(rt; is_question_copied(rt.alloc(), octets)?);
-        assert!(rt; is_answer_copied(rt.alloc(), octets)?);
-    }
-    Ok(())
-}
 
 /// Data, and the octets of the name that it is, without the zero octet at their end.
 const NAMES: [(&[u8], Option<&[u8]>); 2] = [

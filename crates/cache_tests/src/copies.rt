@@ -1,0 +1,105 @@
+//! Copies of what replies carry, and what is kept of one.
+
+use crate::samples::{ALIAS, NAME_ERROR, NO_DATA, pieces_of};
+use dns_message::{DataRef, Record};
+use lru::DefaultHasher;
+use record_cache::{Cache, Offered};
+use std::alloc::Global;
+use std::test::Fail;
+use trust_rank::{Body, Piece, Rows};
+
+/// The data are the same, in one order.
+fn is_same_rows(rows: &Rows, others: &Rows) -> bool {
+    match (rows.data(), others.data()) {
+        (DataRef::Row(row), DataRef::Row(other)) => row.octets() == other.octets(),
+        (DataRef::Rows(rows), DataRef::Rows(others)) => {
+            rows.len() == others.len()
+                && rows
+                    .iter()
+                    .zip(others)
+                    .all(|(row, other)| row.octets() == other.octets())
+        }
+        _ => false,
+    }
+}
+
+fn is_same_record(record: &Record, other: &Record) -> bool {
+    record.owner.octets() == other.owner.octets()
+        && record.kind == other.kind
+        && record.class == other.class
+        && record.ttl == other.ttl
+        && record.rdata.octets() == other.rdata.octets()
+}
+
+/// Both have one, and they are the same.
+fn is_same_soa(soa: &Option<Box<Record>>, other: &Option<Box<Record>>) -> bool {
+    match (soa, other) {
+        (Some(soa), Some(other)) => is_same_record(soa.as_ref(), other.as_ref()),
+        _ => false,
+    }
+}
+
+fn is_same_body(body: &Body, other: &Body) -> bool {
+    match (body, other) {
+        (Body::Rows(rows), Body::Rows(others)) => is_same_rows(rows, others),
+        (Body::NoData(soa), Body::NoData(other)) => is_same_soa(soa, other),
+        (Body::Denied(soa), Body::Denied(other)) => is_same_soa(soa, other),
+        _ => false,
+    }
+}
+
+/// Each part is the same: owner as it is spelled, slot, data, lifetime, rank and route. A denial has an SOA.
+fn is_same(piece: &Piece, other: &Piece) -> bool {
+    piece.owner.octets() == other.owner.octets()
+        && piece.slot() == other.slot()
+        && is_same_body(&piece.body, &other.body)
+        && piece.lifetime == other.lifetime
+        && piece.rank == other.rank
+        && piece.route == other.route
+}
+
+/// How many pieces a reply carries, and how many of their copies are the same.
+fn equal_copies(alloc: Global, digits: &str) -> Result<(usize, usize), Fail> {
+    let pieces = pieces_of(alloc, digits)?;
+    let mut equal = 0usize;
+    for piece in pieces.as_slice() {
+        let copy = piece.copy(alloc)?;
+        equal = equal.saturating_add(usize::from(is_same(&copy, piece)));
+    }
+    Ok((pieces.as_slice().len(), equal))
+}
+
+/// An alias and a set of two addresses, NODATA with its SOA, and a name error with its own.
+#[test]
+fn copies_are_equal_in_each_part(rt: HostRuntime) -> Result<(), Fail> {
+    let alloc = rt.alloc();
+    let sets = equal_copies(alloc, ALIAS)?;
+    let no_data = equal_copies(alloc, NO_DATA)?;
+    let name_error = equal_copies(alloc, NAME_ERROR)?;
+    assert!(rt; (sets, no_data, name_error) == ((2, 2), (1, 1), (1, 1)));
+    Ok(())
+}
+
+/// A copy of the piece is offered to a new cache, which is empty before: what came of it, and whether an equal piece
+/// is there.
+fn offered_copy(alloc: Global, piece: &Piece) -> Result<(usize, Offered, bool), Fail> {
+    let mut cache = Cache::new(alloc, 4, DefaultHasher::default())?;
+    let before = cache.len();
+    let answer = cache.offer(piece.copy(alloc)?, 1000);
+    let is_there = match cache.peek(&piece.slot()) {
+        Some(held) => held.accepted == 1000 && is_same(&held.piece, piece),
+        None => false,
+    };
+    Ok((before, answer, is_there))
+}
+
+#[test]
+fn a_copy_of_a_set_is_kept_and_found(rt: HostRuntime) -> Result<(), Fail> {
+    let alloc = rt.alloc();
+    let pieces = pieces_of(alloc, ALIAS)?;
+    let [_, set] = pieces.as_slice() else {
+        return Err(Fail::from("an alias and its set"));
+    };
+    assert!(rt; offered_copy(alloc, set)? == (0, Offered::Kept, true));
+    Ok(())
+}

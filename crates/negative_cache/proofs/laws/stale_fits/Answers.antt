@@ -1,0 +1,5 @@
+use Rattle.negative_cache.proofs.PastEnds.{stale_fits}
+use Rattle.negative_cache.proofs.laws.stale_fits.Goals as goal
+
+pub returns : goal.returns
+returns c = stale_fits
