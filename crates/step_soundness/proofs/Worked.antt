@@ -130,9 +130,17 @@ is_config = record {
     tries = (omega arith, omega arith);
     ask_ms = (omega arith, omega arith);
     deadline_ms = (omega arith, omega arith);
+    stale_s = (omega arith, omega arith);
   };
   count = (omega arith, omega arith);
-  each = (record { suffix = record { each = tt; short = omega arith }; servers = (omega arith, omega arith) }, tt);
+  each = (
+    record {
+      suffix = record { each = tt; short = omega arith };
+      serves = λ serves. (omega arith, omega arith);
+      denies = λ denies. absurd (true≢false (sym denies));
+    },
+    tt,
+  );
   differ = (tt, tt);
 }
 
@@ -219,7 +227,7 @@ right_ask = record {
   reads = refl;
   server = record {
     route = 0;
-    group = record { suffix = []; servers = server ∷ other_server ∷ [] };
+    group = record { suffix = []; deny = false; servers = server ∷ other_server ∷ [] };
     place = 0;
     route_is = refl;
     there = refl;
@@ -271,7 +279,7 @@ full = record {
   earlier = (omega arith, tt);
   tried = (tried, tt);
   connections = (tt, tt);
-  preferred = (omega arith, tt);
+  preferred = (λ serves. omega arith, tt);
   cache = cached;
   numbers_of = (waiting, 0) ∷ [];
   waiting = refl;
