@@ -1,5 +1,5 @@
 -- Worked runs of questions that are sent on, computed: to the name that a reply's aliases lead to, and to one that a look-up missed.
-use Rattle.std.proofs.Common.{◌≡◌, ℕ, ◌+◌, List, [], ◌∷◌, true, refl}
+use Rattle.std.proofs.Common.{◌≡◌, ℕ, ◌+◌, List, [], ◌∷◌, true, false, refl}
 use Rattle.suffix_routes.specs.Values.{Config}
 use Rattle.suffix_routes.specs.Routes.{route_of}
 use Rattle.dns_message.specs.Values.{Record, Message}
