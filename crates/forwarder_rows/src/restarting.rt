@@ -50,7 +50,7 @@ fn tell_rest<'a, W: Write>(
     writer: &mut W,
 ) -> Result<(), ReplayFault> {
     let steps = run_behind(alloc, heap, script, number)?;
-    let differing = first_differing(alloc, heap, script, number, restarted, &steps)?;
+    let differing = first_differing(alloc, heap, script, number, restarted, &steps);
     tell_differing(writer, number, differing)
 }
 
@@ -111,19 +111,32 @@ fn first_differing<'a>(
     number: u32,
     forwarder: &mut Runner<'a>,
     steps: &[Step<Heap<'a>>],
-) -> Result<Option<u32>, ReplayFault> {
+) -> Option<u32> {
     let mut later = number;
     for step in steps {
         later = later.saturating_add(1);
-        if !is_made_so(alloc, heap, script, later, forwarder, step)? {
-            return Ok(Some(later));
+        if !is_made_so(alloc, heap, script, later, forwarder, step) {
+            return Some(later);
         }
     }
-    Ok(None)
+    None
+}
+
+/// Whether a forwarder that is handed what a step was handed makes that step; not where memory runs out, of which there
+/// is enough.
+fn is_made_so<'a>(
+    alloc: Global,
+    heap: Heap<'a>,
+    script: Script<'_>,
+    number: u32,
+    forwarder: &mut Runner<'a>,
+    step: &Step<Heap<'a>>,
+) -> bool {
+    compare(alloc, heap, script, number, forwarder, step).unwrap_or(false)
 }
 
 /// Whether a forwarder that is handed what a step was handed makes that step, with ample memory.
-fn is_made_so<'a>(
+fn compare<'a>(
     alloc: Global,
     heap: Heap<'a>,
     script: Script<'_>,
