@@ -39,8 +39,7 @@ fn tell_deed<W: Write>(
     Ok(())
 }
 
-/// Tells the first line behind this one at which a restarted forwarder does something else than a run over the lines
-/// behind this one alone does.
+/// Tells where what a restarted forwarder does behind this line is not what a run over the lines behind it alone does.
 fn tell_rest<'a, W: Write>(
     alloc: Global,
     heap: Heap<'a>,
@@ -49,21 +48,83 @@ fn tell_rest<'a, W: Write>(
     restarted: &mut Runner<'a>,
     writer: &mut W,
 ) -> Result<(), ReplayFault> {
-    let steps = run_behind(alloc, heap, script, number)?;
-    let differing = first_differing(alloc, heap, script, number, restarted, &steps);
-    tell_differing(writer, number, differing)
-}
-
-/// Tells a line at which something differs behind a restart; nothing where there is none.
-fn tell_differing<W: Write>(
-    writer: &mut W,
-    number: u32,
-    differing: Option<u32>,
-) -> Result<(), ReplayFault> {
-    if let Some(later) = differing {
-        writeln!(writer, "{number} stays over a restart: line {later}")?;
+    let wanted = told_by_run(alloc, heap, script, number)?;
+    let made = told_behind(alloc, heap, script, number, restarted)?;
+    if made.as_slice() != wanted.as_slice() {
+        writeln!(writer, "{number} stays over a restart")?;
     }
     Ok(())
+}
+
+/// What a run over the lines behind this one tells.
+fn told_by_run(
+    alloc: Global,
+    heap: Heap<'_>,
+    script: Script<'_>,
+    number: u32,
+) -> Result<Vec<u8>, ReplayFault> {
+    let steps = run_behind(alloc, heap, script, number)?;
+    told_of_steps(alloc, heap, script, number, &steps)
+}
+
+/// What steps tell, which are of the lines behind this one.
+fn told_of_steps<'a>(
+    alloc: Global,
+    heap: Heap<'a>,
+    script: Script<'_>,
+    number: u32,
+    steps: &[Step<Heap<'a>>],
+) -> Result<Vec<u8>, ReplayFault> {
+    let mut told = Vec::new(alloc);
+    let mut later = number;
+    for step in steps {
+        later = later.saturating_add(1);
+        let more = told_of(alloc, heap, script, later, &step.outcome)?;
+        told.extend_from_slice(&more)?;
+    }
+    Ok(told)
+}
+
+/// What a forwarder tells at the lines behind this one. A line that is refused ends it.
+fn told_behind<'a>(
+    alloc: Global,
+    heap: Heap<'a>,
+    script: Script<'_>,
+    number: u32,
+    forwarder: &mut Runner<'a>,
+) -> Result<Vec<u8>, ReplayFault> {
+    let mut told = Vec::new(alloc);
+    let mut lines = script.events.split(|octet| *octet == b'\n');
+    for before in 0..MOST_LINES {
+        let Some(line) = lines.next() else {
+            return Ok(told);
+        };
+        if before < number {
+            continue;
+        }
+        match done_at(alloc, heap, script, before + 1, line, forwarder) {
+            Ok(more) => told.extend_from_slice(&more)?,
+            Err(ReplayFault::Line(_)) => return Ok(told),
+            Err(fault) => return Err(fault),
+        }
+    }
+    Ok(told)
+}
+
+/// What a forwarder tells at a line, with ample memory.
+fn done_at<'a>(
+    alloc: Global,
+    heap: Heap<'a>,
+    script: Script<'_>,
+    number: u32,
+    line: &[u8],
+    forwarder: &mut Runner<'a>,
+) -> Result<Vec<u8>, ReplayFault>
+    requires { number ≤ MOST_LINES }
+{
+    let handed = handed_in(heap, script, number, line)?;
+    let outcome = forwarder.step(handed.now, handed.words, handed.event)?;
+    told_of(alloc, heap, script, number, &outcome)
 }
 
 /// A run over the lines behind this one.
@@ -101,55 +162,6 @@ fn handed_behind<'a>(
         }
     }
     Ok(handed)
-}
-
-/// The line of the first of these steps, which are of the lines behind this one, that a forwarder makes otherwise.
-fn first_differing<'a>(
-    alloc: Global,
-    heap: Heap<'a>,
-    script: Script<'_>,
-    number: u32,
-    forwarder: &mut Runner<'a>,
-    steps: &[Step<Heap<'a>>],
-) -> Option<u32> {
-    let mut later = number;
-    for step in steps {
-        later = later.saturating_add(1);
-        if !is_made_so(alloc, heap, script, later, forwarder, step) {
-            return Some(later);
-        }
-    }
-    None
-}
-
-/// Whether a forwarder that is handed what a step was handed makes that step; not where memory runs out, of which there
-/// is enough.
-fn is_made_so<'a>(
-    alloc: Global,
-    heap: Heap<'a>,
-    script: Script<'_>,
-    number: u32,
-    forwarder: &mut Runner<'a>,
-    step: &Step<Heap<'a>>,
-) -> bool {
-    compare(alloc, heap, script, number, forwarder, step).unwrap_or(false)
-}
-
-/// Whether a forwarder that is handed what a step was handed makes that step, with ample memory.
-fn compare<'a>(
-    alloc: Global,
-    heap: Heap<'a>,
-    script: Script<'_>,
-    number: u32,
-    forwarder: &mut Runner<'a>,
-    step: &Step<Heap<'a>>,
-) -> Result<bool, ReplayFault> {
-    let handed = &step.handed;
-    let event = handed.event.copy(heap)?;
-    let outcome = forwarder.step(handed.now, handed.words, event)?;
-    let made = told_of(alloc, heap, script, number, &outcome)?;
-    let wanted = told_of(alloc, heap, script, number, &step.outcome)?;
-    Ok(made.as_slice() == wanted.as_slice())
 }
 
 /// All that an outcome tells: the lines that it prints, how many pieces were not kept, and whether more is due.
