@@ -1,6 +1,6 @@
 //! A look-up of each kind.
 
-use crate::samples::{ALIAS, CONFIG, Denial, pieces_of};
+use crate::samples::{ALIAS, DENYING, Denial, pieces_of};
 use dns_name::Name;
 use lru::DefaultHasher;
 use negative_cache::{Found, find, find_stale};
@@ -11,8 +11,10 @@ use suffix_routes::Config;
 
 /// Names whose address is asked for, what is found of each a second after it was kept, and what is found with a window
 /// of an hour when all have ended: the set five minutes and the alias one minute after it was kept, so that both are
-/// within the window, and the denials after an hour.
-const LOOK_UPS: [(&str, &str, &str); 5] = [
+/// within the window, and the denials after an hour. Names under `lan` are denied by the configuration, which only a
+/// look-up of what is alive tells.
+const LOOK_UPS: [(&str, &str, &str); 6] = [
+    ("h.Lan", "local", "miss"),
     ("B.example", "rows", "rows"),
     ("a.Example", "alias", "alias"),
     ("n.example", "no data", "miss"),
@@ -23,6 +25,7 @@ const LOOK_UPS: [(&str, &str, &str); 5] = [
 /// What is found, in a word.
 fn word(found: &Found<'_>) -> &'static str {
     match found {
+        Found::Local => "local",
         Found::Rows(_) => "rows",
         Found::Alias(_) => "alias",
         Found::NoData(_) => "no data",
@@ -44,7 +47,7 @@ fn filled(alloc: Global) -> Result<Cache<DefaultHasher>, Fail> {
 
 /// How many of the look-ups find what they have to, alive and past their ends.
 fn right_look_ups(alloc: Global) -> Result<(usize, usize), Fail> {
-    let config = Config::read(alloc, alloc, CONFIG)?;
+    let config = Config::read(alloc, alloc, DENYING)?;
     let cache = filled(alloc)?;
     let (mut alive, mut past) = (0usize, 0usize);
     for (name, wanted, wanted_past) in &LOOK_UPS {
@@ -59,6 +62,6 @@ fn right_look_ups(alloc: Global) -> Result<(usize, usize), Fail> {
 
 #[test]
 fn each_look_up_finds_what_is_there(rt: HostRuntime) -> Result<(), Fail> {
-    assert!(rt; right_look_ups(rt.alloc())? == (5, 5));
+    assert!(rt; right_look_ups(rt.alloc())? == (6, 6));
     Ok(())
 }

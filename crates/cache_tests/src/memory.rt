@@ -1,6 +1,6 @@
 //! Refused growths.
 
-use crate::samples::Denial;
+use crate::samples::{DENYING, Denial};
 use dns_name::{Name, NameFault};
 use lru::DefaultHasher;
 use negative_cache::{Found, find, find_stale, shown};
@@ -123,8 +123,8 @@ fn other_calls_take_no_memory(rt: HostRuntime) -> Result<(), Fail> {
     Ok(())
 }
 
-/// A cache with a name error, granted one growth, looks names up under it and beside it, and then shows the one under
-/// it.
+/// A cache with a name error, granted one growth, looks up a name that the configuration denies, names under the name
+/// error and beside it, and then shows the one under it.
 fn look_up<'a>(
     heap: &'a Refusing<Global>,
     cache: &mut Cache<DefaultHasher, &'a Refusing<Global>>,
@@ -133,19 +133,20 @@ fn look_up<'a>(
     Denial::of("x.example", None).offer(heap, cache, 1000)?;
     let under = Name::from_text(heap, "a.x.example")?;
     let beside = Name::from_text(heap, "y.example")?;
+    let local = Name::from_text(heap, "h.lan")?;
     heap.allow(1);
+    let is_local = matches!(find(cache, &local, 1, 1, 2000, config), Found::Local);
     let is_denied = matches!(find(cache, &under, 1, 1, 2000, config), Found::Denied(_));
     let is_missed = matches!(find(cache, &beside, 1, 1, 2000, config), Found::Miss)
         && matches!(find_stale(cache, &under, 1, 1, 2000, 60), Found::Miss);
     shown(cache, &under, 1);
-    Ok(is_denied && is_missed && is_one_left(heap))
+    Ok(is_local && is_denied && is_missed && is_one_left(heap))
 }
 
 #[test]
 fn look_ups_take_no_memory(rt: HostRuntime) -> Result<(), Fail> {
     let heap = Refusing::new(rt.alloc());
-    let text = "version = 1\n[[route]]\nsuffix = \".\"\nservers = [\"192.0.2.1:53\"]\n";
-    let config = Config::read(rt.alloc(), &heap, text)?;
+    let config = Config::read(rt.alloc(), &heap, DENYING)?;
     let mut cache = Cache::new(&heap, 2, DefaultHasher::default())?;
     assert!(rt; look_up(&heap, &mut cache, &config)?);
     Ok(())

@@ -19,6 +19,16 @@ suffix = "."
 servers = ["192.0.2.1:53"]
 "#;
 
+/// One route for all names, and one that denies those under `lan`.
+pub(crate) const DENYING: &str = r#"version = 2
+[[route]]
+suffix = "."
+servers = ["192.0.2.1:53"]
+[[route]]
+suffix = "lan"
+deny = true
+"#;
+
 /// The address of a.example is asked for. It is an alias of b.example, which has two addresses; and there is a name
 /// server of example.
 pub(crate) const ALIAS: &str =

@@ -11,12 +11,6 @@ use std::io::Write;
 /// No step of a row takes as many growths.
 const MOST_GROWTHS: u64 = 10_000;
 
-/// Each refused growth wants the lines before it once more. So in a long script all growths are refused in turn of the
-/// first so many lines, and of the last; of those between, the first growth alone.
-const FIRST_LINES: u32 = 64;
-
-const LAST_LINES: u32 = 8;
-
 /// A line whose step is made again and again, and what it is made with.
 #[derive(Clone, Copy)]
 struct Trial<'t, 'a, 's> {
@@ -110,15 +104,10 @@ pub(crate) fn run_line<'a, W: Write>(
     let whole = made_with(&trial, forwarder, Refused::One(0))?;
     tell_first(writer, number, is_of_client(&handed.event), &whole)?;
     writer.write_all(&whole.lines)?;
-    if whole.end == End::Again && is_tried_whole(script, number) {
+    if whole.end == End::Again {
         refuse_each(&trial, &whole, writer)?;
     }
     Ok(())
-}
-
-/// Whether each growth of this line's step is refused in turn.
-fn is_tried_whole(script: Script<'_>, number: u32) -> bool {
-    number <= FIRST_LINES || script.count.saturating_sub(number) < LAST_LINES
 }
 
 /// Whether an event is a client's message: its question may wait with others, which takes memory and calls for no

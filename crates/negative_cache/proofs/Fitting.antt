@@ -1,12 +1,16 @@
 -- What is found is alive, fits the question, and is the nearest.
-use Rattle.std.proofs.Common.{◌≡◌, ◌≢◌, ℕ, ◌≤◌, Bool, true, false, cond, if◌then◌else◌, ◌&&◌, ◌==◌, nat_lt, ◌⊎◌, inl, inr, List, [], ◌∷◌, length, filter, Option, None, Some, refl, ap, subst, arith}
-use Rattle.std.specs.List.{find}
+use Rattle.std.proofs.Common.{◌≡◌, ◌≢◌, ℕ, ◌≤◌, Bool, true, false, cond, if◌then◌else◌, ◌&&◌, ◌==◌, nat_lt, ◌⊎◌, inl, inr, List, [], ◌∷◌, length, filter, Option, None, Some, refl, sym, ap, ◌∙◌, subst, arith}
+use Rattle.std.specs.List.{find, AllByRecursion}
 use Rattle.std.specs.Cmp.{first_so, second_so}
 use Rattle.std.proofs.lemmas.Bool.{eq-eqb}
 use Rattle.std.proofs.lemmas.Bool.Decides.{nat_tests}
+use Rattle.dns_name.specs.Labels.{same}
+use Rattle.dns_name.proofs.CallerLemmas.{same_decides}
 use Rattle.dns_message.specs.Values.{Question}
 use Rattle.suffix_routes.specs.Values.{Route}
-use Rattle.suffix_routes.specs.Routes.{route_of}
+use Rattle.suffix_routes.specs.Routes.{route_of, is_denied, denies as denies_route}
+use Rattle.suffix_routes.proofs.CallerLemmas.{denied_respects_same}
+use Rattle.trust_rank.specs.Replacing.{same_kind}
 use Rattle.record_cache.specs.Values.{Held}
 use Rattle.record_cache.specs.Ageing.{is_alive}
 use Rattle.record_cache.specs.Laws.{Among}
@@ -14,7 +18,7 @@ use Rattle.record_cache.proofs.CallerLemmas.{among_filter}
 use Rattle.negative_cache.specs.Values.{Found, rows, alias, no_data, denied, miss}
 use Rattle.negative_cache.specs.Entries.{is_set, is_no_data, denies}
 use Rattle.negative_cache.specs.Finding.{is_of_type, is_on_route, set_for, alias_for, no_data_for, is_denial_for, nearer, nearest, denial_for, found_or, found}
-use Rattle.negative_cache.specs.Laws.{IsTyped, IsDenial, Fits, FoundFits, IsNearer, NearestIsFound}
+use Rattle.negative_cache.specs.Laws.{IsTyped, IsDenial, Fits, FoundFits, IsNearer, NearestIsFound, NoneIsDenied}
 use Rattle.negative_cache.proofs.Options.{option_decides}
 use Rattle.negative_cache.proofs.Denying.{and_true}
 
@@ -141,3 +145,34 @@ nearest_is_found routes moment entries q other denial =
     let passes = and_true (is_alive moment other && is_on_route routes q other) (denies q.name q.class other) (and_true (is_alive moment other) (is_on_route routes q other) denial.living.alive route) denial.denies in
     found_holds (λ f. IsNearer f other) routes moment entries q (λ h e. tt) (λ h e. tt) (λ h e. tt)
     (nearest_is_near (filter (is_denial_for routes moment q) entries) other (among_filter (is_denial_for routes moment q) entries other denial.living.among passes))
+
+-- ---- names that are denied
+
+none_denied : (routes : List Route) (entries : List Held) (h : Held) → NoneIsDenied routes entries → Among h entries → is_denied routes h.piece.slot.key ≡ false
+none_denied routes [] h all among = absurd among
+none_denied routes (e ∷ es) h all (inl same) = subst (λ (x : Held). is_denied routes x.piece.slot.key ≡ false) same all.0
+none_denied routes (e ∷ es) h all (inr rest) = none_denied routes es h all.1 rest
+
+-- an entry in a slot of the name is denied where the name is
+pub typed_denied : (routes : List Route) (q : Question) (kind : ℕ) (h : Held) → is_of_type q kind h ≡ true → is_denied routes h.piece.slot.key ≡ is_denied routes q.name
+typed_denied routes q kind h slot =
+    let key = h.piece.slot.key in
+    let outer = first_so (same q.name key && (q.class == h.piece.slot.class)) (same_kind (Some kind) h.piece.slot.kind) slot in
+    sym (denied_respects_same routes q.name key ((same_decides q.name key).0 (first_so (same q.name key) (q.class == h.piece.slot.class) outer)))
+
+-- so is one in a denied slot among none of them
+pub none_of_denied : (routes : List Route) (entries : List Held) (q : Question) (h : Held) → NoneIsDenied routes entries → is_denied routes q.name ≡ true
+    → Among h entries → is_denied routes h.piece.slot.key ≡ is_denied routes q.name → ⊥
+none_of_denied routes entries q h none denied_is among same =
+    let one : false ≡ true = sym (none_denied routes entries h none among) ∙ same ∙ denied_is in absurd (cc)
+
+pub nothing_found_of_denied : (routes : List Route) (moment : ℕ) (entries : List Held) (q : Question) → NoneIsDenied routes entries → is_denied routes q.name ≡ true
+    → found routes moment entries q ≡ miss
+nothing_found_of_denied routes moment entries q none denied_is =
+    let no = λ (h : Held). none_of_denied routes entries q h none denied_is in
+    found_holds (λ f. f ≡ miss) routes moment entries q
+    (λ h e. let t = typed_fits moment entries q q.kind is_set h e in absurd (no h t.0.living.among (typed_denied routes q q.kind h t.0.slot)))
+    (λ h e. let t = alias_fits moment entries q h (q.kind == 5) refl e in absurd (no h t.0.living.among (typed_denied routes q 5 h t.0.slot)))
+    (λ h e. let t = typed_fits moment entries q q.kind is_no_data h e in absurd (no h t.0.living.among (typed_denied routes q q.kind h t.0.slot)))
+    (or_holds (λ f. f ≡ miss) denied (denial_for routes moment entries q) miss
+    (λ h e. let d = denial_fits routes moment entries q h e in absurd (no h d.living.among (ap (denies_route routes) d.route))) refl)

@@ -18,10 +18,10 @@ use Rattle.negative_cache.specs.Entries.{is_set}
 use Rattle.negative_cache.specs.Finding.{is_of_type, set_for, alias_for, no_data_for, denial_for, found_or}
 use Rattle.negative_cache.specs.Stale.{is_within, stale_set_for, stale_alias_for, stale}
 use Rattle.negative_cache.specs.BySlot.{slots_of, stale_by_slot}
-use Rattle.negative_cache.specs.Laws.{IsTypedWithin, FitsWithin, StaleFits, NoWindowFindsTheLiving, PromotionKeepsStale, EqualQuestionsFindTheSameStale, set_or_alias}
+use Rattle.negative_cache.specs.Laws.{IsTypedWithin, FitsWithin, StaleFits, NoWindowFindsTheLiving, NothingIsFoundOfDenied, PromotionKeepsStale, EqualQuestionsFindTheSameStale, set_or_alias}
 use Rattle.negative_cache.proofs.Denying.{all_lower}
 use Rattle.negative_cache.proofs.SlotBySlot.{find_same, all_are, typed_is}
-use Rattle.negative_cache.proofs.Fitting.{find_some, or_holds}
+use Rattle.negative_cache.proofs.Fitting.{find_some, or_holds, typed_denied, none_of_denied, nothing_found_of_denied}
 
 -- ---- slot by slot
 
@@ -106,3 +106,16 @@ pub no_window_finds_the_living : NoWindowFindsTheLiving
 no_window_finds_the_living routes moment entries q =
     (λ i. found_or rows (set_is moment entries q q.kind i) (found_or alias (if q.kind == 5 then None else set_is moment entries q 5 i) miss))
     ∙ denials_out (set_for moment entries q q.kind) (alias_for moment entries q) (no_data_for moment entries q) (denial_for routes moment entries q)
+
+-- ---- names that are denied
+
+pub nothing_is_found_of_denied : NothingIsFoundOfDenied
+nothing_is_found_of_denied routes window moment entries q none is =
+    let no = λ (h : Held). none_of_denied routes entries q h none is in
+    let next : Found = found_or alias (stale_alias_for window moment entries q) miss in (
+      nothing_found_of_denied routes moment entries q none is,
+      or_holds (λ f. f ≡ miss) rows (stale_set_for window moment entries q q.kind) next
+          (λ h e. let t = typed_within window moment entries q q.kind h e in absurd (no h t.among (typed_denied routes q q.kind h t.slot)))
+          (or_holds (λ f. f ≡ miss) alias (stale_alias_for window moment entries q) miss
+          (λ h e. let t = alias_fits_within window moment entries q h (q.kind == 5) refl e in absurd (no h t.0.among (typed_denied routes q 5 h t.0.slot))) refl),
+    )

@@ -1,5 +1,5 @@
 -- Worked look-ups, computed.
-use Rattle.std.proofs.Common.{◌≡◌, ℕ, false, List, [], ◌∷◌, Option, Some, None, refl}
+use Rattle.std.proofs.Common.{◌≡◌, ℕ, true, false, List, [], ◌∷◌, Option, Some, None, refl}
 use Rattle.dns_message.specs.Values.{Question}
 use Rattle.suffix_routes.specs.declared.peer.Peer.{Peer}
 use Rattle.suffix_routes.specs.Values.{Route}
@@ -7,7 +7,7 @@ use Rattle.suffix_routes.specs.Routes.{route_of}
 use Rattle.trust_rank.specs.Values.{Body, rows, no_data, denied}
 use Rattle.record_cache.specs.Values.{Held}
 use Rattle.negative_cache.specs.Values as finds
-use Rattle.negative_cache.specs.Finding.{found}
+use Rattle.negative_cache.specs.Finding.{found, found_or_local}
 use Rattle.negative_cache.specs.Showing.{shown}
 
 -- ---- names under two routes: the root's, and that of the suffix z
@@ -115,3 +115,23 @@ both_are_forgotten = refl
 
 sibling_is_kept : shown (below 99 e) 1 (near ∷ []) ≡ near ∷ []
 sibling_is_kept = refl
+
+-- ---- names whose route denies
+
+-- names under l are denied
+abbrev denying : List Route
+denying = record { suffix = []; deny = false; servers = server ∷ [] } ∷ record { suffix = below 108 []; deny = true; servers = [] } ∷ []
+
+-- a denied name is told so before an entry is looked at, in any letter case
+told_local : found_or_local denying 60999 entries (asked (below 76 []) 1) ≡ finds.local
+unfolding route_of
+told_local = refl
+
+-- beside it, and where no route denies, what is held is found
+told_beside : found_or_local denying 60999 entries (asked (below 110 []) 1) ≡ finds.no_data no_address
+unfolding route_of
+told_beside = refl
+
+told_held : found_or_local routes 60999 entries (asked (below 108 []) 1) ≡ finds.alias alias
+unfolding route_of
+told_held = refl

@@ -4,11 +4,11 @@ use Rattle.std.specs.List.{find}
 use Rattle.std.specs.Option.{option_eq}
 use Rattle.dns_message.specs.Values.{Question}
 use Rattle.suffix_routes.specs.Values.{Route}
-use Rattle.suffix_routes.specs.Routes.{route_of}
+use Rattle.suffix_routes.specs.Routes.{route_of, is_denied}
 use Rattle.trust_rank.specs.Replacing.{same_slot}
 use Rattle.record_cache.specs.Values.{Held}
 use Rattle.record_cache.specs.Ageing.{is_alive}
-use Rattle.negative_cache.specs.Values.{Found, rows, alias, no_data, denied, miss}
+use Rattle.negative_cache.specs.Values.{Found, local, rows, alias, no_data, denied, miss}
 use Rattle.negative_cache.specs.Entries.{is_set, is_no_data, denies}
 
 -- of the question's name and class, and of this type
@@ -62,3 +62,7 @@ found routes moment entries q =
     (found_or alias (alias_for moment entries q)
     (found_or no_data (no_data_for moment entries q)
     (found_or denied (denial_for routes moment entries q) miss)))
+
+-- What a look-up of a question comes to: first of all that the route of its name denies it, else what is found.
+abbrev pub found_or_local : List Route → ℕ → List Held → Question → Found
+found_or_local routes moment entries q = if is_denied routes q.name then local else found routes moment entries q

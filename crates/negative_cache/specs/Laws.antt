@@ -1,9 +1,10 @@
 -- What the definitions of look-ups are good for, as statements.
 use Rattle.std.specs.Prelude.{◌≡◌, ◌≢◌, ◌≤◌, ℕ, true, false, ◌&&◌, List, length}
+use Rattle.std.specs.List.{AllByRecursion}
 use Rattle.dns_name.specs.Labels.{IsSame}
 use Rattle.dns_message.specs.Values.{Question}
 use Rattle.suffix_routes.specs.Values.{Route}
-use Rattle.suffix_routes.specs.Routes.{route_of}
+use Rattle.suffix_routes.specs.Routes.{route_of, is_denied}
 use Rattle.trust_rank.specs.declared.slot.Slot.{Slot}
 use Rattle.trust_rank.specs.Values.{Piece}
 use Rattle.trust_rank.specs.Replacing.{is_name_error, takes_place_of}
@@ -12,9 +13,9 @@ use Rattle.record_cache.specs.Values.{Held}
 use Rattle.record_cache.specs.Ageing.{is_alive}
 use Rattle.record_cache.specs.Entries.{promoted, AreHeld}
 use Rattle.record_cache.specs.Laws.{Among}
-use Rattle.negative_cache.specs.Values.{Found, rows, alias, no_data, denied, miss}
+use Rattle.negative_cache.specs.Values.{Found, local, rows, alias, no_data, denied, miss}
 use Rattle.negative_cache.specs.Entries.{is_set, is_no_data, denies}
-use Rattle.negative_cache.specs.Finding.{is_of_type, found}
+use Rattle.negative_cache.specs.Finding.{is_of_type, found, found_or_local}
 use Rattle.negative_cache.specs.Stale.{is_within, stale}
 
 -- one of the entries, and alive
@@ -35,6 +36,7 @@ pub record IsDenial (routes : List Route) (moment : ℕ) (entries : List Held) (
 
 -- what was found fits the question
 abbrev pub Fits : List Route → ℕ → List Held → Question → Found → Type 0
+Fits routes moment entries q local = ⊥
 Fits routes moment entries q (rows h) = IsTyped moment entries q q.kind h × (is_set h ≡ true)
 Fits routes moment entries q (alias h) = IsTyped moment entries q 5 h × (is_set h ≡ true) × (q.kind ≢ 5)
 Fits routes moment entries q (no_data h) = IsTyped moment entries q q.kind h × (is_no_data h ≡ true)
@@ -49,6 +51,7 @@ FoundFits = (routes : List Route) (moment : ℕ) (entries : List Held) (q : Ques
 
 -- no farther from the question's name than another entry
 abbrev pub IsNearer : Found → Held → Type 0
+IsNearer local other = ⊥
 IsNearer (rows h) other = Unit {0}
 IsNearer (alias h) other = Unit {0}
 IsNearer (no_data h) other = Unit {0}
@@ -60,6 +63,17 @@ abbrev pub NearestIsFound : Type 0
 NearestIsFound = (routes : List Route) (moment : ℕ) (entries : List Held) (q : Question) (other : Held)
     → IsDenial routes moment entries q other
     → IsNearer (found routes moment entries q) other
+
+-- no entry is of a name that is denied
+abbrev pub NoneIsDenied : List Route → List Held → Type 0
+NoneIsDenied routes entries = AllByRecursion (λ h. is_denied routes h.piece.slot.key ≡ false) entries
+
+-- Where no entry is of a denied name, nothing is found for such a name, alive or past its end: so what is found needs no
+-- look at routes before.
+abbrev pub NothingIsFoundOfDenied : Type 0
+NothingIsFoundOfDenied = (routes : List Route) (window moment : ℕ) (entries : List Held) (q : Question)
+    → NoneIsDenied routes entries → is_denied routes q.name ≡ true
+    → (found routes moment entries q ≡ miss) × (stale window moment entries q ≡ miss)
 
 -- A promotion changes no look-up.
 abbrev pub PromotionKeepsFound : Type 0
@@ -88,6 +102,7 @@ pub record IsTypedWithin (window moment : ℕ) (entries : List Held) (q : Questi
 
 -- what was found past the ends of entries fits the question and the window; it is no denial
 abbrev pub FitsWithin : ℕ → ℕ → List Held → Question → Found → Type 0
+FitsWithin window moment entries q local = ⊥
 FitsWithin window moment entries q (rows h) = IsTypedWithin window moment entries q q.kind h
 FitsWithin window moment entries q (alias h) = IsTypedWithin window moment entries q 5 h × (q.kind ≢ 5)
 FitsWithin window moment entries q (no_data h) = ⊥
@@ -102,6 +117,7 @@ StaleFits = (window moment : ℕ) (entries : List Held) (q : Question)
 
 -- the set or the alias that was found; a miss where it was something else
 abbrev pub set_or_alias : Found → Found
+set_or_alias local = miss
 set_or_alias (rows h) = rows h
 set_or_alias (alias h) = alias h
 set_or_alias (no_data h) = miss

@@ -5,9 +5,10 @@ use Rattle.record_cache.specs.Values.{Held}
 use Rattle.negative_cache.specs.declared.found.Found.{Found as OwnedFound}
 use Rattle.negative_cache.specs.declared.found.Found.TheVariants as owned
 
--- the set of the type; an alias in its place (RFC 1034 3.6.2); NODATA (RFC 2308 2.2); a name error of the name or of
--- one above it (RFC 2308 2.1, RFC 8020 2); or nothing that is alive
+-- that the configuration denies the name; the set of the type; an alias in its place (RFC 1034 3.6.2); NODATA
+-- (RFC 2308 2.2); a name error of the name or of one above it (RFC 2308 2.1, RFC 8020 2); or nothing that is alive
 pub data Found : Type 0 where
+  local : Found
   rows : Held → Found
   alias : Held → Found
   no_data : Held → Found
@@ -15,6 +16,7 @@ pub data Found : Type 0 where
   miss : Found
 
 abbrev pub found_of : {A : Type 0} → OwnedFound A → Found
+found_of owned.Local = local
 found_of (owned.Rows held) = rows held.now
 found_of (owned.Alias held) = alias held.now
 found_of (owned.NoData held) = no_data held.now
@@ -23,6 +25,7 @@ found_of owned.Miss = miss
 
 -- this is the slot of what was found; where nothing was, any is
 abbrev pub IsSlotOf : Slot → Found → Type 0
+IsSlotOf slot local = Unit {0}
 IsSlotOf slot (rows h) = slot ≡ h.piece.slot
 IsSlotOf slot (alias h) = slot ≡ h.piece.slot
 IsSlotOf slot (no_data h) = slot ≡ h.piece.slot

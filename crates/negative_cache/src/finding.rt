@@ -5,7 +5,7 @@ ghost use Rattle.std.specs.Option.{option_copied, IfSome};
 ghost use Rattle.dns_name.specs.Labels.{labels_of, lowered, IsLaidOut};
 ghost use Rattle.record_cache.specs.Entries.{ending, AreHeld};
 ghost use Rattle.negative_cache.specs.BySlot.{alias_at, found_by_slot, slots_of};
-ghost use Rattle.negative_cache.specs.Finding.{found};
+ghost use Rattle.negative_cache.specs.Finding.{found, found_or_local};
 ghost use Rattle.negative_cache.specs.Values.{found_of, IsSlotOf};
 
 use crate::errors::nearest_name_error;
@@ -21,9 +21,10 @@ use trust_rank::Slot;
 /// The type CNAME.
 const CNAME: u16 = 5;
 
-/// What the cache holds for a question at a moment, in milliseconds: the first that is alive of the set of the type,
-/// the alias where another type is asked for (RFC 1034 3.6.2), NODATA of the type (RFC 2308 2.2), and the nearest name
-/// error of the name or of one above it (RFC 8020 2) whose own name has the route of the name. It takes no memory.
+/// What a question comes to at a moment, in milliseconds: that the configuration denies its name, else the first that
+/// is held alive of the set of the type, the alias where another type is asked for (RFC 1034 3.6.2), NODATA of the type
+/// (RFC 2308 2.2), and the nearest name error of the name or of one above it (RFC 8020 2) whose own name has the route
+/// of the name. It takes no memory.
 pub fn find<'a, H: BuildHasher + Drop, A: Allocator + Copy>(
     cache: &'a Cache<H, A>,
     name: &Name<A>,
@@ -33,8 +34,11 @@ pub fn find<'a, H: BuildHasher + Drop, A: Allocator + Copy>(
     config: &Config<A>,
 ) -> Found<'a, A>
     ensures { found_of result
-        ≡ found config.now.routes moment cache.now.entries (record { name = name.now; kind = kind; class = class }) }
+        ≡ found_or_local config.now.routes moment cache.now.entries (record { name = name.now; kind = kind; class = class }) }
 {
+    if config.denies(name) {
+        return Found::Local;
+    }
     let mut slot = Slot {
         class,
         kind: None,
@@ -43,10 +47,11 @@ pub fn find<'a, H: BuildHasher + Drop, A: Allocator + Copy>(
     find_by_octets(cache, &mut slot, name.octets(), class, kind, moment, config)
 }
 
-/// What `find` gives for the name that these octets are, as `Name::octets` gives them. The slot becomes that of what
-/// is found, which `promote` takes, and any where nothing is; what it was does not matter, so that one slot serves
-/// many look-ups and no key is moved. Routes are looked at only where a living name error of a name above it is met.
-/// It takes no memory.
+/// What `find` gives for the name that these octets are, as `Name::octets` gives them, but for `Local`: whether the
+/// route of the name denies it is not looked at. Where no entry is of a denied name, it misses at such a name. The
+/// slot becomes that of what is found, which `promote` takes, and any where nothing is; what it was does not matter,
+/// so that one slot serves many look-ups and no key is moved. Routes are looked at only where a living name error of a
+/// name above it is met. It takes no memory.
 pub fn find_by_octets<'a, H: BuildHasher + Drop, A: Allocator + Copy>(
     cache: &'a Cache<H, A>,
     slot: &mut Slot,

@@ -3,9 +3,11 @@
 use record_cache::Held;
 use std::alloc::{Allocator, Global};
 
-/// What the cache holds alive for a question.
+/// What a look-up of a question comes to: mostly what the cache holds alive for it.
 #[derive(Drop)]
 pub enum Found<'a, A: Allocator = Global> {
+    /// The route of the name denies it, so there is no such name, whatever a server says (RFC 6761 6.4).
+    Local,
     /// The set of the type (RFC 2181 5).
     Rows(&'a Held<A>),
     /// An alias in its place (RFC 1034 3.6.2).

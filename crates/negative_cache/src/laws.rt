@@ -1,7 +1,8 @@
 //! What the definitions of look-ups are good for.
 
 ghost use Rattle.negative_cache.specs.Laws.{EqualQuestionsFindTheSame, EqualQuestionsFindTheSameStale, FoundFits};
-ghost use Rattle.negative_cache.specs.Laws.{NearestIsFound, NoWindowFindsTheLiving, PromotionKeepsFound, PromotionKeepsStale};
+ghost use Rattle.negative_cache.specs.Laws.{NearestIsFound, NothingIsFoundOfDenied, NoWindowFindsTheLiving};
+ghost use Rattle.negative_cache.specs.Laws.{PromotionKeepsFound, PromotionKeepsStale};
 ghost use Rattle.negative_cache.specs.Laws.{ShownIsReplaced, StaleFits};
 
 /// What a look-up finds is one of the entries and alive. It is in the slot of the question or in that of an alias, or
@@ -39,4 +40,10 @@ pub fn stale_is_settled()
     ensures promoted { PromotionKeepsStale }
     ensures spelled { EqualQuestionsFindTheSameStale }
     ensures living { NoWindowFindsTheLiving }
+{}
+
+/// Where no entry is of a name that is denied, a look-up of such a name misses: so that a caller that keeps no such
+/// entry looks at routes only where a look-up misses.
+pub fn nothing_is_found_of_denied()
+    ensures { NothingIsFoundOfDenied }
 {}

@@ -51,7 +51,7 @@ module _ {A : Type 0} (s s' : Streams A) where
     arrives = h.arrives;
     does = subst (λ (taken : List Taken). Does h.mid taken y) (sym (append-nil (joined h.serves.chains))) h.serves.does;
     ok = tt;
-    err = record { done = h.serves.done; missed = h.serves.missed; events_are = h.serves.events_are; served = h.serves.served; ticks = refl };
+    err = record { piece = h.piece; done = h.serves.done; missed = h.serves.missed; events_are = h.serves.events_are; served = h.serves.served; ticks = refl };
   }
 
 -- ---- what the streams hold
@@ -249,7 +249,7 @@ pub turns_cut : PiecesContinue → {A : Type 0} (wanted count : ℕ) (s s' : Str
 turns_cut law wanted count s s' e x y z below so_far h =
     let past = map (λ (t : Turn). t.arrival) so_far.turns in
     let does = does_turn x y h.mid z so_far.turns h.turn so_far.does h.arrives h.does in
-    let cut : IsCutShort past h.turn = record { done = h.err.done; left = h.err.missed; events = sym (same_events law past h.turn.arrival s so_far.tracks) ∙ h.err.events_are; served = h.err.served; ticks = h.err.ticks } in
+    let cut : IsCutShort past h.turn = record { piece = h.err.piece; done = h.err.done; left = h.err.missed; events = sym (same_events law past h.turn.arrival s so_far.tracks) ∙ h.err.events_are; served = h.err.served; ticks = h.err.ticks } in
     record {
       turns = so_far.turns ++ h.turn ∷ [];
       ends = (so_far.turns, (h.turn, refl, (let sum = length-append so_far.turns (h.turn ∷ []) in let long = so_far.long in omega (arith, sum, long, below)), so_far.are, cut));

@@ -161,8 +161,21 @@ pub record IsTurn (c : Config) (past : List (Option Arrival)) (t : Turn) : Type 
   pub ticks : AreTicks true t.ticks
   pub few : length t.ticks ≤ suc (c.limits.questions + c.limits.inquiries * c.limits.tries)
 
--- A turn in which memory ran out between two events of its arrival: those before were served.
+-- a piece of a stream: a reader has to hold it, and to give its frames, before these are events, which takes memory
+abbrev pub IsPiece : Option Arrival → Type 0
+IsPiece None = ⊥
+IsPiece (Some nothing) = ⊥
+IsPiece (Some (client_datagram from datagram)) = ⊥
+IsPiece (Some (client_stream conn piece)) = Unit {0}
+IsPiece (Some (client_closed conn)) = ⊥
+IsPiece (Some (server_datagram port from datagram)) = ⊥
+IsPiece (Some (server_stream conn from piece)) = Unit {0}
+IsPiece (Some (path_gone path)) = ⊥
+
+-- A turn in which memory ran out between two events of its arrival, which is a piece of a stream: those before were
+-- served. What the forwarder lost for want of memory cuts no turn short.
 pub record IsCutShort (past : List (Option Arrival)) (t : Turn) : Type 0 where
+  pub piece : IsPiece t.arrival
   pub done : List Event
   pub left : List Event
   pub events : events_of past t.arrival ≡ done ++ left

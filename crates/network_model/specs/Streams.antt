@@ -11,7 +11,7 @@ use Rattle.network_model.specs.declared.streams.Streams.{Streams}
 use Rattle.network_model.specs.declared.streams.Sender.{Sender}
 use Rattle.network_model.specs.declared.streams.Sender.TheVariants.{FromClient, FromServer}
 use Rattle.wires.specs.Wire.{Arrival, nothing, client_datagram, client_stream, client_closed, server_datagram, server_stream, path_gone, TellsMore, arrived}
-use Rattle.network_model.specs.Events.{Taken, joined, client_message, server_message, client_octets, server_octets, AreChains, AreTicks, Turn, taken_in_turn}
+use Rattle.network_model.specs.Events.{Taken, joined, client_message, server_message, client_octets, server_octets, AreChains, AreTicks, Turn, taken_in_turn, IsPiece}
 use Rattle.network_model.specs.Serving.{Standing, Does, Adds, missed_by}
 use Rattle.network_model.specs.Handing.{most_left}
 
@@ -102,9 +102,11 @@ pub record TakesArrival {A : Type 0} (s : Streams A) (result : Result (Unit {0})
   pub arrives : Arrives before arrival mid
   pub serves : ServesEvents (events_by s arrival) result mid after
   pub follows : OnOk result (Follows s arrival s')
+  pub piece : OnErr result (IsPiece arrival)
 
 -- Those before were served, and no tick.
 pub record StopsShort {A : Type 0} (s : Streams A) (t : Turn) : Type 0 where
+  pub piece : IsPiece t.arrival
   pub done : List Event
   pub missed : List Event
   pub events_are : events_by s t.arrival ≡ done ++ missed

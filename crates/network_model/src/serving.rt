@@ -1,7 +1,8 @@
 //! The loop over a wire.
 
-ghost use Rattle.std.specs.Prelude.{◌≡◌, OnOk, Some};
+ghost use Rattle.std.specs.Prelude.{◌≡◌, OnErr, OnOk, Some};
 ghost use Rattle.wires.specs.Wire.{arrival_of, path_gone};
+ghost use Rattle.network_model.specs.Events.{IsPiece};
 ghost use Rattle.network_model.specs.Serving.{standing, Serves};
 ghost use Rattle.network_model.specs.Streams.{events_by, Follows, ServesEvents, TakesArrival, TakesTurn};
 
@@ -39,6 +40,7 @@ fn serve_arrival<H: BuildHasher + Drop, A: Allocator + Copy, W: Wire<A>>(
 ) -> Result<(), AllocError>
     ensures serves { ServesEvents (events_by streams.old (Some (arrival_of arrival))) result (standing forwarder.old (W.told wire.old) counts.old) (standing forwarder.new (W.told wire.new) counts.new) }
     ensures follows { OnOk result (Follows streams.old (Some (arrival_of arrival)) streams.new) }
+    ensures piece { OnErr result (IsPiece (Some (arrival_of arrival))) }
 {
     match arrival {
         Arrival::Nothing => {}

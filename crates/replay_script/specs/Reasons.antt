@@ -1,7 +1,7 @@
 -- The numbers of the reasons that printed lines tell.
 use Rattle.std.specs.Prelude.{ℕ}
 use Rattle.step_values.specs.declared.action.Why.{Why}
-use Rattle.step_values.specs.declared.action.Why.TheVariants.{Answered, BadFormat, BadOpcode, NotServed, NoRoute, QuestionsFull, InquiriesFull, NoPort, Exhausted, Deadline, ChainLong, TooLarge}
+use Rattle.step_values.specs.declared.action.Why.TheVariants.{Answered, BadFormat, BadOpcode, NotServed, NoRoute, QuestionsFull, InquiriesFull, NoPort, Exhausted, Deadline, ChainLong, TooLarge, Stale, LocalDenied}
 
 abbrev pub number_of : Why → ℕ
 number_of Answered = 0
@@ -16,3 +16,5 @@ number_of Exhausted = 8
 number_of Deadline = 9
 number_of ChainLong = 10
 number_of TooLarge = 11
+number_of Stale = 12
+number_of LocalDenied = 13

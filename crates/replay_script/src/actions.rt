@@ -66,5 +66,7 @@ pub(crate) fn number_of(why: Why) -> u8
         Why::Deadline => 9,
         Why::ChainLong => 10,
         Why::TooLarge => 11,
+        Why::Stale => 12,
+        Why::LocalDenied => 13,
     }
 }

@@ -1,14 +1,18 @@
 -- Replies put one behind another, to those alone that get one.
-use Rattle.std.proofs.Common.{◌≡◌, ℕ, zero, suc, ◌+◌, List, [], ◌∷◌, ◌++◌, drop, slice_get, Bool, true, false, cond, true≢false, Option, None, Some, refl, sym, ap, ◌∙◌, subst, arith}
+use Rattle.std.proofs.Common.{◌≡◌, ℕ, zero, suc, ◌+◌, List, [], ◌∷◌, ◌++◌, drop, slice_get, Bool, true, false, cond, true≢false, Option, None, Some, refl, sym, ap, ◌∙◌, subst, inl, inr, arith}
 use Rattle.std.specs.Prelude.{filter}
 use Rattle.std.specs.List.{AllByRecursion}
 use Rattle.step_soundness.proofs.CallerLemmas.{All-filter}
 use Rattle.dns_message.specs.Values.{Question}
+use Rattle.suffix_routes.specs.Values.{Config}
+use Rattle.record_cache.specs.Values.{Held}
+use Rattle.record_cache.specs.Laws.{Among}
 use Rattle.step_values.specs.declared.action.Why.{Why}
 use Rattle.step_values.specs.Values.{Action}
 use Rattle.step_replies.specs.Spelling.{Source}
 use Rattle.step_rules.specs.State.{Waiting}
 use Rattle.step_rules.specs.Steps.{Fate, gets, waits, reply_in, waits_for, fails, gives_up}
+use Rattle.step_rules.specs.Row.{told_past, found_past, runs_out}
 use Rattle.step_changes.specs.Next.{with_reply, with_replies, gives_from, told_from}
 
 -- ---- those who get no reply may be left out
@@ -33,6 +37,9 @@ failures_filter why q = with_replies_filter (fails why q) (waits_for q) (λ x e.
 
 pub answers_filter : (d : Source) (q : Question) (actions : List Action) (xs : List Waiting) → with_replies (gives_from d q) actions (filter (waits_for q) xs) ≡ with_replies (gives_from d q) actions xs
 answers_filter d q = with_replies_filter (gives_from d q) (waits_for q) (λ x e. waits_on (waits_for q x) (told_from d x) x e)
+
+pub lasts_filter : (c : Config) (n : ℕ) (entries : List Held) (q : Question) (actions : List Action) (xs : List Waiting) → with_replies (runs_out c n entries q) actions (filter (waits_for q) xs) ≡ with_replies (runs_out c n entries q) actions xs
+lasts_filter c n entries q = with_replies_filter (runs_out c n entries q) (waits_for q) (λ x e. waits_on (waits_for q x) (told_past n x (found_past c n entries x)) x e)
 
 -- ---- one of them
 
@@ -83,3 +90,21 @@ pub one_answered : (d : Source) (q : Question) (actions : List Action) (xs those
 one_answered d q actions xs those i x are there =
     let a = told_from d x in
     one_more (gives_from d q) actions those i x a there (gets_on (waits_for q x) a x (passes_at (waits_for q) xs i x (ap (λ (ys : List Waiting). slice_get ys i) (sym are) ∙ there)))
+
+pub one_last : (c : Config) (n : ℕ) (entries : List Held) (q : Question) (actions : List Action) (xs those : List Waiting) (i : ℕ) (x : Waiting) → those ≡ filter (waits_for q) xs → slice_get those i ≡ Some x
+    → with_replies (runs_out c n entries q) (actions ++ told_past n x (found_past c n entries x) ∷ []) (drop (i + 1) those) ≡ with_replies (runs_out c n entries q) actions (drop i those)
+one_last c n entries q actions xs those i x are there =
+    let a = told_past n x (found_past c n entries x) in
+    one_more (runs_out c n entries q) actions those i x a there (gets_on (waits_for q x) a x (passes_at (waits_for q) xs i x (ap (λ (ys : List Waiting). slice_get ys i) (sym are) ∙ there)))
+
+-- ---- pieces of the cache
+
+one_among : (P : Held → Type 0) (h : Held) (entries : List Held) → AllByRecursion P entries → Among h entries → P h
+one_among P h [] all among = absurd among
+one_among P h (e ∷ entries) all (inl here) = subst P here all.0
+one_among P h (e ∷ entries) all (inr later) = one_among P h entries all.1 later
+
+-- what holds of each entry holds of those that lie in the cache
+pub held_among : (P : Held → Type 0) (entries held : List Held) → AllByRecursion P entries → AllByRecursion (λ h. Among h entries) held → AllByRecursion P held
+held_among P entries [] all among = tt
+held_among P entries (h ∷ held) all among = (one_among P h entries all among.0, held_among P entries held all among.1)

@@ -24,7 +24,7 @@ use Rattle.answer_builder.specs.Answers.{IsEarlier}
 use Rattle.std.specs.List.{AllByRecursion}
 use Rattle.trust_rank.specs.Walks.{most_aliases}
 use Rattle.step_replies.specs.Onward.{Onward}
-use Rattle.step_values.specs.declared.action.Why.TheVariants.{ChainLong}
+use Rattle.step_values.specs.declared.action.Why.TheVariants.{Answered, ChainLong}
 use Rattle.waiting_questions.specs.Settling.{settled}
 
 -- one more ask by TCP, where the path is a connection
@@ -158,7 +158,7 @@ pub record IsOutcome (c : Config) (d : Done) (o : Outcome) (s' : State) : Type 0
 abbrev pub told_from : Source → Waiting → Action
 told_from d x =
     if nat_le (length x.held + length d.chain) (suc most_aliases)
-    then sends x (answer_of x.asked (x.held ++ d.chain) d.moment (transport_of x.client))
+    then sends Answered x (answer_of x.asked (x.held ++ d.chain) d.moment (transport_of x.client))
     else gives_up ChainLong x
 
 -- those that wait for this question get their answers from a chain of pieces, all others wait on

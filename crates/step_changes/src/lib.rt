@@ -2,12 +2,14 @@
 #![tactic(auto)]
 
 mod attempts;
+mod lasts;
 mod lists;
 mod next;
 mod offers;
 mod replies;
 
 pub use attempts::{Try, by_tcp, by_udp, draw_connection, freed_port, new_ask, plan};
+pub use lasts::last_replies;
 pub use lists::{
     close_inquiry, comes_first, end_closed, forget_all, is_late, is_live, is_overdue, list_ask,
     send_on,

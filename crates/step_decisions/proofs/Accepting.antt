@@ -32,6 +32,7 @@ use Rattle.step_history.specs.Names.{route_of}
 use Rattle.step_replies.specs.Spelling.{Source}
 use Rattle.step_rules.specs.State.{Waiting, State}
 use Rattle.step_rules.specs.LookingUp.{ends}
+use Rattle.step_values.specs.declared.action.Why.TheVariants.{Answered}
 use Rattle.step_rules.specs.Steps.{Fate, gets, waits, closes, settling_step, offering_step, sends, transport_of, waits_for, preferring, using}
 use Rattle.step_rules.specs.Row.{held_at, before_last, last_of, ends_at, unless_many, fate_of, fate_by, row_of_end, row_of_acceptance, row_of_failure, row_of_walk}
 use Rattle.retry_failover.specs.declared.Failure.TheVariants.{Lame}
@@ -219,7 +220,7 @@ module _ (c : Config) (n : ℕ) (a : Ask) (w : Walk) (walk : IsWalkFor c a w) (o
         by true t =
             let few : length (x.held ++ more) ≤ 8 = leb-true (length (x.held ++ more)) most_aliases t in
             ap (fate_of c n x) (cond-true (nat_le (length (x.held ++ more)) most_aliases) _ _ t)
-            ∙ ap (λ (chain : List Held). gets (sends x (answer_of x.asked chain n (transport_of x.client)))) (append_assoc x.held more (end ∷ []) ∙ ap (λ (hs : List Held). x.held ++ hs) chain_is)
+            ∙ ap (λ (chain : List Held). gets (sends Answered x (answer_of x.asked chain n (transport_of x.client)))) (append_assoc x.held more (end ∷ []) ∙ ap (λ (hs : List Held). x.held ++ hs) chain_is)
             ∙ ap (λ (a : Action). gets a) (sym (cond-true (nat_le (length x.held + length source.chain) 9) _ _ (le-leb (length x.held + length source.chain) 9 (omega (arith, few, count)))))
         by false f =
             let many : 8 < length (x.held ++ more) = leb-false (length (x.held ++ more)) most_aliases f in

@@ -16,7 +16,8 @@ use Rattle.step_rules.specs.State.{Waiting, State}
 use Rattle.outstanding.specs.Lists.{on_path as ask_on, without_path}
 use Rattle.outstanding.specs.Values.{Ask}
 use Rattle.step_rules.specs.Steps.{Done, Fate, gets, waits, reply_in, waiting_in, replies, still_waiting, closes, closing, closing_step, idle_step, offering_step, ask_list, asks, gives_up, preferring, tcp_count, waits_for, fails, using}
-use Rattle.step_rules.specs.Row.{expiry_step, timeout_of, row_of_verdict, row_of_delivery, verdict_on}
+use Rattle.step_rules.specs.Row.{told_past, found_past, runs_out, expiry_step, timeout_of, row_of_verdict, row_of_delivery, verdict_on}
+use Rattle.record_cache.specs.Values.{Held}
 use Rattle.step_replies.specs.Spelling.{Source}
 use Rattle.reply_match.specs.Verdicts.{judge}
 use Rattle.step_decisions.proofs.Clients.{carries_nothing}
@@ -116,6 +117,9 @@ one_fate false a x = refl
 
 pub fails_frees : (why : Why) (q : Question) → Frees q (fails why q)
 fails_frees why q = λ x. one_fate (waits_for q x) (gives_up why x) x
+
+pub lasts_frees : (c : Config) (n : ℕ) (entries : List Held) (q : Question) → Frees q (runs_out c n entries q)
+lasts_frees c n entries q = λ x. one_fate (waits_for q x) (told_past n x (found_past c n entries x)) x
 
 pub given_frees : (d : Source) (q : Question) → Frees q (gives_from d q)
 given_frees d q = λ x. one_fate (waits_for q x) (told_from d x) x

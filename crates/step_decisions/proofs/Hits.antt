@@ -14,7 +14,7 @@ use Rattle.trust_rank.specs.Replacing.{same_kind}
 use Rattle.trust_rank.specs.Walks.{target_of, most_aliases}
 use Rattle.record_cache.specs.Values.{Held}
 use Rattle.record_cache.specs.Laws.{Among}
-use Rattle.negative_cache.specs.Values.{Found, rows, alias, no_data, denied, miss}
+use Rattle.negative_cache.specs.Values.{Found, local, rows, alias, no_data, denied, miss}
 use Rattle.negative_cache.specs.Finding.{found}
 use Rattle.negative_cache.specs.Laws.{Fits, IsTyped}
 use Rattle.negative_cache.proofs.CallerLemmas.{found_fits}
@@ -23,7 +23,7 @@ use Rattle.step_history.specs.Answers.{asked_at}
 use Rattle.step_rules.specs.LookingUp.{Met, ends, too_long, missed, Looked, missing, led, followed, one_too_many, through, look_up}
 use Rattle.step_rules.specs.State.{Waiting, State}
 use Rattle.step_rules.specs.Steps.{Done, using, reply_step, sends, transport_of, gives_up}
-use Rattle.step_rules.specs.Row.{row_of_fate, fate_missed, row_of_look_up, row_of_route, row_of_waiting}
+use Rattle.step_rules.specs.Row.{without_server, row_of_fate, fate_missed, row_of_look_up, row_of_route, row_of_waiting}
 use Rattle.step_rules.specs.Progress.{IsOnRoute}
 use Rattle.step_soundness.proofs.CallerLemmas.{All-append, All-weaker}
 use Rattle.step_replies.specs.Onward.{Onward, waits_on}
@@ -32,7 +32,7 @@ use Rattle.step_look_ups.specs.Laws.{led_to}
 use Rattle.step_look_ups.specs.declared.looked.Met.{Met as SeenMet}
 use Rattle.step_look_ups.specs.declared.looked.Met.TheVariants.{Ends, TooLong, Missed}
 use Rattle.step_look_ups.proofs.CallerLemmas.{missed_wants, uses_what_is_seen}
-use Rattle.step_values.specs.declared.action.Why.TheVariants.{NoRoute, ChainLong}
+use Rattle.step_values.specs.declared.action.Why.TheVariants.{Answered, ChainLong}
 use Rattle.answer_builder.specs.Answers.{IsEarlier}
 use Rattle.answer_builder.specs.Transports.{answer_of}
 use Rattle.step_values.specs.Values.{Action}
@@ -50,6 +50,7 @@ IfFound P (rows h) = P h
 IfFound P (alias h) = P h
 IfFound P (no_data h) = P h
 IfFound P (denied h) = P h
+IfFound P local = Unit {0}
 IfFound P miss = Unit {0}
 
 fits_among : (P : Held → Type 0) (routes : List Route) (n : ℕ) (entries : List Held) (q : Question) → AllByRecursion P entries → (f : Found) → Fits routes n entries q f → IfFound P f
@@ -57,6 +58,7 @@ fits_among P routes n entries q all (rows h) fits = all_among P h entries all fi
 fits_among P routes n entries q all (alias h) fits = all_among P h entries all fits.0.living.among
 fits_among P routes n entries q all (no_data h) fits = all_among P h entries all fits.0.living.among
 fits_among P routes n entries q all (denied h) fits = all_among P h entries all fits.living.among
+fits_among P routes n entries q all local fits = tt
 fits_among P routes n entries q all miss fits = tt
 
 -- what is found is one of the entries
@@ -86,6 +88,7 @@ module _ (c : Config) (n : ℕ) (entries : List Held) (on : AllByRecursion (IsOn
   fits_none (alias h) fits = no_typed 5 h fits.0 (alias h)
   fits_none (no_data h) fits = no_typed q.kind h fits.0 (no_data h)
   fits_none (denied h) fits = no_entry h fits.living.among (ap (serving c.routes) fits.route) (denied h)
+  fits_none local fits = absurd fits
   fits_none miss fits = refl
 
   -- nothing is found, since an entry has the route of its name
@@ -108,6 +111,7 @@ all_used P held q onward all go (alias h) is = by (target_of h.piece.body)
     by (Some target) = go h target is
 all_used P held q onward all go (no_data h) is = All-append P held (h ∷ []) all (is, tt)
 all_used P held q onward all go (denied h) is = All-append P held (h ∷ []) all (is, tt)
+all_used P held q onward all go local is = all
 all_used P held q onward all go miss is = all
 
 -- what holds of each entry holds of those that a look-up used
@@ -153,6 +157,7 @@ leads_by held q onward go (alias h) = by (target_of h.piece.body) refl
         at (inr there) = inr there
 leads_by held q onward go (no_data h) = λ met. absurd (cc)
 leads_by held q onward go (denied h) = λ met. absurd (cc)
+leads_by held q onward go local = λ met. inl refl
 leads_by held q onward go miss = λ met. inl refl
 
 leads_somewhere : (routes : List Route) (n : ℕ) (entries : List Held) (more : ℕ) (held : List Held) (q : Question) → LeadsOn held (look_up routes n entries more held q)
@@ -179,7 +184,7 @@ module _ (c : Config) (n : ℕ) (words : List ℕ) (x : Waiting) (s : State) (he
   abbrev looked : Met → Looked
   looked m = record { held = held; wanted = wanted; met = m; used = used }
 
-  ends_row : (m : Met) → Ends ≡ (seen_at held m).met → reply_step n (sends x (answer_of x.asked (seen_at held m).used n (transport_of x.client))) (using used s) ≡ row_of_look_up c n words x s (looked m)
+  ends_row : (m : Met) → Ends ≡ (seen_at held m).met → reply_step n (sends Answered x (answer_of x.asked (seen_at held m).used n (transport_of x.client))) (using used s) ≡ row_of_look_up c n words x s (looked m)
   ends_row (ends e) is = refl
   ends_row too_long is = absurd (cc)
   ends_row missed is = absurd (cc)
@@ -194,11 +199,11 @@ abbrev pub missed_at : List Held → Question → List Slot → Looked
 missed_at held wanted slots = record { held = held; wanted = wanted; met = missed; used = slots }
 
 module _ (c : Config) (n : ℕ) (words : List ℕ) (x : Waiting) (s : State) (held : List Held) (wanted : Question) (slots : List Slot) where
-  by_route : (r : Option ℕ) → route_of c wanted.name ≡ r → row_of_fate c n words (using slots s) (fate_missed x (missed_at held wanted slots) r) ≡ row_of_look_up c n words x s (missed_at held wanted slots)
-  by_route r is = ap (λ (o : Option ℕ). row_of_fate c n words (using slots s) (fate_missed x (missed_at held wanted slots) o)) (sym is)
+  by_route : (r : Option ℕ) → route_of c wanted.name ≡ r → row_of_fate c n words (using slots s) (fate_missed c n x (missed_at held wanted slots) r) ≡ row_of_look_up c n words x s (missed_at held wanted slots)
+  by_route r is = ap (λ (o : Option ℕ). row_of_fate c n words (using slots s) (fate_missed c n x (missed_at held wanted slots) o)) (sym is)
 
-  pub unrouted_row : (used : List Slot) (d : Done) → route_of c wanted.name ≡ None → used ≡ slots → d ≡ reply_step n (gives_up NoRoute x) (using used s) → d ≡ row_of_look_up c n words x s (missed_at held wanted slots)
-  unrouted_row used d none same d_is = d_is ∙ ap (λ (ss : List Slot). reply_step n (gives_up NoRoute x) (using ss s)) same ∙ by_route None none
+  pub unrouted_row : (used : List Slot) (d : Done) → route_of c wanted.name ≡ None → used ≡ slots → d ≡ reply_step n (without_server c n x held wanted.name) (using used s) → d ≡ row_of_look_up c n words x s (missed_at held wanted slots)
+  unrouted_row used d none same d_is = d_is ∙ ap (λ (ss : List Slot). reply_step n (without_server c n x held wanted.name) (using ss s)) same ∙ by_route None none
 
   pub waits_row : (used : List Slot) (o : Onward) (route : ℕ) (d : Done) → route_of c wanted.name ≡ Some route → o ≡ record { held = held; wanted = wanted } → used ≡ slots
       → d ≡ row_of_waiting c n words (waits_on (Some o) x) (using used s) → d ≡ row_of_look_up c n words x s (missed_at held wanted slots)
@@ -216,10 +221,10 @@ module _ (c : Config) (n : ℕ) (words : List ℕ) (x : Waiting) (s : State) (se
   met_is m met = sym met ∙ ap (λ (v : Seen). v.met) is
 
   -- the answer comes from the entries that it used, and these are promoted
-  pub hit_row : (slots : List Slot) (reply : Action) (d : Done) → seen.met ≡ Ends → slots ≡ slots_in seen.used → reply ≡ sends x (answer_of x.asked seen.used n (transport_of x.client)) → d ≡ reply_step n reply (using slots s) → d ≡ row_of_look_up c n words x s l
+  pub hit_row : (slots : List Slot) (reply : Action) (d : Done) → seen.met ≡ Ends → slots ≡ slots_in seen.used → reply ≡ sends Answered x (answer_of x.asked seen.used n (transport_of x.client)) → d ≡ reply_step n reply (using slots s) → d ≡ row_of_look_up c n words x s l
   hit_row slots reply d met told reply_is d_is =
       d_is ∙ (λ i. reply_step n (reply_is i) (using ((told ∙ slots_are) i) s))
-      ∙ ap (λ (v : Seen). reply_step n (sends x (answer_of x.asked v.used n (transport_of x.client))) (using l.used s)) is
+      ∙ ap (λ (v : Seen). reply_step n (sends Answered x (answer_of x.asked v.used n (transport_of x.client))) (using l.used s)) is
       ∙ ends_row c n words x s l.held l.wanted l.used l.met (met_is Ends met)
 
   pub many_row : (slots : List Slot) (d : Done) → seen.met ≡ TooLong → slots ≡ slots_in seen.used → d ≡ reply_step n (gives_up ChainLong x) (using slots s) → d ≡ row_of_look_up c n words x s l
@@ -256,5 +261,5 @@ pub looked_row : (c : Config) (n : ℕ) (words : List ℕ) (x : Waiting) (s : St
 looked_row c n words x s on = by (route_of c x.wanted.name) refl
   where
     by : (r : Option ℕ) → route_of c x.wanted.name ≡ r → row_of_look_up c n words x s (look_up c.routes n s.cache.entries most_aliases [] x.wanted) ≡ row_of_route c n words x s r
-    by None none = ap (row_of_look_up c n words x s) (nothing_met c n s.cache.entries on x.wanted none) ∙ ap (λ (o : Option ℕ). row_of_fate c n words s (fate_missed x (missing [] x.wanted) o)) none
+    by None none = ap (row_of_look_up c n words x s) (nothing_met c n s.cache.entries on x.wanted none) ∙ ap (λ (o : Option ℕ). row_of_fate c n words s (fate_missed c n x (missing [] x.wanted) o)) none
     by (Some route) there = refl

@@ -5,7 +5,7 @@ ghost use Rattle.dns_message.specs.Header.{header_in};
 ghost use Rattle.dns_message.specs.Messages.{first_question};
 ghost use Rattle.dns_message.specs.Questions.{one_question, question_read};
 ghost use Rattle.step_history.specs.History.{is_taken};
-ghost use Rattle.step_history.specs.Names.{route_of};
+ghost use Rattle.step_history.specs.Names.{is_local, route_of};
 ghost use Rattle.step_history.specs.Causes.{is_unserved};
 
 use dns_message::{Header, MessageRef, Question, QuestionRef};
@@ -69,4 +69,12 @@ pub(crate) fn route_for<A: Allocator>(
     ensures { result ≡ route_of config.now question.now.name }
 {
     config.serving_route_of_key(&question.key())
+}
+
+/// Whether the route of a question's name denies it. It takes no memory.
+#[tactic(auto, using(suffix_routes::proofs::CallerLemmas::denied_respects_same, dns_name::proofs::CallerLemmas::lowered_is_same))]
+pub(crate) fn is_denied<A: Allocator>(config: &Config<A>, question: &QuestionRef<'_>) -> bool
+    ensures { result ≡ is_local config.now question.now.name }
+{
+    config.denies_key(&question.key())
 }

@@ -1,5 +1,7 @@
 pub mod Moments
 pub mod Since
 pub mod CallerLemmas
+mod FirstVersion
+mod WorkedPastEnds
 mod Worked
 mod WorkedPieces

@@ -6,15 +6,17 @@ use Rattle.suffix_routes.specs.Values.{Config}
 use Rattle.step_values.specs.declared.event.Client.{Client}
 use Rattle.step_values.specs.declared.event.Client.TheVariants.{Udp, Tcp}
 use Rattle.step_values.specs.declared.action.Why.{Why}
-use Rattle.step_values.specs.declared.action.Why.TheVariants.{Answered, BadFormat, BadOpcode, NotServed, NoRoute, QuestionsFull, InquiriesFull, NoPort, Exhausted, Deadline, ChainLong, TooLarge}
+use Rattle.step_values.specs.declared.action.Why.TheVariants.{Answered, BadFormat, BadOpcode, NotServed, NoRoute, QuestionsFull, InquiriesFull, NoPort, Exhausted, Deadline, ChainLong, TooLarge, Stale, LocalDenied}
 use Rattle.step_values.specs.Values.{tick, Action, Step}
-use Rattle.step_history.specs.Names.{route_of}
+use Rattle.step_history.specs.Names.{route_of, is_local}
 use Rattle.dns_message.specs.Questions.{same_question}
 use Rattle.dns_message.specs.Header.{header_in}
 use Rattle.record_cache.specs.Values.{Held}
-use Rattle.step_history.specs.History.{is_restart, Look, ShownAsk, listed, on_path, closes_path, tcp_asks, moment_at, NothingAccepted, Reads}
+use Rattle.step_history.specs.History.{is_restart, before_newest, Look, ShownAsk, listed, on_path, closes_path, tcp_asks, moment_at, NothingAccepted, Reads}
 use Rattle.step_history.specs.Answers.{FollowsAliases, Leads, Chain}
-use Rattle.step_history.specs.Replies.{asked_in, answer_text}
+use Rattle.step_history.specs.Stale.{ChainPastEnds}
+use Rattle.step_history.specs.Local.{ChainToLocal}
+use Rattle.step_history.specs.Replies.{asked_in, answer_text, full_text, stale_sections, denied_sections}
 use Rattle.step_history.specs.Draws.{drawn}
 
 -- questions for what is no data, or for more than one type or class (RFC 1035 3.2.3 and 3.2.5, RFC 6895 3.1)
@@ -28,10 +30,6 @@ newest_actions (s ∷ past) = s.outcome.actions
 abbrev pub newest_words : List Step → List ℕ
 newest_words [] = []
 newest_words (s ∷ past) = s.handed.words
-
-abbrev pub before_newest : List Step → List Step
-before_newest [] = []
-before_newest (s ∷ past) = past
 
 -- the newest step is the passing of time
 abbrev pub IsTick : List Step → Type 0
@@ -67,7 +65,8 @@ NoneAsks q asks = AllByRecursion (λ a. (own : Question) → Reads a.octets own 
 
 -- ---- what the history shows for each way of failing
 
--- the question has no route, which is told at once, or aliases lead from it to a name that has none
+-- the question has no route, which is told at once, or aliases lead from it to a name that has none; a name whose route
+-- denies it has one
 pub record HasNoRoute (l : Look) (octets : List ℕ) : Type 0 where
   pub opcode : (header_in octets).opcode ≡ 0
   pub question : Question
@@ -77,6 +76,7 @@ pub record HasNoRoute (l : Look) (octets : List ℕ) : Type 0 where
   pub last : Question
   pub leads : Leads l question aliases last
   pub none : route_of l.config last.name ≡ None
+  pub not_denied : is_local l.config last.name ≡ false
   pub at_once : aliases ≡ [] → l.now ≡ l.asked ∷ l.before
 
 -- the type or class is not served
@@ -117,7 +117,8 @@ pub record IsOverdue (l : Look) : Type 0 where
   pub passed : IsTick l.now
   pub late : moment_at (l.asked ∷ l.before) + l.config.limits.deadline_ms ≤ moment_at l.now
 
--- the full answer passes what TCP carries
+-- the full answer passes what TCP carries: from living pieces, from pieces past their end once all tries failed, or from
+-- aliases that lead to a denied name
 pub record AnswerIsTooLarge (l : Look) (octets : List ℕ) : Type 0 where
   pub question : Question
   pub aliases : List Held
@@ -125,6 +126,21 @@ pub record AnswerIsTooLarge (l : Look) (octets : List ℕ) : Type 0 where
   pub reads : Reads octets question
   pub chain : Chain l question aliases end
   pub large : 65535 < length (answer_text (asked_in (header_in octets) (Some question)) aliases end (moment_at l.now))
+
+pub record StaleAnswerIsTooLarge (l : Look) (octets : List ℕ) : Type 0 where
+  pub tries : AllTriesFailed l octets
+  pub window : 1 ≤ l.config.limits.stale_s
+  pub past : List Held
+  pub end : Held
+  pub chain : ChainPastEnds l tries.aliases tries.last past end
+  pub large : 65535 < length (full_text (asked_in (header_in octets) (Some tries.question)) (stale_sections (moment_at l.now) tries.aliases past end))
+
+pub record LocalAnswerIsTooLarge (l : Look) (octets : List ℕ) : Type 0 where
+  pub question : Question
+  pub reads : Reads octets question
+  pub aliases : List Held
+  pub chain : ChainToLocal l question aliases
+  pub large : 65535 < length (full_text (asked_in (header_in octets) (Some question)) (denied_sections (moment_at l.now) aliases))
 
 -- waiting is the number of questions without a reply before the step asked
 abbrev pub Cause : Look → Client → List ℕ → ℕ → Why → Type 0
@@ -138,7 +154,9 @@ Cause l client octets waiting NoPort = NoPathIsFree l
 Cause l client octets waiting Exhausted = AllTriesFailed l octets
 Cause l client octets waiting Deadline = IsOverdue l
 Cause l (Udp peer) octets waiting TooLarge = ⊥
-Cause l (Tcp conn) octets waiting TooLarge = AnswerIsTooLarge l octets
+Cause l (Tcp conn) octets waiting TooLarge = AnswerIsTooLarge l octets ⊎ StaleAnswerIsTooLarge l octets ⊎ LocalAnswerIsTooLarge l octets
 Cause l client octets waiting ChainLong = FollowsTooMany l octets
--- success is no failure
+-- these tell no failure
 Cause l client octets waiting Answered = ⊥
+Cause l client octets waiting Stale = ⊥
+Cause l client octets waiting LocalDenied = ⊥

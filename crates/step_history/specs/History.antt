@@ -38,6 +38,10 @@ abbrev pub moment_at : List Step → ℕ
 moment_at [] = 0
 moment_at (s ∷ past) = if is_restart s then 0 else max (min s.handed.now (2 ^ 62)) (moment_at past)
 
+abbrev pub before_newest : List Step → List Step
+before_newest [] = []
+before_newest (s ∷ past) = past
+
 -- a step that asked a question and what came before it, seen from a later moment of its era
 pub record Look : Type 0 where
   pub config : Config

@@ -3,6 +3,8 @@ pub mod History
 pub mod Carried
 pub mod Replies
 pub mod Answers
+pub mod Stale
+pub mod Local
 pub mod Draws
 pub mod Causes
 pub mod Sound

@@ -1,16 +1,16 @@
 -- The messages that clients get.
-use Rattle.std.specs.Prelude.{ℕ, ◌≤◌, List, [], ◌∷◌, ◌++◌, length, Option}
+use Rattle.std.specs.Prelude.{ℕ, ◌≤◌, List, [], ◌∷◌, ◌++◌, length, map, Option}
 use Rattle.dns_message.specs.Header.{Header}
 use Rattle.dns_message.specs.Values.{Question}
 use Rattle.dns_message.specs.Writing.{written}
 use Rattle.record_cache.specs.Values.{Held}
-use Rattle.answer_builder.specs.Values.{Asked}
-use Rattle.answer_builder.specs.Answers.{sections_of, full_answer, cut_answer, error_response}
+use Rattle.answer_builder.specs.Values.{Asked, Sections}
+use Rattle.answer_builder.specs.Answers.{told_at, told_stale, sections_told, sections_of, local_sections, full_answer, cut_answer, error_response}
 use Rattle.answer_builder.specs.Transports.{over_udp}
 use Rattle.step_values.specs.declared.event.Client.{Client}
 use Rattle.step_values.specs.declared.event.Client.TheVariants.{Udp, Tcp}
 use Rattle.step_values.specs.declared.action.Why.{Why}
-use Rattle.step_values.specs.declared.action.Why.TheVariants.{Answered, BadFormat, BadOpcode, NotServed, NoRoute, QuestionsFull, InquiriesFull, NoPort, Exhausted, Deadline, ChainLong, TooLarge}
+use Rattle.step_values.specs.declared.action.Why.TheVariants.{Answered, BadFormat, BadOpcode, NotServed, NoRoute, QuestionsFull, InquiriesFull, NoPort, Exhausted, Deadline, ChainLong, TooLarge, Stale, LocalDenied}
 
 -- what the answer to a request with this header repeats of it, and of its question where there is one
 abbrev pub asked_in : Header → Option Question → Asked
@@ -23,6 +23,22 @@ answer_text a aliases end t = written (full_answer a (sections_of t (aliases ++ 
 -- the same, cut to the question
 abbrev pub cut_text : Asked → List Held → Held → ℕ → List ℕ
 cut_text a aliases end t = written (cut_answer a (sections_of t (aliases ++ end ∷ [])))
+
+-- an answer of these sections, and the same cut to the question
+abbrev pub full_text : Asked → Sections → List ℕ
+full_text a s = written (full_answer a s)
+
+abbrev pub short_text : Asked → Sections → List ℕ
+short_text a s = written (cut_answer a s)
+
+-- what is said of aliases that were held, and of aliases and a set behind them that may have ended: of these, what has ended
+-- is told for 30 seconds (RFC 8767 4)
+abbrev pub stale_sections : ℕ → List Held → List Held → Held → Sections
+stale_sections t held past end = sections_told (told_stale (length held) t (held ++ (past ++ end ∷ [])))
+
+-- what is said of aliases that lead to a name whose route denies it
+abbrev pub denied_sections : ℕ → List Held → Sections
+denied_sections t aliases = local_sections (map (told_at t) aliases)
 
 -- over UDP what passes 512 octets is cut (RFC 1035 4.2.1)
 abbrev pub sized_for : Client → List ℕ → List ℕ → List ℕ
@@ -48,6 +64,8 @@ rcode_of_why Exhausted = 2
 rcode_of_why Deadline = 2
 rcode_of_why ChainLong = 2
 rcode_of_why TooLarge = 2
+rcode_of_why Stale = 0
+rcode_of_why LocalDenied = 3
 
 -- the failure that tells this reason
 abbrev pub failure_text : Asked → Why → List ℕ

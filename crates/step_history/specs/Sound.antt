@@ -1,19 +1,21 @@
 -- What is claimed of each reply, and of each history.
-use Rattle.std.specs.Prelude.{◌≡◌, ℕ, Bool, true, false, if◌then◌else◌, ◌==◌, ◌&&◌, not, List, [], ◌∷◌, ◌++◌, length, Option, Some, None, ◌⊎◌}
+use Rattle.std.specs.Prelude.{◌≡◌, ℕ, ◌≤◌, Bool, true, false, if◌then◌else◌, ◌==◌, ◌&&◌, not, List, [], ◌∷◌, ◌++◌, length, Option, Some, None, ◌⊎◌}
 use Rattle.std.specs.List.{list_any, concat}
 use Rattle.dns_message.specs.Values.{Question, Message}
 use Rattle.dns_message.specs.Messages.{Spells}
 use Rattle.suffix_routes.specs.Values.{Config}
 use Rattle.step_values.specs.declared.event.Client.{Client}
 use Rattle.step_values.specs.declared.action.Why.{Why}
-use Rattle.step_values.specs.declared.action.Why.TheVariants.{Answered, BadFormat, BadOpcode}
+use Rattle.step_values.specs.declared.action.Why.TheVariants.{Answered, BadFormat, BadOpcode, Stale, LocalDenied}
 use Rattle.step_values.specs.Values.{Request, request_in, Action, SentReply, reply_in_action, Step}
 use Rattle.dns_message.specs.Questions.{same_question}
 use Rattle.dns_message.specs.Header.{header_in}
 use Rattle.step_history.specs.History.{is_restart, InEra, moment_at, Look, NothingAccepted, Reads, Sends, takes_question}
 use Rattle.step_history.specs.Answers.{Answers}
 use Rattle.step_history.specs.Replies.{asked_in, failure_text}
-use Rattle.step_history.specs.Causes.{Cause, is_unserved}
+use Rattle.step_history.specs.Stale.{StaleAnswers}
+use Rattle.step_history.specs.Local.{LocalAnswers}
+use Rattle.step_history.specs.Causes.{AllTriesFailed, Cause, is_unserved}
 
 -- a number is among these
 abbrev pub among : ℕ → List ℕ → Bool
@@ -41,9 +43,28 @@ pub record RightAnswer (l : Look) (client : Client) (request octets : List ℕ) 
   pub served : is_unserved question ≡ false
   pub answers : Answers l client (header_in request) question octets
 
+-- all tries failed for what the client asked or for what aliases lead to, the configuration has a window, and the octets
+-- answer it past the ends of sets
+pub record RightStaleAnswer (l : Look) (client : Client) (request octets : List ℕ) : Type 0 where
+  pub opcode : (header_in request).opcode ≡ 0
+  pub tries : AllTriesFailed l request
+  pub served : is_unserved tries.question ≡ false
+  pub window : 1 ≤ l.config.limits.stale_s
+  pub answers : StaleAnswers l client (header_in request) tries.question tries.aliases tries.last octets
+
+-- the client asked what is served, and the octets tell that the configuration denies it, or a name that aliases lead to
+pub record RightLocalAnswer (l : Look) (client : Client) (request octets : List ℕ) : Type 0 where
+  pub opcode : (header_in request).opcode ≡ 0
+  pub question : Question
+  pub reads : Reads request question
+  pub served : is_unserved question ≡ false
+  pub answers : LocalAnswers l client (header_in request) question octets
+
 -- the reply is right for the client's message
 abbrev pub RightReply : Look → Client → List ℕ → ℕ → Why → List ℕ → Type 0
 RightReply l client request waiting Answered octets = RightAnswer l client request octets
+RightReply l client request waiting Stale octets = RightStaleAnswer l client request octets
+RightReply l client request waiting LocalDenied octets = RightLocalAnswer l client request octets
 RightReply l client request waiting why octets = IsErrorResponse request why octets × Cause l client request waiting why
 
 -- the step number i of this era is a message of the client that isn't dropped, and the reply is right for it

@@ -5,4 +5,4 @@
 
 mod laws;
 
-pub use laws::{moments_never_fall, what_was_carried_stays_so};
+pub use laws::{first_version_stands_alone, moments_never_fall, what_was_carried_stays_so};

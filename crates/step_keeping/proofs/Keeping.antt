@@ -1,5 +1,5 @@
 -- What holds of the entries after promotions and offers.
-use Rattle.std.proofs.Common.{◌≡◌, ℕ, zero, suc, List, [], ◌∷◌, take, filter, Bool, true, false, cond, refl, sym, ap, ◌∙◌, subst, inl, inr, arith, Option, Some}
+use Rattle.std.proofs.Common.{◌≡◌, ℕ, zero, suc, ◌≤◌, List, [], ◌∷◌, take, filter, Bool, true, false, cond, refl, sym, ap, ◌∙◌, subst, inl, inr, arith, Option, Some}
 use Rattle.std.specs.Prelude.{not, ◌==◌, ◌&&◌, ◌||◌, nat_lt, nat_le}
 use Rattle.std.specs.List.{list_any, AllByRecursion}
 use Rattle.std.specs.Option.{option_map_or}
@@ -119,6 +119,10 @@ none_of slot e (x ∷ xs) none h = by (none_of slot e xs) (of_slot slot x) refl 
     by rest false f others (inl here) = sym (ap (of_slot slot) here) ∙ f
     by rest false f others (inr later) = rest others later
 
+not_none : (k : ℕ) → (k == 0) ≡ false → 1 ≤ k
+not_none zero e = absurd (true≢false e)
+not_none (suc k) e = omega arith
+
 -- how an offer ends: by its being outranked, its want of a lifetime, and room or an old entry
 abbrev ends_by : Bool → Bool → Bool → Offered
 ends_by a b d = cond a Outranked (cond b NotKept (cond d Kept Unkept))
@@ -137,14 +141,14 @@ module _ (c : Config) (capacity n : ℕ) (p : Piece) (offer : CanBeKept c p) (os
   still : (e : Held) → Among e left → takes_place_of p e.piece ≡ false → IsKept c (new ∷ os) n e
   still e among free =
       let was = all_among (IsKept c os n) e es all (facts.was e among) in
-      record { on_route = was.on_route; earlier = was.earlier; not_replaced = inr (free, was.not_replaced); writable = was.writable }
+      record { on_route = was.on_route; earlier = was.earlier; has_lifetime = was.has_lifetime; not_replaced = inr (free, was.not_replaced); writable = was.writable }
 
   other_slot : (e : Held) → Among e left → of_slot p.slot e ≡ false → IsKept c (new ∷ os) n e
   other_slot e among other = still e among (not_taken p e offer.formed (all_among (λ x. IsPiece x.piece) e left facts.held.formed among) other (facts.over e among))
 
   -- the new entry itself
-  itself : IsKept c (new ∷ os) n new
-  itself = record { on_route = offer.on_route; earlier = omega arith; not_replaced = inl refl; writable = offer.writable }
+  itself : (p.lifetime == 0) ≡ false → IsKept c (new ∷ os) n new
+  itself some = record { on_route = offer.on_route; earlier = omega arith; has_lifetime = not_none p.lifetime some; not_replaced = inl refl; writable = offer.writable }
 
   -- those of other slots
   others : (e : Held) → Among e (without p.slot left) → IsKept c (new ∷ os) n e
@@ -193,18 +197,18 @@ module _ (c : Config) (capacity n : ℕ) (p : Piece) (offer : CanBeKept c p) (os
   pub put_leaves : (room : Bool) → Leaves (put capacity n room p es)
   put_leaves room = by (is_outranked n p left) refl (p.lifetime == 0) refl (room || has_slot p.slot left) refl
     where
-      at : (a : Bool) → is_outranked n p left ≡ a → (b d : Bool) → (room || has_slot p.slot left) ≡ d → Leaves (offered (ends_by a b d) capacity n p left)
-      at true t b d is = (facts.held, all_from (IsKept c (new ∷ os) n) left (outranked_stays t))
-      at false f true d is = (without_are_held capacity p.slot left facts.held, all_from (IsKept c (new ∷ os) n) (without p.slot left) others)
-      at false f false true is = (
+      at : (a : Bool) → is_outranked n p left ≡ a → (b : Bool) → (p.lifetime == 0) ≡ b → (d : Bool) → (room || has_slot p.slot left) ≡ d → Leaves (offered (ends_by a b d) capacity n p left)
+      at true t b lasts d is = (facts.held, all_from (IsKept c (new ∷ os) n) left (outranked_stays t))
+      at false f true lasts d is = (without_are_held capacity p.slot left facts.held, all_from (IsKept c (new ∷ os) n) (without p.slot left) others)
+      at false f false lasts true is = (
         kept_are_held capacity new left offer.formed facts.held,
         all_from (IsKept c (new ∷ os) n) (kept capacity new left) (λ e among. front e (among_first capacity e (new ∷ without p.slot left) among)),
       )
         where
           front : (e : Held) → Among e (new ∷ without p.slot left) → IsKept c (new ∷ os) n e
-          front e (inl here) = subst (IsKept c (new ∷ os) n) here itself
+          front e (inl here) = subst (IsKept c (new ∷ os) n) here (itself lasts)
           front e (inr later) = others e later
-      at false f false false is = (facts.held, all_from (IsKept c (new ∷ os) n) left (λ e among. other_slot e among (none e among)))
+      at false f false lasts false is = (facts.held, all_from (IsKept c (new ∷ os) n) left (λ e among. other_slot e among (none e among)))
         where
           no_slot : has_slot p.slot left ≡ false
           no_slot = second room (has_slot p.slot left) is
@@ -217,4 +221,4 @@ module _ (c : Config) (capacity n : ℕ) (p : Piece) (offer : CanBeKept c p) (os
           none e among = none_of p.slot e left no_slot among
 
       by : (a : Bool) → is_outranked n p left ≡ a → (b : Bool) → (p.lifetime == 0) ≡ b → (d : Bool) → (room || has_slot p.slot left) ≡ d → Leaves (put capacity n room p es)
-      by a is b is_b d is_d = subst (λ (o : Offered). Leaves (offered o capacity n p left)) (λ i. ends_by (sym is i) (sym is_b i) (sym is_d i)) (at a is b d is_d)
+      by a is b is_b d is_d = subst (λ (o : Offered). Leaves (offered o capacity n p left)) (λ i. ends_by (sym is i) (sym is_b i) (sym is_d i)) (at a is b is_b d is_d)

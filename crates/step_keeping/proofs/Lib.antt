@@ -10,5 +10,6 @@ pub mod Keeping
 pub mod Texts
 pub mod Caching
 pub mod Hits
+pub mod PastEnds
 mod Worked
 pub mod CallerLemmas

@@ -55,6 +55,7 @@ abbrev IsRightAlias : Look → ℕ → Question → Held → Type 0
 IsRightAlias l n q h = CanBeTold n h × (q.kind ≢ 5) × Justified l q.name h × (has_slot h.piece q.name q.class (Some 5) ≡ true)
 
 abbrev IsRightFind : Look → ℕ → Question → Found → Type 0
+IsRightFind l n q found.local = Unit {0}
 IsRightFind l n q (found.rows h) = IsRightEnd l n q h
 IsRightFind l n q (found.alias h) = IsRightAlias l n q h
 IsRightFind l n q (found.no_data h) = IsRightEnd l n q h
@@ -101,6 +102,7 @@ module _ (l : Look) (n : ℕ) (entries : List Held) (usable : AllByRecursion (Is
       )
 
   fits_right : (q : Question) (f : Found) → Fits l.config.routes n entries q f → IsRightFind l n q f
+  fits_right q found.local fits = tt
   fits_right q (found.rows h) fits = let serves = typed_serves q q.kind h fits.0 in (serves.0, serves.1, set_ends q h.piece h.piece.body fits.1 serves.2)
   fits_right q (found.alias h) fits = let serves = typed_serves q 5 h fits.0 in (serves.0, fits.2, serves.1, serves.2)
   fits_right q (found.no_data h) fits = let serves = typed_serves q q.kind h fits.0 in (serves.0, serves.1, no_data_ends q h.piece h.piece.body fits.1 serves.2)
@@ -125,6 +127,7 @@ module _ (l : Look) (n : ℕ) (entries : List Held) (usable : AllByRecursion (Is
   followed_right : (from q : Question) (held : List Held) (onward : Held → List (List ℕ) → Looked) → AllByRecursion (CanBeTold n) held → FollowsAliases l from held q
       → ((h : Held) (name : List (List ℕ)) → IsRightAlias l n q h → target_of h.piece.body ≡ Some name → IsLed from (onward h name))
       → (f : Found) → IsRightFind l n q f → IsLed from (followed held q onward f)
+  followed_right from q held onward told follows go found.local right = record { told = told; follows = follows; right_end = tt }
   followed_right from q held onward told follows go (found.rows h) right = record { told = told; follows = follows; right_end = right }
   followed_right from q held onward told follows go (found.alias h) right = by (target_of h.piece.body) refl
     where
@@ -149,6 +152,7 @@ module _ (l : Look) (n : ℕ) (entries : List Held) (usable : AllByRecursion (Is
 
 sized_step : (held : List Held) (q : Question) (onward : Held → List (List ℕ) → Looked) → length held ≤ 8 → ((h : Held) (name : List (List ℕ)) → IsSized (onward h name).met (length (onward h name).held))
     → (f : Found) → IsSized (followed held q onward f).met (length (followed held q onward f).held)
+sized_step held q onward few go found.local = few
 sized_step held q onward few go (found.rows h) = few
 sized_step held q onward few go (found.alias h) = by (target_of h.piece.body)
   where
@@ -170,6 +174,7 @@ look_up_sized routes n entries (suc more) held q is =
 -- ---- what is held stays held
 
 more_held : (held : List Held) (q : Question) (onward : Held → List (List ℕ) → Looked) → 1 ≤ length held → ((h : Held) (name : List (List ℕ)) → 1 ≤ length (onward h name).held) → (f : Found) → 1 ≤ length (followed held q onward f).held
+more_held held q onward some go found.local = some
 more_held held q onward some go (found.rows h) = some
 more_held held q onward some go (found.alias h) = by (target_of h.piece.body)
   where
@@ -218,6 +223,7 @@ found_alike routes n entries q other same =
 
 alike_step : (held : List Held) (q other : Question) (onward onward' : Held → List (List ℕ) → Looked) → ((h : Held) (name : List (List ℕ)) → AreAlike (onward h name) (onward' h name))
     → (f : Found) → AreAlike (followed held q onward f) (followed held other onward' f)
+alike_step held q other onward onward' go found.local = record { held = refl; met = refl }
 alike_step held q other onward onward' go (found.rows h) = record { held = refl; met = refl }
 alike_step held q other onward onward' go (found.alias h) = by (target_of h.piece.body)
   where

@@ -1,6 +1,6 @@
 -- What is written of an answer is read as the answer.
-use Rattle.std.proofs.Common.{◌≡◌, ℕ, ◌<◌, ◌≤◌, List, [], ◌∷◌, ◌++◌, length, Bool, true, false, cond, refl, sym, ap, ◌∙◌, subst, inl, inr, arith, Option, Some, None}
-use Rattle.std.specs.Prelude.{map, nat_le}
+use Rattle.std.proofs.Common.{◌≡◌, ℕ, zero, suc, ◌<◌, ◌≤◌, List, [], ◌∷◌, ◌++◌, length, Bool, true, false, cond, refl, sym, ap, ◌∙◌, subst, inl, inr, arith, Option, Some, None}
+use Rattle.std.specs.Prelude.{if◌then◌else◌, map, nat_le}
 use Rattle.std.specs.List.{flat_map, AllByRecursion}
 use Rattle.std.specs.Option.{IfSome}
 use Rattle.std.proofs.lemmas.Bool.{leb-true, true≢false}
@@ -14,16 +14,16 @@ use Rattle.trust_rank.specs.Values.{Body, rows, no_data, denied, Piece}
 use Rattle.trust_rank.specs.Formed.{FitsKind, IsPiece, IsSoa}
 use Rattle.trust_rank.specs.Writable.{IsWritableBody, IsWritable}
 use Rattle.record_cache.specs.Values.{Held}
-use Rattle.record_cache.specs.Ageing.{seconds_left}
+use Rattle.record_cache.specs.Ageing.{is_alive, seconds_left}
 use Rattle.answer_builder.specs.Values.{Told, Asked, Sections}
-use Rattle.answer_builder.specs.Answers.{record_of, records_in, aged, soa_records, rcode_of, told_at, answers_of, authority_of, last_of}
+use Rattle.answer_builder.specs.Answers.{record_of, records_in, aged, soa_records, rcode_of, told_at, told_past, told_stale, answers_of, authority_of, last_of}
 use Rattle.answer_builder.specs.Answers.{sections_told, sections_of, full_answer, cut_answer, answer_message, bare}
 use Rattle.step_values.specs.declared.event.Client.{Client}
 use Rattle.step_values.specs.declared.event.Client.TheVariants.{Udp, Tcp}
-use Rattle.step_history.specs.Replies.{sized_for, FitsTransport}
+use Rattle.step_history.specs.Replies.{full_text, short_text, stale_sections, denied_sections, sized_for, FitsTransport}
 use Rattle.step_history.specs.Sound.{SameSections}
-use Rattle.step_keeping.specs.Kept.{CanBeTold, CanBeRepeated, SpellsAnswer}
-use Rattle.step_keeping.specs.Laws.{AnswersAreSpelled}
+use Rattle.step_keeping.specs.Kept.{CanBeTold, CanBeRepeated, SpellsSections, SpellsAnswer}
+use Rattle.step_keeping.specs.Laws.{AnswersAreSpelled, StaleAnswersAreSpelled, LocalAnswersAreSpelled}
 use Rattle.step_keeping.proofs.Short.{question_short}
 use Rattle.step_keeping.proofs.Lists.{All-append}
 
@@ -41,9 +41,26 @@ left_can t h told =
     let most : seconds_left t h ≤ 604800 = omega (arith, short, before) in
     record { formed = told.formed; writable = told.writable; seconds = omega (arith, most) }
 
+-- so do the 30 seconds of what has ended
+past_can : (t : ℕ) (h : Held) → CanBeTold t h → CanTell (told_past t h)
+past_can t h told = by (is_alive t h)
+  where
+    by : (b : Bool) → CanTell (record { piece = h.piece; seconds = if b then seconds_left t h else 30 })
+    by true = left_can t h told
+    by false = record { formed = told.formed; writable = told.writable; seconds = omega arith }
+
 all_left_can : (t : ℕ) (chain : List Held) → AllByRecursion (CanBeTold t) chain → AllByRecursion CanTell (map (told_at t) chain)
 all_left_can t [] all = tt
 all_left_can t (h ∷ chain) all = (left_can t h all.0, all_left_can t chain all.1)
+
+all_past_can : (t : ℕ) (chain : List Held) → AllByRecursion (CanBeTold t) chain → AllByRecursion CanTell (map (told_past t) chain)
+all_past_can t [] all = tt
+all_past_can t (h ∷ chain) all = (past_can t h all.0, all_past_can t chain all.1)
+
+all_stale_can : (k t : ℕ) (chain : List Held) → AllByRecursion (CanBeTold t) chain → AllByRecursion CanTell (told_stale k t chain)
+all_stale_can zero t chain all = all_past_can t chain all
+all_stale_can (suc k) t [] all = tt
+all_stale_can (suc k) t (h ∷ chain) all = (left_can t h all.0, all_stale_can k t chain all.1)
 
 -- ---- the records of an answer
 
@@ -130,25 +147,29 @@ message_spelled a q cut s asks can short = written_message_is_spelled (answer_me
 cut_short : (a : Asked) (q : Question) (s : Sections) → CanBeRepeated a q → length (written (cut_answer a s)) ≤ 65535
 cut_short a q s asks = question_short (cut_answer a s) q (ap Rattle.dns_message.specs.Borrowed.questions_of asks.question) refl refl refl asks.is_question.name
 
-answer_spelled : (a : Asked) (q : Question) (t : ℕ) (chain : List Held) → CanBeRepeated a q → AllByRecursion (CanBeTold t) chain
-    → (client : Client) → FitsTransport client (sized_for client (written (full_answer a (sections_of t chain))) (written (cut_answer a (sections_of t chain))))
-    → SpellsAnswer (sized_for client (written (full_answer a (sections_of t chain))) (written (cut_answer a (sections_of t chain)))) a chain t
-answer_spelled a q t chain asks told (Tcp conn) fits = inl (message_spelled a q false (sections_of t chain) asks (sections_can t chain told) fits)
-answer_spelled a q t chain asks told (Udp peer) fits = by (nat_le (length full) 512) refl
+sections_spelled : (a : Asked) (q : Question) (s : Sections) → CanBeRepeated a q → CanBeWritten s
+    → (client : Client) → FitsTransport client (sized_for client (full_text a s) (short_text a s)) → SpellsSections (sized_for client (full_text a s) (short_text a s)) a s
+sections_spelled a q s asks can (Tcp conn) fits = inl (message_spelled a q false s asks can fits)
+sections_spelled a q s asks can (Udp peer) fits = by (nat_le (length (full_text a s)) 512) refl
   where
-    full : List ℕ
-    full = written (full_answer a (sections_of t chain))
+    bare_can : CanBeWritten (bare s.rcode)
+    bare_can = record { answers = tt; authority = tt; rcode = can.rcode }
 
-    bare_can : CanBeWritten (bare (sections_of t chain).rcode)
-    bare_can = record { answers = tt; authority = tt; rcode = (sections_can t chain told).rcode }
-
-    by : (b : Bool) → nat_le (length full) 512 ≡ b → SpellsAnswer (cond b full (written (cut_answer a (sections_of t chain)))) a chain t
-    by true few = inl (message_spelled a q false (sections_of t chain) asks (sections_can t chain told) (let small = leb-true (length full) 512 few in omega (arith, small)))
-    by false many = inr (message_spelled a q true (bare (sections_of t chain).rcode) asks bare_can (cut_short a q (sections_of t chain) asks))
+    by : (b : Bool) → nat_le (length (full_text a s)) 512 ≡ b → SpellsSections (cond b (full_text a s) (short_text a s)) a s
+    by true few = inl (message_spelled a q false s asks can (let small = leb-true (length (full_text a s)) 512 few in omega (arith, small)))
+    by false many = inr (message_spelled a q true (bare s.rcode) asks bare_can (cut_short a q s asks))
 
 -- what a client gets is read as the answer, or as the answer cut to the question
 pub answers_are_spelled : AnswersAreSpelled
-answers_are_spelled a q t aliases end asks told client fits = answer_spelled a q t (aliases ++ end ∷ []) asks told client fits
+answers_are_spelled a q t aliases end asks told client fits = sections_spelled a q (sections_of t (aliases ++ end ∷ [])) asks (sections_can t (aliases ++ end ∷ []) told) client fits
+
+pub stale_answers_are_spelled : StaleAnswersAreSpelled
+stale_answers_are_spelled a q t held past end asks told client fits =
+    sections_spelled a q (stale_sections t held past end) asks (told_can (told_stale (length held) t (held ++ (past ++ end ∷ []))) (all_stale_can (length held) t (held ++ (past ++ end ∷ [])) told)) client fits
+
+pub local_answers_are_spelled : LocalAnswersAreSpelled
+local_answers_are_spelled a q t aliases asks told client fits =
+    sections_spelled a q (denied_sections t aliases) asks (record { answers = all_tell (map (told_at t) aliases) (all_left_can t aliases told); authority = tt; rcode = omega arith }) client fits
 
 -- ---- sections after reading
 

@@ -70,7 +70,7 @@ writable = record { owner = name_of_a; class = omega arith; kind = omega arith; 
 -- what a reply carried, beside what it carried behind it
 is_kept : IsKept config (held_at 1020 (set b) ∷ kept ∷ []) 2000 kept
 unfolding route_of
-is_kept = record { on_route = refl; earlier = omega arith; not_replaced = inr (refl, inl refl); writable = writable }
+is_kept = record { on_route = refl; earlier = omega arith; has_lifetime = omega arith; not_replaced = inr (refl, inl refl); writable = writable }
 
 -- nothing is kept before it was accepted, and nothing that no reply carried
 yet_to_come : IsKept config (kept ∷ []) 1019 kept → ⊥

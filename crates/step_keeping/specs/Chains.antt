@@ -1,5 +1,5 @@
 -- Chains that a history justifies: those of a look-up, and those of an accepted reply.
-use Rattle.std.specs.Prelude.{◌≡◌, ℕ, ◌≤◌, Bool, true, false, List, [], ◌∷◌, ◌++◌, length, map, ◌⊎◌}
+use Rattle.std.specs.Prelude.{◌≡◌, ℕ, ◌≤◌, Bool, true, false, List, [], ◌∷◌, ◌++◌, length, map, Some, ◌⊎◌}
 use Rattle.std.specs.List.{AllByRecursion}
 use Rattle.dns_message.specs.Values.{Question}
 use Rattle.suffix_routes.specs.Values.{Config}
@@ -8,7 +8,8 @@ use Rattle.record_cache.specs.Values.{Held}
 use Rattle.step_values.specs.Values.{Step}
 use Rattle.step_history.specs.History.{is_restart, Look, Carries, NothingAccepted}
 use Rattle.step_history.specs.Carried.{Justified}
-use Rattle.step_history.specs.Answers.{asked_at, FollowsAliases, EndsChain}
+use Rattle.step_history.specs.Answers.{has_slot, asked_at, FollowsAliases, EndsChain}
+use Rattle.step_history.specs.Stale.{JustifiedPastItsEnd, FollowsPastEnds}
 use Rattle.step_rules.specs.LookingUp.{Met, ends, too_long, missed, Looked}
 use Rattle.step_rules.specs.Row.{held_at}
 use Rattle.step_keeping.specs.Kept.{CanBeTold}
@@ -44,6 +45,20 @@ pub record IsRight (l : Look) (t : ℕ) (q : Question) (v : Looked) : Type 0 whe
   pub follows : FollowsAliases l q v.held v.wanted
   pub right_end : EndsRight l t v.wanted v.met
   pub sized : IsSized v.met (length v.held)
+
+-- ---- of a look-up past the ends of entries
+
+-- aliases, at most so many, that may have ended lead from the question to what a set answers that may have ended too
+pub record IsRightPast (l : Look) (t : ℕ) (q : Question) (most : ℕ) (chain : List Held) : Type 0 where
+  pub aliases : List Held
+  pub end : Held
+  pub whole : chain ≡ aliases ++ end ∷ []
+  pub last : Question
+  pub follows : FollowsPastEnds l q aliases last
+  pub justified : JustifiedPastItsEnd l last.name end
+  pub slot : has_slot end.piece last.name last.class (Some last.kind) ≡ true
+  pub few : length aliases ≤ most
+  pub told : AllByRecursion (CanBeTold t) chain
 
 -- ---- of an accepted reply
 

@@ -12,7 +12,7 @@ use Rattle.trust_rank.specs.Writable.{IsWritable}
 use Rattle.trust_rank.specs.Walks.{most_aliases}
 use Rattle.record_cache.specs.Values.{Held, Cache}
 use Rattle.record_cache.specs.Entries.{AreHeld}
-use Rattle.answer_builder.specs.Values.{Asked}
+use Rattle.answer_builder.specs.Values.{Asked, Sections}
 use Rattle.answer_builder.specs.Answers.{sections_of, full_answer, cut_answer}
 use Rattle.step_values.specs.declared.event.Client.{Client}
 use Rattle.step_values.specs.Values.{Step}
@@ -26,10 +26,12 @@ use Rattle.step_rules.specs.Progress.{IsOnRoute}
 
 -- ---- entries
 
--- an entry: on its route, accepted not after the present moment, carried by a reply of the era and not replaced since
+-- an entry: on its route, accepted not after the present moment, carried by a reply of the era with a lifetime, and not
+-- replaced since
 pub record IsKept (c : Config) (carried : List Held) (moment : ℕ) (h : Held) : Type 0 where
   pub on_route : IsOnRoute c h
   pub earlier : h.accepted ≤ moment
+  pub has_lifetime : 1 ≤ h.piece.lifetime
   pub not_replaced : NotReplaced h carried
   pub writable : IsWritable h.piece
 
@@ -54,9 +56,13 @@ pub record CanBeRepeated (a : Asked) (q : Question) : Type 0 where
   pub id : a.id < 65536
   pub opcode : a.opcode < 16
 
+-- octets that are read as the answer with these sections, or as the same cut to the question
+abbrev pub SpellsSections : List ℕ → Asked → Sections → Type 0
+SpellsSections octets a s = Spells octets (full_answer a s) ⊎ Spells octets (cut_answer a s)
+
 -- octets that are read as the answer from this chain, or as the same cut to the question
 abbrev pub SpellsAnswer : List ℕ → Asked → List Held → ℕ → Type 0
-SpellsAnswer octets a chain t = Spells octets (full_answer a (sections_of t chain)) ⊎ Spells octets (cut_answer a (sections_of t chain))
+SpellsAnswer octets a chain t = SpellsSections octets a (sections_of t chain)
 
 -- the look-up of a question in these entries
 abbrev pub looked : Config → ℕ → List Held → Question → Looked

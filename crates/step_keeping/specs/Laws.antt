@@ -16,12 +16,13 @@ use Rattle.step_history.specs.Names.{route_of}
 use Rattle.step_history.specs.History.{is_restart, moment_at, InEra, is_lame, Carries, NothingAccepted}
 use Rattle.step_history.specs.Carried.{CarriedInEra}
 use Rattle.step_history.specs.Answers.{FollowsAliases, Leads}
-use Rattle.step_history.specs.Replies.{answer_text, cut_text, sized_for, FitsTransport}
+use Rattle.step_history.specs.Replies.{answer_text, cut_text, full_text, short_text, stale_sections, denied_sections, sized_for, FitsTransport}
 use Rattle.step_history.specs.Sound.{FromCache, SameAsEarlierFromCache}
 use Rattle.step_rules.specs.LookingUp.{look_up, promoted_all}
+use Rattle.step_rules.specs.PastEnds.{look_up_past}
 use Rattle.step_rules.specs.Offering.{put_all}
-use Rattle.step_keeping.specs.Kept.{CanBeKept, CanBeTold, CanBeRepeated, SpellsAnswer, looked, IsStillFound, IsCached}
-use Rattle.step_keeping.specs.Chains.{look_from, GoesOn, IsRight, has_last, LeadToEnd, LeadOn}
+use Rattle.step_keeping.specs.Kept.{CanBeKept, CanBeTold, CanBeRepeated, SpellsSections, SpellsAnswer, looked, IsStillFound, IsCached}
+use Rattle.step_keeping.specs.Chains.{look_from, GoesOn, IsRight, IsRightPast, has_last, LeadToEnd, LeadOn}
 
 -- ---- what is kept
 
@@ -73,6 +74,12 @@ LookUpsThatGoOnAreRight = (c : Config) (asked s : Step) (before past : List Step
     → InEra (asked ∷ before) past → GoesOn c s past → n ≡ moment_at (s ∷ past) → AllByRecursion (CanBeTold n) held → FollowsAliases (look_from c asked before (s ∷ past)) q held wanted → more + length held ≡ most_aliases
     → IsRight (look_from c asked before (s ∷ past)) n q (look_up c.routes n cache.entries more held wanted)
 
+-- What is found past the ends of entries, in a step that accepts nothing, is justified so for each question of the era.
+abbrev pub LookUpsPastEndsAreRight : Type 0
+LookUpsPastEndsAreRight = (c : Config) (asked s : Step) (before past : List Step) (m n : ℕ) (cache : Cache) (q : Question) (most : ℕ) (chain : List Held) → IsCached c past m cache → m ≡ moment_at past
+    → (is_restart s ≡ false) × NothingAccepted c s past → n ≡ moment_at (s ∷ past) → look_up_past c.limits.stale_s n cache.entries most q ≡ Some chain
+    → IsRightPast (look_from c asked before (s ∷ past)) n q most chain
+
 -- ---- answers
 
 -- What a client gets of a chain is read as the answer, or as the answer cut to the question.
@@ -80,6 +87,17 @@ abbrev pub AnswersAreSpelled : Type 0
 AnswersAreSpelled = (a : Asked) (q : Question) (t : ℕ) (aliases : List Held) (end : Held) → CanBeRepeated a q → AllByRecursion (CanBeTold t) (aliases ++ end ∷ []) → (client : Client)
     → FitsTransport client (sized_for client (answer_text a aliases end t) (cut_text a aliases end t))
     → SpellsAnswer (sized_for client (answer_text a aliases end t) (cut_text a aliases end t)) a (aliases ++ end ∷ []) t
+
+-- So is what it gets past the ends of entries, and where the configuration denies.
+abbrev pub StaleAnswersAreSpelled : Type 0
+StaleAnswersAreSpelled = (a : Asked) (q : Question) (t : ℕ) (held past : List Held) (end : Held) → CanBeRepeated a q → AllByRecursion (CanBeTold t) (held ++ (past ++ end ∷ [])) → (client : Client)
+    → FitsTransport client (sized_for client (full_text a (stale_sections t held past end)) (short_text a (stale_sections t held past end)))
+    → SpellsSections (sized_for client (full_text a (stale_sections t held past end)) (short_text a (stale_sections t held past end))) a (stale_sections t held past end)
+
+abbrev pub LocalAnswersAreSpelled : Type 0
+LocalAnswersAreSpelled = (a : Asked) (q : Question) (t : ℕ) (aliases : List Held) → CanBeRepeated a q → AllByRecursion (CanBeTold t) aliases → (client : Client)
+    → FitsTransport client (sized_for client (full_text a (denied_sections t aliases)) (short_text a (denied_sections t aliases)))
+    → SpellsSections (sized_for client (full_text a (denied_sections t aliases)) (short_text a (denied_sections t aliases))) a (denied_sections t aliases)
 
 -- An answer from cache has the sections of each earlier one to an equal question at its moment, back to the last accepted reply.
 abbrev pub AnswersFromCacheAgree : Type 0

@@ -1,6 +1,9 @@
 //! What is kept and found, over plain values: no code is mentioned.
 
-ghost use Rattle.step_keeping.specs.Laws.{AcceptedPiecesAnswer, AcceptedPiecesCanBeKept, AcceptedPiecesLeadOn, AnswersAreSpelled, AnswersFromCacheAgree, LeadsStayLeads, LookUpsAreRight, LookUpsThatGoOnAreRight, OffersKeep, PromotionsFindTheSame, PromotionsKeep, QuietStepsKeep};
+ghost use Rattle.step_keeping.specs.Laws.{AcceptedPiecesAnswer, AcceptedPiecesCanBeKept, AcceptedPiecesLeadOn};
+ghost use Rattle.step_keeping.specs.Laws.{AnswersAreSpelled, AnswersFromCacheAgree, LeadsStayLeads, LocalAnswersAreSpelled};
+ghost use Rattle.step_keeping.specs.Laws.{LookUpsAreRight, LookUpsPastEndsAreRight, LookUpsThatGoOnAreRight, OffersKeep};
+ghost use Rattle.step_keeping.specs.Laws.{PromotionsFindTheSame, PromotionsKeep, QuietStepsKeep, StaleAnswersAreSpelled};
 
 /// What the history explains of the cache stays explained: by a step that accepts nothing, where what it answers from
 /// cache is found now; by a promotion; and by the offers of what an accepted reply carried, whatever memory there is.
@@ -25,6 +28,12 @@ pub fn look_ups_are_right()
     ensures waiting { LookUpsThatGoOnAreRight }
 {}
 
+/// Once no try is left, a question is led by aliases that may have ended, of what was carried in the era and not replaced, to
+/// a set that may have ended too, both less than the configured window ago.
+pub fn look_ups_past_ends_are_right()
+    ensures { LookUpsPastEndsAreRight }
+{}
+
 /// An answer from cache has the result code and sections of each earlier one to an equal question at its moment, as far
 /// back as nothing was accepted; and promotions leave what is found.
 pub fn answers_from_cache_agree()
@@ -32,9 +41,12 @@ pub fn answers_from_cache_agree()
     ensures found { PromotionsFindTheSame }
 {}
 
-/// What a client gets of a chain is read as the answer, or as the same cut to the question.
+/// What a client gets of a chain is read as the answer, or as the same cut to the question; so is what it gets past the ends
+/// of pieces, and where the configuration denies.
 pub fn answers_are_spelled()
-    ensures { AnswersAreSpelled }
+    ensures living { AnswersAreSpelled }
+    ensures stale { StaleAnswersAreSpelled }
+    ensures local { LocalAnswersAreSpelled }
 {}
 
 /// The aliases that a waiting question holds still lead on after each step of the era.

@@ -9,7 +9,7 @@ use Rattle.suffix_routes.specs.Values.{Route}
 use Rattle.trust_rank.specs.declared.slot.Slot.{Slot}
 use Rattle.trust_rank.specs.Walks.{target_of}
 use Rattle.record_cache.specs.Values.{Held}
-use Rattle.negative_cache.specs.Values.{Found, rows, alias, no_data, denied, miss}
+use Rattle.negative_cache.specs.Values.{Found, local, rows, alias, no_data, denied, miss}
 use Rattle.negative_cache.specs.Finding.{found}
 use Rattle.negative_cache.proofs.CallerLemmas.{equal_questions_find_the_same}
 use Rattle.step_rules.specs.LookingUp.{Met, ends, too_long, missed, Looked, led, followed, one_too_many, through, look_up}
@@ -37,6 +37,7 @@ followed_behind held q onward alone same (alias e) = by (target_of e.piece.body)
     by (Some target) = same e target
 followed_behind held q onward alone same (no_data e) = none_more held q (ends e) (e.piece.slot ∷ [])
 followed_behind held q onward alone same (denied e) = none_more held q (ends e) (e.piece.slot ∷ [])
+followed_behind held q onward alone same local = none_more held q missed []
 followed_behind held q onward alone same miss = none_more held q missed []
 
 pub begins_with_held : BeginsWithHeld
@@ -88,6 +89,7 @@ followed_missed q onward go (alias e) is = by (target_of e.piece.body) refl is
     by (Some target) leads met = go e target leads met
 followed_missed q onward go (no_data e) is = absurd (cc)
 followed_missed q onward go (denied e) is = absurd (cc)
+followed_missed q onward go local is = took_none refl refl
 followed_missed q onward go miss is = took_none refl refl
 
 missed_at : (routes : List Route) (n : ℕ) (entries : List Held) (more : ℕ) (q : Question) → IfMissed q (look_up routes n entries more [] q)
@@ -127,6 +129,7 @@ followed_used q onward go (alias e) = by (target_of e.piece.body)
     by (Some target) = go e target
 followed_used q onward go (no_data e) = refl
 followed_used q onward go (denied e) = refl
+followed_used q onward go local = refl
 followed_used q onward go miss = refl
 
 pub uses_what_is_seen : UsesWhatIsSeen
@@ -171,6 +174,7 @@ followed_alike held q other onward onward' same go (alias e) = by (target_of e.p
     by (Some target) = alike_both held (onward e target) (onward' e target) (go e target)
 followed_alike held q other onward onward' same go (no_data e) = alike_alone held q other (ends e) (e.piece.slot ∷ []) same
 followed_alike held q other onward onward' same go (denied e) = alike_alone held q other (ends e) (e.piece.slot ∷ []) same
+followed_alike held q other onward onward' same go local = alike_alone held q other missed [] same
 followed_alike held q other onward onward' same go miss = alike_alone held q other missed [] same
 
 -- the same name is asked for

@@ -8,7 +8,7 @@ use Rattle.suffix_routes.specs.Values.{Route}
 use Rattle.trust_rank.specs.Walks.{target_of}
 use Rattle.record_cache.specs.Values.{Held}
 use Rattle.record_cache.specs.Laws.{Among}
-use Rattle.negative_cache.specs.Values.{Found, rows, alias, no_data, denied, miss}
+use Rattle.negative_cache.specs.Values.{Found, local, rows, alias, no_data, denied, miss}
 use Rattle.negative_cache.specs.Finding.{found}
 use Rattle.negative_cache.specs.Laws.{Fits}
 use Rattle.negative_cache.proofs.CallerLemmas.{found_fits}
@@ -31,6 +31,7 @@ goes_few most onward held few go (alias e) = by (target_of e.piece.body)
     by (Some target) = go e target
 goes_few most onward held few go (no_data e) = let count = one_longer held e in (omega arith, omega arith)
 goes_few most onward held few go (denied e) = let count = one_longer held e in (omega arith, omega arith)
+goes_few most onward held few go local = few
 goes_few most onward held few go miss = few
 
 pub seen_few : (routes : List Route) (n : ℕ) (entries : List Held) (class kind most more : ℕ) (held : List Held) (f : Found) → length held + more ≡ most
@@ -57,6 +58,7 @@ FoundAmong entries (rows e) = Among e entries
 FoundAmong entries (alias e) = Among e entries
 FoundAmong entries (no_data e) = Among e entries
 FoundAmong entries (denied e) = Among e entries
+FoundAmong entries local = Unit {0}
 FoundAmong entries miss = Unit {0}
 
 fits_among : (routes : List Route) (n : ℕ) (entries : List Held) (q : Question) (f : Found) → Fits routes n entries q f → FoundAmong entries f
@@ -64,6 +66,7 @@ fits_among routes n entries q (rows e) fits = fits.0.living.among
 fits_among routes n entries q (alias e) fits = fits.0.living.among
 fits_among routes n entries q (no_data e) fits = fits.0.living.among
 fits_among routes n entries q (denied e) fits = fits.living.among
+fits_among routes n entries q local fits = tt
 fits_among routes n entries q miss fits = tt
 
 pub found_among : (routes : List Route) (n : ℕ) (entries : List Held) (q : Question) (f : Found) → f ≡ found routes n entries q → FoundAmong entries f
@@ -72,7 +75,7 @@ found_among routes n entries q f is = subst (FoundAmong entries) (sym is) (fits_
 abbrev pub AreAmong : List Held → List Held → Type 0
 AreAmong entries held = AllByRecursion (λ h. Among h entries) held
 
-put_among : (entries held : List Held) (e : Held) → AreAmong entries held → Among e entries → AreAmong entries (held ++ e ∷ [])
+pub put_among : (entries held : List Held) (e : Held) → AreAmong entries held → Among e entries → AreAmong entries (held ++ e ∷ [])
 put_among entries [] e all one = (one, tt)
 put_among entries (h ∷ held) e all one = (all.0, put_among entries held e all.1 one)
 
@@ -87,6 +90,7 @@ goes_among entries onward held all go (alias e) one = by (target_of e.piece.body
     by (Some target) = go e target (put_among entries held e all one)
 goes_among entries onward held all go (no_data e) one = put_among entries held e all one
 goes_among entries onward held all go (denied e) one = put_among entries held e all one
+goes_among entries onward held all go local one = all
 goes_among entries onward held all go miss one = all
 
 pub seen_among : (routes : List Route) (n : ℕ) (entries : List Held) (class kind more : ℕ) (held : List Held) (f : Found) → AreAmong entries held → FoundAmong entries f

@@ -1,5 +1,6 @@
 pub mod Seeing
 pub mod Targets
 pub mod Few
+pub mod PastEnds
 pub mod Behind
 pub mod CallerLemmas

@@ -7,7 +7,7 @@ use Rattle.dns_message.specs.Values.{Question}
 use Rattle.suffix_routes.specs.Values.{Route}
 use Rattle.trust_rank.specs.Walks.{target_of}
 use Rattle.record_cache.specs.Values.{Held}
-use Rattle.negative_cache.specs.Values.{Found, rows, alias, no_data, denied, miss}
+use Rattle.negative_cache.specs.Values.{Found, local, rows, alias, no_data, denied, miss}
 use Rattle.negative_cache.specs.Finding.{found}
 use Rattle.answer_builder.specs.Building.{lent}
 use Rattle.step_rules.specs.LookingUp.{Looked, led, followed, one_too_many, through, look_up}
@@ -25,6 +25,7 @@ led_seen held q onward on same e (Some target) = same e target
 followed_seen : (held : List Held) (q : Question) (onward : Held → List (List ℕ) → Looked) (on : List Held → List (List ℕ) → Seen)
     → ((e : Held) (target : List (List ℕ)) → seen_of (onward e target) ≡ on (held ++ e ∷ []) target)
     → (f : Found) → seen_of (followed held q onward f) ≡ goes_on on held f
+followed_seen held q onward on same local = refl
 followed_seen held q onward on same (rows e) = refl
 followed_seen held q onward on same (alias e) = led_seen held q onward on same e (target_of e.piece.body)
 followed_seen held q onward on same (no_data e) = refl
@@ -89,7 +90,7 @@ module _ (routes : List Route) (n : ℕ) (entries : List Held) (class kind : ℕ
 
 -- ---- a look-up on its way
 
-lent_put : (used : List (Bor Held)) (e : Bor Held) → lent (used ++ e ∷ []) ≡ lent used ++ e.now ∷ []
+pub lent_put : (used : List (Bor Held)) (e : Bor Held) → lent (used ++ e ∷ []) ≡ lent used ++ e.now ∷ []
 lent_put [] e = refl
 lent_put (u ∷ used) e = ap (λ (es : List Held). u.now ∷ es) (lent_put used e)
 
@@ -136,9 +137,16 @@ module _ (routes : List Route) (n : ℕ) (entries : List Held) (class kind most 
       ∙ way.left 0 (omega (arith, few, many, count))
 
   -- where nothing is found
+  at_none : (used : List (Bor Held)) (f : Found) → ((on : List Held → List (List ℕ) → Seen) (held : List Held) → goes_on on held f ≡ record { used = held; met = Missed })
+      → IsOnWay routes n entries class kind most used f all → record { used = lent used; met = Missed } ≡ all
+  at_none used f is way =
+      sym (no_alias_seen routes n entries class kind (most - length used) (lent used) f _ (λ on. is on (lent used))) ∙ way.left (most - length used) (let few = way.few in omega (arith, few))
+
   pub at_miss : (used : List (Bor Held)) → IsOnWay routes n entries class kind most used miss all → record { used = lent used; met = Missed } ≡ all
-  at_miss used way =
-      sym (no_alias_seen routes n entries class kind (most - length used) (lent used) miss _ (λ on. refl)) ∙ way.left (most - length used) (let few = way.few in omega (arith, few))
+  at_miss used way = at_none used miss (λ on held. refl) way
+
+  pub at_local : (used : List (Bor Held)) → IsOnWay routes n entries class kind most used local all → record { used = lent used; met = Missed } ≡ all
+  at_local used way = at_none used local (λ on held. refl) way
 
   -- and at a set or a denial
   at_end : (used after : List (Bor Held)) (e : Bor Held) (f : Found) → ((on : List Held → List (List ℕ) → Seen) (held : List Held) → goes_on on held f ≡ record { used = held ++ e.now ∷ []; met = Ends })

@@ -4,7 +4,7 @@ use Rattle.suffix_routes.specs.Values.{Route}
 use Rattle.trust_rank.specs.declared.slot.Slot.{Slot}
 use Rattle.trust_rank.specs.Walks.{target_of}
 use Rattle.record_cache.specs.Values.{Held}
-use Rattle.negative_cache.specs.Values.{Found, rows, alias, no_data, denied, miss}
+use Rattle.negative_cache.specs.Values.{Found, local, rows, alias, no_data, denied, miss}
 use Rattle.negative_cache.specs.Finding.{found}
 use Rattle.answer_builder.specs.Building.{lent}
 use Rattle.step_rules.specs.LookingUp as rules
@@ -30,6 +30,7 @@ entries_of (More refs) = lent refs.items
 
 -- an alias is found
 abbrev pub IsAlias : Found → Type 0
+IsAlias local = ⊥
 IsAlias (rows e) = ⊥
 IsAlias (alias e) = Unit {0}
 IsAlias (no_data e) = ⊥
@@ -69,6 +70,7 @@ led_on onward held e (Some target) = onward (held ++ e ∷ []) target
 
 -- what is seen where these aliases led to a name at which this is found
 abbrev pub goes_on : (List Held → List (List ℕ) → Seen) → List Held → Found → Seen
+goes_on onward held local = record { used = held; met = Missed }
 goes_on onward held (rows e) = record { used = held ++ e ∷ []; met = Ends }
 goes_on onward held (alias e) = led_on onward held e (target_of e.piece.body)
 goes_on onward held (no_data e) = record { used = held ++ e ∷ []; met = Ends }

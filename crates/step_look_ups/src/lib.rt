@@ -5,6 +5,7 @@
 mod laws;
 mod looked;
 mod looking;
+mod past_ends;
 mod slots;
 mod used;
 
@@ -14,4 +15,5 @@ pub use laws::{
 };
 pub use looked::{Looked, Met};
 pub use looking::look_up;
+pub use past_ends::look_up_past;
 pub use slots::{Slots, SlotsRef, promote_all};

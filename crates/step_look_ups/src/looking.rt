@@ -25,7 +25,7 @@ use trust_rank::{Body, Slot};
 
 /// A slot that serves look-ups one after another.
 #[tactic(auto, using(dns_name::proofs::CallerLemmas::no_octets_are_laid_out))]
-fn slot_for_look_ups() -> Slot {
+pub(crate) fn slot_for_look_ups() -> Slot {
     Slot {
         class: 0,
         kind: None,
@@ -64,7 +64,7 @@ pub fn look_up<'a, H: BuildHasher + Drop, A: Allocator + Copy>(
         Found::Alias(held) => follow(
             alloc, cache, &mut slot, held, class, kind, moment, config, most,
         ),
-        Found::Miss => Ok(Looked {
+        Found::Local | Found::Miss => Ok(Looked {
             used: Used::none(alloc),
             met: Met::Missed,
         }),
@@ -102,7 +102,7 @@ fn follow<'a, H: BuildHasher + Drop, A: Allocator + Copy>(
                 return Ok(ended(used, Met::Ends));
             }
             Found::Alias(held) => alias = held,
-            Found::Miss => return Ok(ended(used, Met::Missed)),
+            Found::Local | Found::Miss => return Ok(ended(used, Met::Missed)),
         }
     }
 }
@@ -119,7 +119,7 @@ fn ended<A: Allocator>(used: Vec<&Held<A>, A>, met: Met) -> Looked<'_, A>
 
 /// The name that an alias leads to, that of its one record: its octets, without the zero octet at their end.
 #[tactic(auto, using(trust_rank::proofs::CallerLemmas::no_target))]
-fn target_of<A: Allocator>(alias: &Held<A>) -> Option<&[u8]>
+pub(crate) fn target_of<A: Allocator>(alias: &Held<A>) -> Option<&[u8]>
     ensures { MatchOption result (target_of alias.now.piece.body ≡ None)
         (λ octets. IsLaidOut octets.now × (target_of alias.now.piece.body ≡ Some (labels_of octets.now))) }
 {

@@ -4,10 +4,11 @@ use Rattle.std.specs.Prelude.{Result, Ok, Err}
 use Rattle.std.proofs.lemmas.List.{take_more, map-append}
 use Rattle.record_cache.specs.Values.{Held}
 use Rattle.answer_builder.specs.Building.{lent}
-use Rattle.answer_builder.specs.Transports.{answer_of}
+use Rattle.answer_builder.specs.Transports.{answer_of, stale_answer_of, local_answer_of}
 use Rattle.answer_builder.specs.declared.fault.Fault.{Fault}
 use Rattle.step_values.specs.declared.event.Client.{Client}
-use Rattle.step_values.specs.declared.action.Why.TheVariants.{Answered, TooLarge}
+use Rattle.step_values.specs.declared.action.Why.{Why}
+use Rattle.step_values.specs.declared.action.Why.TheVariants.{Answered, Stale, LocalDenied, TooLarge}
 use Rattle.step_values.specs.Values.{send_reply}
 use Rattle.step_rules.specs.State.{Waiting}
 use Rattle.step_rules.specs.Steps.{failed, sends, transport_of}
@@ -24,12 +25,23 @@ lent_then {X = X} refs others more xs so_far put = ap lent put ∙ map-append (�
 
 -- ---- what a client gets
 
-sends_alike : (x y : Waiting) (answer : Result (List ℕ) Fault) → x.client ≡ y.client → x.asked ≡ y.asked → sends x answer ≡ sends y answer
-sends_alike x y (Ok text) client asked = ap (λ (c : Client). send_reply c text Answered) client
-sends_alike x y (Err fault) client asked = λ i. failed (client i) (asked i) TooLarge
+pub sends_alike : (why : Why) (x y : Waiting) (answer : Result (List ℕ) Fault) → x.client ≡ y.client → x.asked ≡ y.asked → sends why x answer ≡ sends why y answer
+sends_alike why x y (Ok text) client asked = ap (λ (c : Client). send_reply c text why) client
+sends_alike why x y (Err fault) client asked = λ i. failed (client i) (asked i) TooLarge
 
 -- of one chain, two questions of one client that ask the same get the same
 pub sent_alike : (x y : Waiting) (chain other : List Held) (n : ℕ) → x.client ≡ y.client → x.asked ≡ y.asked → chain ≡ other
-    → sends x (answer_of x.asked chain n (transport_of x.client)) ≡ sends y (answer_of y.asked other n (transport_of y.client))
+    → sends Answered x (answer_of x.asked chain n (transport_of x.client)) ≡ sends Answered y (answer_of y.asked other n (transport_of y.client))
 sent_alike x y chain other n client asked same =
-    sends_alike x y (answer_of x.asked chain n (transport_of x.client)) client asked ∙ (λ i. sends y (answer_of (asked i) (same i) n (transport_of (client i))))
+    sends_alike Answered x y (answer_of x.asked chain n (transport_of x.client)) client asked ∙ (λ i. sends Answered y (answer_of (asked i) (same i) n (transport_of (client i))))
+
+-- so do they of what was found past its end, and behind aliases to a denied name
+pub stale_alike : (x y : Waiting) (chain other : List Held) (past n : ℕ) → x.client ≡ y.client → x.asked ≡ y.asked → chain ≡ other
+    → sends Stale x (stale_answer_of x.asked chain past n (transport_of x.client)) ≡ sends Stale y (stale_answer_of y.asked other past n (transport_of y.client))
+stale_alike x y chain other past n client asked same =
+    sends_alike Stale x y (stale_answer_of x.asked chain past n (transport_of x.client)) client asked ∙ (λ i. sends Stale y (stale_answer_of (asked i) (same i) past n (transport_of (client i))))
+
+pub local_alike : (x y : Waiting) (chain other : List Held) (n : ℕ) → x.client ≡ y.client → x.asked ≡ y.asked → chain ≡ other
+    → sends LocalDenied x (local_answer_of x.asked chain n (transport_of x.client)) ≡ sends LocalDenied y (local_answer_of y.asked other n (transport_of y.client))
+local_alike x y chain other n client asked same =
+    sends_alike LocalDenied x y (local_answer_of x.asked chain n (transport_of x.client)) client asked ∙ (λ i. sends LocalDenied y (local_answer_of (asked i) (same i) n (transport_of (client i))))

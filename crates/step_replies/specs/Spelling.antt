@@ -12,7 +12,8 @@ use Rattle.answer_builder.specs.declared.fault.Fault.{Fault}
 use Rattle.answer_builder.specs.Answers.{IsEarlier}
 use Rattle.answer_builder.specs.Transports.{answer_of}
 use Rattle.answer_builder.specs.Values.{Asked}
-use Rattle.step_values.specs.declared.action.Why.TheVariants.{Answered, TooLarge}
+use Rattle.step_values.specs.declared.action.Why.{Why}
+use Rattle.step_values.specs.declared.action.Why.TheVariants.{TooLarge}
 use Rattle.step_values.specs.Values.{Action, send_reply}
 use Rattle.step_rules.specs.State.{Waiting}
 use Rattle.step_rules.specs.Steps.{gives_up}
@@ -28,10 +29,10 @@ abbrev pub ok_text : Result (List ℕ) Fault → Option (List ℕ)
 ok_text (Ok text) = Some text
 ok_text (Err fault) = None
 
--- the reply with it, or that it is too large
-abbrev pub sends_text : Waiting → Option (List ℕ) → Action
-sends_text x (Some text) = send_reply x.client text Answered
-sends_text x None = gives_up TooLarge x
+-- the reply with it for this reason, or that it is too large
+abbrev pub sends_text : Why → Waiting → Option (List ℕ) → Action
+sends_text why x (Some text) = send_reply x.client text why
+sends_text why x None = gives_up TooLarge x
 
 -- the identifier, and the octet with QR, opcode, RD and the TC of this octet
 abbrev pub front_of : Asked → ℕ → List ℕ

@@ -1,13 +1,16 @@
 //! Answers from borrowed pieces. From the second reply on a text is written once for questions that are spelled alike and
 //! came over one transport, since the answers to them differ in identifier, opcode and RD alone (RFC 1035 4.1.1).
 
-ghost use Rattle.std.specs.Prelude.{◌≡◌, ◌<◌, ◌≤◌, ◌++◌, IfOk, MatchOption, Some, None, length, option_map};
+ghost use Rattle.std.specs.Prelude.{◌≡◌, ◌<◌, ◌≤◌, ◌++◌, ℕ, List, Result, IfOk, MatchOption, Some, None, length, option_map};
 ghost use Rattle.std.specs.List.{AllByRecursion, find};
 ghost use Rattle.std.specs.Option.{IfSome};
 ghost use Rattle.answer_builder.specs.Answers.{IsEarlier};
 ghost use Rattle.answer_builder.specs.Building.{lent};
+ghost use Rattle.answer_builder.specs.Faults.{Gives};
 ghost use Rattle.answer_builder.specs.Transports.{answer_of};
+ghost use Rattle.answer_builder.specs.declared.fault.Fault.{Fault};
 ghost use Rattle.step_values.specs.Values.{action_of};
+ghost use Rattle.step_values.specs.declared.action.Why.TheVariants.{Answered};
 ghost use Rattle.step_rules.specs.Steps.{sends, transport_of};
 ghost use Rattle.step_replies.specs.Spelling.{are_alike, front_of, is_for, IsSpelled, ok_text, same_spelling, sends_text, with_front};
 
@@ -23,10 +26,10 @@ use std::marker::Model;
 use step_values::{Action, Client, Why};
 
 /// Room for what UDP carries (RFC 1035 4.2.1).
-const ROOM: usize = 512;
+pub(crate) const ROOM: usize = 512;
 
 /// What carries the answer to a client.
-fn transport_of(client: Client) -> Transport
+pub(crate) fn transport_of(client: Client) -> Transport
     ensures { result ≡ transport_of client }
 {
     match client {
@@ -47,27 +50,45 @@ fn text_from<A: Allocator + Copy>(
     ensures { IfOk result (λ text. text ≡ ok_text (answer_of request.now.asked (lent chain.now) moment transport)) }
 {
     let mut octets = Vec::with_capacity(alloc, ROOM)?;
-    let asked = request.asked();
-    match put_answer(alloc, &mut octets, asked, chain, moment, transport) {
+    let put = put_answer(
+        alloc,
+        &mut octets,
+        request.asked(),
+        chain,
+        moment,
+        transport,
+    );
+    text_put(octets, put)
+}
+
+/// The text that was written as these octets; `None` where it is too large. `Err` where memory ran out.
+pub(crate) fn text_put<A: Allocator>(
+    octets: Vec<u8, A>,
+    put: Result<(), Fault>,
+) -> Result<Option<Octets<A>>, AllocError>
+    ensures { (text : Result (List ℕ) Fault) → Gives (λ _. octets.items) put text → IfOk result (λ own. own ≡ ok_text text) }
+{
+    match put {
         Ok(()) => Ok(Some(Octets::from_vec(octets))),
         Err(Fault::TooLarge) => Ok(None),
         Err(Fault::Memory) => Err(AllocError),
     }
 }
 
-/// The reply with this text, or that it is too large.
-fn reply<A: Allocator + Copy>(
+/// The reply with this text for this reason, or that it is too large.
+pub(crate) fn reply<A: Allocator + Copy>(
     alloc: A,
     request: &Request<'_>,
     text: Option<Octets<A>>,
+    why: Why,
 ) -> Result<Action<A>, AllocError>
-    ensures { IfOk result (λ action. action_of action ≡ sends_text request.now text) }
+    ensures { IfOk result (λ action. action_of action ≡ sends_text why request.now text) }
 {
     match text {
         Some(bytes) => Ok(Action::Reply {
             client: request.client,
             bytes,
-            why: Why::Answered,
+            why,
         }),
         None => failure(alloc, request, Why::TooLarge),
     }
@@ -82,11 +103,11 @@ pub fn answer<A: Allocator + Copy>(
     moment: u64,
 ) -> Result<Action<A>, AllocError>
     requires earlier { AllByRecursion (IsEarlier moment) (lent chain.now) }
-    ensures { IfOk result (λ action. action_of action ≡ sends request.now (answer_of request.now.asked (lent chain.now) moment (transport_of request.now.client))) }
+    ensures { IfOk result (λ action. action_of action ≡ sends Answered request.now (answer_of request.now.asked (lent chain.now) moment (transport_of request.now.client))) }
 {
     let transport = transport_of(request.client);
     let text = text_from(alloc, request, chain, moment, transport)?;
-    reply(alloc, request, text)
+    reply(alloc, request, text, Why::Answered)
 }
 
 /// The text for a question as it is spelled; `None` where it is too large.
@@ -225,7 +246,7 @@ impl<'a, A: Allocator + Copy> Answers<'a, A> {
     /// The reply to a question that holds no aliases.
     fn plain_reply(&mut self, waiting: &'a Waiting<A>) -> Result<Action<A>, AllocError>
         ensures same { self.new ≡ self.old }
-        ensures reply { IfOk result (λ action. action_of action ≡ sends waiting.now (answer_of waiting.now.asked self.old.chain self.old.moment (transport_of waiting.now.client))) }
+        ensures reply { IfOk result (λ action. action_of action ≡ sends Answered waiting.now (answer_of waiting.now.asked self.old.chain self.old.moment (transport_of waiting.now.client))) }
     {
         let request = waiting.request();
         if !self.has_replied {
@@ -233,7 +254,7 @@ impl<'a, A: Allocator + Copy> Answers<'a, A> {
             return answer(self.alloc, &request, self.chain, self.moment);
         }
         let text = self.text_for(waiting, transport_of(waiting.client))?;
-        reply(self.alloc, &request, text)
+        reply(self.alloc, &request, text, Why::Answered)
     }
 
     /// The reply to a question, from the aliases that it holds and then the chain. The caller sees to it that none of the
@@ -241,7 +262,7 @@ impl<'a, A: Allocator + Copy> Answers<'a, A> {
     pub fn reply(&mut self, waiting: &'a Waiting<A>) -> Result<Action<A>, AllocError>
         requires earlier { AllByRecursion (IsEarlier self.old.moment) waiting.now.held }
         ensures same { self.new ≡ self.old }
-        ensures reply { IfOk result (λ action. action_of action ≡ sends waiting.now (answer_of waiting.now.asked (waiting.now.held ++ self.old.chain) self.old.moment (transport_of waiting.now.client))) }
+        ensures reply { IfOk result (λ action. action_of action ≡ sends Answered waiting.now (answer_of waiting.now.asked (waiting.now.held ++ self.old.chain) self.old.moment (transport_of waiting.now.client))) }
     {
         let aliases = waiting.aliases();
         if aliases.is_empty() {
@@ -253,7 +274,7 @@ impl<'a, A: Allocator + Copy> Answers<'a, A> {
 }
 
 /// Aliases and the chain behind them, borrowed. `Err` where memory ran out.
-fn behind<'a, A: Allocator + Copy>(
+pub(crate) fn behind<'a, A: Allocator + Copy>(
     alloc: A,
     aliases: &'a [Held<A>],
     chain: &[&'a Held<A>],

@@ -21,9 +21,10 @@ fn rcode_of(why: Why) -> u8
     ensures small { result < 16 }
 {
     match why {
-        Why::Answered => 0,
+        Why::Answered | Why::Stale => 0,
         Why::BadFormat => 1,
         Why::BadOpcode | Why::NotServed => 4,
+        Why::LocalDenied => 3,
         Why::NoRoute => 5,
         Why::QuestionsFull
         | Why::InquiriesFull

@@ -160,12 +160,16 @@ asked id q = record { id = id; opcode = 0; rd = true; question = Some q }
 abbrev pub sends_query : ℕ → Peer → ℕ → Question → Action
 sends_query port to id q = ask_udp port to (written (ask_message id q))
 
-abbrev pub shows : ℕ → ℕ → Question → List Record → List Record → Action
-shows rcode id q answers authority =
+-- for this reason
+abbrev pub shows_as : Why → ℕ → ℕ → Question → List Record → List Record → Action
+shows_as why rcode id q answers authority =
     send_reply client
     (over_udp (written (full_answer (asked id q) (record { answers = answers; authority = authority; rcode = rcode })))
     (written (cut_answer (asked id q) (record { answers = answers; authority = authority; rcode = rcode }))))
-    Answered
+    why
+
+abbrev pub shows : ℕ → ℕ → Question → List Record → List Record → Action
+shows rcode id q answers authority = shows_as Answered rcode id q answers authority
 
 abbrev pub answers : ℕ → Question → List Record → Action
 answers id q records = shows 0 id q records []

@@ -33,6 +33,7 @@ followed_alike held other q onward onward' go (find.alias e) m k = by (target_of
     by (Some target) m k = go e target m k
 followed_alike held other q onward onward' go (find.no_data e) m k = refl
 followed_alike held other q onward onward' go (find.denied e) m k = refl
+followed_alike held other q onward onward' go find.local m k = refl
 followed_alike held other q onward onward' go miss m k = refl
 
 miss_alike : (routes : List Route) (n : ℕ) (entries : List Held) (more less : ℕ) (held other : List Held) (q : Question) → MissAlike (look_up routes n entries more held q) (look_up routes n entries less other q)
@@ -62,7 +63,7 @@ missed_at c n x x' l (ends e) met is = absurd (cc)
 missed_at c n x x' l too_long met is = absurd (cc)
 missed_at c n x x' l missed met is = by (route_of c l.wanted.name) is
   where
-    by : (r : Option ℕ) → fate_missed x l r ≡ waits x' → HasMissed l x'
+    by : (r : Option ℕ) → fate_missed c n x l r ≡ waits x' → HasMissed l x'
     by None is = absurd (cc)
     by (Some route) is = let same : record x { held = l.held; wanted = l.wanted } ≡ x' = cc in record { missed = met; wanted = sym (ap (λ (z : Waiting). z.wanted) same) }
 

@@ -1,6 +1,7 @@
 pub mod State
 pub mod Attempts
 pub mod LookingUp
+pub mod PastEnds
 pub mod Offering
 pub mod Steps
 pub mod Row

@@ -6,7 +6,7 @@ use Rattle.trust_rank.specs.declared.slot.Slot.{Slot}
 use Rattle.trust_rank.specs.Walks.{target_of}
 use Rattle.record_cache.specs.Values.{Held}
 use Rattle.record_cache.specs.Entries.{promoted}
-use Rattle.negative_cache.specs.Values.{Found, rows, alias, no_data, denied, miss}
+use Rattle.negative_cache.specs.Values.{Found, local, rows, alias, no_data, denied, miss}
 use Rattle.negative_cache.specs.Finding.{found}
 use Rattle.step_history.specs.Answers.{asked_at}
 
@@ -35,6 +35,7 @@ led held q onward e None = missing held q
 led held q onward e (Some target) = onward e target
 
 abbrev pub followed : List Held → Question → (Held → List (List ℕ) → Looked) → Found → Looked
+followed held q onward local = missing held q
 followed held q onward (rows e) = ended held q e
 followed held q onward (alias e) = led held q onward e (target_of e.piece.body)
 followed held q onward (no_data e) = ended held q e

@@ -25,8 +25,8 @@ use Rattle.trust_rank.specs.Walks.{most_aliases, walk_of}
 use Rattle.record_cache.specs.Values.{Held}
 use Rattle.step_values.specs.declared.event.Client.{Client}
 use Rattle.step_values.specs.declared.action.Why.TheVariants.{BadFormat, BadOpcode, NotServed, NoRoute, QuestionsFull, InquiriesFull, NoPort, Exhausted, Deadline, ChainLong}
-use Rattle.step_values.specs.Values.{Event, from_client, delivery, path_failed, tick, restart, Handed, Outcome}
-use Rattle.step_history.specs.Names.{route_of}
+use Rattle.step_values.specs.Values.{Action, Event, from_client, delivery, path_failed, tick, restart, Handed, Outcome}
+use Rattle.step_history.specs.Names.{route_of, is_local}
 use Rattle.step_history.specs.History.{is_taken, is_lame}
 use Rattle.step_history.specs.Answers.{asked_at}
 use Rattle.step_history.specs.Replies.{asked_in}
@@ -34,7 +34,8 @@ use Rattle.step_history.specs.Causes.{is_unserved}
 use Rattle.step_rules.specs.State.{Waiting, State}
 use Rattle.step_rules.specs.Attempts.{first_ask_for, plan_of, next_ask}
 use Rattle.step_rules.specs.LookingUp.{Met, ends, too_long, missed, Looked, look_up}
-use Rattle.step_rules.specs.Steps.{Done, Fate, gets, waits, start, preferring, using, idle_step, reply_step, taking_step, still_waiting, settling_step, closing_step, offering_step, failed, gives_up, answered, waits_for, fails}
+use Rattle.step_rules.specs.PastEnds.{look_up_past}
+use Rattle.step_rules.specs.Steps.{Done, Fate, gets, waits, start, preferring, using, idle_step, reply_step, taking_step, still_waiting, settling_step, closing_step, offering_step, failed, gives_up, answered, answered_past, denied_locally, waits_for, fails}
 
 -- ---- a question after its look-up
 
@@ -42,15 +43,20 @@ use Rattle.step_rules.specs.Steps.{Done, Fate, gets, waits, start, preferring, u
 abbrev pub waits_with : Waiting → Looked → Waiting
 waits_with x l = record x { held = l.held; wanted = l.wanted }
 
--- what was missed is asked for where its name has a route
-abbrev pub fate_missed : Waiting → Looked → Option ℕ → Fate
-fate_missed x l None = gets (gives_up NoRoute x)
-fate_missed x l (Some route) = waits (waits_with x l)
+-- a name that no route serves is denied where the configuration denies it, behind the aliases that lead to it; else it has
+-- no route
+abbrev pub without_server : Config → ℕ → Waiting → List Held → List (List ℕ) → Action
+without_server c n x aliases name = if is_local c name then denied_locally n x aliases else gives_up NoRoute x
+
+-- what was missed is asked for where a route serves its name
+abbrev pub fate_missed : Config → ℕ → Waiting → Looked → Option ℕ → Fate
+fate_missed c n x l None = gets (without_server c n x l.held l.wanted.name)
+fate_missed c n x l (Some route) = waits (waits_with x l)
 
 abbrev pub fate_at : Config → ℕ → Waiting → Looked → Met → Fate
 fate_at c n x l (ends e) = gets (answered n x l.held e)
 fate_at c n x l too_long = gets (gives_up ChainLong x)
-fate_at c n x l missed = fate_missed x l (route_of c l.wanted.name)
+fate_at c n x l missed = fate_missed c n x l (route_of c l.wanted.name)
 
 abbrev pub fate_of : Config → ℕ → Waiting → Looked → Fate
 fate_of c n x l = fate_at c n x l l.met
@@ -88,7 +94,7 @@ abbrev pub row_of_look_up : Config → ℕ → List ℕ → Waiting → State �
 row_of_look_up c n words x s l = row_of_fate c n words (using l.used s) (fate_of c n x l)
 
 abbrev pub row_of_route : Config → ℕ → List ℕ → Waiting → State → Option ℕ → Done
-row_of_route c n words x s None = reply_step n (gives_up NoRoute x) s
+row_of_route c n words x s None = reply_step n (without_server c n x [] x.wanted.name) s
 row_of_route c n words x s (Some route) = row_of_look_up c n words x s (look_up c.routes n s.cache.entries most_aliases [] x.wanted)
 
 abbrev pub row_of_service : Config → ℕ → List ℕ → Waiting → State → Done
@@ -119,10 +125,27 @@ abbrev pub row_of_attempt : ℕ → Ask → State → Option Ask → Done
 row_of_attempt n a s None = closing_step n a (fails NoPort a.question) None s
 row_of_attempt n a s (Some next) = closing_step n a (λ x. waits x) (Some next) s
 
+-- no try is left: what was found past its end is told, else that all failed
+abbrev pub told_past : ℕ → Waiting → Option (List Held) → Action
+told_past n x None = gives_up Exhausted x
+told_past n x (Some chain) = answered_past n x chain
+
+-- what the cache has for a question within the window, with as many aliases as it may still take; it is looked up where there
+-- is a window
+abbrev pub found_past : Config → ℕ → List Held → Waiting → Option (List Held)
+found_past c n entries x =
+    if c.limits.stale_s == 0
+    then None
+    else look_up_past c.limits.stale_s n entries (most_aliases - length x.held) x.wanted
+
+-- those that wait for this question get the last that can be told; all others wait on
+abbrev pub runs_out : Config → ℕ → List Held → Question → Waiting → Fate
+runs_out c n entries q x = if waits_for q x then gets (told_past n x (found_past c n entries x)) else waits x
+
 abbrev pub row_of_next : Config → ℕ → List ℕ → Ask → State → Next → Done
 row_of_next c n words a s (AskUdp server) = row_of_attempt n a s (next_ask c n words a s (AskUdp server))
 row_of_next c n words a s (AskTcp server) = row_of_attempt n a s (next_ask c n words a s (AskTcp server))
-row_of_next c n words a s GiveUp = closing_step n a (fails Exhausted a.question) None s
+row_of_next c n words a s GiveUp = closing_step n a (runs_out c n s.cache.entries a.question) None s
 
 -- the ask is closed; then the next one goes out, or those that wait for it are told why not
 abbrev pub row_of_failure : Config → ℕ → List ℕ → Ask → Failure → State → Done

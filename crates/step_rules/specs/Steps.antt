@@ -1,5 +1,5 @@
 -- What a step may do, and what it leaves.
-use Rattle.std.specs.Prelude.{ℕ, ◌+◌, if◌then◌else◌, Bool, List, [], ◌∷◌, ◌++◌, map, slice_set, Option, Some, None, Result, Ok, Err}
+use Rattle.std.specs.Prelude.{ℕ, ◌+◌, if◌then◌else◌, Bool, List, [], ◌∷◌, ◌++◌, length, map, slice_set, Option, Some, None, Result, Ok, Err}
 use Rattle.std.specs.List.{filter_map}
 use Rattle.dns_message.specs.Values.{Question}
 use Rattle.dns_message.specs.Questions.{same_question}
@@ -16,11 +16,11 @@ use Rattle.answer_builder.specs.declared.asked.Transport.{Transport}
 use Rattle.answer_builder.specs.declared.asked.Transport.TheVariants as transport
 use Rattle.answer_builder.specs.declared.fault.Fault.{Fault}
 use Rattle.answer_builder.specs.Values.{Asked}
-use Rattle.answer_builder.specs.Transports.{answer_of}
+use Rattle.answer_builder.specs.Transports.{answer_of, stale_answer_of, local_answer_of}
 use Rattle.step_values.specs.declared.event.Client.{Client}
 use Rattle.step_values.specs.declared.event.Client.TheVariants.{Udp as FromUdp, Tcp as FromTcp}
 use Rattle.step_values.specs.declared.action.Why.{Why}
-use Rattle.step_values.specs.declared.action.Why.TheVariants.{Answered, TooLarge}
+use Rattle.step_values.specs.declared.action.Why.TheVariants.{Answered, TooLarge, Stale, LocalDenied}
 use Rattle.step_values.specs.Values.{Action, ask_udp, ask_tcp, close_udp, close_tcp, send_reply}
 use Rattle.step_history.specs.History.{is_tcp}
 use Rattle.step_history.specs.Replies.{failure_text}
@@ -161,14 +161,22 @@ abbrev pub transport_of : Client → Transport
 transport_of (FromUdp peer) = transport.Udp
 transport_of (FromTcp conn) = transport.Tcp
 
--- an answer that fits, or a failure where it is too large (RFC 1035 4.2.2)
-abbrev pub sends : Waiting → Result (List ℕ) Fault → Action
-sends x (Ok text) = send_reply x.client text Answered
-sends x (Err fault) = gives_up TooLarge x
+-- an answer that fits, for this reason, or a failure where it is too large (RFC 1035 4.2.2)
+abbrev pub sends : Why → Waiting → Result (List ℕ) Fault → Action
+sends why x (Ok text) = send_reply x.client text why
+sends why x (Err fault) = gives_up TooLarge x
 
 -- the answer from a chain of aliases and what ends it
 abbrev pub answered : ℕ → Waiting → List Held → Held → Action
-answered n x aliases end = sends x (answer_of x.asked (aliases ++ end ∷ []) n (transport_of x.client))
+answered n x aliases end = sends Answered x (answer_of x.asked (aliases ++ end ∷ []) n (transport_of x.client))
+
+-- the answer from the aliases that it holds and, behind them, what was found past its end
+abbrev pub answered_past : ℕ → Waiting → List Held → Action
+answered_past n x found = sends Stale x (stale_answer_of x.asked (x.held ++ found) (length x.held) n (transport_of x.client))
+
+-- the answer that aliases lead to a name that the configuration denies, or that it denies its own
+abbrev pub denied_locally : ℕ → Waiting → List Held → Action
+denied_locally n x aliases = sends LocalDenied x (local_answer_of x.asked aliases n (transport_of x.client))
 
 abbrev pub waits_for : Question → Waiting → Bool
 waits_for q x = same_question x.wanted q

@@ -1,15 +1,15 @@
 -- What becomes of those that wait for one question, among all that wait.
-use Rattle.std.proofs.Common.{◌≡◌, ℕ, suc, List, [], ◌∷◌, length, Bool, true, false, cond, Option, Some, None, refl, sym, ap, ◌∙◌, arith}
-use Rattle.std.specs.Prelude.{filter, map, option_map}
+use Rattle.std.proofs.Common.{◌≡◌, List, [], ◌∷◌, length, Bool, true, false, cond, Option, Some, None, refl, sym, ap, ◌∙◌, arith}
+use Rattle.std.specs.Prelude.{filter, map}
 use Rattle.std.specs.List.{filter_map, cons_option}
 use Rattle.std.proofs.lemmas.Bool.{cond-true, cond-false}
 use Rattle.dns_message.specs.Values.{Question}
 use Rattle.step_values.specs.Values.{Action}
 use Rattle.step_replies.specs.Onward.{Onward, sent_on}
 use Rattle.step_rules.specs.State.{Waiting}
-use Rattle.step_rules.specs.Steps.{Fate, gets, waits, reply_in, waiting_in, replies, still_waiting, waits_for}
+use Rattle.step_rules.specs.Steps.{Fate, waits, reply_in, waiting_in, replies, still_waiting, waits_for}
 use Rattle.waiting_questions.specs.Settling.{left_by, settled}
-use Rattle.step_sending.specs.Sending.{Becomes, replied, sent, fate_in, fates_in, reply_of, onward_in, or_wanted, first_wanted, Become}
+use Rattle.step_sending.specs.Sending.{Becomes, replied, sent, fate_in, fates_in, reply_of, onward_in, first_wanted, Become}
 
 -- ---- one of them
 

@@ -1,5 +1,5 @@
 -- What a question is sent on with was accepted by now.
-use Rattle.std.proofs.Common.{◌≡◌, ℕ, zero, suc, List, [], ◌∷◌, ◌++◌, length, Bool, true, false, Option, None, Some, refl, sym, ap, ◌∙◌, subst, inl, inr, arith}
+use Rattle.std.proofs.Common.{◌≡◌, ℕ, zero, suc, List, [], ◌∷◌, ◌++◌, length, Option, None, Some, sym, subst, inl, inr, arith}
 use Rattle.std.specs.Prelude.{map, nat_le, ◌-◌}
 use Rattle.std.specs.List.{AllByRecursion}
 use Rattle.std.proofs.lemmas.Bool.{cond_both}
@@ -8,7 +8,7 @@ use Rattle.suffix_routes.specs.Values.{Config, Route}
 use Rattle.trust_rank.specs.Walks.{target_of, most_aliases}
 use Rattle.record_cache.specs.Values.{Held}
 use Rattle.record_cache.specs.Laws.{Among}
-use Rattle.negative_cache.specs.Values.{Found, rows, alias, no_data, denied, miss}
+use Rattle.negative_cache.specs.Values.{Found, local, rows, alias, no_data, denied, miss}
 use Rattle.negative_cache.specs.Finding.{found}
 use Rattle.negative_cache.specs.Laws.{Fits}
 use Rattle.negative_cache.proofs.CallerLemmas.{found_fits}
@@ -18,8 +18,8 @@ use Rattle.step_replies.specs.Onward.{Onward, sent_on}
 use Rattle.step_rules.specs.State.{Waiting}
 use Rattle.step_rules.specs.LookingUp.{Met, ends, too_long, missed, Looked, led, followed, one_too_many, through, look_up}
 use Rattle.step_rules.specs.Steps.{Fate, gets, waits}
-use Rattle.step_rules.specs.Row.{fate_missed, fate_at, fate_of, goes_on, too_many, without_port}
-use Rattle.step_sending.specs.Sending.{Becomes, replied, sent, fate_in, fates_in, onward_in, looked_behind, fate_behind}
+use Rattle.step_rules.specs.Row.{fate_missed, fate_at, fate_of, too_many, without_port}
+use Rattle.step_sending.specs.Sending.{Becomes, replied, sent, fate_in, fates_in, onward_in, fate_behind}
 use Rattle.step_sending.proofs.Going.{all_append}
 
 module _ (P : Held → Type 0) (routes : List Route) (n : ℕ) (entries : List Held) (all : AllByRecursion P entries) where
@@ -42,6 +42,7 @@ module _ (P : Held → Type 0) (routes : List Route) (n : ℕ) (entries : List H
       by (Some target) = go h target (alias_is q h fits)
   held_by held q onward were go (no_data h) fits = were
   held_by held q onward were go (denied h) fits = were
+  held_by held q onward were go local fits = were
   held_by held q onward were go miss fits = were
 
   -- what holds of each entry, and of the aliases that are held, holds of those that a look-up holds
@@ -53,14 +54,14 @@ module _ (P : Held → Type 0) (routes : List Route) (n : ℕ) (entries : List H
 
 -- ---- the fate of a question that waits on
 
-missed_holds : (P : Held → Type 0) (x y : Waiting) (l : Looked) (r : Option ℕ) → fate_missed x l r ≡ waits y → AllByRecursion P l.held → AllByRecursion P y.held
-missed_holds P x y l None is all = absurd (cc)
-missed_holds P x y l (Some route) is all = let same : record x { held = l.held; wanted = l.wanted } ≡ y = cc in subst (λ (z : Waiting). AllByRecursion P z.held) same all
+missed_holds : (P : Held → Type 0) (c : Config) (n : ℕ) (x y : Waiting) (l : Looked) (r : Option ℕ) → fate_missed c n x l r ≡ waits y → AllByRecursion P l.held → AllByRecursion P y.held
+missed_holds P c n x y l None is all = absurd (cc)
+missed_holds P c n x y l (Some route) is all = let same : record x { held = l.held; wanted = l.wanted } ≡ y = cc in subst (λ (z : Waiting). AllByRecursion P z.held) same all
 
 met_holds : (P : Held → Type 0) (c : Config) (n : ℕ) (x y : Waiting) (l : Looked) (m : Met) → fate_at c n x l m ≡ waits y → AllByRecursion P l.held → AllByRecursion P y.held
 met_holds P c n x y l (ends e) is all = absurd (cc)
 met_holds P c n x y l too_long is all = absurd (cc)
-met_holds P c n x y l missed is all = missed_holds P x y l (route_of c l.wanted.name) is all
+met_holds P c n x y l missed is all = missed_holds P c n x y l (route_of c l.wanted.name) is all
 
 module _ (P : Held → Type 0) (c : Config) (n : ℕ) (entries aliases : List Held) (name : List (List ℕ)) (all : AllByRecursion P entries) (lead : AllByRecursion P aliases) where
   behind_holds : (x y : Waiting) → AllByRecursion P x.held → fate_behind c n entries aliases name x ≡ waits y → AllByRecursion P y.held

@@ -1,9 +1,9 @@
 -- A look-up that goes on behind held aliases, and what it makes of a question.
-use Rattle.std.proofs.Common.{◌≡◌, ℕ, ◌+◌, ◌-◌, ◌≤◌, ◌<◌, List, [], ◌∷◌, ◌++◌, length, Bool, true, false, Option, Some, None, refl, sym, ap, ◌∙◌, subst, inl, inr, arith}
+use Rattle.std.proofs.Common.{◌≡◌, ℕ, ◌+◌, ◌-◌, ◌≤◌, ◌<◌, List, [], ◌∷◌, ◌++◌, length, Bool, false, Option, Some, None, refl, sym, ap, ◌∙◌, subst, inl, inr, arith}
 use Rattle.std.specs.Prelude.{is_none, is_some, not, map, nat_le}
 use Rattle.std.specs.List.{AllByRecursion}
 use Rattle.std.proofs.lemmas.Bool.{cond-true, cond-false, le-leb, lt-leb}
-use Rattle.std.proofs.lemmas.List.{append_assoc, map-append, length-append}
+use Rattle.std.proofs.lemmas.List.{append_assoc, length-append}
 use Rattle.dns_message.specs.Values.{Question}
 use Rattle.suffix_routes.specs.Values.{Config}
 use Rattle.trust_rank.specs.declared.slot.Slot.{Slot}
@@ -11,7 +11,7 @@ use Rattle.trust_rank.specs.Walks.{most_aliases}
 use Rattle.record_cache.specs.Values.{Held}
 use Rattle.record_cache.specs.Laws.{Among}
 use Rattle.answer_builder.specs.Transports.{answer_of}
-use Rattle.step_values.specs.declared.action.Why.TheVariants.{ChainLong}
+use Rattle.step_values.specs.declared.action.Why.TheVariants.{Answered, ChainLong}
 use Rattle.step_history.specs.Answers.{asked_at}
 use Rattle.step_history.specs.Names.{route_of}
 use Rattle.step_rules.specs.State.{Waiting}
@@ -20,7 +20,7 @@ use Rattle.step_rules.specs.LookingUp.{Looked, look_up, ends, too_long, missed}
 use Rattle.step_rules.specs.Steps.{Fate, gets, waits, gives_up, sends, transport_of}
 use Rattle.step_rules.specs.Row.{fate_missed, fate_at, goes_on, too_many}
 use Rattle.step_look_ups.specs.Seen.{Seen, seen_at, seen_of, last_target, UsesFew}
-use Rattle.step_look_ups.specs.Laws.{behind, led_to, wanted_behind}
+use Rattle.step_look_ups.specs.Laws.{behind, led_to}
 use Rattle.step_look_ups.specs.declared.looked.Met.TheVariants.{Ends, TooLong, Missed}
 use Rattle.step_look_ups.proofs.CallerLemmas.{begins_with_held, missed_wants, uses_what_is_seen}
 use Rattle.step_sending.specs.Sending.{or_name, name_behind, looked_behind, fate_behind}
@@ -61,8 +61,8 @@ module _ (c : Config) (n : ℕ) (x : Waiting) (held own : List Held) (wanted : Q
   abbrev whole : rules.Met → Looked
   whole m = record { held = held ++ own; wanted = wanted; met = m; used = used }
 
-  ends_so : (m : rules.Met) → Ends ≡ (seen_at own m).met → gets (sends x (answer_of x.asked (held ++ (seen_at own m).used) n (transport_of x.client))) ≡ fate_at c n x (whole m) m
-  ends_so (ends e) is = ap (λ (chain : List Held). gets (sends x (answer_of x.asked chain n (transport_of x.client)))) (sym (append_assoc held own (e ∷ [])))
+  ends_so : (m : rules.Met) → Ends ≡ (seen_at own m).met → gets (sends Answered x (answer_of x.asked (held ++ (seen_at own m).used) n (transport_of x.client))) ≡ fate_at c n x (whole m) m
+  ends_so (ends e) is = ap (λ (chain : List Held). gets (sends Answered x (answer_of x.asked chain n (transport_of x.client)))) (sym (append_assoc held own (e ∷ [])))
   ends_so too_long is = absurd (cc)
   ends_so missed is = absurd (cc)
 
@@ -71,7 +71,7 @@ module _ (c : Config) (n : ℕ) (x : Waiting) (held own : List Held) (wanted : Q
   too_long_so too_long is = refl
   too_long_so missed is = absurd (cc)
 
-  missed_so : (m : rules.Met) (f : Fate) → Missed ≡ (seen_at own m).met → (m ≡ missed → f ≡ fate_missed x (whole missed) (route_of c wanted.name)) → f ≡ fate_at c n x (whole m) m
+  missed_so : (m : rules.Met) (f : Fate) → Missed ≡ (seen_at own m).met → (m ≡ missed → f ≡ fate_missed c n x (whole missed) (route_of c wanted.name)) → f ≡ fate_at c n x (whole m) m
   missed_so (ends e) f is then = absurd (cc)
   missed_so too_long f is then = absurd (cc)
   missed_so missed f is then = then refl
@@ -101,16 +101,16 @@ module _ (c : Config) (n : ℕ) (x : Waiting) (entries aliases : List Held) (nam
   fate_is : fate_at c n x (behind held l) l.met ≡ fate_behind c n entries aliases name x
   fate_is = sym (ap (λ (v : Looked). fate_at c n x v v.met) behind_is)
 
-  pub ended_fate : Ends ≡ seen.met → gets (sends x (answer_of x.asked (held ++ seen.used) n (transport_of x.client))) ≡ fate_behind c n entries aliases name x
+  pub ended_fate : Ends ≡ seen.met → gets (sends Answered x (answer_of x.asked (held ++ seen.used) n (transport_of x.client))) ≡ fate_behind c n entries aliases name x
   ended_fate met =
-      ap (λ (v : Seen). gets (sends x (answer_of x.asked (held ++ v.used) n (transport_of x.client)))) is
+      ap (λ (v : Seen). gets (sends Answered x (answer_of x.asked (held ++ v.used) n (transport_of x.client)))) is
       ∙ ends_so c n x held l.held l.wanted l.used l.met (met ∙ ap (λ (v : Seen). v.met) is) ∙ fate_is
 
   pub too_long_fate : TooLong ≡ seen.met → gets (gives_up ChainLong x) ≡ fate_behind c n entries aliases name x
   too_long_fate met = too_long_so c n x held l.held l.wanted l.used l.met (met ∙ ap (λ (v : Seen). v.met) is) ∙ fate_is
 
   pub missed_fate : Missed ≡ seen.met
-      → fate_missed x (record { held = held ++ seen.used; wanted = asked_at x.wanted (name_behind seen.used name); met = missed; used = [] }) (route_of c (name_behind seen.used name)) ≡ fate_behind c n entries aliases name x
+      → fate_missed c n x (record { held = held ++ seen.used; wanted = asked_at x.wanted (name_behind seen.used name); met = missed; used = [] }) (route_of c (name_behind seen.used name)) ≡ fate_behind c n entries aliases name x
   missed_fate met = missed_so c n x held l.held l.wanted l.used l.met _ at then ∙ fate_is
     where
       at : Missed ≡ (seen_of l).met
@@ -119,17 +119,17 @@ module _ (c : Config) (n : ℕ) (x : Waiting) (entries aliases : List Held) (nam
       used_is : seen.used ≡ l.held
       used_is = ap (λ (v : Seen). v.used) is ∙ seen_missed l.held l.met at
 
-      then : l.met ≡ missed → fate_missed x (record { held = held ++ seen.used; wanted = asked_at x.wanted (name_behind seen.used name); met = missed; used = [] }) (route_of c (name_behind seen.used name))
-          ≡ fate_missed x (record { held = held ++ l.held; wanted = l.wanted; met = missed; used = l.used }) (route_of c l.wanted.name)
+      then : l.met ≡ missed → fate_missed c n x (record { held = held ++ seen.used; wanted = asked_at x.wanted (name_behind seen.used name); met = missed; used = [] }) (route_of c (name_behind seen.used name))
+          ≡ fate_missed c n x (record { held = held ++ l.held; wanted = l.wanted; met = missed; used = l.used }) (route_of c l.wanted.name)
       then m =
           let wants : asked_at x.wanted (name_behind seen.used name) ≡ l.wanted =
           ap (λ (hs : List Held). asked_at x.wanted (name_behind hs name)) used_is ∙ sym (wanted_is x.wanted name (last_target l.held)) ∙ sym (missed_wants c.routes n entries more (asked_at x.wanted name) m) in
           by (held ++ seen.used) (held ++ l.held) (asked_at x.wanted (name_behind seen.used name)) l.wanted (ap (λ (hs : List Held). held ++ hs) used_is) wants (route_of c l.wanted.name)
         where
-          by : (hs ks : List Held) (w v : Question) → hs ≡ ks → w ≡ v → (r : Option ℕ) → fate_missed x (record { held = hs; wanted = w; met = missed; used = [] }) (route_of c w.name) ≡ fate_missed x (record { held = ks; wanted = v; met = missed; used = l.used }) (route_of c v.name)
-          by hs ks w v e f r = (λ i. fate_missed x (record { held = e i; wanted = f i; met = missed; used = [] }) (route_of c (f i).name)) ∙ same_used (route_of c v.name)
+          by : (hs ks : List Held) (w v : Question) → hs ≡ ks → w ≡ v → (r : Option ℕ) → fate_missed c n x (record { held = hs; wanted = w; met = missed; used = [] }) (route_of c w.name) ≡ fate_missed c n x (record { held = ks; wanted = v; met = missed; used = l.used }) (route_of c v.name)
+          by hs ks w v e f r = (λ i. fate_missed c n x (record { held = e i; wanted = f i; met = missed; used = [] }) (route_of c (f i).name)) ∙ same_used (route_of c v.name)
             where
-              same_used : (o : Option ℕ) → fate_missed x (record { held = ks; wanted = v; met = missed; used = [] }) o ≡ fate_missed x (record { held = ks; wanted = v; met = missed; used = l.used }) o
+              same_used : (o : Option ℕ) → fate_missed c n x (record { held = ks; wanted = v; met = missed; used = [] }) o ≡ fate_missed c n x (record { held = ks; wanted = v; met = missed; used = l.used }) o
               same_used None = refl
               same_used (Some route) = refl
 
@@ -143,9 +143,9 @@ none_is None b is none = absurd (cc)
 none_is (Some x) b is none = refl
 
 -- it waits on, since the name has a route
-pub missed_on : (x : Waiting) (hs ks : List Held) (w v : Question) (r : Option ℕ) → is_none r ≡ false → hs ≡ ks → w ≡ v → waits (record x { held = hs; wanted = w }) ≡ fate_missed x (record { held = ks; wanted = v; met = missed; used = [] }) r
-missed_on x hs ks w v None some e f = absurd (cc)
-missed_on x hs ks w v (Some route) some e f = λ i. waits (record x { held = e i; wanted = f i })
+pub missed_on : (c : Config) (n : ℕ) (x : Waiting) (hs ks : List Held) (w v : Question) (r : Option ℕ) → is_none r ≡ false → hs ≡ ks → w ≡ v → waits (record x { held = hs; wanted = w }) ≡ fate_missed c n x (record { held = ks; wanted = v; met = missed; used = [] }) r
+missed_on c n x hs ks w v None some e f = absurd (cc)
+missed_on c n x hs ks w v (Some route) some e f = λ i. waits (record x { held = e i; wanted = f i })
 
 -- a look-up that missed used no more than was left
 pub few_missed : (held : List Held) (more : ℕ) (seen : Seen) → UsesFew more seen → more + length held ≡ 8 → seen.met ≡ Missed → length (held ++ seen.used) ≤ 8

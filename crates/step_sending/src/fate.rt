@@ -9,8 +9,9 @@ ghost use Rattle.record_cache.specs.Values.{Held as HeldValue};
 ghost use Rattle.step_history.specs.Answers.{asked_at};
 ghost use Rattle.step_history.specs.Names.{route_of};
 ghost use Rattle.step_rules.specs.LookingUp.{look_up, missed};
+ghost use Rattle.step_values.specs.declared.action.Why.TheVariants.{Answered};
 ghost use Rattle.step_rules.specs.Steps.{gets, gives_up, sends, transport_of};
-ghost use Rattle.step_rules.specs.Row.{fate_missed, without_port};
+ghost use Rattle.step_rules.specs.Row.{fate_missed, without_port, without_server};
 ghost use Rattle.step_look_ups.specs.Seen.{seen_of};
 ghost use Rattle.step_look_ups.specs.declared.looked.Met.{Met};
 ghost use Rattle.step_sending.specs.Sending.{becomes, fate_in, fate_behind, name_behind};
@@ -21,7 +22,7 @@ use dns_name::Name;
 use record_cache::Held;
 use std::alloc::{AllocError, Allocator, Global};
 use step_look_ups::{Looked, Met};
-use step_replies::{SentOn, Waiting, answer, failure};
+use step_replies::{SentOn, Waiting, answer, failure, without_server};
 use step_values::{Action, Why};
 use suffix_routes::Config;
 
@@ -75,27 +76,46 @@ fn answers<A: Allocator + Copy>(
     moment: u64,
 ) -> Result<Fate<A>, AllocError>
     requires { AllByRecursion (IsEarlier moment) (lent chain.now) }
-    ensures { IfOk result (λ fate. fate_in waiting.now (becomes fate) ≡ gets (sends waiting.now (answer_of waiting.now.asked (lent chain.now) moment (transport_of waiting.now.client)))) }
+    ensures { IfOk result (λ fate. fate_in waiting.now (becomes fate) ≡ gets (sends Answered waiting.now (answer_of waiting.now.asked (lent chain.now) moment (transport_of waiting.now.client)))) }
 {
     let action = answer(alloc, &waiting.request(), chain, moment)?;
     Ok(Fate::Reply(action))
 }
 
-/// The question waits on with the aliases of this chain, of which there are at most eight, for this name, or fails where the
-/// name has no route.
+/// No route serves the name that the aliases of this chain lead the question to: it is denied, or has no route.
+fn ends_without_server<A: Allocator + Copy>(
+    alloc: A,
+    config: &Config<A>,
+    moment: u64,
+    waiting: &Waiting<A>,
+    chain: &[&Held<A>],
+    name: &Name<A>,
+) -> Result<Fate<A>, AllocError>
+    requires { AllByRecursion (IsEarlier moment) (lent chain.now) }
+    ensures { IfOk result (λ fate. fate_in waiting.now (becomes fate) ≡ gets (without_server config.now moment waiting.now (lent chain.now) name.now)) }
+{
+    let is_denied = config.denies(name);
+    let action = without_server(alloc, &waiting.request(), chain, is_denied, moment)?;
+    Ok(Fate::Reply(action))
+}
+
+/// The question waits on with the aliases of this chain, of which there are at most eight, for this name, or gets its reply
+/// where no route serves the name.
 fn waits_on<A: Allocator + Copy>(
     alloc: A,
     config: &Config<A>,
+    moment: u64,
     waiting: &Waiting<A>,
     chain: &[&Held<A>],
     name: Name<A>,
 ) -> Result<Fate<A>, AllocError>
-    requires { length (lent chain.now) ≤ 8 }
+    requires few { length (lent chain.now) ≤ 8 }
+    requires earlier { AllByRecursion (IsEarlier moment) (lent chain.now) }
     ensures { IfOk result (λ fate. fate_in waiting.now (becomes fate)
-        ≡ fate_missed waiting.now (record { held = lent chain.now; wanted = asked_at waiting.now.wanted name; met = missed; used = [] }) (route_of config.now name)) }
+        ≡ fate_missed config.now moment waiting.now (record { held = lent chain.now; wanted = asked_at waiting.now.wanted name; met = missed; used = [] }) (route_of config.now name)) }
 {
     if config.serving_route_of(&name).is_none() {
-        return fails(alloc, waiting, Why::NoRoute);
+        return ends_without_server(alloc, config, moment, waiting, chain, &name);
     }
     let own = waiting.wanted();
     let wanted = Question {
@@ -144,7 +164,7 @@ pub(crate) fn fate_of<A: Allocator + Copy>(
         Met::TooLong => fails(alloc, waiting, Why::ChainLong),
         Met::Missed => {
             let name = missed_name(alloc, looked, lead.name)?;
-            waits_on(alloc, config, waiting, &chain, name)
+            waits_on(alloc, config, moment, waiting, &chain, name)
         }
     }
 }

@@ -17,7 +17,7 @@ use Rattle.outstanding.specs.Lists.{of_question, on_path as ask_on}
 use Rattle.outstanding.specs.Values.{Ask}
 use Rattle.step_values.specs.declared.event.Client.{Client}
 use Rattle.step_values.specs.declared.action.Why.{Why}
-use Rattle.step_values.specs.declared.action.Why.TheVariants.{Answered, BadFormat, BadOpcode, NotServed, NoRoute, QuestionsFull, InquiriesFull, NoPort, ChainLong}
+use Rattle.step_values.specs.declared.action.Why.TheVariants.{Answered, BadFormat, BadOpcode, NotServed, QuestionsFull, InquiriesFull, NoPort, ChainLong}
 use Rattle.step_values.specs.Values.{from_client, Action, ask_udp, ask_tcp, close_udp, close_tcp, send_reply, Handed, Step}
 use Rattle.plain_list.specs.Octets.{AreOctets}
 use Rattle.step_history.specs.Names.{route_of}
@@ -25,19 +25,19 @@ use Rattle.step_history.specs.History.{moment_at, listed, is_taken, Reads, Nothi
 use Rattle.step_history.specs.Draws.{drawn}
 use Rattle.step_history.specs.Causes.{is_unserved}
 use Rattle.step_history.specs.Replies.{asked_in, failure_text}
-use Rattle.step_history.specs.Answers.{Chain}
+use Rattle.step_history.specs.Answers.{Chain, Leads}
 use Rattle.step_history.specs.Sound.{unanswered, RightReply, Replies, FromCache, SameAsEarlierFromCache}
 use Rattle.step_rules.specs.State.{Waiting, State}
 use Rattle.step_rules.specs.Attempts.{peer_at, over_udp, preferred_on, first_ask, first_ask_on}
 use Rattle.step_rules.specs.Steps.{Done, reply_step, gives_up, answered, asks, ask_list, tcp_count}
 use Rattle.step_rules.specs.LookingUp.{Met, ends, too_long, missed, Looked, promoted_all}
-use Rattle.step_rules.specs.Row.{is_due_at, waits_with, taken_now, fate_missed, fate_at, row_of_opening, row_of_inquiry, row_of_waiting, row_of_fate, row_of_route, row_of_question, row_of_request}
+use Rattle.step_rules.specs.Row.{is_due_at, waits_with, taken_now, without_server, fate_missed, fate_at, row_of_opening, row_of_inquiry, row_of_waiting, row_of_fate, row_of_route, row_of_question, row_of_request}
 use Rattle.record_cache.specs.Values.{Held, Cache}
 use Rattle.step_keeping.specs.Kept.{CanBeTold, looked, IsStillFound, IsCached}
 use Rattle.step_keeping.specs.Chains.{look_from, IsRightEnd, EndsRight, IsSized, IsRight}
 use Rattle.step_soundness.specs.Explains.{shown, Comes, Waits, IsBelow, Explains}
 use Rattle.step_keeping.proofs.CallerLemmas.{quiet_steps_keep, promotions_keep_cached, look_ups_are_right, answers_from_cache_agree, promotions_find_the_same}
-use Rattle.step_soundness.proofs.Answering.{IsTold, answered_told, answer_owned}
+use Rattle.step_soundness.proofs.Answering.{IsTold, answered_told, answer_owned, without_server_owned, without_server_fails}
 use Rattle.step_soundness.proofs.Actions.{OwnsReply, asks_answer_none}
 use Rattle.step_keeping.proofs.CallerLemmas.{All-append}
 use Rattle.step_soundness.proofs.SendingOn.{question_led}
@@ -88,6 +88,28 @@ module _ (c : Config) (past : List Step) (w : List (List ℕ)) (s : State) (x : 
       never : (octets : List ℕ) → Replies (send_reply client text why ∷ []) octets → ⊥
       never octets (inl f) = failure f.0
       never octets (inr f) = f
+
+  -- a reply that tells no success, with the cache as it is or as a look-up left it
+  told_at_once : (cache : Cache) → IsCached c past s.moment cache → is_taken request ≡ true → (reply : Action)
+      → ((a : Action) → reply ≡ a → OwnsReply c (step (a ∷ []) ∷ past) (length past) a)
+      → ((cl : Client) (octets : List ℕ) (why : Why) → reply ≡ send_reply cl octets why → why ≡ Answered → ⊥)
+      → P (reply_step n reply (record s { cache = cache }))
+  told_at_once cache was takes reply owned silent = by reply refl
+    where
+      by : (a : Action) → reply ≡ a → P (reply_step n a (record s { cache = cache }))
+      by (send_reply cl octets why) is = λ more_is. (
+        length past ∷ [],
+        at_once_explained c past w s x handed unkept more n cl octets why cache (record s { cache = cache; moment = n }) refl (refl, moment) takes (no_delivery (send_reply cl octets why ∷ []))
+            (owned (send_reply cl octets why) is (concat w)) (λ q text f. absurd (never text f.1)) (cached (send_reply cl octets why ∷ []) cache was (λ q text f. absurd (never text f.1))) more_is,
+      )
+        where
+          never : (text : List ℕ) → Replies (send_reply cl octets why ∷ []) text → ⊥
+          never text (inl f) = silent cl octets why is f.0
+          never text (inr f) = f
+      by (ask_udp port server octets) is = absurd (owned (ask_udp port server octets) is)
+      by (ask_tcp conn server octets) is = absurd (owned (ask_tcp conn server octets) is)
+      by (close_udp port) is = absurd (owned (close_udp port) is)
+      by (close_tcp conn) is = absurd (owned (close_tcp conn) is)
 
   asks_number : length (listed past) ≡ length s.asks
   asks_number = sym (ap length x.asks) ∙ length-map s.asks shown
@@ -309,22 +331,18 @@ module _ (c : Config) (past : List Step) (w : List (List ℕ)) (s : State) (x : 
       hit : P (reply_step n (answered n y l.held end) (record s { cache = used }))
       hit = hit_by (answered n y l.held end) refl
 
+    -- a name that no route serves is denied, or told to have no route
+    unserved : (actions : List Action) (aliases : List Held) (last : Question) (a : Action) → Leads (look_from c (step actions) past (step actions ∷ past)) q aliases last → route_of c last.name ≡ None
+        → AllByRecursion (CanBeTold n) aliases → without_server c n y aliases last.name ≡ a → OwnsReply c (step actions ∷ past) (length past) a
+    unserved actions aliases last a leads none told_so is =
+        subst (OwnsReply c (step actions ∷ past) (length past)) is
+        (without_server_owned c n (step actions ∷ past) y (length past) (comes actions) moment aliases last leads none (λ e. refl) told_so)
+
     -- what its look-up missed is asked for, where its name has a route
-    missed_row : l.met ≡ missed → (r : Option ℕ) → route_of c l.wanted.name ≡ r → P (row_of_fate c n words (record s { cache = used }) (fate_missed y l r))
-    missed_row met None none = refused used used_is _ NoRoute takes (λ e. cc) (
-      told NoRoute,
-      record {
-        opcode = opcode;
-        question = q;
-        reads = reads;
-        served = served;
-        aliases = l.held;
-        last = l.wanted;
-        leads = record { few = subst (λ (m : Met). IsSized m (length l.held)) met (right (gives_up NoRoute y ∷ [])).sized; follows = (right (gives_up NoRoute y ∷ [])).follows };
-        none = none;
-        at_once = λ e. refl;
-      },
-    )
+    missed_row : l.met ≡ missed → (r : Option ℕ) → route_of c l.wanted.name ≡ r → P (row_of_fate c n words (record s { cache = used }) (fate_missed c n y l r))
+    missed_row met None none = told_at_once used used_is takes (without_server c n y l.held l.wanted.name)
+        (λ a is. unserved (a ∷ []) l.held l.wanted a (record { few = subst (λ (m : Met). IsSized m (length l.held)) met (right (a ∷ [])).sized; follows = (right (a ∷ [])).follows }) none (right (a ∷ [])).told is)
+        (without_server_fails c n y l.held l.wanted.name)
     missed_row met (Some route) on = waited met route on
 
     too_long_row : l.met ≡ too_long → P (reply_step n (gives_up ChainLong y) (record s { cache = used }))
@@ -346,7 +364,9 @@ module _ (c : Config) (past : List Step) (w : List (List ℕ)) (s : State) (x : 
     looked_up missed met = missed_row met (route_of c l.wanted.name) refl
 
     routed : (r : Option ℕ) → route_of c q.name ≡ r → P (row_of_route c n words y s r)
-    routed None none = refused s.cache x.cache _ NoRoute takes (λ e. cc) (told NoRoute, record { opcode = opcode; question = q; reads = reads; served = served; aliases = []; last = q; leads = record { few = omega arith; follows = refl }; none = none; at_once = λ e. refl })
+    routed None none = told_at_once s.cache x.cache takes (without_server c n y [] q.name)
+        (λ a is. unserved (a ∷ []) [] q a (record { few = omega arith; follows = refl }) none tt is)
+        (without_server_fails c n y [] q.name)
     routed (Some route) on = looked_up l.met refl
 
   asked : is_taken request ≡ true → (header_in request).opcode ≡ 0 → (r : Option Question) → one_question request ≡ r → P (row_of_question c n words client (header_in request) s r)

@@ -1,8 +1,8 @@
 -- A failed attempt, a failed path and the passing of time leave explained what was explained.
 use Rattle.std.proofs.Common.{◌≡◌, ◌⊎◌, ℕ, zero, suc, ◌+◌, ◌-◌, ◌^◌, ◌<◌, ◌≤◌, List, [], ◌∷◌, ◌++◌, length, Bool, true, false, cond, refl, sym, ap, ◌∙◌, subst, inl, inr, arith, Option, Some, None}
-use Rattle.std.specs.Prelude.{◌==◌, ◌||◌, min, max, map, nat_le, slice_get, get_or}
+use Rattle.std.specs.Prelude.{Result, Ok, Err, ◌==◌, ◌||◌, min, max, map, nat_le, slice_get, get_or}
 use Rattle.std.specs.List.{concat, list_any, AllByRecursion}
-use Rattle.std.proofs.lemmas.Bool.{cond_both, cond-false, eqb-true}
+use Rattle.std.proofs.lemmas.Bool.{cond_both, cond-false, eqb-true, true≢false}
 use Rattle.std.proofs.lemmas.List.{length-map}
 use Rattle.dns_message.specs.Values.{Question}
 use Rattle.dns_message.specs.Questions.{same_question}
@@ -20,9 +20,11 @@ use Rattle.retry_failover.specs.declared.Next.{Next}
 use Rattle.retry_failover.specs.declared.Next.TheVariants.{AskUdp, AskTcp, GiveUp}
 use Rattle.retry_failover.specs.Table.{next_server, after_failure}
 use Rattle.step_values.specs.declared.action.Why.{Why}
-use Rattle.step_values.specs.declared.action.Why.TheVariants.{NoPort, Exhausted}
+use Rattle.step_values.specs.declared.action.Why.TheVariants.{NoPort, Exhausted, Stale}
 use Rattle.step_values.specs.Values.{Event, request_in, Action, Handed, Step}
-use Rattle.record_cache.specs.Values.{Cache}
+use Rattle.record_cache.specs.Values.{Held, Cache}
+use Rattle.answer_builder.specs.declared.fault.Fault.{Fault}
+use Rattle.answer_builder.specs.Transports.{stale_answer_of}
 use Rattle.step_history.specs.History.{is_restart_event, is_taken_request, moment_at, listed, tcp_asks, on_path, closes_path, takes_question, Look, NothingAccepted}
 use Rattle.step_history.specs.Draws.{drawn, drawn_by_tcp}
 use Rattle.step_history.specs.Causes.{ClosesAsk, LastFailed, NoneAsks}
@@ -31,15 +33,17 @@ use Rattle.step_history.specs.Sound.{RightReply, FromCache, AsksIn}
 use Rattle.step_history.specs.Replies.{failure_text}
 use Rattle.step_rules.specs.State.{Waiting, State}
 use Rattle.step_rules.specs.Attempts.{peer_at, over_udp, over_tcp, freed_by, plan_of, next_ask}
-use Rattle.step_rules.specs.Steps.{Done, Fate, gets, waits, gives_up, waits_for, fails, asks, asks_by, ask_list, tcp_count, closing, replies, closing_step, settling_step, without_ask}
-use Rattle.step_rules.specs.Row.{is_due_at, row_of_attempt, row_of_next, row_of_failure}
-use Rattle.step_keeping.specs.Kept.{IsCached}
+use Rattle.step_rules.specs.Steps.{Done, Fate, gets, waits, gives_up, transport_of, sends, answered_past, waits_for, fails, asks, asks_by, ask_list, tcp_count, closing, replies, closing_step, settling_step, without_ask}
+use Rattle.step_rules.specs.PastEnds.{look_up_past}
+use Rattle.step_rules.specs.Row.{is_due_at, told_past, found_past, runs_out, row_of_attempt, row_of_next, row_of_failure}
+use Rattle.step_keeping.specs.Kept.{CanBeTold, IsCached}
 use Rattle.step_keeping.specs.Chains.{GoesOn}
-use Rattle.step_keeping.proofs.CallerLemmas.{leads_stay_leads}
+use Rattle.step_keeping.proofs.CallerLemmas.{leads_stay_leads, look_ups_past_ends_are_right, told_later, All-weaker}
+use Rattle.step_history.specs.Answers.{Leads}
 use Rattle.step_keeping.proofs.CallerLemmas.{quiet_steps_keep}
-use Rattle.step_soundness.proofs.Answering.{comes_later, owns, failure_told}
+use Rattle.step_soundness.proofs.Answering.{comes_later, owns, failure_told, stale_owned}
 use Rattle.step_keeping.specs.Chains.{look_from}
-use Rattle.step_soundness.specs.Explains.{shown, Waits, Tried, IsBelow, ArePreferred, Explains}
+use Rattle.step_soundness.specs.Explains.{shown, Comes, Waits, Tried, IsBelow, ArePreferred, Explains}
 use Rattle.step_soundness.proofs.Names.{same_question-sym, same_question-trans}
 use Rattle.step_keeping.proofs.CallerLemmas.{All-append, All-filter}
 use Rattle.step_soundness.proofs.Fates.{Fated, fates_in, fated, fated_fates, fated_numbers, fated_each}
@@ -69,6 +73,25 @@ failed_alike c q q' same (s ∷ past) (suc k) h = (h.0, by (λ j. failed_alike c
 pub fails_speak : (why : Why) (q : Question) (xs : List Waiting) → AllByRecursion Speaks (map (fails why q) xs)
 fails_speak why q [] = tt
 fails_speak why q (x ∷ xs) = (cond_both (waits_for q x) (gets (gives_up why x)) (waits x) Speaks (λ _. tt) (λ _. tt), fails_speak why q xs)
+
+sends_speak : (why : Why) (x : Waiting) (r : Result (List ℕ) Fault) → Speaks (gets (sends why x r))
+sends_speak why x (Ok text) = tt
+sends_speak why x (Err fault) = tt
+
+past_speaks : (n : ℕ) (x : Waiting) (r : Option (List Held)) → Speaks (gets (told_past n x r))
+past_speaks n x None = tt
+past_speaks n x (Some found) = sends_speak Stale x (stale_answer_of x.asked (x.held ++ found) (length x.held) n (transport_of x.client))
+
+-- so is the last that can be told
+runs_out_speak : (c : Config) (n : ℕ) (entries : List Held) (q : Question) (xs : List Waiting) → AllByRecursion Speaks (map (runs_out c n entries q) xs)
+runs_out_speak c n entries q [] = tt
+runs_out_speak c n entries q (x ∷ xs) = (cond_both (waits_for q x) (gets (told_past n x (found_past c n entries x))) (waits x) Speaks (λ _. past_speaks n x (found_past c n entries x)) (λ _. tt), runs_out_speak c n entries q xs)
+
+-- where something was found past its end, there is a window
+found_so : (window : ℕ) (b : Bool) (r : Option (List Held)) (found : List Held) → (window == 0) ≡ b → cond b None r ≡ Some found → (1 ≤ window) × (r ≡ Some found)
+found_so window true r found is e = absurd (cc)
+found_so zero false r found is e = absurd (true≢false is)
+found_so (suc k) false r found is e = (omega arith, e)
 
 pub waits_speak : (xs : List Waiting) → AllByRecursion Speaks (map (λ x. waits x) xs)
 waits_speak [] = tt
@@ -198,40 +221,71 @@ module _ (c : Config) (past : List Step) (w : List (List ℕ)) (s : State) (x : 
           (λ t. owns c (step actions ∷ past) y.client y.asked i (comes_later (step actions) past y.client y.asked i runs was.comes) why (failure_text y.asked why) (right y i was t))
           (λ _. waits_later c (step actions) past y i (on_now actions) was)
 
-      abbrev given_up : List Fate
-      given_up = map (fails Exhausted a.question) s.waiting
+      -- what is told where no try is left
+      abbrev last_of : Waiting → Fate
+      last_of = runs_out c n s.cache.entries a.question
 
-      left_listed : map shown (without_path a.path s.asks) ≡ listed (step (actions_by given_up None) ∷ past)
+      abbrev lasts : List Fate
+      lasts = map last_of s.waiting
+
+      lasts_speak : AllByRecursion Speaks lasts
+      lasts_speak = runs_out_speak c n s.cache.entries a.question s.waiting
+
+      left_listed : map shown (without_path a.path s.asks) ≡ listed (step (actions_by lasts None) ∷ past)
       left_listed =
           ap (map shown) (sym (append_nil (without_path a.path s.asks)))
-          ∙ sym (listed_settled (moment_at (step (actions_by given_up None) ∷ past)) (Some a) given_up None s.asks (fails_speak Exhausted a.question s.waiting) tt)
-          ∙ ap (λ ls. Rattle.step_history.specs.History.asks_after (moment_at (step (actions_by given_up None) ∷ past)) (actions_by given_up None) ls) x.asks
+          ∙ sym (listed_settled (moment_at (step (actions_by lasts None) ∷ past)) (Some a) lasts None s.asks lasts_speak tt)
+          ∙ ap (λ ls. Rattle.step_history.specs.History.asks_after (moment_at (step (actions_by lasts None) ∷ past)) (actions_by lasts None) ls) x.asks
           ∙ sym (cond-false (is_restart_event e) _ _ runs)
 
       -- all tries are used
-      exhausted_row : (a.used == c.limits.tries) ≡ true → P (closing_step n a (fails Exhausted a.question) None s)
-      exhausted_row last = closed_row (fails Exhausted a.question) None s.preferred s.cache 0 (fails_speak Exhausted a.question s.waiting)
-          (told Exhausted (actions_by given_up None) (λ y i was t k. (
-            failure_told past y.client y.asked i was.comes Exhausted,
-            record {
-              question = was.comes.question;
-              reads = was.comes.reads;
-              aliases = y.held;
-              last = y.wanted;
-              leads = leads_stay_leads c was.comes.asked (step (actions_by given_up None)) was.comes.before past was.comes.question y.held y.wanted (on_now (actions_by given_up None)) was.leads;
-              failed = subst (LastFailed c y.wanted (step (actions_by given_up None) ∷ past)) (sym tried_a.used ∙ eqb-true a.used c.limits.tries last) (runs, inl (closes y t, quiet (actions_by given_up None), failed_alike c a.question y.wanted (same_question-sym y.wanted a.question t) past tried_a.before tried_a.failed));
-              closed = closes y t;
-              none_left = none y t;
-            },
-          )))
-          tt tt tt tt tt x.preferred (cached_now (actions_by given_up None))
-        where
-          closes : (y : Waiting) → same_question y.wanted a.question ≡ true → ClosesAsk y.wanted (step (actions_by given_up None)) past
-          closes y t = closes_ask given_up None (fails_speak Exhausted a.question s.waiting) y.wanted (same_question-sym y.wanted a.question t)
+      module _ (last : (a.used == c.limits.tries) ≡ true) (y : Waiting) (i : ℕ) (was : Waits c past y i) (t : same_question y.wanted a.question ≡ true) where
+        abbrev now_of : List Step
+        now_of = step (actions_by lasts None) ∷ past
 
-          none : (y : Waiting) → same_question y.wanted a.question ≡ true → NoneAsks y.wanted (listed (step (actions_by given_up None) ∷ past))
-          none y t = subst (NoneAsks y.wanted) left_listed (none_asks c past y.wanted (without_path a.path s.asks) (All-filter (Tried c past) (λ b. Rattle.std.specs.Prelude.not (same_path b.path a.path)) s.asks x.tried)
-              (none_same y.wanted (without_path a.path s.asks) (question_free a.path y.wanted s.asks a x.asks_are.in_turn on (same_question-sym y.wanted a.question t))))
+        abbrev comes : Comes now_of y.client y.asked i
+        comes = comes_later (step (actions_by lasts None)) past y.client y.asked i runs was.comes
+
+        leads : Leads (look_from c was.comes.asked was.comes.before now_of) was.comes.question y.held y.wanted
+        leads = leads_stay_leads c was.comes.asked (step (actions_by lasts None)) was.comes.before past was.comes.question y.held y.wanted (on_now (actions_by lasts None)) was.leads
+
+        closes : ClosesAsk y.wanted (step (actions_by lasts None)) past
+        closes = closes_ask lasts None lasts_speak y.wanted (same_question-sym y.wanted a.question t)
+
+        failed : LastFailed c y.wanted now_of c.limits.tries
+        failed = subst (LastFailed c y.wanted now_of) (sym tried_a.used ∙ eqb-true a.used c.limits.tries last)
+            (runs, inl (closes, quiet (actions_by lasts None), failed_alike c a.question y.wanted (same_question-sym y.wanted a.question t) past tried_a.before tried_a.failed))
+
+        none : NoneAsks y.wanted (listed now_of)
+        none = subst (NoneAsks y.wanted) left_listed (none_asks c past y.wanted (without_path a.path s.asks) (All-filter (Tried c past) (λ b. Rattle.std.specs.Prelude.not (same_path b.path a.path)) s.asks x.tried)
+            (none_same y.wanted (without_path a.path s.asks) (question_free a.path y.wanted s.asks a x.asks_are.in_turn on (same_question-sym y.wanted a.question t))))
+
+        held_told : AllByRecursion (CanBeTold n) y.held
+        held_told = All-weaker (CanBeTold (moment_at past)) (CanBeTold n) (λ o k. told_later (moment_at past) n o (let le = later_moment in let was_at : s.moment ≡ moment_at past = x.moment in omega (arith, le, was_at)) k) y.held was.told
+
+        found_owned : (found : List Held) → found_past c n s.cache.entries y ≡ Some found → OwnsReply c now_of i (answered_past n y found)
+        found_owned found is =
+            let so = found_so c.limits.stale_s (c.limits.stale_s == 0) (look_up_past c.limits.stale_s n s.cache.entries (8 - length y.held) y.wanted) found refl is in
+            let few : length y.held ≤ 8 = leads.few in
+            stale_owned c n now_of y i comes (moment_now (actions_by lasts None)) leads failed closes none so.0 held_told (8 - length y.held) found (omega (arith, few))
+            (look_ups_past_ends_are_right c was.comes.asked (step (actions_by lasts None)) was.comes.before past s.moment n s.cache y.wanted (8 - length y.held) found x.cache x.moment (runs, quiet (actions_by lasts None)) (moment_now (actions_by lasts None)) so.1)
+
+        last_owned : OwnsReply c now_of i (told_past n y (found_past c n s.cache.entries y))
+        last_owned = by (found_past c n s.cache.entries y) refl
+          where
+            by : (r : Option (List Held)) → found_past c n s.cache.entries y ≡ r → OwnsReply c now_of i (told_past n y r)
+            by None is = owns c now_of y.client y.asked i comes Exhausted (failure_text y.asked Exhausted) (λ k. (
+              failure_told past y.client y.asked i was.comes Exhausted,
+              record { question = was.comes.question; reads = was.comes.reads; aliases = y.held; last = y.wanted; leads = leads; failed = failed; closed = closes; none_left = none },
+            ))
+            by (Some found) is = found_owned found is
+
+      exhausted_row : (a.used == c.limits.tries) ≡ true → P (closing_step n a last_of None s)
+      exhausted_row last = closed_row last_of None s.preferred s.cache 0 lasts_speak
+          (λ y i was. cond_both (waits_for a.question y) (gets (told_past n y (found_past c n s.cache.entries y))) (waits y) (λ v. Fated (OwnsReply c (step (actions_by lasts None) ∷ past)) (Waits c (step (actions_by lasts None) ∷ past)) v i)
+          (λ t. last_owned last y i was t)
+          (λ _. waits_later c (step (actions_by lasts None)) past y i (on_now (actions_by lasts None)) was))
+          tt tt tt tt tt x.preferred (cached_now (actions_by lasts None))
 
       -- no path is free for the next ask
       no_path_row : (actions_by (map (fails NoPort a.question) s.waiting) None ≡ actions_by (map (fails NoPort a.question) s.waiting) None)

@@ -68,7 +68,7 @@ sent_at c n y l (ends e) is = tt
 sent_at c n y l too_long is = tt
 sent_at c n y l missed is = by (route_of c l.wanted.name) refl
   where
-    by : (r : Option ℕ) → route_of c l.wanted.name ≡ r → IsSent c (fate_missed y l r)
+    by : (r : Option ℕ) → route_of c l.wanted.name ≡ r → IsSent c (fate_missed c n y l r)
     by None on = tt
     by (Some route) on = (is, route, on)
 

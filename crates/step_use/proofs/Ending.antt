@@ -1,10 +1,10 @@
 -- Where what stands answers a question, its look-up ends at a set or a denial.
-use Rattle.std.proofs.Common.{◌≡◌, ℕ, zero, suc, List, [], ◌∷◌, ◌++◌, refl, sym, ap, ◌∙◌, Option, None, Some}
+use Rattle.std.proofs.Common.{◌≡◌, ℕ, zero, suc, List, [], ◌∷◌, ◌++◌, refl, Option, None, Some}
 use Rattle.dns_message.specs.Values.{Question}
 use Rattle.suffix_routes.specs.Values.{Route}
 use Rattle.trust_rank.specs.Walks.{target_of}
 use Rattle.record_cache.specs.Values.{Held}
-use Rattle.negative_cache.specs.Values.{Found, rows, alias, no_data, denied, miss}
+use Rattle.negative_cache.specs.Values.{Found, local, rows, alias, no_data, denied, miss}
 use Rattle.negative_cache.specs.Finding.{found}
 use Rattle.step_history.specs.Answers.{asked_at}
 use Rattle.step_rules.specs.LookingUp.{Looked, ends, led, followed, one_too_many, through, look_up}
@@ -24,6 +24,7 @@ followed_ends held q onward On goes (rows e) is = (e, refl)
 followed_ends held q onward On goes (alias e) is = led_ends held q onward On goes e (target_of e.piece.body) is
 followed_ends held q onward On goes (no_data e) is = (e, refl)
 followed_ends held q onward On goes (denied e) is = (e, refl)
+followed_ends held q onward On goes local never = absurd (never)
 followed_ends held q onward On goes miss never = absurd (never)
 
 pub look_up_ends : (routes : List Route) (n : ℕ) (entries : List Held) (more : ℕ) (held : List Held) (q : Question) → LeadsToEnd routes n entries more q → Ends (look_up routes n entries more held q)

@@ -235,8 +235,8 @@ module _ (c : Config) (past : List Step) (w : List (List ℕ)) (s : State) (x : 
           actions_are = ap (λ (z : Done). z.actions) row_is
 
           by : (r : Result (List ℕ) Fault) → answer_of y.asked (l.held ++ end ∷ []) n (transport_of client) ≡ r → AnswersAtOnce step client
-          by (Ok text) told_so = record { octets = text; why = Rattle.step_values.specs.declared.action.Why.TheVariants.Answered; actions = actions_are ∙ (λ i. sends y (told_so i) ∷ []); reason = inl refl }
-          by (Err fault) told_so = record { octets = Rattle.step_history.specs.Replies.failure_text y.asked TooLarge; why = TooLarge; actions = actions_are ∙ (λ i. sends y (told_so i) ∷ []); reason = inr refl }
+          by (Ok text) told_so = record { octets = text; why = Rattle.step_values.specs.declared.action.Why.TheVariants.Answered; actions = actions_are ∙ (λ i. sends Rattle.step_values.specs.declared.action.Why.TheVariants.Answered y (told_so i) ∷ []); reason = inl refl }
+          by (Err fault) told_so = record { octets = Rattle.step_history.specs.Replies.failure_text y.asked TooLarge; why = TooLarge; actions = actions_are ∙ (λ i. sends Rattle.step_values.specs.declared.action.Why.TheVariants.Answered y (told_so i) ∷ []); reason = inr refl }
 
   -- ---- each event
 

@@ -7,7 +7,7 @@ use Rattle.suffix_routes.specs.Values.{Config, Route}
 use Rattle.trust_rank.specs.declared.slot.Slot.{Slot}
 use Rattle.trust_rank.specs.Walks.{target_of}
 use Rattle.record_cache.specs.Values.{Held}
-use Rattle.negative_cache.specs.Values.{Found, rows, alias, no_data, denied, miss}
+use Rattle.negative_cache.specs.Values.{Found, local, rows, alias, no_data, denied, miss}
 use Rattle.negative_cache.specs.Finding.{found}
 use Rattle.step_values.specs.declared.event.Client.{Client}
 use Rattle.step_values.specs.declared.action.Why.{Why}
@@ -62,6 +62,7 @@ AtTarget onward (Some name) = onward name
 
 -- a set or a denial answers, an alias leads on (RFC 1034 3.6.2)
 abbrev pub EndsOrLeadsOn : (List (List ℕ) → Type 0) → Found → Type 0
+EndsOrLeadsOn onward local = ⊥
 EndsOrLeadsOn onward (rows h) = Unit {0}
 EndsOrLeadsOn onward (alias h) = AtTarget onward (target_of h.piece.body)
 EndsOrLeadsOn onward (no_data h) = Unit {0}

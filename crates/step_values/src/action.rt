@@ -34,6 +34,10 @@ pub enum Why {
     ChainLong,
     /// Its answer passes what TCP can carry: SERVFAIL.
     TooLarge,
+    /// Every try failed, and a set was held that had ended within the configured window: NOERROR (RFC 8767 4).
+    Stale,
+    /// The route of its name, or of a name that its aliases lead to, denies it: NXDOMAIN.
+    LocalDenied,
 }
 
 /// What the forwarder wants done.

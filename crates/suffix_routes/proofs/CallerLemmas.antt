@@ -1,11 +1,12 @@
 -- What the proofs of crates above cite of routes.
-use Rattle.std.proofs.Common.{◌≡◌, ℕ, ◌<◌, ◌≤◌, false, List, length, Option, Some, ap, arith, inl, inr}
+use Rattle.std.proofs.Common.{◌≡◌, ℕ, ◌<◌, ◌≤◌, true, false, List, length, Option, Some, None, ap, arith, inl, inr}
 use Rattle.std.proofs.lemmas.Bool.{cases_Bool}
 use Rattle.std.specs.Prelude.{slice_get}
 use Rattle.std.specs.List.{AllByRecursion}
 use Rattle.dns_name.specs.Labels.{IsSame, IsUnder, lowered, size_of}
 use Rattle.suffix_routes.specs.Values.{Route, IsRoute, AllDiffer}
-use Rattle.suffix_routes.specs.Routes.{IsRouteOf, route_of, serving, serving_route_of}
+use Rattle.suffix_routes.specs.Routes.{IsRouteOf, route_of, serving, serving_route_of, denies, is_denied}
+use Rattle.suffix_routes.specs.Laws.{NothingIsDenied}
 use Rattle.suffix_routes.proofs.RouteLaws as routes
 use Rattle.suffix_routes.proofs.ServingLaws as those_that_serve
 
@@ -57,6 +58,17 @@ serving_respects_same routes n m same = ap (serving routes) (route_of_respects_s
 pub serving_lowered : (routes : List Route) (name : List (List ℕ)) → serving_route_of routes (lowered name) ≡ serving_route_of routes name
 serving_lowered routes name = ap (serving routes) (route_of_lowered routes name)
 
+-- names that are the same are denied alike
+pub denied_respects_same : (routes : List Route) (n m : List (List ℕ)) → IsSame n m → is_denied routes n ≡ is_denied routes m
+denied_respects_same routes n m same = ap (denies routes) (route_of_respects_same routes n m same)
+
+pub denied_lowered : (routes : List Route) (name : List (List ℕ)) → is_denied routes (lowered name) ≡ is_denied routes name
+denied_lowered routes name = ap (denies routes) (route_of_lowered routes name)
+
+-- a name that is denied is served by no route
+pub denied_is_not_served : (routes : List Route) (name : List (List ℕ)) → is_denied routes name ≡ true → serving_route_of routes name ≡ None
+denied_is_not_served routes name is = those_that_serve.denies_serves_not routes (route_of routes name) is
+
 -- a route has no more than 8 servers, whether it denies or not
 pub route_has_few_servers : (route : Route) → IsRoute route → length route.servers ≤ 8
 route_has_few_servers route is =
@@ -64,3 +76,7 @@ route_has_few_servers route is =
       | inl deny ↦ omega (arith, is.denies deny)
       | inr serve ↦ (is.serves serve).1
     ]
+
+-- where no route denies, each name is served by its route, and none is denied
+pub nothing_is_denied : NothingIsDenied
+nothing_is_denied = those_that_serve.nothing_is_denied

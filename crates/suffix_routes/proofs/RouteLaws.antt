@@ -274,10 +274,13 @@ pub route_of-within : (routes : List Route) (name : Name) (place : ℕ) → rout
 route_of-within routes name place is = let r = route_of-some routes name place is in slice_get_within routes place r.route r.there
 
 -- what holds of each route holds of the one at a place
+pub all_hold : (P : Route → Type 0) (routes : List Route) (place : ℕ) (r : Route) → AllByRecursion P routes → slice_get routes place ≡ Some r → P r
+all_hold P [] place r each there = absurd (let no : None ≡ Some r = there in cc)
+all_hold P (x ∷ xs) zero r each there = let one : x ≡ r = cc in subst P one each.0
+all_hold P (x ∷ xs) (suc k) r each there = all_hold P xs k r each.1 there
+
 pub route_holds : (routes : List Route) (place : ℕ) (r : Route) → AllByRecursion IsRoute routes → slice_get routes place ≡ Some r → IsRoute r
-route_holds [] place r each there = absurd (let no : None ≡ Some r = there in cc)
-route_holds (x ∷ xs) zero r each there = let one : x ≡ r = cc in subst IsRoute one each.0
-route_holds (x ∷ xs) (suc k) r each there = route_holds xs k r each.1 there
+route_holds routes place r each there = all_hold IsRoute routes place r each there
 
 -- ---- a name and one above it
 

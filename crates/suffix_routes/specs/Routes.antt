@@ -1,5 +1,5 @@
 -- The route of a name.
-use Rattle.std.specs.Prelude.{◌≡◌, ℕ, ◌≤◌, if◌then◌else◌, List, [], ◌∷◌, length, slice_get, position, Option, Some, None}
+use Rattle.std.specs.Prelude.{◌≡◌, ℕ, ◌≤◌, Bool, false, if◌then◌else◌, List, [], ◌∷◌, length, slice_get, position, Option, Some, None}
 use Rattle.dns_name.specs.Labels.{IsUnder, same}
 use Rattle.suffix_routes.specs.Values.{Route}
 
@@ -45,3 +45,15 @@ serving routes (Some place) = serving_at place (slice_get routes place)
 -- the route whose servers are asked for the name: its route, where that does not deny it
 abbrev pub serving_route_of : List Route → List (List ℕ) → Option ℕ
 serving_route_of routes name = serving routes (route_of routes name)
+
+abbrev pub denies_at : Option Route → Bool
+denies_at None = false
+denies_at (Some r) = r.deny
+
+abbrev pub denies : List Route → Option ℕ → Bool
+denies routes None = false
+denies routes (Some place) = denies_at (slice_get routes place)
+
+-- the name has a route, and that denies it: the configuration itself answers that there is no such name
+abbrev pub is_denied : List Route → List (List ℕ) → Bool
+is_denied routes name = denies routes (route_of routes name)

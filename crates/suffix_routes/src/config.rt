@@ -2,7 +2,7 @@
 
 ghost use Rattle.std.specs.Prelude.{◌≡◌, IfOk};
 ghost use Rattle.suffix_routes.specs.Values.{IsConfig};
-ghost use Rattle.suffix_routes.specs.Routes.{IsAnswer, route_of, serving, serving_route_of};
+ghost use Rattle.suffix_routes.specs.Routes.{IsAnswer, denies, is_denied, route_of, serving, serving_route_of};
 
 use crate::limits::Limits;
 use crate::peer::Peer;
@@ -74,6 +74,33 @@ impl<A: Allocator> Config<A> {
         ensures { result ≡ serving_route_of self.now.routes key.now }
     {
         self.serving(self.route_of_key(key))
+    }
+
+    /// Whether a name has a route that denies it. It takes no memory.
+    pub fn denies(&self, name: &Name<A>) -> bool
+        ensures { result ≡ is_denied self.now.routes name.now }
+    {
+        self.is_denying(self.route_of(name))
+    }
+
+    /// Whether the names that have this key are denied, as `denies` says it. It takes no memory.
+    pub fn denies_key(&self, key: &NameKey) -> bool
+        ensures { result ≡ is_denied self.now.routes key.now }
+    {
+        self.is_denying(self.route_of_key(key))
+    }
+
+    /// Whether there is a route, and it denies the names that are on it.
+    fn is_denying(&self, found: Option<RouteId>) -> bool
+        ensures { result ≡ denies self.now.routes found }
+    {
+        let Some(id) = found else {
+            return false;
+        };
+        match self.routes().get(id.place) {
+            Some(route) => route.deny,
+            None => false,
+        }
     }
 
     /// The route, where it doesn't deny the names that are on it.

@@ -1,9 +1,14 @@
 //! What the second version leaves of the first.
 
-ghost use Rattle.suffix_routes.specs.Laws.{FirstVersionHasNeither};
+ghost use Rattle.suffix_routes.specs.Laws.{FirstVersionHasNeither, NothingIsDenied};
 
 /// The configuration of a text of version 1 has a window of 0 seconds for answers past their end, and no route that
 /// denies.
 pub fn first_version_has_neither()
     ensures { FirstVersionHasNeither }
+{}
+
+/// Where no route denies, each name is served by its route, and none is denied.
+pub fn nothing_is_denied()
+    ensures { NothingIsDenied }
 {}

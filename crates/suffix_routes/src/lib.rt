@@ -20,7 +20,7 @@ pub use config::Config;
 pub use excerpt::Excerpt;
 pub use fault::ConfigFault;
 pub use kind::Kind;
-pub use laws::first_version_has_neither;
+pub use laws::{first_version_has_neither, nothing_is_denied};
 pub use limits::Limits;
 pub use peer::Peer;
 pub use place::{Limit, Place};

@@ -5,7 +5,7 @@ ghost use Rattle.outstanding.specs.Values.{Ask as AskValue};
 ghost use Rattle.outstanding.specs.Lists.{on_path as ask_on, without_path};
 ghost use Rattle.step_rules.specs.Attempts.{ask_by, peer_at};
 ghost use Rattle.step_rules.specs.Steps.{closing_step, fails};
-ghost use Rattle.step_rules.specs.Row.{row_of_attempt, row_of_failure, row_of_failed_path};
+ghost use Rattle.step_rules.specs.Row.{row_of_attempt, row_of_failure, row_of_failed_path, runs_out};
 ghost use Rattle.step_changes.specs.Next.{next_of, IsQuiet, CanFollow, CanChange};
 
 use crate::situation::Situation;
@@ -15,8 +15,8 @@ use retry_failover::{Failure, Next as Attempt, after};
 use std::alloc::{AllocError, Allocator};
 use std::hash::BuildHasher;
 use step_changes::{
-    Change, Next, Try, by_tcp, by_udp, close_path, draw_connection, failures, freed_port, new_ask,
-    plan,
+    Change, Next, Try, by_tcp, by_udp, close_path, draw_connection, failures, freed_port,
+    last_replies, new_ask, plan,
 };
 use step_replies::ask as ask_action;
 use step_values::Why;
@@ -35,6 +35,24 @@ impl<'a, H: BuildHasher + Drop, A: Allocator + Copy> Situation<'a, H, A> {
         ensures fits { IfOk result (λ next. CanChange self.now.config moment self.now.state next) }
     {
         let actions = failures(self.alloc, ask, self.waiting, why)?;
+        Ok(Next::without_cache(self.alloc, actions, Change::Close(path, None)))
+    }
+
+    /// The ask on a path is closed, whose question has no try left: those that wait for it get the last that can be told.
+    fn run_out(&self, moment: u64, path: Path, ask: &Ask<A>) -> Result<Next<'a, A>, AllocError>
+        requires on { ask_on path self.now.state.asks ≡ Some ask.now }
+        requires later { self.now.state.moment ≤ moment }
+        ensures row { IfOk result (λ next. (rooms : List Bool) → next_of moment rooms self.now.state next ≡ closing_step moment ask.now (runs_out self.now.config moment self.now.state.cache.entries ask.now.question) None self.now.state) }
+        ensures fits { IfOk result (λ next. CanChange self.now.config moment self.now.state next) }
+    {
+        let actions = last_replies(
+            self.alloc,
+            ask,
+            self.cache,
+            self.config,
+            moment,
+            self.waiting,
+        )?;
         Ok(Next::without_cache(self.alloc, actions, Change::Close(path, None)))
     }
 
@@ -110,7 +128,7 @@ impl<'a, H: BuildHasher + Drop, A: Allocator + Copy> Situation<'a, H, A> {
         let _listed = self.inquiries.by_path(path);
         let plan = plan(self.config, ask);
         match after(&plan, failure) {
-            Attempt::GiveUp => self.give_up(moment, path, ask, Why::Exhausted),
+            Attempt::GiveUp => self.run_out(moment, path, ask),
             Attempt::AskUdp(server) => {
                 let drawn = draw(words, self.inquiries, freed_port(ask.path));
                 self.retry(moment, path, ask, server, by_udp(drawn))

@@ -17,12 +17,14 @@ ghost use Rattle.step_rules.specs.Attempts.{first_ask};
 ghost use Rattle.step_rules.specs.LookingUp.{look_up, missed};
 ghost use Rattle.step_history.specs.Replies.{asked_in};
 ghost use Rattle.step_rules.specs.Steps.{using, idle_step, reply_step, taking_step, gives_up, failed};
-ghost use Rattle.step_rules.specs.Row.{row_of_opening, row_of_new_inquiry, row_of_inquiry, row_of_waiting, row_of_look_up, row_of_route, row_of_service, row_of_question, row_of_request};
+ghost use Rattle.step_rules.specs.Row.{without_server, row_of_opening, row_of_new_inquiry, row_of_inquiry, row_of_waiting, row_of_look_up, row_of_route, row_of_service, row_of_question, row_of_request};
 ghost use Rattle.step_values.specs.Values.{action_of};
 ghost use Rattle.trust_rank.specs.Walks.{most_aliases};
 ghost use Rattle.step_changes.specs.Next.{next_of, IsQuiet, CanWait, CanFollow, CanChange};
 
-use crate::request::{is_not_served, owned_question, route_for, taken_header, with_one_question};
+use crate::request::{
+    is_denied, is_not_served, owned_question, route_for, taken_header, with_one_question,
+};
 use crate::situation::Situation;
 use dns_message::{Header, MessageRef, Question, QuestionRef};
 use dns_name::Name;
@@ -32,7 +34,9 @@ use std::alloc::{AllocError, Allocator};
 use std::hash::BuildHasher;
 use step_changes::{Change, Next, Opening, Try, by_udp, new_ask};
 use step_look_ups::{Looked, Met, SlotsRef, look_up};
-use step_replies::{Request, SentOn, Waiting, answer, ask as ask_action, failure, refusal};
+use step_replies::{
+    Request, SentOn, Waiting, answer, ask as ask_action, failure, refusal, without_server,
+};
 use step_sending::copies;
 use step_values::{Action, Client, Why};
 use suffix_routes::RouteId;
@@ -267,6 +271,38 @@ impl<'a, H: BuildHasher + Drop, A: Allocator + Copy> Situation<'a, H, A> {
         Ok(SentOn { aliases, wanted })
     }
 
+    /// A question whose look-up missed behind aliases, at this name, which no route serves.
+    fn end_behind(
+        &self,
+        moment: u64,
+        request: &Request<'_>,
+        looked: Looked<'a, A>,
+        name: &Name<A>,
+    ) -> Result<Next<'a, A>, AllocError>
+        requires earlier { AllByRecursion (IsEarlier moment) looked.used }
+        ensures row { IfOk result (λ next. (rooms : List Bool) → next_of moment rooms self.now.state next ≡ reply_step moment (without_server self.now.config moment request.now looked.entry.used name.now) (using (map (λ h. h.piece.slot) looked.entry.used) self.now.state)) }
+        ensures fits { IfOk result (λ next. CanChange self.now.config moment self.now.state next) }
+    {
+        let is_denied = self.config.denies(name);
+        let action = without_server(self.alloc, request, looked.used(), is_denied, moment)?;
+        self.reply(action, looked.into_slots())
+    }
+
+    /// A question of whose own name nothing is known, and which no route serves.
+    fn end(
+        &self,
+        moment: u64,
+        request: &Request<'_>,
+        used: SlotsRef<'a, A>,
+    ) -> Result<Next<'a, A>, AllocError>
+        ensures row { IfOk result (λ next. (rooms : List Bool) → next_of moment rooms self.now.state next ≡ reply_step moment (without_server self.now.config moment request.now [] request.now.wanted.name) (using used.entry self.now.state)) }
+        ensures fits { IfOk result (λ next. CanChange self.now.config moment self.now.state next) }
+    {
+        let is_denied = is_denied(self.config, &request.question);
+        let action = without_server(self.alloc, request, &[], is_denied, moment)?;
+        self.reply(action, used)
+    }
+
     /// A question whose look-up missed behind aliases, at this name.
     fn miss_behind(
         &self,
@@ -285,7 +321,7 @@ impl<'a, H: BuildHasher + Drop, A: Allocator + Copy> Situation<'a, H, A> {
         ensures fits { IfOk result (λ next. CanChange self.now.config moment self.now.state next) }
     {
         let Some(route) = self.config.serving_route_of(&name) else {
-            return self.refuse(request, Why::NoRoute, looked.into_slots());
+            return self.end_behind(moment, request, looked, &name);
         };
         let sent_on = self.onward(request, &looked, name)?;
         self.wait(
@@ -314,7 +350,7 @@ impl<'a, H: BuildHasher + Drop, A: Allocator + Copy> Situation<'a, H, A> {
     {
         match route_for(self.config, &request.question) {
             Some(route) => self.wait(moment, words, request, None, route, used),
-            None => self.refuse(request, Why::NoRoute, used),
+            None => self.end(moment, request, used),
         }
     }
 

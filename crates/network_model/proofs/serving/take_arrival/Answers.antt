@@ -16,4 +16,5 @@ returns-in-Err g c = record {
   };
   serves = events_nothing _;
   follows = record { clients = λ conn. refl; servers = λ conn. refl };
+  piece = tt;
 }

@@ -1,6 +1,7 @@
-use Rattle.std.proofs.Common.{◌∙◌, arith}
+use Rattle.std.proofs.Common.{◌∙◌, inl, inr, sym, ap, arith}
 use Rattle.dns_name.specs.Labels.{labels_of}
-use Rattle.step_look_ups.proofs.Seeing.{on_alias, at_no_target, at_ninth, at_miss, at_rows, at_no_data, at_denied}
+use Rattle.negative_cache.specs.Values.{found_of}
+use Rattle.step_look_ups.proofs.Seeing.{on_alias, at_no_target, at_ninth, at_miss, at_local, at_rows, at_no_data, at_denied}
 use Rattle.step_look_ups.proofs.looking.follow.Goals.{in-Rows, in-Rows-2, in-Rows-3}
 use Rattle.step_look_ups.proofs.looking.follow.Goals as goal
 
@@ -24,14 +25,19 @@ loop-target-preserved g c =
     c.in-Alias.ensures.found
     (omega arith)
 
-pub returns-in-Miss : goal.returns-in-Miss
-returns-in-Miss g c =
-    c.ended-in-Miss.ensures
-    ∙ at_miss c.args.config.now.routes c.args.moment c.args.cache.now.entries c.args.class c.args.kind c.args.most _ _
-    (on_alias c.args.config.now.routes c.args.moment c.args.cache.now.entries c.args.class c.args.kind c.args.most _ c.loop-target.used.items _ c.loop-target.alias (labels_of c.in-Some.target.now) _ c.loop-target.invariant c.in_ok-push.ensures.items
-    c.in-Some.ensures.1
-    c.in-Miss.ensures.found
-    (omega arith))
+pub returns-in-Local : goal.returns-in-Local
+returns-in-Local g c =
+    c.ended-in-Local.ensures
+    ∙ elim c.in-Local.is [
+      | inl is ↦
+          at_local c.args.config.now.routes c.args.moment c.args.cache.now.entries c.args.class c.args.kind c.args.most _ _
+          (on_alias c.args.config.now.routes c.args.moment c.args.cache.now.entries c.args.class c.args.kind c.args.most _ c.loop-target.used.items _ c.loop-target.alias (labels_of c.in-Some.target.now) _ c.loop-target.invariant c.in_ok-push.ensures.items
+          c.in-Some.ensures.1 (sym (ap found_of is) ∙ c.find_by_octets.ensures.found) (omega arith))
+      | inr is ↦
+          at_miss c.args.config.now.routes c.args.moment c.args.cache.now.entries c.args.class c.args.kind c.args.most _ _
+          (on_alias c.args.config.now.routes c.args.moment c.args.cache.now.entries c.args.class c.args.kind c.args.most _ c.loop-target.used.items _ c.loop-target.alias (labels_of c.in-Some.target.now) _ c.loop-target.invariant c.in_ok-push.ensures.items
+          c.in-Some.ensures.1 (sym (ap found_of is) ∙ c.find_by_octets.ensures.found) (omega arith))
+    ]
 
 pub returns-in-Rows : goal.returns-in-Rows
 returns-in-Rows g c = elim c.in-Rows-1.branch [

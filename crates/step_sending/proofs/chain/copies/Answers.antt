@@ -1,4 +1,4 @@
-use Rattle.std.proofs.Common.{◌≡◌, ◌∙◌, ap, Bor}
+use Rattle.std.proofs.Common.{◌∙◌, ap, Bor}
 use Rattle.std.proofs.lemmas.List.{take_all}
 use Rattle.trust_rank.specs.Values.{Piece}
 use Rattle.record_cache.specs.Values.{Held}

@@ -1,7 +1,7 @@
-use Rattle.std.proofs.Common.{◌≡◌, ◌∙◌, sym, ap}
+use Rattle.std.proofs.Common.{◌∙◌, sym, ap}
 use Rattle.std.proofs.lemmas.Result.{IfOk-weaker}
 use Rattle.step_rules.specs.Row.{without_port}
-use Rattle.step_sending.specs.Sending.{becomes, fate_in, Becomes}
+use Rattle.step_sending.specs.Sending.{becomes, fate_in}
 use Rattle.step_sending.proofs.fate.unless_sent.Goals as goal
 
 pub returns : goal.returns

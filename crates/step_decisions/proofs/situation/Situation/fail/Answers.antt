@@ -54,11 +54,11 @@ retry-requires-in-AskTcp-clause-follows g c =
 
 pub returns-in-GiveUp-clause-row : goal.returns-in-GiveUp-clause-row
 returns-in-GiveUp-clause-row g c =
-    IfOk-weaker c.give_up.result _ _
+    IfOk-weaker c.run_out.result _ _
     (λ next e. λ rooms. e rooms
     ∙ sym (ap (row_of_next c.args.self.now.config c.args.moment c.args.words c.args.ask.now c.args.self.now.state)
     (ap (λ (r : Running). after_failure (plan_of r.config c.args.ask.now) c.args.failure) (sym c.self.view_is) ∙ ap (λ (p : Plan). after_failure p c.args.failure) (sym c.plan-plan.ensures) ∙ sym c.in-GiveUp.ensures)))
-    c.give_up.ensures.row
+    c.run_out.ensures.row
 
 pub returns-in-AskUdp-clause-row : goal.returns-in-AskUdp-clause-row
 returns-in-AskUdp-clause-row g c =

@@ -1,10 +1,9 @@
-use Rattle.std.proofs.Common.{◌≡◌, ◌∙◌, ◌++◌, ◌∷◌, [], List, ap, sym, refl}
+use Rattle.std.proofs.Common.{◌∙◌, ◌++◌, ◌∷◌, [], ap, sym, refl}
 use Rattle.std.specs.Prelude.{map, None, Some}
 use Rattle.std.specs.List.{filter_map}
 use Rattle.std.proofs.lemmas.List.{append-nil, map-append}
-use Rattle.step_values.specs.Values.{Action, action_of, actions_of}
-use Rattle.step_replies.specs.Onward.{Onward}
-use Rattle.step_sending.specs.Sending.{Becomes, Fates, becomes, onward_in, reply_of}
+use Rattle.step_values.specs.Values.{action_of, actions_of}
+use Rattle.step_sending.specs.Sending.{Fates, becomes, onward_in, reply_of}
 use Rattle.step_sending.proofs.Parts.{next_reply, no_reply, next_onward, nothing_in}
 use Rattle.step_sending.proofs.fates.Fates.into_parts.Goals as goal
 

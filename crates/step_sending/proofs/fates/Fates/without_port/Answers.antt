@@ -1,10 +1,9 @@
-use Rattle.std.proofs.Common.{◌≡◌, ◌∙◌, ◌+◌, ◌<◌, ◌∷◌, [], List, length, slice_get, ap, sym, arith}
+use Rattle.std.proofs.Common.{◌≡◌, ◌∙◌, ◌+◌, ◌∷◌, [], length, slice_get, ap, sym, arith}
 use Rattle.std.specs.Prelude.{map}
 use Rattle.std.proofs.lemmas.List.{length-append, length-map, map-append}
-use Rattle.step_rules.specs.Steps.{Fate}
 use Rattle.step_rules.specs.Row.{without_port}
-use Rattle.step_sending.specs.Sending.{Becomes, Fates, becomes, fate_in, fates_in}
-use Rattle.step_sending.proofs.Parts.{next_told, none_left, none_told, nothing_in, told_with}
+use Rattle.step_sending.specs.Sending.{Fates, becomes, fates_in}
+use Rattle.step_sending.proofs.Parts.{next_told, none_left, none_told, nothing_in}
 use Rattle.step_sending.proofs.fates.Fates.without_port.Goals as goal
 
 pub loop-fate-init : goal.loop-fate-init

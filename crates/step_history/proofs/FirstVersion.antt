@@ -1,0 +1,33 @@
+-- What the second version of a configuration adds to the claims.
+use Rattle.std.proofs.Common.{◌≡◌, ℕ, ◌≤◌, List, true, sym, ◌∙◌, inl, inr, arith}
+use Rattle.std.proofs.lemmas.Bool.{true≢false}
+use Rattle.suffix_routes.proofs.CallerLemmas.{nothing_is_denied}
+use Rattle.step_values.specs.declared.event.Client.{Client}
+use Rattle.step_values.specs.declared.event.Client.TheVariants.{Udp, Tcp}
+use Rattle.step_values.specs.declared.action.Why.TheVariants.{TooLarge}
+use Rattle.suffix_routes.specs.Values.{HasNeither}
+use Rattle.step_history.specs.Names.{is_local}
+use Rattle.step_history.specs.History.{Look}
+use Rattle.step_history.specs.Causes.{Cause, AnswerIsTooLarge}
+use Rattle.step_history.specs.Laws.{FirstVersionStandsAlone}
+
+module _ (l : Look) (neither : HasNeither l.config) where
+  no_window : 1 ≤ l.config.limits.stale_s → ⊥
+  no_window some = let none = neither.window in omega (arith, some, none)
+
+  none_local : (name : List (List ℕ)) → is_local l.config name ≡ true → ⊥
+  none_local name is = true≢false (sym is ∙ (nothing_is_denied l.config name neither).1)
+
+  only_living : (client : Client) (request : List ℕ) (waiting : ℕ) → Cause l client request waiting TooLarge → AnswerIsTooLarge l request
+  only_living (Udp peer) request waiting cause = absurd cause
+  only_living (Tcp conn) request waiting (inl living) = living
+  only_living (Tcp conn) request waiting (inr (inl past)) = absurd (no_window past.window)
+  only_living (Tcp conn) request waiting (inr (inr told)) = absurd (none_local told.chain.last.name told.chain.denied)
+
+pub first_version_stands_alone : FirstVersionStandsAlone
+first_version_stands_alone l client request octets waiting neither = record {
+  stale = λ right. no_window l neither right.window;
+  local = λ right. none_local l neither right.answers.chain.last.name right.answers.chain.denied;
+  large = only_living l neither client request waiting;
+  routed = λ name. (nothing_is_denied l.config name neither).0;
+}

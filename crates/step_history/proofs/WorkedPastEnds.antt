@@ -1,0 +1,117 @@
+-- Answers past the ends of sets and denials by the configuration, computed: until when a set may be told, which pieces may,
+-- what the texts are, and which names are denied.
+use Rattle.std.proofs.Common.{◌≡◌, ℕ, ◌+◌, ◌*◌, ◌<◌, List, [], ◌∷◌, Some, None, true, false, refl, sym, ◌∙◌, subst, arith}
+use Rattle.suffix_routes.specs.declared.peer.Peer.{Peer}
+use Rattle.suffix_routes.specs.Values.{Config, default_limits}
+use Rattle.suffix_routes.specs.Routes.{route_of as route_there}
+use Rattle.dns_message.specs.Header.{Header}
+use Rattle.std.specs.Prelude.{map}
+use Rattle.dns_message.specs.Values.{Question, Record}
+use Rattle.dns_message.specs.Writing.{◌▹◌, each, name_text, data_text, with_length, written}
+use Rattle.dns_message.specs.Shapes.{shape_of}
+use Rattle.trust_rank.specs.Values.{rows, no_data, denied, Body}
+use Rattle.record_cache.specs.Values.{Held}
+use Rattle.record_cache.specs.Ageing.{end_of}
+use Rattle.step_history.specs.Names.{route_of, is_local}
+use Rattle.step_history.specs.History.{moment_at, Look}
+use Rattle.step_history.specs.Stale.{JustifiedPastItsEnd, ChainPastEnds}
+use Rattle.step_history.specs.Replies.{asked_in, full_text, stale_sections, denied_sections}
+
+-- ---- names below e, and pieces that came at 1020
+
+abbrev below : ℕ → List (List ℕ)
+below letter = (letter ∷ []) ∷ (101 ∷ []) ∷ []
+
+abbrev piece : ℕ → ℕ → Body → ℕ → Held
+piece letter kind body lifetime = record {
+  piece = record { owner = below letter; slot = record { key = below letter; class = 1; kind = Some kind }; body = body; lifetime = lifetime; rank = 3; route = 0 };
+  accepted = 1020;
+}
+
+abbrev set : ℕ → Held
+set lifetime = piece 97 1 (rows ((198 ∷ 51 ∷ 100 ∷ 5 ∷ []) ∷ [])) lifetime
+
+abbrev alias : Held
+alias = piece 98 5 (rows ((1 ∷ 97 ∷ 1 ∷ 101 ∷ 0 ∷ []) ∷ [])) 60
+
+-- ---- until when
+
+-- up to the last millisecond of the window
+last_moment : 901019 < end_of (set 300) + 1000 * 600
+last_moment = omega arith
+
+window_is_over : (l : Look) (name : List (List ℕ)) → moment_at l.now ≡ 901020 → l.config.limits.stale_s ≡ 600 → JustifiedPastItsEnd l name (set 300) → ⊥
+window_is_over l name now window j = let within = j.within in omega (arith, now, window, within)
+
+-- ---- which pieces
+
+-- a set with a lifetime, and no denial
+without_lifetime : (l : Look) (name : List (List ℕ)) → JustifiedPastItsEnd l name (set 0) → ⊥
+without_lifetime l name j = let some = j.has_lifetime in omega (arith, some)
+
+no_denial : (l : Look) (name : List (List ℕ)) → JustifiedPastItsEnd l name (piece 97 1 (no_data None) 300) → ⊥
+no_denial l name j = j.is_set
+
+no_error : (l : Look) (name : List (List ℕ)) → JustifiedPastItsEnd l name (piece 97 1 (denied None) 300) → ⊥
+no_error l name j = j.is_set
+
+-- on the name's route alone
+on_its_route : (l : Look) (name : List (List ℕ)) (o : Held) → JustifiedPastItsEnd l name o → (k : ℕ) → route_of l.config name ≡ Some k → k ≡ o.piece.route
+on_its_route l name o j k is = let same : Some k ≡ Some o.piece.route = sym is ∙ j.on_route in cc
+
+-- what came before is not told where the newest step's era has nothing that came before it
+never_new : (l : Look) (name : List (List ℕ)) (o : Held) (j : JustifiedPastItsEnd l name o) → j.old ≡ [] → ⊥
+never_new l name o j none = subst (λ (os : List Held). Rattle.record_cache.specs.Laws.Among o os) none j.came_before
+
+-- behind eight aliases that were held there is room for a set, and for no alias
+no_ninth : (l : Look) (q : Question) (held : List Held) (o end : Held) → Rattle.std.specs.Prelude.length held ≡ 8 → ChainPastEnds l held q (o ∷ []) end → ⊥
+no_ninth l q held o end eight chain = let few = chain.few in omega (arith, few, eight)
+
+-- ---- texts
+
+abbrev request : Header
+request = record { id = 4661; qr = false; opcode = 0; aa = false; tc = false; rd = true; ra = false; z = 0; rcode = 0; counts = 1 ∷ 0 ∷ 0 ∷ 0 ∷ [] }
+
+abbrev address : ℕ → Question
+address letter = record { name = below letter; kind = 1; class = 1 }
+
+abbrev text : ℕ → ℕ → List ℕ
+text high low = 18 ∷ 53 ∷ 129 ∷ 128 ∷ 0 ∷ 1 ∷ 0 ∷ 1 ∷ 0 ∷ 0 ∷ 0 ∷ 0 ∷ 1 ∷ 97 ∷ 1 ∷ 101 ∷ 0 ∷ 0 ∷ 1 ∷ 0 ∷ 1 ∷ 192 ∷ 12 ∷ 0 ∷ 1 ∷ 0 ∷ 1 ∷ 0 ∷ 0 ∷ high ∷ low ∷ 0 ∷ 4 ∷ 198 ∷ 51 ∷ 100 ∷ 5 ∷ []
+
+-- what has ended is told for 30 seconds, and what is alive still by what is left of it
+ended : full_text (asked_in request (Some (address 97))) (stale_sections 302520 [] [] (set 300)) ≡ text 0 30
+unfolding written ◌▹◌ each name_text data_text with_length shape_of
+ended = refl
+
+alive : full_text (asked_in request (Some (address 97))) (stale_sections 11520 [] [] (set 300)) ≡ text 1 33
+unfolding written ◌▹◌ each name_text data_text with_length shape_of
+alive = refl
+
+-- an alias that was held has no seconds left once it ended; one that was found past its end has 30
+abbrev seconds_of : List Record → List ℕ
+seconds_of records = map (λ r. r.ttl) records
+
+held_before : seconds_of (stale_sections 302520 (alias ∷ []) [] (set 300)).answers ≡ 0 ∷ 30 ∷ []
+held_before = refl
+
+found_past : seconds_of (stale_sections 302520 [] (alias ∷ []) (set 300)).answers ≡ 30 ∷ 30 ∷ []
+found_past = refl
+
+-- a denial by the configuration is a name error, with the aliases alone
+denial : full_text (asked_in request (Some (address 97))) (denied_sections 11520 [])
+    ≡ 18 ∷ 53 ∷ 129 ∷ 131 ∷ 0 ∷ 1 ∷ 0 ∷ 0 ∷ 0 ∷ 0 ∷ 0 ∷ 0 ∷ 1 ∷ 97 ∷ 1 ∷ 101 ∷ 0 ∷ 0 ∷ 1 ∷ 0 ∷ 1 ∷ []
+unfolding written ◌▹◌ each name_text
+denial = refl
+
+-- ---- which names
+
+abbrev server : Peer
+server = record { ip = 192 ∷ 0 ∷ 2 ∷ 1 ∷ []; port = 53 }
+
+-- names under a.e are denied
+abbrev config : Config
+config = record { listen = server; limits = default_limits; routes = record { suffix = []; deny = false; servers = server ∷ [] } ∷ record { suffix = below 97; deny = true; servers = [] } ∷ [] }
+
+denied_names : (is_local config ((98 ∷ []) ∷ below 65) ≡ true) × (is_local config (below 98) ≡ false) × (route_of config ((98 ∷ []) ∷ below 65) ≡ None)
+unfolding route_there
+denied_names = (refl, refl, refl)
