@@ -1,5 +1,5 @@
-//! Tests of asks and frames from outside: that memory is found where there is some, and that calls without memory take none;
-//! and what is said of faults.
+//! Tests of asks, frames and streams from outside: that memory is found where there is some, and that calls without
+//! memory take none; and what is said of faults.
 #![tactic(auto)]
 
 #[cfg(test)]
@@ -8,3 +8,5 @@ mod asks;
 mod frames;
 #[cfg(test)]
 mod replies;
+#[cfg(test)]
+mod unsent;

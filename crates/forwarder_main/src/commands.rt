@@ -5,7 +5,7 @@ use crate::fault::Fault;
 use crate::files::Opened;
 use crate::saying::{say, say_unread, unopened};
 use crate::serving::serve_config;
-use replay_script::{ReplayFault, read_config, replay_run};
+use replay_script::{ReplayFault, decimal, read_config, replay_run};
 use std::io;
 use std::io::{BufWriter, Write};
 use std::net::Net;
@@ -32,14 +32,6 @@ where
         Some("replay") if are(rt, 1) => replay(rt),
         _ => Err(Fault::Usage),
     }
-}
-
-/// The number that decimal digits write, where 64 bits have it.
-fn turns_in(digits: &str) -> Option<u64> {
-    if !digits.bytes().all(|octet| octet.is_ascii_digit()) {
-        return None;
-    }
-    digits.parse().ok()
 }
 
 /// The configuration in the file with this name. `Device` where the file can't be read or passes 16,777,216 octets,
@@ -72,16 +64,19 @@ fn named_config<R: Env + Print + AllocGlobal>(rt: &R) -> Result<Config, ReplayFa
     }
 }
 
+/// The number of turns that the third argument says; `None` where it says none.
+fn turns<R: Env>(rt: &R) -> Option<u64> {
+    let mut room = [0u8; MOST_DIGITS];
+    decimal(text(rt, 3, &mut room)?)
+}
+
 /// Serves as many turns as the third argument says by the configuration that the second one names, and prints what was
 /// counted.
 fn serve<R>(rt: &R) -> Result<(), Fault>
 where
     R: Env + Print + AllocGlobal + Net + Clock + RandomSource,
 {
-    let mut room = [0u8; MOST_DIGITS];
-    let Some(turns) = text(rt, 3, &mut room).and_then(turns_in) else {
-        return Err(Fault::Usage);
-    };
+    let turns = turns(rt).ok_or(Fault::Usage)?;
     let served = serve_config(rt, rt.alloc(), named_config(rt)?, turns)?;
     println!(rt; "turns {} lost {}", served.turns, served.lost)?;
     Ok(())

@@ -1,6 +1,8 @@
 //! What ends the program.
 
 ghost use Rattle.std.specs.Prelude.{◌≡◌};
+ghost use Rattle.std.specs.IoError.{error_kind};
+ghost use Rattle.replay_script.specs.Faults.{device_fault};
 ghost use Rattle.forwarder_main.specs.declared.fault.Fault.TheVariants.{Stopped};
 ghost use Rattle.forwarder_main.specs.Statuses.{status_of};
 
@@ -43,6 +45,8 @@ impl From<ReplayFault> for Fault {
 }
 
 impl From<io::Error> for Fault {
+    ghost from_gives = { λ error e. e ≡ Stopped (device_fault (error_kind error)) };
+
     fn from(error: io::Error) -> Fault {
         Fault::Stopped(ReplayFault::from(error))
     }

@@ -1,5 +1,9 @@
 //! What standard output says of what stopped a command. Where it fails too, the status alone tells it.
 
+ghost use Rattle.std.specs.Prelude.{◌≡◌};
+ghost use Rattle.std.specs.IoError.{error_kind};
+ghost use Rattle.replay_script.specs.Faults.{device_fault};
+
 use crate::files::Opened;
 use replay_script::ReplayFault;
 use std::fmt::Display;
@@ -31,7 +35,9 @@ fn is_want_of_memory(error: &io::Error) -> bool {
 }
 
 /// The fault of a file that the system doesn't open.
-pub fn unopened<R: Print>(rt: &R, name: &[u8], error: io::Error) -> ReplayFault {
+pub fn unopened<R: Print>(rt: &R, name: &[u8], error: io::Error) -> ReplayFault
+    ensures { result ≡ device_fault (error_kind error) }
+{
     if !is_want_of_memory(&error) {
         say_of_file(rt, name, &error);
     }
@@ -47,7 +53,9 @@ pub fn say_unread<R: Print>(rt: &R, name: &[u8], file: &Opened) {
 }
 
 /// The fault of an address that can't be listened at.
-pub fn unlistened<R: Print>(rt: &R, listen: Peer, error: io::Error) -> ReplayFault {
+pub fn unlistened<R: Print>(rt: &R, listen: Peer, error: io::Error) -> ReplayFault
+    ensures { result ≡ device_fault (error_kind error) }
+{
     if !is_want_of_memory(&error) {
         say_of(rt, &listen, &error);
     }

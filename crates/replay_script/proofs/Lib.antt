@@ -1,1 +1,3 @@
 pub mod LineLaws
+mod PartLaws
+mod WorkedParts

@@ -3,3 +3,4 @@ pub mod Reasons
 pub mod Faults
 pub mod Configs
 pub mod Lines
+pub mod Parts

@@ -37,6 +37,11 @@ abbrev pub formed : {X : Type 0} → Option X → Result X Refusal
 formed (Some x) = Ok x
 formed None = Err Form
 
+-- what is read, where the line has one of the forms
+abbrev pub read_of : {X : Type 0} → Result X Refusal → Option X
+read_of (Ok x) = Some x
+read_of (Err refusal) = None
+
 -- ---- fields
 
 abbrev pub is_space : ℕ → Bool

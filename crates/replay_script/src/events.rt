@@ -4,7 +4,7 @@ ghost use Rattle.std.specs.Prelude.{◌≡◌, ◌≤◌, Ok, IfErr, IfOk};
 ghost use Rattle.std.specs.List.{list_all};
 ghost use Rattle.std.specs.Char.{is_ascii_digit};
 ghost use Rattle.step_values.specs.Values.{event_of};
-ghost use Rattle.replay_script.specs.Lines.{Gives, Shows, IsLineFault, cut, is_numeral, number_in, port_in, peer_in, octets_in, path_in, client_in, client_event_in, reply_event_in, failed_event_in, event_in, happening_in, moment_and_event_in, line_in};
+ghost use Rattle.replay_script.specs.Lines.{Gives, Shows, IsLineFault, cut, read_of, is_numeral, number_in, port_in, peer_in, octets_in, path_in, client_in, client_event_in, reply_event_in, failed_event_in, event_in, happening_in, moment_and_event_in, line_in};
 ghost use Rattle.replay_script.specs.declared.events.Refusal.TheVariants.{Memory};
 ghost use Rattle.replay_script.specs.Words.{words_of};
 
@@ -190,6 +190,13 @@ fn path(transport: &str, at: &str) -> Result<Path, Refusal>
         "tcp" => Ok(Path::Tcp(number(at, 20)?)),
         _ => Err(Refusal::Form),
     }
+}
+
+/// The number that 1 to 20 decimal digits write, and nothing else; `None` also where 64 bits don't have it.
+pub fn decimal(text: &str) -> Option<u64>
+    ensures { result ≡ read_of (number_in 20 text.now) }
+{
+    number(text, 20).ok()
 }
 
 /// A decimal number of 1 to `most` digits that fits 64 bits.

@@ -1,9 +1,9 @@
 //! What ends a replay.
 
 ghost use Rattle.std.specs.Prelude.{◌≡◌};
+ghost use Rattle.std.specs.IoError.{error_kind};
 ghost use Rattle.replay_script.specs.declared.fault.ReplayFault.TheVariants.{Memory};
-ghost use Rattle.replay_script.specs.Faults.{replay_fault};
-ghost use Rattle.replay_script.specs.Configs.{IsOfReading};
+ghost use Rattle.replay_script.specs.Faults.{device_fault, replay_fault};
 
 use std::alloc::AllocError;
 use std::io;
@@ -36,13 +36,12 @@ impl From<AllocError> for ReplayFault {
 }
 
 impl From<io::Error> for ReplayFault {
-    ghost from_gives = { λ _ e. IsOfReading e };
+    ghost from_gives = { λ error e. e ≡ device_fault (error_kind error) };
 
     fn from(error: io::Error) -> ReplayFault {
-        if error.kind() == io::ErrorKind::OutOfMemory {
-            ReplayFault::Memory
-        } else {
-            ReplayFault::Device
+        match error.kind() {
+            io::ErrorKind::OutOfMemory => ReplayFault::Memory,
+            _ => ReplayFault::Device,
         }
     }
 }

@@ -1,8 +1,10 @@
 //! The octets of a file or of standard input, and the parts of a script.
 
-ghost use Rattle.std.specs.Prelude.{◌≡◌, ◌≤◌, Ok, IfOk, IfErr, IfSome, vec_len};
+ghost use Rattle.std.specs.Prelude.{◌≡◌, ◌≤◌, ◌++◌, false, Ok, IfOk, IfErr, IfSome, IfNone, vec_len};
+ghost use Rattle.std.specs.List.{list_any, position};
 ghost use Rattle.suffix_routes.specs.Reading.{IsReadIn};
 ghost use Rattle.replay_script.specs.Configs.{IsOfReading, IsFaultOf, IsFaultIn};
+ghost use Rattle.replay_script.specs.Parts.{AreParts, HasOnePart, ended, is_feed};
 
 use crate::fault::ReplayFault;
 use std::alloc::{Allocator, Global};
@@ -11,6 +13,9 @@ use suffix_routes::{Config, ConfigFault, Position};
 
 /// How many octets a file or standard input may have.
 pub(crate) const LARGEST: usize = 16_777_216;
+
+/// The line between a script's configuration and its event lines.
+const SEPARATOR: &[u8] = b"---";
 
 /// All octets that the reader has left. `Device` where reading fails or there are more than [`LARGEST`]; it reads
 /// at most one more than these. `Memory` where memory ran out.
@@ -32,17 +37,37 @@ pub(crate) fn read_limited<A: Allocator, R: Read>(
 }
 
 /// A script's configuration, and the event lines behind its first line `---`; `None` where it has no such line.
-pub fn parts(script: &[u8]) -> Option<(&[u8], &[u8])> {
-    let mut start = 0usize;
-    for line in script.split(|octet| *octet == b'\n') {
-        if line == b"---".as_slice() {
-            let config = script.get(..start)?;
-            let behind = start.saturating_add(4);
-            return Some((config, script.get(behind..).unwrap_or(&[])));
+pub fn parts(script: &[u8]) -> Option<(&[u8], &[u8])>
+    ensures some { IfSome result (λ parts. AreParts script.now parts.0.now parts.1.now) }
+    ensures none { IfNone result (HasOnePart script.now) }
+{
+    let mut rest = script;
+    while let Some((line, behind)) = first_line(rest) {
+        if line == SEPARATOR {
+            return Some((&script[..script.len() - rest.len()], behind));
         }
-        start = start.saturating_add(line.len()).saturating_add(1);
+        rest = behind;
+    }
+    if rest == SEPARATOR {
+        return Some((&script[..script.len() - rest.len()], &[]));
     }
     None
+}
+
+/// The first line, and what stands behind its line feed; `None` where there is no line feed.
+fn first_line(text: &[u8]) -> Option<(&[u8], &[u8])>
+    ensures some { IfSome result (λ cut. (list_any is_feed cut.0.now ≡ false) × (text.now ≡ ended cut.0.now ++ cut.1.now)) }
+    ensures none { IfNone result (list_any is_feed text.now ≡ false) }
+{
+    let end = first_feed(text)?;
+    Some((&text[..end], &text[end + 1..]))
+}
+
+/// The place of the first line feed.
+fn first_feed(text: &[u8]) -> Option<usize>
+    ensures { result ≡ position is_feed text.now }
+{
+    text.iter().position(|octet| *octet == b'\n')
 }
 
 /// The configuration in these octets; octets that are no UTF-8 are no TOML.

@@ -9,7 +9,7 @@ mod input;
 mod replay;
 
 pub use actions::print;
-pub use events::{MOST_LINES, handed_by};
+pub use events::{MOST_LINES, decimal, handed_by};
 pub use fault::ReplayFault;
 pub use input::{parts, read_config};
 pub use replay::replay_run;

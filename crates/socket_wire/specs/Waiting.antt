@@ -1,11 +1,11 @@
 -- Which clients wait, and which have been silent for too long (RFC 7766 6.2.3).
 use Rattle.std.specs.Prelude.{◌≡◌, ℕ, ◌+◌, ◌-◌, ◌^◌, ◌==◌, ◌&&◌, min, Bool, false, if◌then◌else◌, nat_le, List, [], length}
 use Rattle.tcp_streams.specs.declared.framing.Within.TheVariants.{Nothing}
-use Rattle.socket_wire.specs.declared.clients.ClientStream.{ClientStream}
+use Rattle.socket_wire.specs.declared.client_stream.ClientStream.{ClientStream}
 
 -- A client that has just come has sent nothing.
 pub record IsNew {A : Type 0} (now : ℕ) (client : ClientStream A) : Type 0 where
-  pub unsent : client.unsent ≡ []
+  pub unsent : client.unsent ≡ record { left = []; taken = 0 }
   pub within : client.within ≡ Nothing
   pub unanswered : client.unanswered ≡ 0
   pub ended : client.ended ≡ false
@@ -24,6 +24,10 @@ Hears messages now before after =
 -- whether a client with so many messages without a reply, and these octets that it didn't take yet, waits for nothing
 abbrev pub is_idle : ℕ → List ℕ → Bool
 is_idle unanswered unsent = (unanswered == 0) && (length unsent == 0)
+
+-- whether a client sends nothing more and waits for nothing
+abbrev pub is_done : {A : Type 0} → ClientStream A → Bool
+is_done client = client.ended && is_idle client.unanswered client.unsent.left
 
 -- whether it has been silent for too long: it took nothing for 10 s of what is left for it; or, where nothing is, sent no
 -- whole message and got no reply for 10 s, and where it waits for replies for so many milliseconds more as they may take

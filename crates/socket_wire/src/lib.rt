@@ -3,8 +3,11 @@
 
 mod address;
 mod asks;
+mod client_stream;
 mod clients;
+mod connections;
 mod listeners;
+mod lost;
 mod moments;
 mod numbers;
 mod origin;

@@ -1,10 +1,8 @@
 //! What may be ready, and which of it is tried next.
 
-ghost use Rattle.std.specs.Prelude.{◌≡◌, [], Some, None, IsTrue, false, unwrap_or, ◌↔◌};
+ghost use Rattle.std.specs.Prelude.{◌≡◌, ◌≤◌, ◌+◌, ◌%◌, [], IsTrue, IfOk, ◌↔◌};
 ghost use Rattle.std.specs.BTreeSet.{btree_set_len};
-ghost use Rattle.socket_wire.specs.declared.origin.Origin.{Origin};
-ghost use Rattle.socket_wire.specs.Rounds.{Dropped, Noted, next_token};
-ghost use Rattle.socket_wire.specs.Tokens.{HasToken, token_of};
+ghost use Rattle.socket_wire.specs.Rounds.{Dropped, Finds, Gives, GivesOnTurn, IsBegun, IsNothing, Noted};
 
 use crate::origin::Origin;
 use mio::event::Source;
@@ -39,9 +37,7 @@ impl<A: Allocator> Round<A> {
 
     /// The next one behind that which was tried last; behind the last of them the first.
     fn next(&mut self) -> Option<Origin>
-        ensures tried { self.new ≡ record self.old { last = unwrap_or (next_token self.old.last self.old.tokens.keys) self.old.last } }
-        ensures next { (origin : Origin) → HasToken origin → next_token self.old.last self.old.tokens.keys ≡ Some (token_of origin) → result ≡ Some origin }
-        ensures none { next_token self.old.last self.old.tokens.keys ≡ None → result ≡ None }
+        ensures { Gives result self.old self.new }
     {
         if self.tokens.is_empty() {
             return None;
@@ -110,8 +106,10 @@ pub(crate) struct Readiness<A: Allocator> {
 }
 
 impl<A: Allocator + Copy> Readiness<A> {
-    /// `Err` where the system refuses, or memory ran out.
-    pub fn new(net: &impl Net, alloc: A) -> io::Result<Readiness<A>> {
+    /// Only the socket for datagrams may be ready. `Err` where the system refuses, or memory ran out.
+    pub fn new(net: &impl Net, alloc: A) -> io::Result<Readiness<A>>
+        ensures { IfOk result (λ readiness. IsBegun readiness.ready × (readiness.turn ≡ 0)) }
+    {
         Ok(Readiness {
             poll: Poll::new(net)?,
             events: Events::with_capacity(alloc, EVENTS)?,
@@ -136,8 +134,11 @@ impl<A: Allocator + Copy> Readiness<A> {
         self.poll.registry().register(socket, origin.token(), both)
     }
 
-    /// Waits until something is ready, for so many milliseconds at most.
-    pub fn wait(&mut self, pause: u64) {
+    /// Waits until something is ready, for so many milliseconds at most; no turn waits for long.
+    pub fn wait(&mut self, pause: u64)
+        requires { pause ≤ 5 }
+        ensures { self.new.turn ≡ self.old.turn }
+    {
         let pause = Some(Duration::from_millis(pause));
         if self.poll.poll(&mut self.events, pause).is_err() {
             return;
@@ -167,7 +168,7 @@ impl<A: Allocator + Copy> Readiness<A> {
 
     /// Nothing may be ready.
     pub fn is_empty(&self) -> bool
-        ensures { IsTrue result ↔ (self.now.ready.datagrams ≡ false) × (btree_set_len self.now.ready.streams.tokens ≡ 0) × (btree_set_len self.now.ready.servers.tokens ≡ 0) }
+        ensures { IsTrue result ↔ IsNothing self.now.ready }
     {
         !self.ready.datagrams
             && self.ready.streams.tokens.is_empty()
@@ -182,18 +183,30 @@ impl<A: Allocator + Copy> Readiness<A> {
     }
 
     /// The next one to be tried: of clients and of asks alternately, of clients' datagrams and streams alternately.
-    pub fn next(&mut self) -> Option<Origin> {
-        for _ in 0..4u8 {
-            self.turn = (self.turn & 3) + 1;
-            let next = match self.turn & 3 {
-                1 => self.ready.datagrams.then_some(Origin::Datagrams),
-                3 => self.ready.streams.next(),
-                _ => self.ready.servers.next(),
-            };
+    pub fn next(&mut self) -> Option<Origin>
+        ensures finds { Finds 4 result self.old.turn self.new.turn self.old.ready self.new.ready }
+        ensures rest { self.new ≡ record self.old { turn = self.new.turn; ready = self.new.ready } }
+    {
+        for _tried in 0..4u8 {
+            let next = self.next_on_turn();
             if next.is_some() {
                 return next;
             }
         }
         None
+    }
+
+    /// The next one of those whose turn it is.
+    fn next_on_turn(&mut self) -> Option<Origin>
+        ensures turn { self.new.turn ≡ self.old.turn % 4 + 1 }
+        ensures gives { GivesOnTurn self.new.turn result self.old.ready self.new.ready }
+        ensures rest { self.new ≡ record self.old { turn = self.new.turn; ready = self.new.ready } }
+    {
+        self.turn = self.turn % 4 + 1;
+        match self.turn {
+            1 => self.ready.datagrams.then_some(Origin::Datagrams),
+            3 => self.ready.streams.next(),
+            _ => self.ready.servers.next(),
+        }
     }
 }

@@ -1,5 +1,9 @@
 //! The connections of asks.
 
+ghost use Rattle.std.specs.Prelude.{IfOk};
+ghost use Rattle.std.specs.Io.{ReadsAtMost};
+ghost use Rattle.socket_wire.specs.Queries.{IsBegunWith, SendsQuery};
+
 use crate::address::address_of;
 use crate::origin::Origin;
 use crate::readiness::Readiness;
@@ -29,7 +33,9 @@ impl<A: Allocator + Copy> ServerStream<A> {
         conn: u64,
         server: Peer,
         query: &[u8],
-    ) -> io::Result<ServerStream<A>> {
+    ) -> io::Result<ServerStream<A>>
+        ensures { IfOk result (λ stream. IsBegunWith server query.now stream) }
+    {
         let Ok(framed) = frame(alloc, query) else {
             return Err(io::Error::from(ErrorKind::OutOfMemory));
         };
@@ -45,7 +51,10 @@ impl<A: Allocator + Copy> ServerStream<A> {
     }
 
     /// Sends what is left of the query, and reads into the buffer; 0 octets where the server sends nothing more.
-    pub fn serve(&mut self, buffer: &mut [u8]) -> io::Result<usize> {
+    pub fn serve(&mut self, buffer: &mut [u8]) -> io::Result<usize>
+        ensures bound { ReadsAtMost result buffer.new }
+        ensures sends { SendsQuery self.old self.new }
+    {
         if !self.unsent.is_empty() {
             match self.unsent.send(&mut self.stream) {
                 Ok(_) => {}

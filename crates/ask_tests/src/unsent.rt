@@ -1,0 +1,97 @@
+//! What a stream over TCP is still to take: one that takes a part, nothing, all, and one that fails.
+
+use plain_list::PlainList;
+use refusing_allocator::Refusing;
+use std::alloc::Global;
+use std::io;
+use std::io::{ErrorKind, Write};
+use std::test::Fail;
+use tcp_streams::Unsent;
+
+/// A stream that takes at most so many octets of a write, and fails where it is told none.
+#[derive(Drop)]
+struct Slow {
+    most: Option<usize>,
+    took: Vec<u8>,
+}
+
+impl Write for Slow {
+    fn write(&mut self, octets: &[u8]) -> io::Result<usize> {
+        let Some(most) = self.most else {
+            return Err(io::Error::from(ErrorKind::ConnectionReset));
+        };
+        let count = octets.len().min(most);
+        self.took.extend_from_slice(&octets[..count])?;
+        Ok(count)
+    }
+
+    fn flush(&mut self) -> io::Result<()> {
+        Ok(())
+    }
+}
+
+/// What each write of "abcdefgh" meets: how many octets the stream takes at most, where it doesn't fail; how many it
+/// took, or how it failed; and how many are left then.
+const WRITES: [(Option<usize>, Result<usize, ErrorKind>, usize); 6] = [
+    (Some(0), Ok(0), 8),
+    (Some(3), Ok(3), 5),
+    (None, Err(ErrorKind::ConnectionReset), 5),
+    (Some(0), Ok(0), 5),
+    (Some(4), Ok(4), 1),
+    (Some(9), Ok(1), 0),
+];
+
+/// What a write gave: so many octets, or an error of this kind.
+fn sent(unsent: &mut Unsent<Global>, stream: &mut Slow) -> Result<usize, ErrorKind> {
+    unsent.send(stream).map_err(|error| error.kind())
+}
+
+#[test]
+fn a_stream_takes_a_part_and_nothing_and_fails(rt: HostRuntime) -> Result<(), Fail> {
+    let mut unsent = Unsent::new(rt.alloc());
+    unsent.push(PlainList::copied(rt.alloc(), b"abc")?)?;
+    unsent.push(PlainList::copied(rt.alloc(), b"defgh")?)?;
+    let mut stream = Slow {
+        most: None,
+        took: Vec::new(rt.alloc()),
+    };
+    for (most, gives, left) in &WRITES {
+        stream.most = *most;
+        assert_eq!(rt; sent(&mut unsent, &mut stream), *gives, "{left} left");
+        assert_eq!(rt; unsent.len(), *left);
+    }
+    assert!(rt; unsent.is_empty());
+    assert_eq!(rt; stream.took.as_slice(), b"abcdefgh".as_slice());
+    Ok(())
+}
+
+/// A stream that took most of what it was given: those octets are forgotten with the next that are put behind them,
+/// which takes one growth; where that is refused, all is as it was.
+#[test]
+fn what_a_stream_took_is_forgotten(rt: HostRuntime) -> Result<(), Fail> {
+    let heap = Refusing::new(rt.alloc());
+    for is_alone in &[false, true] {
+        heap.allow(u64::MAX);
+        let mut unsent = Unsent::new(&heap);
+        unsent.push(PlainList::copied(&heap, b"abcdefgh")?)?;
+        let mut stream = Slow {
+            most: Some(6),
+            took: Vec::new(rt.alloc()),
+        };
+        assert_eq!(rt; unsent.send(&mut stream).ok(), Some(6));
+        let more = PlainList::copied(&heap, b"ij")?;
+        let again = PlainList::copied(&heap, b"ij")?;
+        if *is_alone {
+            heap.refuse_one(0);
+        } else {
+            heap.allow(0);
+        }
+        assert!(rt; unsent.push(more).is_err());
+        assert_eq!(rt; unsent.len(), 2);
+        heap.allow(1);
+        unsent.push(again)?;
+        assert_eq!(rt; unsent.send(&mut stream).ok(), Some(4));
+        assert_eq!(rt; stream.took.as_slice(), b"abcdefghij".as_slice());
+    }
+    Ok(())
+}

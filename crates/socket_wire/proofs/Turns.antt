@@ -1,0 +1,37 @@
+-- The turns of sockets that may be ready.
+use Rattle.std.proofs.Common.{◌≡◌, ℕ, suc, ◌+◌, ◌-◌, ◌%◌, ◌<◌, inl, inr, subst, sym, true, false, is_some, Option, Some, None, arith}
+use Rattle.socket_wire.specs.declared.origin.Origin.{Origin}
+use Rattle.socket_wire.specs.declared.readiness.Ready.{Ready}
+use Rattle.socket_wire.specs.Rounds.{Finds, FindsNow, GivesOnTurn}
+
+-- What is found behind so many turns of four is what is found from the first.
+pub record FindsAll {A : Type 0} (tried first turn : ℕ) (begun ready : Ready A) : Type 0 where
+  pub finds : (given : Option Origin) (turn' : ℕ) (after : Ready A) → Finds (4 - tried) given turn turn' ready after → Finds 4 given first turn' begun after
+
+pub left_now : {A : Type 0} (tried : ℕ) (given : Option Origin) (turn turn' : ℕ) (before after : Ready A) → tried < 4 → FindsNow given turn turn' before after → Finds (4 - tried) given turn turn' before after
+left_now {A} tried given turn turn' before after h f =
+    let one : suc (3 - tried) ≡ 4 - tried = omega arith in
+    let now : Finds (suc (3 - tried)) given turn turn' before after = inl f in
+    subst (λ n. Finds n given turn turn' before after) one now
+
+pub left_later : {A : Type 0} (tried : ℕ) (given : Option Origin) (turn turn' : ℕ) (before between after : Ready A) → tried < 4 → GivesOnTurn (turn % 4 + 1) None before between
+    → Finds (4 - (tried + 1)) given (turn % 4 + 1) turn' between after → Finds (4 - tried) given turn turn' before after
+left_later {A} tried given turn turn' before between after h g f =
+    let one : suc (4 - (tried + 1)) ≡ 4 - tried = omega arith in
+    let later : Finds (suc (4 - (tried + 1))) given turn turn' before after = inr (between, (g, f)) in
+    subst (λ n. Finds n given turn turn' before after) one later
+
+pub found_now : {A : Type 0} (tried first turn turn' : ℕ) (given : Option Origin) (begun before after : Ready A) → tried < 4 → FindsAll tried first turn begun before
+    → turn' ≡ turn % 4 + 1 → GivesOnTurn turn' given before after → is_some given ≡ true → Finds 4 given first turn' begun after
+found_now tried first turn turn' given begun before after h all turns gives some =
+    all.finds given turn' after (left_now tried given turn turn' before after h (record { turns = turns; gives = gives; some = some }))
+
+pub found_later : {A : Type 0} (tried first turn turn' : ℕ) (given : Option Origin) (begun before between : Ready A) → tried < 4 → FindsAll tried first turn begun before
+    → turn' ≡ turn % 4 + 1 → GivesOnTurn turn' given before between → is_some given ≡ false → FindsAll (tried + 1) first turn' begun between
+found_later tried first turn turn' (Some origin) begun before between h all turns gives none = cc
+found_later {A} tried first turn turn' None begun before between h all turns gives none =
+    let gives : GivesOnTurn (turn % 4 + 1) None before between = subst (λ t. GivesOnTurn t None before between) turns gives in
+    let all : FindsAll (tried + 1) first (turn % 4 + 1) begun between = record {
+      finds = λ given turn' after f. all.finds given turn' after (left_later tried given turn turn' before between after h gives f);
+    } in
+    subst (λ t. FindsAll (tried + 1) first t begun between) (sym turns) all

@@ -1,0 +1,56 @@
+-- What arrives first, and which connection of a client is taken in.
+use Rattle.std.specs.Prelude.{◌≡◌, ℕ, ◌+◌, ◌<◌, ◌≤◌, ◌⊎◌, [], length, drop, slice_get, if◌then◌else◌, nat_lt, Some, None, Result, Ok}
+use Rattle.std.specs.declared.alloc.AllocError.{AllocError}
+use Rattle.step_values.specs.declared.Path.TheVariants as path
+use Rattle.wires.specs.declared.wire.Arrival.{Arrival}
+use Rattle.wires.specs.declared.wire.Arrival.TheVariants.{ClientClosed, PathGone}
+use Rattle.socket_wire.specs.declared.connections.Closed.{Closed}
+use Rattle.socket_wire.specs.declared.connections.Closed.TheVariants.{Client, Server}
+use Rattle.socket_wire.specs.declared.sockets.Sockets.{Sockets}
+use Rattle.socket_wire.specs.Listed.{Admits, first_idle}
+use Rattle.socket_wire.specs.Open.{AreNone, Connections, without_first}
+use Rattle.socket_wire.specs.Rounds.{IsBegun}
+
+-- with a place for one client more: where there are 1,024, the oldest that waits for nothing goes
+abbrev pub with_place : {A : Type 0} → Connections A → Connections A
+with_place before = if nat_lt (length before.clients) 1024 then before else without_first (first_idle before.clients) before
+
+-- A connection is listed under the next number, which was never given before.
+pub record IsTakenIn {A : Type 0} (number now : ℕ) (before : Connections A) (next : ℕ) (after : Connections A) : Type 0 where
+  pub given : next ≡ number + 1
+  pub listed : Admits number now before.clients after.clients
+  pub rest : after ≡ record before { clients = after.clients; has_room = after.has_room }
+
+-- No connection is listed.
+pub record IsLeftOut {A : Type 0} (number : ℕ) (before : Connections A) (next : ℕ) (after : Connections A) : Type 0 where
+  pub above : number ≤ next
+  pub below : next ≤ number + 1
+  pub rest : after ≡ record before { has_room = after.has_room }
+
+-- A client's connection comes: it is taken in, or goes.
+abbrev pub Comes : {A : Type 0} → (number now : ℕ) → Connections A → (next : ℕ) → Connections A → Type 0
+Comes number now before next after = IsTakenIn number now before next after ⊎ IsLeftOut number before next after
+
+-- A client's connection comes to the sockets. Where there are 1,024 and each waits for something, nothing changes.
+pub record TakesIn {R A Streams Listeners : Type 0} (now : ℕ) (before after : Sockets R A Streams Listeners) : Type 0 where
+  pub full : 1024 ≤ length before.connections.clients → first_idle before.connections.clients ≡ None → after ≡ before
+  pub comes : Comes before.numbers.next now (with_place before.connections) after.numbers.next after.connections
+  pub rest : after ≡ record before { connections = after.connections; numbers = after.numbers }
+
+-- As they begin no socket but those that clients send to is there, and no number was given.
+pub record AreNew {R A Streams Listeners : Type 0} (sockets : Sockets R A Streams Listeners) : Type 0 where
+  pub ready : IsBegun sockets.readiness.ready
+  pub connections : AreNone sockets.connections
+  pub asks : sockets.asks.entries ≡ []
+  pub numbers : sockets.numbers.next ≡ 0
+
+-- how the end of a connection is told
+abbrev pub told : {A : Type 0} → Closed → Arrival A
+told (Client conn) = ClientClosed conn
+told (Server conn) = PathGone (path.Tcp conn)
+
+-- The end that is to be told next arrives, if there is one; nothing else changes then.
+pub record TellsEnd {R A Streams Listeners : Type 0} (result : Result (Arrival A) AllocError) (before after : Sockets R A Streams Listeners) : Type 0 where
+  pub tells : (ended : Closed) → slice_get before.connections.closed 0 ≡ Some ended → result ≡ Ok (told ended)
+  pub once : 0 < length before.connections.closed
+      → after ≡ record before { connections = record before.connections { closed = drop 1 before.connections.closed; has_room = after.connections.has_room } }

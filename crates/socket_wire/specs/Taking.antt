@@ -1,0 +1,90 @@
+-- What is taken of the sockets of clients and of asks.
+use Rattle.std.specs.Prelude.{◌≡◌, ℕ, zero, suc, ◌≤◌, ◌⊎◌, length, Bool, true, false, not, if◌then◌else◌, is_ok, List, take, Option, Some, None, Result, Ok, Err}
+use Rattle.std.specs.declared.alloc.AllocError.{AllocError}
+use Rattle.std.specs.Ordering.{nat_cmp}
+use Rattle.std.specs.Map.{remove_entry}
+use Rattle.std.specs.BTreeMap.{is_at}
+use Rattle.step_values.specs.declared.Path.{Path}
+use Rattle.step_values.specs.declared.Path.TheVariants as path
+use Rattle.socket_wire.specs.declared.sockets.Sockets.{Sockets}
+use Rattle.std.specs.declared.io.Error.{Error}
+use Rattle.suffix_routes.specs.declared.peer.Peer.{Peer}
+use Rattle.wires.specs.declared.wire.Arrival.TheVariants.{ClientStream as ArrivesOfClient, ServerStream, PathGone}
+use Rattle.socket_wire.specs.declared.client_stream.ClientStream.{ClientStream}
+use Rattle.socket_wire.specs.declared.client_stream.Heard.{Heard}
+use Rattle.socket_wire.specs.declared.client_stream.Heard.TheVariants as heard
+use Rattle.socket_wire.specs.declared.sockets.taking.Tried.{Tried}
+use Rattle.socket_wire.specs.declared.sockets.taking.Tried.TheVariants.{Arrived, Served, Nothing}
+use Rattle.socket_wire.specs.declared.servers.ServerStream.{ServerStream as ServerConnection}
+use Rattle.socket_wire.specs.Listed.{ServesOn}
+use Rattle.socket_wire.specs.Open.{Connections, ServesServer, without_client, without_server}
+
+-- These are so many octets of the buffer, where it has as many.
+abbrev pub IsPiece : (count : ℕ) (buffer octets : List ℕ) → Type 0
+IsPiece count buffer octets = count ≤ length buffer → octets ≡ take count buffer
+
+-- What arrives of the client with this number: the octets that were heard, unless memory ran out.
+abbrev pub Arrives : {A : Type 0} → (conn : ℕ) (buffer : List ℕ) → Option Heard → Result (Tried A) AllocError → Type 0
+Arrives conn buffer (Some (heard.Octets count)) (Ok tried) = tried ≡ Arrived (ArrivesOfClient conn (take count buffer))
+Arrives conn buffer (Some (heard.Octets count)) (Err _) = Unit {0}
+Arrives conn buffer (Some heard.Nothing) result = result ≡ Ok Nothing
+Arrives conn buffer (Some heard.Done) result = result ≡ Ok Served
+Arrives conn buffer (Some heard.Failed) result = result ≡ Ok Served
+Arrives conn buffer None result = result ≡ Ok Nothing
+
+-- whether a client of which this was heard is closed: one whose octets found no memory can't go on
+abbrev pub is_closed_then : Option Heard → Bool → Bool
+is_closed_then (Some (heard.Octets _)) found_memory = not found_memory
+is_closed_then (Some heard.Nothing) found_memory = false
+is_closed_then (Some heard.Done) found_memory = true
+is_closed_then (Some heard.Failed) found_memory = true
+is_closed_then None found_memory = false
+
+-- closed, where it is to be
+abbrev pub closed_if : {A : Type 0} → Bool → (Connections A → Connections A) → Connections A → Connections A
+closed_if is_to_be close connections = if is_to_be then close connections else connections
+
+-- Taking of the client with this number. No other changes.
+pub record TakesClient {R A Streams Listeners : Type 0} (conn now : ℕ) (result : Result (Tried A) AllocError) (before after : Sockets R A Streams Listeners) : Type 0 where
+  pub heard : Option Heard
+  pub clients : List (ℕ × ClientStream A)
+  pub serves : ServesOn conn heard now after.buffer.value before.connections.clients clients
+  pub arrives : Arrives conn after.buffer.value heard result
+  pub closes : after.connections ≡ closed_if (is_closed_then heard (is_ok result)) (without_client conn) (record before.connections { clients = clients })
+  pub rest : after ≡ record before { connections = after.connections; buffer = after.buffer }
+
+-- What arrives of the server on the connection with this number: the octets that were read, unless memory ran out. Where it
+-- sends nothing more, nothing does; nor where the stream failed, or would wait.
+abbrev pub ArrivesOf : {A : Type 0} → (conn : ℕ) (buffer : List ℕ) → Option (Peer × Result ℕ Error) → Result (Tried A) AllocError → Type 0
+ArrivesOf conn buffer (Some (from, Ok zero)) result = result ≡ Ok Served
+ArrivesOf conn buffer (Some (from, Ok (suc before_last))) (Ok tried) = tried ≡ Arrived (ServerStream conn from (take (suc before_last) buffer))
+ArrivesOf conn buffer (Some (from, Ok (suc before_last))) (Err _) = Unit {0}
+ArrivesOf conn buffer (Some (from, Err _)) result = (result ≡ Ok Nothing) ⊎ (result ≡ Ok Served)
+ArrivesOf conn buffer None result = result ≡ Ok Nothing
+
+-- whether a connection to a server is closed where this came of it
+abbrev pub is_closed_by : {A : Type 0} → Result (Tried A) AllocError → Bool
+is_closed_by (Ok (Arrived _)) = false
+is_closed_by (Ok Served) = true
+is_closed_by (Ok Nothing) = false
+is_closed_by (Err _) = true
+
+-- Taking of the server on the connection with this number. No other changes.
+pub record TakesServer {R A Streams Listeners : Type 0} (conn : ℕ) (result : Result (Tried A) AllocError) (before after : Sockets R A Streams Listeners) : Type 0 where
+  pub served : Option (Peer × Result ℕ Error)
+  pub servers : List (ℕ × ServerConnection A)
+  pub serves : ServesServer conn served after.buffer.value before.connections.servers servers
+  pub arrives : ArrivesOf conn after.buffer.value served result
+  pub closes : after.connections ≡ closed_if (is_closed_by result) (without_server conn) (record before.connections { servers = servers })
+  pub rest : after ≡ record before { connections = after.connections; buffer = after.buffer }
+
+-- the sockets of asks, without that at this port where its end is told
+abbrev pub left_by : {A X : Type 0} → (port : ℕ) → Result (Tried A) AllocError → List (ℕ × X) → List (ℕ × X)
+left_by port (Ok (Arrived (PathGone _))) asks = remove_entry (is_at (nat_cmp port)) asks
+left_by port _ asks = asks
+
+-- Taking of the socket of the ask at this port.
+pub record TakesAsk {R A Streams Listeners : Type 0} (port : ℕ) (result : Result (Tried A) AllocError) (before after : Sockets R A Streams Listeners) : Type 0 where
+  pub asks : after.asks.entries ≡ left_by port result before.asks.entries
+  pub gone : (gone : Path) → result ≡ Ok (Arrived (PathGone gone)) → gone ≡ path.Udp port
+  pub rest : after ≡ record before { asks = after.asks; buffer = after.buffer }

@@ -1,0 +1,100 @@
+//! Sockets that are tried in turn, whatever events told.
+
+ghost use Rattle.socket_wire.specs.Trying.{TriesAsk, TriesClient, TriesServer};
+
+use super::Sockets;
+use crate::origin::Origin;
+use std::alloc::Allocator;
+use std::net::Net;
+
+/// How many sockets of each kind are tried in a round.
+const AT_ONCE: u8 = 20;
+
+/// In how many rounds the listener for connections is tried once: the system makes a socket before it finds that no
+/// client is there, which takes as long as all else of a round.
+const ROUNDS: u8 = 8;
+
+impl<R: Net, A: Allocator + Copy> Sockets<'_, R, A> {
+    /// Has the socket for datagrams, the listener in every eighth round, and some of the other sockets tried in turn,
+    /// whatever events told.
+    pub(super) fn try_others(&mut self, now: u64) {
+        self.readiness.add(Origin::Datagrams);
+        self.rounds = self.rounds.wrapping_add(1);
+        if self.rounds % ROUNDS == 0 {
+            self.readiness.add(Origin::Connections);
+        }
+        for _ in 0..AT_ONCE {
+            if !self.try_client(now) {
+                break;
+            }
+        }
+        for _ in 0..AT_ONCE {
+            if !self.try_ask() {
+                break;
+            }
+        }
+        for _ in 0..AT_ONCE {
+            if !self.try_server() {
+                break;
+            }
+        }
+    }
+
+    /// Has the next client tried, or closes it where it has been silent for too long. False behind the last one.
+    fn try_client(&mut self, now: u64) -> bool
+        ensures { TriesClient now result self.old self.new }
+    {
+        match self
+            .connections
+            .client_from(self.next_client, now, self.deadline)
+        {
+            Some((conn, is_late)) => {
+                self.next_client = conn.saturating_add(1);
+                if is_late {
+                    self.connections.close_client(conn);
+                } else {
+                    self.readiness.add(Origin::Client(conn));
+                }
+                true
+            }
+            None => {
+                self.next_client = 0;
+                false
+            }
+        }
+    }
+
+    /// Has the socket of the next ask tried. False behind the last one.
+    fn try_ask(&mut self) -> bool
+        ensures { TriesAsk result self.old self.new }
+    {
+        match self.asks.range(self.next_ask..).next() {
+            Some((port, _)) => {
+                self.next_ask = port.saturating_add(1);
+                self.readiness.add(Origin::Ask(*port));
+                true
+            }
+            None => {
+                self.next_ask = 0;
+                false
+            }
+        }
+    }
+
+    /// Has the connection of the next ask tried. False behind the last one.
+    fn try_server(&mut self) -> bool
+        ensures { TriesServer result self.old self.new }
+    {
+        match self.connections.server_from(self.next_server) {
+            Some(conn) => {
+                self.next_server = conn.saturating_add(1);
+                self.readiness.add(Origin::Server(conn));
+                true
+            }
+            None => {
+                self.next_server = 0;
+                false
+            }
+        }
+    }
+}

@@ -1,0 +1,77 @@
+"""Messages of the DNS in octets, and frames of them (RFC 1035 4.1 and 4.2.2)."""
+import struct
+
+SERVFAIL, REFUSED = 2, 5
+UNKNOWN = 65280
+
+
+def name(text):
+    return b"".join(bytes([len(label)]) + label.encode() for label in text.split(".") if label) + b"\0"
+
+
+def question(text="a.example", kind=1, identifier=0x1234):
+    return struct.pack(">6H", identifier, 0x0100, 1, 0, 0, 0) + name(text) + struct.pack(">2H", kind, 1)
+
+
+def reply_to(query, address=b"\xc6\x33\x64\x05", flags=0x8580, seconds=0):
+    """An answer, as a rule for 0 seconds, which isn't kept (RFC 1035 3.2.1): so each question comes to the name servers."""
+    answer = b"\xc0\x0c" + struct.pack(">2HIH", 1, 1, seconds, 4) + address
+    return query[:2] + struct.pack(">5H", flags, 1, 1, 0, 0) + query[12:] + answer
+
+
+def alias_reply_to(query, target, seconds=300):
+    """A reply with an alias alone, which says nothing of the name that it leads to."""
+    alias = b"\xc0\x0c" + struct.pack(">2HIH", 5, 1, seconds, len(name(target))) + name(target)
+    return query[:2] + struct.pack(">5H", 0x8580, 1, 1, 0, 0) + query[12:] + alias
+
+
+def long_reply_to(query, octets, seconds=0):
+    """A reply with a record of type 65280, which nothing is known of (RFC 3597), that has so many octets of data."""
+    answer = b"\xc0\x0c" + struct.pack(">2HIH", UNKNOWN, 1, seconds, octets) + bytes(k % 251 for k in range(octets))
+    return query[:2] + struct.pack(">5H", 0x8580, 1, 1, 0, 0) + query[12:] + answer
+
+
+def is_long_answer(message, asked, octets):
+    expect(message, asked[:2] + struct.pack(">5H", 0x8180, 1, 1, 0, 0) + long_reply_to(asked, octets)[12:])
+
+
+def cut_reply_to(query):
+    return query[:2] + struct.pack(">5H", 0x8780, 1, 0, 0, 0) + query[12:]
+
+
+def framed(message):
+    return struct.pack(">H", len(message)) + message
+
+
+def code(message):
+    return message[3] & 15
+
+
+def exactly(stream, count):
+    octets = b""
+    while len(octets) < count:
+        more = stream.recv(count - len(octets))
+        if not more:
+            raise EOFError("the connection was closed")
+        octets += more
+    return octets
+
+
+def take_frame(stream):
+    return exactly(stream, struct.unpack(">H", exactly(stream, 2))[0])
+
+
+def shown(value):
+    """A value as it is told: of a long one the beginning."""
+    text = repr(value)
+    return text if len(text) <= 400 else f"{text[:400]}.. ({len(value)} long)"
+
+
+def expect(met, wanted):
+    if met != wanted:
+        raise AssertionError(f"{shown(met)} in place of {shown(wanted)}")
+
+
+def is_answer(message, asked):
+    """The reply has the client's identifier, flags of an answer, the question as asked, and the address."""
+    expect(message, asked[:2] + struct.pack(">5H", 0x8180, 1, 1, 0, 0) + reply_to(asked)[12:])

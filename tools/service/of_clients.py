@@ -1,0 +1,274 @@
+"""What clients ask and send, and what reaches them."""
+import socket
+import statistics
+import struct
+import subprocess
+import sys
+import time
+
+from .messages import (
+    REFUSED, SERVFAIL, UNKNOWN, alias_reply_to, code, exactly, expect, framed, is_answer, is_long_answer, long_reply_to, name,
+    question, reply_to, take_frame)
+from .running import Forwarder, Server, case
+
+
+@case
+def a_question_by_udp_and_over_tcp(program):
+    server = Server()
+    with Forwarder(program, [server.port]) as forwarder:
+        forwarder.is_well("A.eXample")
+        expect(server.asked[0][12:], question("A.eXample")[12:])
+        expect(code(forwarder.ask_udp(question("elsewhere.test"))), REFUSED)
+
+
+@case
+def an_answer_that_is_kept(program):
+    server = Server(by_udp=lambda query: reply_to(query, seconds=300))
+    with Forwarder(program, [server.port]) as forwarder:
+        for asked in (question(), question(identifier=7), question()):
+            answer = forwarder.ask_udp(asked)
+            expect(answer[:-16], asked[:2] + struct.pack(">5H", 0x8180, 1, 1, 0, 0) + asked[12:])
+            expect(answer[-4:], b"\xc6\x33\x64\x05")
+        expect(len(server.asked), 1)
+
+
+@case
+def an_alias_that_leads_to_another_route(program):
+    server, other = Server(by_udp=lambda query: alias_reply_to(query, "www.test")), Server()
+    with Forwarder(program, [server.port], others=[("test", other.port)]) as forwarder:
+        asked, alias = question(), alias_reply_to(question(), "www.test")[12:]
+        place = struct.pack(">H", 0xC000 + 12 + len(alias) - len(name("www.test")))
+        for ask in (forwarder.ask_udp, forwarder.ask_tcp):
+            answer = ask(asked)
+            expect(answer[:12], asked[:2] + struct.pack(">5H", 0x8180, 1, 2, 0, 0))
+            lived = 300 - struct.unpack(">I", answer[33:37])[0]
+            expect(answer[12:33] + answer[37:], alias[:21] + alias[25:] + place + reply_to(asked)[29:])
+            if not 0 <= lived <= 5:
+                raise AssertionError(f"it is told as {lived} s old")
+        expect([query[12:] for query in server.asked], [asked[12:]])
+        expect([query[12:] for query in other.asked], [question("www.test")[12:]] * 2)
+
+
+@case
+def a_question_over_tcp_in_two_pieces_and_octet_by_octet(program):
+    server = Server()
+    with Forwarder(program, [server.port]) as forwarder:
+        for cuts in ([3], range(1, 29)):
+            with forwarder.tcp() as client:
+                client.setsockopt(socket.IPPROTO_TCP, socket.TCP_NODELAY, 1)
+                octets, last = framed(question()), 0
+                for cut in [*cuts, len(octets)]:
+                    client.sendall(octets[last:cut])
+                    last = cut
+                    time.sleep(0.002)
+                is_answer(take_frame(client), question())
+
+
+@case
+def many_questions_on_a_connection_in_any_order(program):
+    def slowly(query):
+        if b"slow" in query:
+            time.sleep(0.3)
+        return reply_to(query)
+
+    server, slow = Server(), Server(by_udp=slowly)
+    with Forwarder(program, [slow.port, server.port]) as forwarder, forwarder.tcp() as client:
+        asked = {n: question(f"{'slow' if n == 0 else 'n'}{n}.example", identifier=n) for n in range(5)}
+        client.sendall(b"".join(framed(asked[n]) for n in range(1, 5)))
+        client.sendall(framed(asked[0]))
+        replies = [take_frame(client) for _ in asked]
+        for reply in replies:
+            is_answer(reply, asked[struct.unpack(">H", reply[:2])[0]])
+        expect(len({reply[:2] for reply in replies}), 5)
+
+
+@case
+def a_client_that_ended_its_sending_gets_its_answers(program):
+    server = Server(by_udp=lambda query: time.sleep(0.2) or reply_to(query))
+    with Forwarder(program, [server.port]) as forwarder, forwarder.tcp() as client:
+        for n in range(3):
+            client.sendall(framed(question(f"n{n}.example", identifier=n)))
+        client.shutdown(socket.SHUT_WR)
+        expect(sorted(take_frame(client)[:2] for _ in range(3)), [b"\0\0", b"\0\1", b"\0\2"])
+        expect(client.recv(1), b"")
+
+
+@case
+def datagrams_that_are_no_questions(program):
+    server = Server()
+    with Forwarder(program, [server.port]) as forwarder, forwarder.udp() as client:
+        for count in (0, 1, 11):
+            client.send(bytes(count))
+        client.send(struct.pack(">6H", 9, 0x0100, 0, 0, 0, 0))
+        expect(client.recv(65535), struct.pack(">6H", 9, 0x8181, 0, 0, 0, 0))
+        client.send(question() + bytes(65507 - len(question())))
+        is_answer(client.recv(65535), question())
+        forwarder.is_well()
+
+
+@case
+def streams_that_are_no_questions(program):
+    server = Server()
+    with Forwarder(program, [server.port]) as forwarder:
+        with forwarder.tcp() as nothing, forwarder.tcp() as too_much, forwarder.tcp() as half:
+            nothing.sendall(b"\0\0" * 1000 + framed(question()))
+            is_answer(take_frame(nothing), question())
+            too_much.sendall(b"\xff\xff")
+            half.sendall(framed(question())[:9])
+            half.close()
+            reset = forwarder.tcp()
+            reset.sendall(framed(question("reset.example")))
+            reset.setsockopt(socket.SOL_SOCKET, socket.SO_LINGER, struct.pack("ii", 1, 0))
+            reset.close()
+            forwarder.is_well()
+            too_much.sendall(question() + bytes(65535 - len(question())))
+            is_answer(take_frame(too_much), question())
+
+
+@case
+def a_client_that_never_reads(program):
+    server = Server()
+    with Forwarder(program, [server.port]) as forwarder, forwarder.tcp() as deaf:
+        deaf.setblocking(False)
+        sent, until = 0, time.monotonic() + 60
+        while time.monotonic() < until:
+            try:
+                deaf.send(framed(question("elsewhere.test")) * 200)
+                sent += 1
+            except BlockingIOError:
+                time.sleep(0.005)
+            except (ConnectionResetError, BrokenPipeError):
+                break
+        else:
+            raise AssertionError(f"it is open still, after {sent} pieces")
+        forwarder.is_well()
+
+
+@case
+def silent_clients_are_closed(program):
+    server = Server(by_udp=lambda query: None if b"never" in query else reply_to(query))
+    limits = "ask_ms = 10000\ndeadline_ms = 12000\n"
+    with Forwarder(program, [server.port], limits=limits) as forwarder:
+        with forwarder.tcp() as silent, forwarder.tcp() as half, forwarder.tcp() as waits:
+            began = time.monotonic()
+            half.sendall(framed(question())[:9])
+            waits.sendall(framed(question("never.example")))
+            for client in (silent, half):
+                expect(client.recv(1), b"")
+                if not 9.5 < time.monotonic() - began < 12:
+                    raise AssertionError(f"closed after {time.monotonic() - began:.1f} s")
+            expect(code(take_frame(waits)), SERVFAIL)
+            forwarder.is_well()
+
+
+def reset(client):
+    client.setsockopt(socket.SOL_SOCKET, socket.SO_LINGER, struct.pack("ii", 1, 0))
+    client.close()
+
+
+@case
+def a_client_that_resets_while_others_wait(program):
+    """Of five that wait for one question the second resets before the answer: the others get it."""
+    server = Server(by_udp=lambda query: time.sleep(0.5) or reply_to(query))
+    with Forwarder(program, [server.port]) as forwarder:
+        clients = [forwarder.tcp() for _ in range(5)]
+        for client in clients:
+            client.sendall(framed(question()))
+        time.sleep(0.1)
+        reset(clients.pop(1))
+        for client in clients:
+            is_answer(take_frame(client), question())
+            client.sendall(framed(question("again.example")))
+            is_answer(take_frame(client), question("again.example"))
+
+
+def small_reader(port):
+    """A client whose system takes few octets before it reads them."""
+    client = socket.socket()
+    client.setsockopt(socket.SOL_SOCKET, socket.SO_RCVBUF, 4096)
+    client.settimeout(14)
+    client.connect(("127.0.0.1", port))
+    return client
+
+
+def taken_by_the_system():
+    """How many octets the system takes of a server whose client reads nothing."""
+    with socket.create_server(("127.0.0.1", 0)) as server, small_reader(server.getsockname()[1]):
+        stream, _ = server.accept()
+        stream.setblocking(False)
+        taken, until = 0, time.monotonic() + 1
+        while time.monotonic() < until:
+            try:
+                taken += stream.send(bytes(60000))
+            except BlockingIOError:
+                time.sleep(0.01)
+        stream.close()
+        return taken
+
+
+@case
+def clients_that_read_late_or_not_at_all(program):
+    """Of answers of 60,000 octets the wire keeps some 800,000 that the system doesn't take. Who reads nothing is gone; who
+    reads them in small pieces, for longer than a client may take nothing, gets them all."""
+    octets = 60000
+    server = Server(by_udp=lambda query: long_reply_to(query, octets))
+    count = taken_by_the_system() // octets + 14
+    with Forwarder(program, [server.port]) as forwarder, small_reader(forwarder.port) as deaf, small_reader(forwarder.port) as slow:
+        asked = [question(f"n{n:03}.example", UNKNOWN, n) for n in range(count)]
+        for client in (deaf, slow):
+            client.sendall(b"".join(framed(message) for message in asked))
+        stream, began = b"", time.monotonic()
+        while time.monotonic() < began + 13:
+            stream += exactly(slow, 2000)
+            time.sleep(0.05)
+        stream += exactly(slow, count * (2 + len(long_reply_to(asked[0], octets))) - len(stream))
+        for _ in asked:
+            size = struct.unpack(">H", stream[:2])[0]
+            message, stream = stream[2:2 + size], stream[2 + size:]
+            is_long_answer(message, asked[struct.unpack(">H", message[:2])[0]], octets)
+        other = question("other.example", UNKNOWN)
+        is_long_answer(forwarder.ask_tcp(other), other, octets)
+
+
+def chain_reply_to(query):
+    """Eight aliases, each of the next name, and an address, for five minutes."""
+    names = [name(f"chain{k}.example") for k in range(9)]
+    records = [owner + struct.pack(">2HIH", 5, 1, 300, len(target)) + target for owner, target in zip(names, names[1:])]
+    address = names[-1] + struct.pack(">2HIH", 1, 1, 300, 4) + b"\xc6\x33\x64\x05"
+    return query[:2] + struct.pack(">5H", 0x8580, 1, 9, 0, 0) + query[12:] + b"".join(records) + address
+
+
+FLOOD = """
+import socket, sys
+client = socket.socket(socket.AF_INET, socket.SOCK_DGRAM)
+client.connect(("127.0.0.1", int(sys.argv[1])))
+while True:
+    try:
+        client.send(bytes.fromhex(sys.argv[2]))
+    except OSError:
+        pass
+"""
+
+
+@case
+def a_question_over_tcp_beside_a_flood(program):
+    """While datagrams come as fast as three processes send them, a question over TCP is answered within 0.2 s, as a rule.
+    They ask for a name with eight aliases, which takes longer to answer than to ask."""
+    server = Server(by_udp=lambda query: chain_reply_to(query) if b"chain" in query else reply_to(query))
+    with Forwarder(program, [server.port]) as forwarder, forwarder.tcp() as client:
+        flood = [sys.executable, "-c", FLOOD, str(forwarder.port), question("chain0.example").hex()]
+        flooding = [subprocess.Popen(flood) for _ in range(3)]
+        try:
+            time.sleep(0.5)
+            took = []
+            for n in range(9):
+                began = time.monotonic()
+                client.sendall(framed(question(f"n{n}.example")))
+                is_answer(take_frame(client), question(f"n{n}.example"))
+                took.append(time.monotonic() - began)
+        finally:
+            for process in flooding:
+                process.kill()
+                process.wait()
+        if statistics.median(took) > 0.2:
+            raise AssertionError(f"answered after {statistics.median(took):.2f} s")

@@ -1,0 +1,155 @@
+"""What the commands print, what they tell on standard error, and their statuses."""
+import os
+import pathlib
+import re
+import signal
+import subprocess
+import tempfile
+
+from .messages import expect
+from .running import MAIN, TOP, Forwarder, Server, case, run_of
+
+
+@case
+def turns_and_statuses(program):
+    server = Server()
+    with Forwarder(program, [server.port], turns=20) as forwarder:
+        printed, told = forwarder.process.communicate(timeout=20)
+        expect((printed, told, forwarder.process.returncode), (b"turns 20 lost 0\n", b"", 0))
+    with Forwarder(program, [server.port]) as forwarder:
+        again = subprocess.run([program, "serve", forwarder.file.name, "1"], capture_output=True)
+        in_use = f"127.0.0.1:{forwarder.port}: Address already in use (os error 98)\n".encode()
+        expect((again.stdout, again.stderr, again.returncode), (in_use, b"device\n", 5))
+        forwarder.process.send_signal(signal.SIGTERM)
+        expect(forwarder.process.wait(5), -signal.SIGTERM)
+        forwarder.file.truncate(9)
+        forwarder.file.flush()
+        said = b"the text is no TOML: see line 1, column 10\n"
+        expect(run_of(program, "serve", forwarder.file.name, "1"), (said, b"fault 1\n", 2))
+        for turns in ("", "-1", "18446744073709551616", "x", "000000000000000000001"):
+            status = subprocess.run([program, "serve", forwarder.file.name, turns], capture_output=True).returncode
+            expect(status, 1)
+    expect(subprocess.run([program, "serve", "/no/such/file", "1"], capture_output=True).returncode, 5)
+
+
+@case
+def statuses_of_check(program):
+    office = TOP / "examples" / "office.toml"
+    expect(run_of(program, "check", office), (b"ok 3\n", b"", 0))
+    expect(run_of(program, "check", "/no/such/file"), (no_file(b"/no/such/file"), b"device\n", 5))
+    with open("/dev/full", "wb") as full, tempfile.NamedTemporaryFile("w") as refused:
+        expect(run_of(program, "check", office, out=full), (None, b"device\n", 5))
+        refused.write("version = 1\nlimits = { tries = 17 }\n")
+        refused.flush()
+        said = b"`tries` in `limits` is 17, and has to be 1 to 16\n"
+        for words in (["check", refused.name], ["serve", refused.name, "1"]):
+            expect(run_of(program, *words), (said, b"fault 7\n", 2))
+        expect(run_of(program, "check", refused.name, out=full), (None, b"fault 7\n", 2))
+    with tempfile.NamedTemporaryFile() as refused:
+        refused.write("version = 1\n# \u00e4 ".encode() + b"\xff\n")
+        refused.flush()
+        expect(run_of(program, "check", refused.name), (b"the text is no TOML: see line 2, column 5\n", b"fault 1\n", 2))
+    for words in ([], ["check"], ["check", office, office], ["replay", office], ["serve", office], ["other"], [b"\xff", office], ["serve", office, b"\xff"]):
+        expect(run_of(program, *words), (b"", b"usage: forwarder check FILE, replay, or serve FILE TURNS\n", 1))
+
+
+@case
+def examples_are_accepted(program):
+    """Each example, and the configuration of the package, is accepted with as many routes as it has headers."""
+    examples = sorted((TOP / "examples").glob("*.toml"))
+    if len(examples) < 5:
+        raise AssertionError(f"there are only {len(examples)} examples")
+    for file in [*examples, TOP / "packaging" / "forwarder.toml"]:
+        routes = file.read_text().splitlines().count("[[route]]")
+        expect((file.name, *run_of(program, "check", file)), (file.name, f"ok {routes}\n".encode(), b"", 0))
+
+
+def no_file(name):
+    """What is said of a file that is not there; octets that are no text are shown with escapes."""
+    if len(name) > 4095:
+        return b"the name of the file has more than 4095 octets\n"
+    return name.decode(errors="backslashreplace").encode() + b": No such file or directory (os error 2)\n"
+
+
+@case
+def what_is_said_where_the_system_refuses(program):
+    """A folder, a file with one octet too many, and an address of another machine are named with the reason."""
+    said = lambda what, reason: (f"{what}: {reason}\n".encode(), b"device\n", 5)
+    with tempfile.TemporaryDirectory() as folder:
+        expect(run_of(program, "check", folder), said(folder, "Is a directory (os error 21)"))
+        large = pathlib.Path(folder, "large.toml")
+        with open(large, "wb") as file:
+            file.truncate(2**24 + 1)
+        expect(run_of(program, "check", large), said(large, "more than 16777216 octets"))
+        with open(large, "wb") as file:
+            file.write(b"#" * (2**24 - 12) + b"\nversion = 1")
+        expect(run_of(program, "check", large)[1:], (b"fault 3\n", 2))
+        elsewhere = pathlib.Path(folder, "elsewhere.toml")
+        elsewhere.write_text((TOP / "examples" / "smallest.toml").read_text().replace("version = 1", 'version = 1\nlisten = "192.0.2.1:53"'))
+        reason = "Cannot assign requested address (os error 99)"
+        expect(run_of(program, "serve", elsewhere, "1"), said("192.0.2.1:53", reason))
+
+
+def checked(program, octets):
+    """What `check` prints of a configuration and tells on standard error, line by line, and its status."""
+    with tempfile.NamedTemporaryFile() as file:
+        file.write(octets)
+        file.flush()
+        printed, told, status = run_of(program, "check", file.name)
+        return (printed + told).decode().splitlines(), status
+
+
+def with_line(text, line):
+    """The configuration with this line in place of the one of its key; a key that it does not have comes second."""
+    lines, key = text.splitlines(), line.lstrip("[")[:5]
+    places = [place for place, each in enumerate(lines) if each.lstrip("[").startswith(key)]
+    version = lines.index("version = 1") + 1
+    lines[slice(places[0], places[0] + 1) if places else slice(version, version)] = [line]
+    return "\n".join(lines) + "\n"
+
+
+@case
+def what_the_page_for_administrators_shows(program):
+    """Each configuration of docs/ADMIN.md is accepted, or refused with the lines that the page has for it."""
+    page = (TOP / "docs" / "ADMIN.md").read_text()
+    smallest = (TOP / "examples" / "smallest.toml").read_text()
+    rows = re.findall(r"^\| `([^`]+)` \| (\d+) \| (`+)(.+?)\3 \| .+ \|$", page, re.MULTILINE)
+    for line, number, _, said in rows:
+        wanted = [said.strip(), f"fault {number}"], 2
+        expect((line, checked(program, with_line(smallest, line).encode())), (line, wanted))
+    blocks = re.findall(r"^( *)```toml\n(.*?)^ *```\n(?:\n```text\n(.*?)^```$)?", page, re.MULTILINE | re.DOTALL)
+    for indent, text, said in blocks:
+        text = "".join(line[len(indent):] for line in text.splitlines(keepends=True))
+        wanted = (said.splitlines(), 2) if said else ([f"ok {text.count('[[route]]')}"], 0)
+        expect(checked(program, text.encode()), wanted)
+    utf_16 = ["the text is no TOML: see line 1, column 1", "fault 1"]
+    expect((checked(program, smallest.encode("utf-16")), utf_16[0] in page), ((utf_16, 2), True))
+    expect(checked(program, b"\xef\xbb\xbf" + smallest.replace("\n", "\r\n").encode()), (["ok 1"], 0))
+    if len(rows) < 20 or len(blocks) < 4:
+        raise AssertionError(f"only {len(rows)} rows and {len(blocks)} configurations were found")
+
+
+@case
+def names_of_files_are_octets(program):
+    office = TOP / "examples" / "office.toml"
+    with tempfile.TemporaryDirectory() as folder:
+        name = os.path.join(os.fsencode(folder), b"\xe4\xff.toml")
+        with open(name, "wb") as copied:
+            copied.write(office.read_bytes())
+        expect(run_of(program, "check", name), (b"ok 3\n", b"", 0))
+    for missing in (name, b"\xff", b"", b"a" * 4096, b"a" * 100000):
+        for words in (["check", missing], ["serve", missing, "1"]):
+            expect(run_of(program, *words), (no_file(missing), b"device\n", 5))
+
+
+@case
+def statuses_of_replay(program):
+    script, printed = (pathlib.Path(MAIN / part).read_bytes() for part in ("stdin", "stdout"))
+    expect(run_of(program, "replay", given=script), (printed, b"", 0))
+    expect(run_of(program, "replay", given=script + b"x\n"), (printed, b"line 3\n", 3))
+    expect(run_of(program, "replay", given=b"version = 1\n"), (b"", b"line 0\n", 3))
+    expect(run_of(program, "replay", given=b"version = 1\n---\n"), (b"", b"fault 3\n", 2))
+    expect(run_of(program, "replay", given=script + bytes(2**24 - len(script) + 1)), (b"", b"device\n", 5))
+    expect(run_of(program, "replay", given=script + bytes(2**24 - len(script)), memory=2**24), (b"", b"memory\n", 4))
+    with open("/dev/full", "wb") as full:
+        expect(run_of(program, "replay", given=script, out=full), (None, b"device\n", 5))

@@ -1,0 +1,120 @@
+"""What bounds the service: asks, connections, descriptors, memory and time."""
+import pathlib
+import resource
+import socket
+import struct
+import time
+
+from .messages import UNKNOWN, expect, framed, is_answer, long_reply_to, question, reply_to, take_frame
+from .running import Forwarder, Server, case, free_port, spent
+
+
+@case
+def as_many_asks_as_may_be(program):
+    most = 1024
+    waiting = socket.socket(socket.AF_INET, socket.SOCK_DGRAM)
+    waiting.settimeout(8)
+    waiting.bind(("127.0.0.1", free_port()))
+    limits = f"inquiries = {most}\nquestions = {most}\nask_ms = 10000\ndeadline_ms = 20000\n"
+    with Forwarder(program, [waiting.getsockname()[1]], limits=limits, descriptors=4096) as forwarder, forwarder.udp() as client:
+        asked = [question(f"n{n}.example", identifier=n) for n in range(most)]
+        queries = []
+        for message in asked:
+            client.send(message)
+            queries.append(waiting.recvfrom(65535))
+        for query, path in queries:
+            waiting.sendto(reply_to(query), path)
+            message = client.recv(65535)
+            is_answer(message, asked[struct.unpack(">H", message[:2])[0]])
+
+
+@case
+def more_clients_than_may_be(program):
+    server = Server()
+    with Forwarder(program, [server.port], descriptors=4096) as forwarder:
+        clients = [forwarder.tcp() for _ in range(1030)]
+        forwarder.is_well()
+        expect(clients[0].recv(1), b"")
+        clients[-1].sendall(framed(question()))
+        is_answer(take_frame(clients[-1]), question())
+        for client in clients:
+            client.close()
+        forwarder.is_well()
+
+
+@case
+def no_descriptor_is_left(program):
+    server = Server()
+    with Forwarder(program, [server.port], descriptors=40) as forwarder:
+        clients = [forwarder.tcp() for _ in range(80)]
+        time.sleep(0.1)
+        for n in range(10):
+            is_answer(forwarder.ask_udp(question(f"n{n}.example")), question(f"n{n}.example"))
+        for client in clients:
+            client.close()
+        forwarder.is_well()
+
+
+@case
+def a_service_that_is_idle(program):
+    server = Server()
+    with Forwarder(program, [server.port]) as forwarder:
+        time.sleep(1)
+        before = spent(forwarder.process.pid)
+        time.sleep(3)
+        share = (spent(forwarder.process.pid) - before) / 3
+        if share > 0.03:
+            raise AssertionError(f"{100 * share:.1f} % of a processor")
+
+
+@case
+def many_asks_in_turn_under_few_descriptors(program):
+    """Each ask has a descriptor, which is free again once it ended."""
+    server = Server()
+    with Forwarder(program, [server.port], descriptors=64) as forwarder:
+        for n in range(200):
+            is_answer(forwarder.ask_udp(question(f"n{n}.example")), question(f"n{n}.example"))
+
+
+@case
+def more_clients_that_wait_than_may_be(program):
+    """Of 1,100 that all wait for one question 1,024 get its answer; those past them are closed."""
+    most, server = 1024, Server(by_udp=lambda query: None)
+    limits = "questions = 4096\nask_ms = 9000\ndeadline_ms = 9500\n"
+    with Forwarder(program, [server.port], limits=limits, descriptors=4096) as forwarder:
+        clients = []
+        for n in range(1100):
+            client = forwarder.tcp()
+            client.sendall(framed(question(identifier=n)))
+            clients.append(client)
+        answered = 0
+        for n, client in enumerate(clients):
+            try:
+                answered += take_frame(client)[:2] == struct.pack(">H", n)
+            except (EOFError, ConnectionResetError):
+                pass
+            client.close()
+        expect(answered, most)
+
+
+def has_memory(pid):
+    """How many octets of addresses a process has."""
+    return int(pathlib.Path(f"/proc/{pid}/statm").read_text().split()[0]) * resource.getpagesize()
+
+
+@case
+def events_that_find_no_memory_are_counted(program):
+    """With room for few answers of 60,000 octets in the cache, some of the replies that would be kept are lost."""
+    server = Server(by_udp=lambda query: long_reply_to(query, 60000, seconds=300))
+    with Forwarder(program, [server.port], turns=1500, limits="ask_ms = 200\ntries = 1\n") as forwarder:
+        room = has_memory(forwarder.process.pid) + 4_000_000
+        resource.prlimit(forwarder.process.pid, resource.RLIMIT_AS, (room, room))
+        with forwarder.udp() as client:
+            for n in range(300):
+                client.send(question(f"n{n}.example", UNKNOWN))
+                time.sleep(0.002)
+        printed, told = forwarder.process.communicate(timeout=30)
+        words = printed.split()
+        expect((words[:3], told, forwarder.process.returncode), ([b"turns", b"1500", b"lost"], b"", 0))
+        if int(words[3]) == 0:
+            raise AssertionError("none was lost")

@@ -1,0 +1,129 @@
+"""What is asked of name servers, and what comes of what they do."""
+import socket
+import struct
+import time
+
+from .messages import SERVFAIL, UNKNOWN, code, cut_reply_to, expect, framed, is_answer, is_long_answer, long_reply_to, question, reply_to
+from .running import Forwarder, Server, case, free_port
+
+
+@case
+def a_cut_reply_is_asked_for_over_tcp(program):
+    server = Server(by_udp=cut_reply_to)
+    with Forwarder(program, [server.port]) as forwarder:
+        forwarder.is_well()
+
+
+@case
+def servers_over_tcp(program):
+    def in_two_pieces(stream, query):
+        octets = framed(reply_to(query))
+        stream.sendall(octets[:1])
+        time.sleep(0.05)
+        stream.sendall(octets[1:30])
+        time.sleep(0.05)
+        stream.sendall(octets[30:])
+
+    def another_first(stream, query):
+        stream.sendall(framed(reply_to(question("other.example", identifier=8))) + framed(reply_to(query)))
+
+    def twice(stream, query):
+        stream.sendall(framed(reply_to(query)) * 2)
+
+    for over_tcp in (in_two_pieces, another_first, twice):
+        server = Server(by_udp=cut_reply_to, over_tcp=over_tcp)
+        with Forwarder(program, [server.port]) as forwarder:
+            forwarder.is_well()
+
+
+@case
+def servers_that_close_or_reset(program):
+    def closes(stream, query):
+        stream.sendall(framed(reply_to(query))[:20])
+        stream.close()
+
+    def resets(stream, query):
+        stream.setsockopt(socket.SOL_SOCKET, socket.SO_LINGER, struct.pack("ii", 1, 0))
+        stream.close()
+
+    for over_tcp in (closes, resets):
+        first, second = Server(by_udp=cut_reply_to, over_tcp=over_tcp), Server()
+        with Forwarder(program, [first.port, second.port]) as forwarder:
+            began = time.monotonic()
+            forwarder.is_well()
+            if time.monotonic() - began > 1:
+                raise AssertionError("it waited for the time of an ask")
+
+
+@case
+def a_server_that_is_not_there(program):
+    gone, server = free_port(), Server()
+    with Forwarder(program, [gone]) as forwarder:
+        began = time.monotonic()
+        expect(code(forwarder.ask_udp(question())), SERVFAIL)
+        if time.monotonic() - began > 1:
+            raise AssertionError("the refusal was not told")
+    with Forwarder(program, [gone, server.port]) as forwarder:
+        forwarder.is_well()
+
+
+@case
+def a_server_that_never_answers(program):
+    silent, server = Server(by_udp=lambda query: None), Server()
+    with Forwarder(program, [silent.port, server.port], limits="ask_ms = 300\n") as forwarder:
+        forwarder.is_well()
+
+
+@case
+def many_asks_at_once(program):
+    server = Server(by_udp=lambda query: time.sleep(0.0005) or reply_to(query))
+    limits = "ask_ms = 5000\ndeadline_ms = 20000\n"
+    with Forwarder(program, [server.port], limits=limits) as forwarder, forwarder.udp() as client:
+        asked = {n: question(f"n{n}.example", identifier=n) for n in range(200)}
+        for message in asked.values():
+            client.send(message)
+        left = dict(asked)
+        while left:
+            reply = client.recv(65535)
+            is_answer(reply, left.pop(struct.unpack(">H", reply[:2])[0]))
+
+
+@case
+def long_replies_by_udp(program):
+    """A reply by UDP has up to 65,507 octets: over TCP the client gets all of it, by UDP it is cut."""
+    for octets in (6000, 60000):
+        server = Server(by_udp=lambda query: long_reply_to(query, octets))
+        with Forwarder(program, [server.port]) as forwarder:
+            asked = question(kind=UNKNOWN)
+            is_long_answer(forwarder.ask_tcp(asked), asked, octets)
+            expect(forwarder.ask_udp(asked), asked[:2] + struct.pack(">5H", 0x8380, 1, 0, 0, 0) + asked[12:])
+
+
+@case
+def runs_draw_other_identifiers_and_ports(program):
+    """Of 200 queries each, asked for in one go, three runs draw no pair of both in common (RFC 5452 9.2): a stranger who
+    knows what one run drew learns nothing of another. Of runs with the same random words two ask at the same draws."""
+    runs = []
+    for _ in range(3):
+        server = Server(by_udp=lambda query: None)
+        with Forwarder(program, [server.port]) as forwarder, forwarder.udp() as client:
+            for n in range(200):
+                client.send(question(f"n{n}.example"))
+            until = time.monotonic() + 5
+            while len(server.asked_from) < 200 and time.monotonic() < until:
+                time.sleep(0.01)
+        runs.append({(query[:2], port) for query, port in zip(server.asked, server.asked_from)})
+    drawn = len(set.union(*runs))
+    if min(map(len, runs)) < 200 or drawn < sum(map(len, runs)):
+        raise AssertionError(f"{' and '.join(str(len(run)) for run in runs)} pairs are {drawn} in all")
+
+
+@case
+def a_client_over_tcp_waits_to_the_deadline(program):
+    """Its question is asked sixteen times at most, a second each; it gets its reply at its deadline, and not before."""
+    server = Server(by_udp=lambda query: None)
+    with Forwarder(program, [server.port], limits="ask_ms = 1000\ntries = 16\ndeadline_ms = 13000\n") as forwarder:
+        began = time.monotonic()
+        expect(code(forwarder.ask_tcp(question())), SERVFAIL)
+        if not 12.9 < time.monotonic() - began < 13.9 or not 12 <= len(server.asked) <= 13:
+            raise AssertionError(f"after {time.monotonic() - began:.1f} s and {len(server.asked)} queries")
