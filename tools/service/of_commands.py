@@ -9,6 +9,9 @@ import tempfile
 from .messages import expect
 from .running import MAIN, TOP, Forwarder, Server, case, run_of
 
+# Why the reader of TOML stops where no value stands.
+NO_VALUE = "invalid value, expected a string, number, boolean, date-time, array or inline table"
+
 
 @case
 def turns_and_statuses(program):
@@ -24,7 +27,7 @@ def turns_and_statuses(program):
         expect(forwarder.process.wait(5), -signal.SIGTERM)
         forwarder.file.truncate(9)
         forwarder.file.flush()
-        said = b"the text is no TOML: see line 1, column 10\n"
+        said = f"the text is no TOML: see line 1, column 10: {NO_VALUE}\n".encode()
         expect(run_of(program, "serve", forwarder.file.name, "1"), (said, b"fault 1\n", 2))
         for turns in ("", "-1", "18446744073709551616", "x", "000000000000000000001"):
             status = subprocess.run([program, "serve", forwarder.file.name, turns], capture_output=True).returncode
@@ -48,7 +51,8 @@ def statuses_of_check(program):
     with tempfile.NamedTemporaryFile() as refused:
         refused.write("version = 1\n# \u00e4 ".encode() + b"\xff\n")
         refused.flush()
-        expect(run_of(program, "check", refused.name), (b"the text is no TOML: see line 2, column 5\n", b"fault 1\n", 2))
+        said = b"the text is no TOML: see line 2, column 5: invalid UTF-8\n"
+        expect(run_of(program, "check", refused.name), (said, b"fault 1\n", 2))
     for words in ([], ["check"], ["check", office, office], ["replay", office], ["serve", office], ["other"], [b"\xff", office], ["serve", office, b"\xff"]):
         expect(run_of(program, *words), (b"", b"usage: forwarder check FILE, replay, or serve FILE TURNS\n", 1))
 
@@ -122,11 +126,27 @@ def what_the_page_for_administrators_shows(program):
         text = "".join(line[len(indent):] for line in text.splitlines(keepends=True))
         wanted = (said.splitlines(), 2) if said else ([f"ok {text.count('[[route]]')}"], 0)
         expect(checked(program, text.encode()), wanted)
-    utf_16 = ["the text is no TOML: see line 1, column 1", "fault 1"]
+    utf_16 = ["the text is no TOML: see line 1, column 1: invalid UTF-8", "fault 1"]
     expect((checked(program, smallest.encode("utf-16")), utf_16[0] in page), ((utf_16, 2), True))
     expect(checked(program, b"\xef\xbb\xbf" + smallest.replace("\n", "\r\n").encode()), (["ok 1"], 0))
     if len(rows) < 20 or len(blocks) < 4:
         raise AssertionError(f"only {len(rows)} rows and {len(blocks)} configurations were found")
+
+
+@case
+def why_a_text_is_no_configuration(program):
+    """Where the reader of TOML stopped it says why; where `version` is missing it is told below which key there is one."""
+    missing = "`version` is missing, and has to be the integer 1 or 2"
+    rows = [
+        ("version = 1\nversion = 1\n", "the text is no TOML: see line 2, column 1: duplicate key", 1),
+        ('version = 1\nlisten = "127.0.0.1:53\n', "the text is no TOML: see line 2, column 23: invalid string", 1),
+        ("colour = 1\n", missing, 3),
+        ("limits = { version = 1 }\n", f'{missing}: the one below "limits" is a key of that table', 3),
+        ('[[route]]\nsuffix = "."\n[[route]]\nversion = 1\n', f'{missing}: the one below "route" is a key of that table', 3),
+        ("[colour]\nversion = 1\n", f'{missing}: the one below "colour" is a key of that table', 3),
+    ]
+    for text, said, number in rows:
+        expect((text, checked(program, text.encode())), (text, ([said, f"fault {number}"], 2)))
 
 
 @case

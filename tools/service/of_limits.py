@@ -68,6 +68,23 @@ def a_service_that_is_idle(program):
 
 
 @case
+def a_client_comes_where_no_descriptor_is_left(program):
+    """Connections that have waited for nothing for a second give way to it, and to those that wait to be accepted."""
+    server = Server()
+    with Forwarder(program, [server.port], descriptors=64) as forwarder:
+        clients = [forwarder.tcp() for _ in range(100)]
+        time.sleep(1.2)
+        with forwarder.tcp() as client:
+            client.settimeout(4)
+            client.sendall(framed(question()))
+            is_answer(take_frame(client), question())
+        expect(clients[0].recv(1), b"")
+        for client in clients:
+            client.close()
+        forwarder.is_well()
+
+
+@case
 def many_asks_in_turn_under_few_descriptors(program):
     """Each ask has a descriptor, which is free again once it ended."""
     server = Server()

@@ -105,12 +105,13 @@ fn each_growth_of_begin_is_refused(rt: HostRuntime) -> Result<(), Fail> {
     Ok(())
 }
 
-/// One growth that is allowed stays unspent where a list is made.
+/// One growth that is allowed stays unspent where a list is made, and cleared though it was never used.
 #[test]
 fn an_empty_list_takes_no_memory(rt: HostRuntime) {
     let heap = Refusing::new(rt.alloc());
     heap.allow(1);
-    let inquiries = Inquiries::new(&heap, 1024);
+    let mut inquiries = Inquiries::new(&heap, 1024);
+    inquiries.clear();
     let is_left = Box::new(&heap, 0u8).is_ok();
     let is_last = Box::new(&heap, 0u8).is_err();
     assert!(rt; inquiries.len() == 0 && is_left && is_last);

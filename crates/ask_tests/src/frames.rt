@@ -131,6 +131,57 @@ fn each_growth_of_a_frame_is_refused(rt: HostRuntime) -> Result<(), Fail> {
     heap.allow(1);
     let octets = frame(&heap, b"c")?;
     assert_eq!(rt; octets.as_slice(), b"\x00\x01c".as_slice());
+    heap.allow(0);
+    assert_eq!(rt; frame(&heap, &[b'a'; 5000]).err(), Some(FrameFault::Memory));
+    heap.allow(1);
+    let octets = frame(&heap, &[b'a'; 5000])?;
+    assert_eq!(rt; octets.as_slice().len(), 5002);
+    Ok(())
+}
+
+/// Two of the longest frames, one behind the other.
+fn two_longest(alloc: Global) -> Result<Vec<u8>, AllocError> {
+    let mut piece = Vec::with_capacity(alloc, 131_074)?;
+    for octet in b"ab" {
+        piece.extend_from_slice(&[0xff, 0xff])?;
+        for _ in 0..65_535u32 {
+            piece.push(*octet)?;
+        }
+    }
+    Ok(piece)
+}
+
+/// Whether the growth of the next message is refused, and it is 65,535 times this octet once it is granted.
+fn is_refused_then_taken<'a>(
+    heap: &'a Refusing<Global>,
+    reader: &mut FrameReader<&'a Refusing<Global>>,
+    octet: u8,
+) -> Result<bool, AllocError> {
+    heap.allow(0);
+    let is_refused = reader.take().is_err();
+    heap.allow(1);
+    match reader.take()? {
+        Some(message) => {
+            let octets = message.as_slice();
+            Ok(is_refused && octets.len() == 65_535 && octets.iter().all(|other| *other == octet))
+        }
+        None => Ok(false),
+    }
+}
+
+#[test]
+fn two_of_the_longest_frames_in_one_piece(rt: HostRuntime) -> Result<(), Fail> {
+    let piece = two_longest(rt.alloc())?;
+    let heap = Refusing::new(rt.alloc());
+    let mut reader = FrameReader::new(&heap);
+    heap.allow(0);
+    assert!(rt; reader.feed(piece.as_slice()).is_err());
+    heap.allow(1);
+    reader.feed(piece.as_slice())?;
+    for octet in b"ab" {
+        assert!(rt; is_refused_then_taken(&heap, &mut reader, *octet)?);
+    }
+    assert!(rt; reader.take()?.is_none());
     Ok(())
 }
 

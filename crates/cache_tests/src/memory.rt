@@ -106,6 +106,16 @@ fn is_one_left(heap: &Refusing<Global>) -> bool {
     Box::new(heap, 0u8).is_ok() && Box::new(heap, 0u8).is_err()
 }
 
+#[test]
+fn a_cache_that_was_never_used_is_cleared_without_memory(rt: HostRuntime) -> Result<(), Fail> {
+    let heap = Refusing::new(rt.alloc());
+    let mut cache = Cache::new(&heap, 2, DefaultHasher::default())?;
+    heap.allow(1);
+    cache.clear();
+    assert!(rt; cache.len() == 0 && is_one_left(&heap));
+    Ok(())
+}
+
 /// One growth is granted, and stays unspent over all calls that take none.
 #[test]
 fn other_calls_take_no_memory(rt: HostRuntime) -> Result<(), Fail> {

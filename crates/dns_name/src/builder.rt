@@ -1,9 +1,10 @@
 //! Names that are put together label by label.
 
-ghost use Rattle.std.specs.Prelude.{◌≡◌, ◌≤◌, ◌+◌, ◌++◌, [], length, OnErr, IfOk};
+ghost use Rattle.std.specs.Prelude.{◌≡◌, ◌≤◌, ◌+◌, ◌++◌, [], length, IfErr, IfOk};
 ghost use Rattle.arrayvec.specs.ArrayVec.{array_vec_len};
 ghost use Rattle.dns_name.specs.Labels.{IsLabel, label_octets};
 ghost use Rattle.dns_name.specs.Faults.{Gives, pushed};
+ghost use Rattle.dns_name.specs.declared.fault.NameFault.TheVariants.{NameLong};
 
 use crate::fault::NameFault;
 use crate::name::Name;
@@ -58,7 +59,7 @@ impl NameBuilder {
     pub(crate) fn push(&mut self, label: &[u8]) -> Result<(), NameFault>
         requires { IsLabel label.now }
         ensures given { Gives (λ _. self.new) result (pushed self.old label.now) }
-        ensures err { OnErr result (self.new ≡ self.old) }
+        ensures err { IfErr result (λ fault. (fault ≡ NameLong) × (self.new ≡ self.old)) }
     {
         if self.octets.len() + label.len() + 1 > MOST {
             return Err(NameFault::NameLong);

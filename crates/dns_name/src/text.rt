@@ -1,10 +1,11 @@
 //! Names in text: labels with dots between them.
 
 ghost use Rattle.std.specs.Iterator.{YieldsFirstRef, item_count};
-ghost use Rattle.std.specs.Prelude.{◌≡◌, ◌∷◌, MatchResult, Some, None, position};
+ghost use Rattle.std.specs.Prelude.{◌≡◌, ◌≢◌, ◌∷◌, MatchResult, Some, None, Err, IsOk, position};
 ghost use Rattle.std.specs.Option.{option_copied};
 ghost use Rattle.std.specs.List.{list_all};
 ghost use Rattle.dns_name.specs.Faults.{Gives, first_fault, judged};
+ghost use Rattle.dns_name.specs.declared.fault.NameFault.TheVariants.{Memory};
 ghost use Rattle.dns_name.specs.Text.{is_dot, is_label_character, written_label_fault, parts_of, parts_left, name_in};
 
 use crate::builder::NameBuilder;
@@ -29,7 +30,8 @@ fn has_label_characters(label: &[u8]) -> bool
 
 /// The first fault of one label in text.
 fn check_label(label: &[u8]) -> Result<(), NameFault>
-    ensures { MatchResult result (λ _. written_label_fault label.now ≡ None) (λ e. written_label_fault label.now ≡ Some e) }
+    ensures first { MatchResult result (λ _. written_label_fault label.now ≡ None) (λ e. written_label_fault label.now ≡ Some e) }
+    ensures memory { result ≢ Err Memory }
 {
     if label.is_empty() {
         return Err(NameFault::EmptyLabel);
@@ -98,7 +100,8 @@ fn parts_of(text: &[u8]) -> Parts<'_>
 
 /// The first fault of the labels between the dots, from the left.
 fn check_parts(text: &[u8]) -> Result<(), NameFault>
-    ensures { MatchResult result (λ _. first_fault written_label_fault (parts_of text.now) ≡ None) (λ e. first_fault written_label_fault (parts_of text.now) ≡ Some e) }
+    ensures first { MatchResult result (λ _. first_fault written_label_fault (parts_of text.now) ≡ None) (λ e. first_fault written_label_fault (parts_of text.now) ≡ Some e) }
+    ensures memory { result ≢ Err Memory }
 {
     for label in parts_of(text) {
         check_label(label)?;
@@ -108,7 +111,8 @@ fn check_parts(text: &[u8]) -> Result<(), NameFault>
 
 /// The name whose labels stand between the dots.
 fn name_of_parts<A: Allocator>(alloc: A, text: &[u8]) -> Result<Name<A>, NameFault>
-    ensures { Gives (λ n. n) result (judged written_label_fault (parts_of text.now)) }
+    ensures given { Gives (λ n. n) result (judged written_label_fault (parts_of text.now)) }
+    ensures memory { result ≡ Err Memory → IsOk (judged written_label_fault (parts_of text.now)) }
 {
     check_parts(text)?;
     let mut builder = NameBuilder::new();
@@ -123,9 +127,11 @@ impl<A: Allocator> Name<A> {
     /// them. One dot may end the text; a dot alone is the root (RFC 1035 5.1).
     ///
     /// The fault is the first from the left: `EmptyLabel` (of the empty text too), `BadCharacter`, or `LabelLong`,
-    /// which is told at the end of the label; after all labels `NameLong`. `Memory` comes where a growth was refused.
+    /// which is told at the end of the label; after all labels `NameLong`. `Memory` comes where a growth was refused, and
+    /// only where the text is a name.
     pub fn from_text(alloc: A, text: &str) -> Result<Name<A>, NameFault>
-        ensures { Gives (λ n. n) result (name_in text.now) }
+        ensures given { Gives (λ n. n) result (name_in text.now) }
+        ensures memory { result ≡ Err Memory → IsOk (name_in text.now) }
     {
         match text.as_bytes() {
             [b'.'] => Ok(Name::root()),

@@ -1,11 +1,13 @@
 //! The commands.
 
 use crate::arguments::{LONGEST, are, argument, text};
+use crate::counted::Counted;
 use crate::fault::Fault;
 use crate::files::Opened;
+use crate::refused::say_refused;
 use crate::saying::{say, say_unread, unopened};
 use crate::serving::serve_config;
-use replay_script::{ReplayFault, decimal, read_config, replay_run};
+use replay_script::{ReplayFault, config_in, decimal, read_limited, replay_run};
 use std::io;
 use std::io::{BufWriter, Write};
 use std::net::Net;
@@ -42,13 +44,20 @@ pub fn load<R: Print + AllocGlobal>(rt: &R, name: &[u8]) -> Result<Config, Repla
         Ok(file) => file,
         Err(error) => return Err(unopened(rt, name, error)),
     };
-    let loaded = read_config(rt.alloc(), rt.alloc(), &mut file);
-    match &loaded {
-        Err(ReplayFault::Config(fault)) => say(rt, fault),
-        Err(ReplayFault::Device) => say_unread(rt, name, &file),
-        _ => {}
+    let octets = match read_limited(rt.alloc(), &mut file) {
+        Ok(octets) => octets,
+        Err(fault) => {
+            if fault == ReplayFault::Device {
+                say_unread(rt, name, &file);
+            }
+            return Err(fault);
+        }
+    };
+    let config = config_in(rt.alloc(), rt.alloc(), &octets);
+    if let Err(ReplayFault::Config(fault)) = &config {
+        say_refused(rt, &octets, fault);
     }
-    loaded
+    config
 }
 
 /// The configuration in the file that the second argument names, as [`load`]; a name that is too long for a file is one
@@ -78,7 +87,7 @@ where
 {
     let turns = turns(rt).ok_or(Fault::Usage)?;
     let served = serve_config(rt, rt.alloc(), named_config(rt)?, turns)?;
-    println!(rt; "turns {} lost {}", served.turns, served.lost)?;
+    println!(rt; "{}", Counted::of(served))?;
     Ok(())
 }
 

@@ -4,8 +4,10 @@
 
 mod arguments;
 mod commands;
+mod counted;
 mod fault;
 mod files;
+mod refused;
 mod saying;
 mod serving;
 #[cfg(test)]

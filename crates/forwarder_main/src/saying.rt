@@ -17,7 +17,7 @@ pub fn say<R: Print, T: Display>(rt: &R, line: &T) {
 }
 
 /// What it has to do with, and why it failed.
-fn say_of<R: Print, T: Display, U: Display>(rt: &R, what: &T, reason: &U) {
+pub fn say_of<R: Print, T: Display, U: Display>(rt: &R, what: &T, reason: &U) {
     let _ = println!(rt; "{what}: {reason}");
 }
 

@@ -21,7 +21,7 @@ pub fn serve_config<R: Print + Net + Clock + RandomSource, A: Allocator + Copy>(
     turns: u64,
 ) -> Result<Served, ReplayFault> {
     let listen = config.listen;
-    let mut wire = match MioWire::new(rt, alloc, listen, config.limits.deadline_ms) {
+    let mut wire = match MioWire::new(rt, alloc, listen, &config.limits) {
         Ok(wire) => wire,
         Err(error) => return Err(unlistened(rt, listen, error)),
     };

@@ -1,9 +1,10 @@
 //! The labels of a name, put one behind another.
 
-ghost use Rattle.std.specs.Prelude.{◌≤◌, length};
+ghost use Rattle.std.specs.Prelude.{◌≡◌, ◌≤◌, Err, length};
 ghost use Rattle.message_names.specs.Shortcuts.{AreShortcuts};
 ghost use Rattle.message_names.specs.Names.{name_within};
 ghost use Rattle.message_names.specs.Runs.{ArePut};
+ghost use Rattle.message_names.specs.declared.fault.Fault.TheVariants.{Memory};
 
 use crate::fault::Fault;
 use crate::shortcuts::resolve;
@@ -25,6 +26,7 @@ pub fn put_labels(
     requires known { AreShortcuts bytes.now ends.old }
     ensures exact { ArePut octets.new result (name_within bytes.now bound offset) }
     ensures known { AreShortcuts bytes.now ends.new }
+    ensures memory { result ≡ Err Memory → bound.beyond ≡ Memory }
 {
     let mut walk = Walk::new(bytes, bound, offset);
     loop {

@@ -1,10 +1,11 @@
 //! Names in a message, with pointers: RFC 1035 4.1.4.
 
-ghost use Rattle.std.specs.Prelude.{◌≡◌, ◌≤◌, IsOk, MatchOption, Ok, length};
+ghost use Rattle.std.specs.Prelude.{◌≡◌, ◌≤◌, IsOk, MatchOption, Ok, Err, length};
 ghost use Rattle.message_names.specs.Reading.{Gives, behind};
 ghost use Rattle.message_names.specs.Shortcuts.{AreShortcuts};
 ghost use Rattle.message_names.specs.Sizes.{AreSizes};
 ghost use Rattle.message_names.specs.Names.{name_at, name_within, NameIs, keyed};
+ghost use Rattle.message_names.specs.declared.fault.Fault.TheVariants.{Memory};
 
 use crate::fault::Fault;
 use crate::labels::put_labels;
@@ -15,8 +16,8 @@ use std::alloc::Allocator;
 
 /// The name at a place, and the place behind it. Where pointers lead is remembered in `ends`, which may be empty.
 ///
-/// `Err` is `Memory` where a growth was refused, or the first fault of the name from its front: `Short`, `LabelForm`,
-/// `Pointer` or `NameLong`.
+/// `Err` is the first fault of the name from its front: `Short`, `LabelForm`, `Pointer` or `NameLong`; where it has none,
+/// `Memory`, if a growth was refused.
 pub fn read_name<A: Allocator>(
     alloc: A,
     bytes: &[u8],
@@ -25,6 +26,7 @@ pub fn read_name<A: Allocator>(
 ) -> Result<(Name<A>, usize), Fault>
     requires { AreShortcuts bytes.now ends.old }
     ensures exact { Gives (λ x. x) result (name_at bytes.now offset) }
+    ensures memory { result ≡ Err Memory → IsOk (name_at bytes.now offset) }
     ensures known { AreShortcuts bytes.now ends.new }
 {
     let mut octets = [0u8; 255];

@@ -1,6 +1,7 @@
 //! One name in a message, label by label.
 
-ghost use Rattle.std.specs.Prelude.{◌≡◌, ◌≤◌, ◌+◌, length, take, drop, IfOk, None};
+ghost use Rattle.std.specs.Prelude.{◌≡◌, ◌≤◌, ◌+◌, length, take, drop, IfOk, Err, None};
+ghost use Rattle.message_names.specs.declared.fault.Fault.TheVariants.{Memory};
 ghost use Rattle.message_names.specs.Shortcuts.{AreShortcuts};
 ghost use Rattle.message_names.specs.Names.{whole, inside, behind_labels, step, Stays, Resumes, resume, name_within};
 
@@ -119,6 +120,7 @@ pub(crate) fn step_at(bytes: &[u8], walk: Walk) -> Result<Step, Fault>
     requires stop { walk.bound.stop ≤ length bytes.now }
     ensures exact { result ≡ step bytes.now walk.bound walk.offset walk.run walk.used }
     ensures stays { IfOk result (Stays bytes.now walk.bound walk.offset walk.run walk.used) }
+    ensures memory { result ≡ Err Memory → walk.bound.beyond ≡ Memory }
 {
     let at = walk.offset;
     let Bound { stop, beyond } = walk.bound;

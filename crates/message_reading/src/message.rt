@@ -107,7 +107,8 @@ impl<A: Allocator> Rdata<A> {
 
     /// Equal data. Up to 30 octets take no memory; of more, `Err` where memory ran out.
     pub fn copy(&self, alloc: A) -> Result<Rdata<A>, AllocError>
-        ensures { IfOk result (λ copy. copy ≡ self.now) }
+        ensures data { IfOk result (λ copy. copy ≡ self.now) }
+        ensures few { length self.now ≤ 30 → IsOk result }
     {
         Rdata::from_octets(alloc, self.octets())
     }

@@ -2,10 +2,11 @@
 //! right: copies are compared with what they copy.
 
 use crate::equal::{is_equal_question, is_equal_record};
-use crate::messages::{LONG_REPLY, REPLY};
+use crate::messages::{LONG_REPLY, LONG_TEXT, REPLY};
 use dns_message::{Fault, MessageRef, Record, write};
 use refusing_allocator::Refusing;
 use std::alloc::{AllocError, Global};
+use std::test::Fail;
 
 /// A call that takes memory.
 #[derive(Clone, Copy)]
@@ -24,7 +25,7 @@ enum Call {
 /// What lies in place wants none. Of what doesn't a copy wants one for each list of octets; a message that is read
 /// one for the name of its question, one for an owner, one for the data, and, as each message, one for each of the
 /// two lists; one that is written one for its octets, and one for the names in it where they are more than 16.
-const CALLS: [(Call, &[u8], u64, u64); 14] = [
+const CALLS: [(Call, &[u8], u64, u64); 17] = [
     (Call::Question, REPLY, 0, 0),
     (Call::Question, LONG_REPLY, 1, 1),
     (Call::QuestionCopy, REPLY, 0, 0),
@@ -33,10 +34,13 @@ const CALLS: [(Call, &[u8], u64, u64); 14] = [
     (Call::RecordCopy, LONG_REPLY, 2, 2),
     (Call::DataCopy, REPLY, 0, 0),
     (Call::DataCopy, LONG_REPLY, 1, 1),
+    (Call::DataCopy, LONG_TEXT, 1, 1),
+    (Call::RecordCopy, LONG_TEXT, 1, 1),
     (Call::DataName, REPLY, 0, 0),
     (Call::DataName, LONG_REPLY, 1, 1),
     (Call::ReadWhole, REPLY, 2, 60),
     (Call::ReadWhole, LONG_REPLY, 5, 60),
+    (Call::ReadWhole, LONG_TEXT, 3, 60),
     (Call::Write, REPLY, 1, 60),
     (Call::Write, LONG_REPLY, 2, 60),
 ];
@@ -159,4 +163,34 @@ fn each_refused_growth_is_want_of_memory(rt: HostRuntime) {
             "{growths} of {least} to {most}, and {alone} alone"
         );
     }
+}
+
+/// A reply with so many answers, and a name more, no two of which are equal: `a` is asked for.
+fn with_answers(alloc: Global, answers: u8) -> Result<Vec<u8>, AllocError> {
+    let mut octets = Vec::from_slice(alloc, b"\x12\x34\x85\x00\x00\x01\x00")?;
+    octets.push(answers)?;
+    octets.extend_from_slice(b"\x00\x00\x00\x00\x01a\x00\x00\x10\x00\x01".as_slice())?;
+    for answer in 0..answers {
+        octets.extend_from_slice(&[1, answer.wrapping_add(b'b'), 0])?;
+        octets.extend_from_slice(b"\x00\x10\x00\x01\x00\x00\x00\x00\x00\x00".as_slice())?;
+    }
+    Ok(octets)
+}
+
+/// Nine and sixteen names in one text, and those past them.
+const ANSWERS: [u8; 4] = [8, 15, 16, 24];
+
+#[test]
+fn each_growth_of_a_text_of_many_names_is_refused(rt: HostRuntime) -> Result<(), Fail> {
+    let heap = Refusing::new(rt.alloc());
+    for answers in &ANSWERS {
+        let octets = with_answers(rt.alloc(), *answers)?;
+        let growths = growths_of(&heap, Call::Write, octets.as_slice(), false);
+        let alone = growths_of(&heap, Call::Write, octets.as_slice(), true);
+        assert!(rt;
+            (1..60).contains(&growths) && alone == growths,
+            "{answers}: {growths}, {alone}"
+        );
+    }
+    Ok(())
 }

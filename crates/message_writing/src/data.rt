@@ -1,6 +1,7 @@
 //! The data of records, written with pointers where its type allows them.
 
-ghost use Rattle.std.specs.Prelude.{◌≡◌, ◌≤◌, ◌<◌, ◌+◌, ◌++◌, ◌∷◌, [], length, OnOk, take, drop, IsTrue, is_some, MatchOption, None, Ok};
+ghost use Rattle.std.specs.Prelude.{◌≡◌, ◌≤◌, ◌<◌, ◌+◌, ◌++◌, ◌∷◌, [], length, OnOk, take, drop, IsTrue, is_some, MatchOption, None, Ok, Err};
+ghost use Rattle.message_names.specs.declared.fault.Fault.TheVariants.{Memory};
 ghost use Rattle.dns_name.specs.Labels.{IsLaidOut};
 ghost use Rattle.message_names.specs.Names.{name_within, inside};
 ghost use Rattle.message_names.specs.Reading.{behind};
@@ -204,7 +205,8 @@ fn put_plain_with_length<'a, A: Allocator + Copy>(
 ) -> Result<(), Fault>
     requires holds { HoldsText writer.old }
     requires limit { limit ≤ 65535 }
-    ensures { Puts limit result writer.old writer.new (with_length (as_is octets.now)) (Unit {0}) }
+    ensures put { Puts limit result writer.old writer.new (with_length (as_is octets.now)) (Unit {0}) }
+    ensures memory { result ≡ Err Memory → length writer.old.octets.items + 2 + length octets.now ≤ limit }
 {
     if octets.len() + 2 > writer.room(limit) {
         return Err(Fault::TooLarge);

@@ -196,6 +196,12 @@ const LONGER: &str = "abcdefghijklmnopqrstuv.example";
 /// A name of 33 octets, whose parent has 31.
 const LONG: &str = "a.abcdefghijklmnopqrstuv.example";
 
+/// A name of as many octets as there may be, 255: four labels, of 63 octets but for the last one.
+const WHOLE: &str = "abcdefghijklmnopqrstuvwxyz0123456789abcdefghijklmnopqrstuvwxyz0.\
+abcdefghijklmnopqrstuvwxyz0123456789abcdefghijklmnopqrstuvwxyz0.\
+abcdefghijklmnopqrstuvwxyz0123456789abcdefghijklmnopqrstuvwxyz0.\
+abcdefghijklmnopqrstuvwxyz0123456789abcdefghijklmnopqrstuvwxy";
+
 /// How many labels the copy and the parent of a name have together.
 fn made<A: Allocator + Copy>(heap: A, text: &str) -> Result<usize, NameFault> {
     let name = Name::from_text(heap, text)?;
@@ -230,11 +236,12 @@ fn growths_of(heap: &Refusing<Global>, text: &str, labels: usize, is_alone: bool
 
 /// A name, how many labels its copy and its parent have together, and how many growths are wanted: up to 30 octets
 /// lie in place; more of them take one growth for the name, one for its copy and one for its parent.
-const GROWTHS: [(&str, usize, u64); 4] = [
+const GROWTHS: [(&str, usize, u64); 5] = [
     ("a.example", 3, 0),
     (SHORT, 3, 0),
     (LONGER, 3, 2),
     (LONG, 5, 3),
+    (WHOLE, 7, 3),
 ];
 
 #[test]

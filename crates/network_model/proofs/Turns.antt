@@ -12,6 +12,7 @@ use Rattle.outstanding.specs.declared.ask.Path.TheVariants.{Udp, Tcp}
 use Rattle.step_values.specs.Values.{Event, Step}
 use Rattle.step_rules.specs.State.{Running}
 use Rattle.step_soundness.specs.Runs.{Run}
+use Rattle.step_use.proofs.CallerLemmas.{run_serves_on}
 use Rattle.network_model.specs.declared.counts.Served.{Served}
 use Rattle.network_model.specs.declared.streams.Streams.{Streams}
 use Rattle.wires.specs.Wire.{Arrival, nothing, client_datagram, client_stream, client_closed, server_datagram, server_stream, path_gone, Told, ◌then◌, TellsMore, arrived}
@@ -229,6 +230,8 @@ turns_end wanted s x y zeros so_far = record {
   ends = (so_far.long, so_far.are, counts);
   config = so_far.does.config;
   run = so_far.does.run;
+  truly = run_serves_on x.running.config x.running.state y.running.state
+      (steps_in (taken_in so_far.turns)) so_far.does.run;
   puts = so_far.does.puts;
   told = so_far.does.told;
 }
@@ -255,6 +258,8 @@ turns_cut law wanted count s s' e x y z below so_far h =
       ends = (so_far.turns, (h.turn, refl, (let sum = length-append so_far.turns (h.turn ∷ []) in let long = so_far.long in omega (arith, sum, long, below)), so_far.are, cut));
       config = does.config;
       run = does.run;
+      truly = run_serves_on x.running.config x.running.state z.running.state
+          (steps_in (taken_in (so_far.turns ++ h.turn ∷ []))) does.run;
       puts = does.puts;
       told = does.told;
     }

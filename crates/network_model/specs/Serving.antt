@@ -6,6 +6,7 @@ use Rattle.step_values.specs.Values.{ask_in, SentAsk, Outcome}
 use Rattle.step_rules.specs.State.{Running}
 use Rattle.step_rules.specs.Progress.{left_to_do}
 use Rattle.step_soundness.specs.Runs.{Run}
+use Rattle.step_use.specs.Service.{ServesOnTruly}
 use Rattle.network_model.specs.declared.counts.Served.{Served}
 use Rattle.wires.specs.Wire.{Arrival, Put, Told, silence, ◌then◌, TellsMore, arrived}
 use Rattle.network_model.specs.Events.{Taken, PutsItsActions, steps_in, Turn, taken_in_turn, taken_in, AreTurns, IsCutShort}
@@ -106,11 +107,13 @@ Ends before wanted turns (Ok counts) = (length turns ≡ wanted) × AreTurns bef
 Ends before wanted turns (Err refused) = (whole : List Turn) × ((last : Turn) × (turns ≡ whole ++ last ∷ []) × (length turns ≤ wanted) × AreTurns before.config [] whole × IsCutShort (map (λ (t : Turn). t.arrival) whole) last)
 
 -- What `serve` does: its turns are those of the wire's arrivals, the steps are a run of the forwarder, what was put are
--- the actions in order, and the wire tells of nothing else.
+-- the actions in order, and the wire tells of nothing else. From a new forwarder these steps serve truly, and so they
+-- do behind whatever steps a forwarder made before since it was new.
 pub record Serves (before : Running) (told_before : Option Told) (wanted : ℕ) (result : Result Served AllocError) (after : Running) (told_after : Option Told) : Type 0 where
   pub turns : List Turn
   pub ends : Ends before wanted turns result
   pub config : after.config ≡ before.config
   pub run : Run before.config before.state (steps_in (taken_in turns)) after.state
+  pub truly : ServesOnTruly before.config before.state (steps_in (taken_in turns))
   pub puts : AllByRecursion PutsItsActions (taken_in turns)
   pub told : TellsMore told_before (told_in turns) told_after

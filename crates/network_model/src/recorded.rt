@@ -1,12 +1,10 @@
 //! A forwarder beside its stored history.
 
-ghost use Rattle.std.specs.Prelude.{◌≡◌, ◌∷◌, ◌++◌, [], IfOk, OnOk, OnErr, reverse};
+ghost use Rattle.std.specs.Prelude.{◌≡◌, ◌∷◌, ◌++◌, [], IfOk, OnOk, OnErr};
 ghost use Rattle.step_values.specs.Values.{Outcome};
-ghost use Rattle.step_history.specs.Asked.{AsksWell};
 ghost use Rattle.step_rules.specs.Row.{Row};
 ghost use Rattle.step_rules.specs.Steps.{start};
-ghost use Rattle.step_soundness.specs.Runs.{IsSound};
-ghost use Rattle.step_use.specs.Use.{UsesWhatStands};
+ghost use Rattle.step_use.specs.Service.{ServesTruly};
 
 use forwarder_core::Forwarder;
 use std::alloc::{AllocError, Allocator, Global};
@@ -15,7 +13,7 @@ use std::marker::Model;
 use step_values::{Handed, Step};
 use suffix_routes::Config;
 
-/// A forwarder and the steps that it has made since it was new. They are sound, and use what stands, whenever they are seen.
+/// A forwarder and the steps that it has made since it was new. They serve truly, whenever they are seen.
 #[derive(Drop)]
 pub struct Recorded<H: BuildHasher, A: Allocator = Global> {
     alloc: A,
@@ -24,13 +22,14 @@ pub struct Recorded<H: BuildHasher, A: Allocator = Global> {
 }
 
 impl<H: BuildHasher, A: Allocator> Model for Recorded<H, A> {
-    ghost use Rattle.network_model.specs.Recordings.{Recording, IsRecorded};
+    ghost use Rattle.step_use.specs.Service.{ComesTo};
+    ghost use Rattle.network_model.specs.Recordings.{Recording};
 
     ghost Value = { Recording };
 
     ghost view = { λ r. record { running = r.forwarder; steps = r.steps.items } };
 
-    ghost invariant = { λ r. IsRecorded r.forwarder.config r.steps.items r.forwarder.state };
+    ghost invariant = { λ r. ComesTo r.forwarder.config r.steps.items r.forwarder.state };
 }
 
 impl<H: BuildHasher + Drop, A: Allocator + Copy> Recorded<H, A> {
@@ -49,9 +48,7 @@ impl<H: BuildHasher + Drop, A: Allocator + Copy> Recorded<H, A> {
     /// The steps so far, the oldest first. It takes no memory.
     pub fn steps(&self) -> &[Step<A>]
         ensures steps { result.now ≡ self.now.steps }
-        ensures sound { IsSound self.now.running.config result.now }
-        ensures asks { AsksWell self.now.running.config (reverse result.now) }
-        ensures uses { UsesWhatStands self.now.running.config (reverse result.now) }
+        ensures truly { ServesTruly self.now.running.config result.now }
     {
         self.steps.as_slice()
     }

@@ -132,7 +132,8 @@ fn take_turn<H: BuildHasher + Drop, A: Allocator + Copy, W: Wire<A>>(
 /// a piece of a stream is one for each frame that it completes, and the end of a path to a server is its failure. What
 /// the forwarder wants done of an event is put at once, in order; an ask that the wire refuses is the failure of its
 /// path, which comes next. Then ticks are handed in until one tells that nothing more is due. The wire gives a moment
-/// and words for each event.
+/// and words for each event. From a new forwarder the steps that it makes serve truly, for all that the wire may bring;
+/// from another they do behind those that it made since it was new.
 ///
 /// It returns wherever the calls of its wire do. `Err` only where a frame reader could not be made, grow or give a
 /// frame; the forwarder is then as after the last event. An event that finds no memory is lost and counted.

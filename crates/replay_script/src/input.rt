@@ -17,9 +17,9 @@ pub(crate) const LARGEST: usize = 16_777_216;
 /// The line between a script's configuration and its event lines.
 const SEPARATOR: &[u8] = b"---";
 
-/// All octets that the reader has left. `Device` where reading fails or there are more than [`LARGEST`]; it reads
-/// at most one more than these. `Memory` where memory ran out.
-pub(crate) fn read_limited<A: Allocator, R: Read>(
+/// All octets that the reader has left. `Device` where reading fails or there are more than 16,777,216; it reads at
+/// most one more than these. `Memory` where memory ran out.
+pub fn read_limited<A: Allocator, R: Read>(
     alloc: A,
     reader: &mut R,
 ) -> Result<Vec<u8, A>, ReplayFault>
@@ -70,8 +70,9 @@ fn first_feed(text: &[u8]) -> Option<usize>
     text.iter().position(|octet| *octet == b'\n')
 }
 
-/// The configuration in these octets; octets that are no UTF-8 are no TOML.
-pub(crate) fn config_in<A: Allocator + Copy>(
+/// The configuration in these octets; octets that are no UTF-8 are no TOML. `heap` is for the reading of TOML, `alloc` for
+/// all else. `Config` where the configuration is refused, `Memory` where memory ran out.
+pub fn config_in<A: Allocator + Copy>(
     heap: Global,
     alloc: A,
     octets: &[u8],

@@ -11,5 +11,5 @@ mod replay;
 pub use actions::print;
 pub use events::{MOST_LINES, decimal, handed_by};
 pub use fault::ReplayFault;
-pub use input::{parts, read_config};
+pub use input::{config_in, parts, read_config, read_limited};
 pub use replay::replay_run;

@@ -18,6 +18,10 @@ use std::io::{Read, Write};
 /// there is no line `---`, `Config`, then what the run meets: `Line` for an event line of none of the forms and for
 /// each one past 8,191 (lines before it have run and are printed), `Device` where writing fails. `Memory` where memory
 /// ran out at any place.
+///
+/// Each step is one of `Forwarder::step` on a new forwarder, so by that call's clause `truly` the run serves truly, as
+/// far as it comes. No clause here says so: nothing that is given back or written has steps in it (printed lines are
+/// held by tests), and that some run serves truly would hold of a body that makes none.
 pub fn replay_run<A: Allocator + Copy, R: Read, W: Write>(
     heap: Global,
     alloc: A,

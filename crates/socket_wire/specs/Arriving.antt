@@ -1,5 +1,6 @@
 -- What arrives first, and which connection of a client is taken in.
-use Rattle.std.specs.Prelude.{◌≡◌, ℕ, ◌+◌, ◌<◌, ◌≤◌, ◌⊎◌, [], length, drop, slice_get, if◌then◌else◌, nat_lt, Some, None, Result, Ok}
+use Rattle.std.specs.Prelude.{◌≡◌, ℕ, ◌+◌, ◌<◌, ◌≤◌, ◌⊎◌, [], length, drop, slice_get, if◌then◌else◌, nat_lt}
+use Rattle.std.specs.Prelude.{Bool, true, false, Some, None, is_some, Result, Ok}
 use Rattle.std.specs.declared.alloc.AllocError.{AllocError}
 use Rattle.step_values.specs.declared.Path.TheVariants as path
 use Rattle.wires.specs.declared.wire.Arrival.{Arrival}
@@ -7,7 +8,9 @@ use Rattle.wires.specs.declared.wire.Arrival.TheVariants.{ClientClosed, PathGone
 use Rattle.socket_wire.specs.declared.connections.Closed.{Closed}
 use Rattle.socket_wire.specs.declared.connections.Closed.TheVariants.{Client, Server}
 use Rattle.socket_wire.specs.declared.sockets.Sockets.{Sockets}
-use Rattle.socket_wire.specs.Listed.{Admits, first_idle}
+use Rattle.socket_wire.specs.declared.sockets.taking.Tried.{Tried}
+use Rattle.socket_wire.specs.declared.sockets.taking.Tried.TheVariants.{Arrived, Served, Nothing}
+use Rattle.socket_wire.specs.Listed.{Admits, first_idle, first_resting}
 use Rattle.socket_wire.specs.Open.{AreNone, Connections, without_first}
 use Rattle.socket_wire.specs.Rounds.{IsBegun}
 
@@ -36,6 +39,28 @@ pub record TakesIn {R A Streams Listeners : Type 0} (now : ℕ) (before after : 
   pub full : 1024 ≤ length before.connections.clients → first_idle before.connections.clients ≡ None → after ≡ before
   pub comes : Comes before.numbers.next now (with_place before.connections) after.numbers.next after.connections
   pub rest : after ≡ record before { connections = after.connections; numbers = after.numbers }
+
+-- The oldest client that has waited for nothing for a while is closed; nothing else changes.
+pub record ClosesResting {R A Streams Listeners : Type 0} (now : ℕ) (before after : Sockets R A Streams Listeners)
+    : Type 0 where
+  pub one : is_some (first_resting now before.connections.clients) ≡ true
+  pub closed : after ≡ record before {
+    connections = without_first (first_resting now before.connections.clients) before.connections;
+  }
+
+-- It may be, where no descriptor is left; else nothing changes.
+abbrev pub MayCloseResting : {R A Streams Listeners : Type 0} → (now : ℕ) → (is_closed : Bool)
+    → (before after : Sockets R A Streams Listeners) → Type 0
+MayCloseResting now true before after = ClosesResting now before after
+MayCloseResting now false before after = after ≡ before
+
+-- What trying the listener does: a connection comes, or the descriptor of another is freed for it; else nothing
+-- changes.
+abbrev pub TakesConnection : {R A Streams Listeners : Type 0} → (now : ℕ) → Tried A
+    → (before after : Sockets R A Streams Listeners) → Type 0
+TakesConnection now (Arrived arrival) before after = ⊥
+TakesConnection now Served before after = TakesIn now before after ⊎ ClosesResting now before after
+TakesConnection now Nothing before after = after ≡ before
 
 -- As they begin no socket but those that clients send to is there, and no number was given.
 pub record AreNew {R A Streams Listeners : Type 0} (sockets : Sockets R A Streams Listeners) : Type 0 where

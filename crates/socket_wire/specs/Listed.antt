@@ -10,7 +10,7 @@ use Rattle.socket_wire.specs.declared.client_stream.ClientStream.{ClientStream}
 use Rattle.socket_wire.specs.declared.client_stream.Heard.{Heard}
 use Rattle.socket_wire.specs.declared.lost.Lost.{Lost}
 use Rattle.socket_wire.specs.Serving.{Replies, Serves}
-use Rattle.socket_wire.specs.Waiting.{IsNew, is_idle, is_late}
+use Rattle.socket_wire.specs.Waiting.{IsNew, is_idle, is_late, is_resting}
 
 -- The connection with this number is open and changes so; no other changes.
 pub record ChangesAt {X : Type 0} (conn : ℕ) (Changes : X → X → Type 0) (before after : List (ℕ × X)) : Type 0 where
@@ -45,6 +45,13 @@ pub record Admits {A : Type 0} (conn now : ℕ) (before after : List (ℕ × Cli
 abbrev pub first_idle : {A : Type 0} → List (ℕ × ClientStream A) → Option ℕ
 first_idle [] = None
 first_idle (entry ∷ later) = if is_idle entry.1.unanswered entry.1.unsent.left then Some entry.0 else first_idle later
+
+-- the number of the first that has waited for nothing for a while
+abbrev pub first_resting : {A : Type 0} → (now : ℕ) → List (ℕ × ClientStream A) → Option ℕ
+first_resting now [] = None
+first_resting now (entry ∷ later) =
+    if is_resting entry.1.unanswered entry.1.unsent.left entry.1.active now then Some entry.0
+    else first_resting now later
 
 -- the first from this number on, and whether it has been silent for too long
 abbrev pub first_from : {A : Type 0} → (conn now deadline : ℕ) → List (ℕ × ClientStream A) → Option (ℕ × Bool)

@@ -77,3 +77,9 @@ pub record PutsAction {R A Streams Listeners : Type 0} (action : Action A) (now 
 pub record PutsQuery {R A Streams Listeners : Type 0} (conn : ℕ) (server : Peer) (query : List ℕ) (is_done : Bool) (before after : Sockets R A Streams Listeners) : Type 0 where
   pub lists : ListsServer conn server query is_done before.connections after.connections
   pub rest : after ≡ record before { connections = after.connections; readiness = record before.readiness { ready = after.readiness.ready } }
+
+-- the sockets once the random words in an action are spent: those of an ask
+abbrev pub with_spent : {R A Streams Listeners : Type 0} → Action A → Sockets R A Streams Listeners → Sockets R A Streams Listeners
+with_spent (AskUdp _ _ _) sockets = record sockets { words = record sockets.words { is_spent = true } }
+with_spent (AskTcp _ _ _) sockets = record sockets { words = record sockets.words { is_spent = true } }
+with_spent action sockets = sockets

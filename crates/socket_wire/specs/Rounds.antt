@@ -1,5 +1,6 @@
 -- Sockets that may be ready, by their tokens, and which of them is tried next.
-use Rattle.std.specs.Prelude.{◌≡◌, ℕ, zero, suc, ◌+◌, ◌%◌, if◌then◌else◌, is_some, ◌-◌, ◌^◌, ◌⊎◌, min, true, false, List, [], Option, Some, None, filter, slice_get, unwrap_or}
+use Rattle.std.specs.Prelude.{◌≡◌, ℕ, zero, suc, ◌+◌, ◌%◌, if◌then◌else◌, is_some, ◌-◌, ◌^◌, ◌⊎◌, min, true, false}
+use Rattle.std.specs.Prelude.{List, [], ◌∷◌, Option, Some, None, filter, slice_get, unwrap_or}
 use Rattle.std.specs.Ordering.{nat_cmp}
 use Rattle.std.specs.declared.ops.Bound.TheVariants.{Included, Unbounded}
 use Rattle.std.specs.Set.{remove_key}
@@ -11,6 +12,11 @@ use Rattle.socket_wire.specs.declared.origin.Origin.TheVariants.{Datagrams, Conn
 use Rattle.socket_wire.specs.declared.readiness.Round.{Round}
 use Rattle.socket_wire.specs.declared.readiness.Ready.{Ready}
 use Rattle.socket_wire.specs.Tokens.{HasToken, token_of}
+
+-- The number is among these.
+abbrev pub IsAmong : ℕ → List ℕ → Type 0
+IsAmong number [] = ⊥
+IsAmong number (first ∷ later) = (first ≡ number) ⊎ IsAmong number later
 
 abbrev pub first_of : Option ℕ → List ℕ → Option ℕ
 first_of (Some token) tokens = Some token
@@ -60,6 +66,16 @@ Noted Connections before after = InStreams (Gains (token_of Connections)) before
 Noted (Client conn) before after = InStreams (Gains (token_of (Client conn))) before after
 Noted (Ask port) before after = InServers (Gains (token_of (Ask port))) before after
 Noted (Server conn) before after = InServers (Gains (token_of (Server conn))) before after
+
+-- What was noted is noted still.
+pub record TokensStay {A : Type 0} (before after : Round A) : Type 0 where
+  pub last : after.last ≡ before.last
+  pub tokens : (token : ℕ) → IsAmong token before.tokens.keys → IsAmong token after.tokens.keys
+
+pub record NotedStay {A : Type 0} (before after : Ready A) : Type 0 where
+  pub datagrams : before.datagrams ≡ true → after.datagrams ≡ true
+  pub streams : TokensStay before.streams after.streams
+  pub servers : TokensStay before.servers after.servers
 
 -- It is noted no longer.
 abbrev pub Dropped : {A : Type 0} → Origin → Ready A → Ready A → Type 0

@@ -1,15 +1,17 @@
 -- What is taken of the sockets of clients and of asks.
-use Rattle.std.specs.Prelude.{◌≡◌, ℕ, zero, suc, ◌≤◌, ◌⊎◌, length, Bool, true, false, not, if◌then◌else◌, is_ok, List, take, Option, Some, None, Result, Ok, Err}
+use Rattle.std.specs.Prelude.{◌≡◌, ℕ, zero, suc, ◌≤◌, ◌⊎◌, length, Bool, true, false, not, if◌then◌else◌, is_ok, IfOk}
+use Rattle.std.specs.Prelude.{List, take, Option, Some, None, Result, Ok, Err}
 use Rattle.std.specs.declared.alloc.AllocError.{AllocError}
 use Rattle.std.specs.Ordering.{nat_cmp}
 use Rattle.std.specs.Map.{remove_entry}
 use Rattle.std.specs.BTreeMap.{is_at}
-use Rattle.step_values.specs.declared.Path.{Path}
 use Rattle.step_values.specs.declared.Path.TheVariants as path
 use Rattle.socket_wire.specs.declared.sockets.Sockets.{Sockets}
 use Rattle.std.specs.declared.io.Error.{Error}
 use Rattle.suffix_routes.specs.declared.peer.Peer.{Peer}
-use Rattle.wires.specs.declared.wire.Arrival.TheVariants.{ClientStream as ArrivesOfClient, ServerStream, PathGone}
+use Rattle.wires.specs.declared.wire.Arrival.{Arrival}
+use Rattle.wires.specs.declared.wire.Arrival.TheVariants.{ClientDatagram, ClientStream as ArrivesOfClient}
+use Rattle.wires.specs.declared.wire.Arrival.TheVariants.{ServerDatagram, ServerStream, PathGone}
 use Rattle.socket_wire.specs.declared.client_stream.ClientStream.{ClientStream}
 use Rattle.socket_wire.specs.declared.client_stream.Heard.{Heard}
 use Rattle.socket_wire.specs.declared.client_stream.Heard.TheVariants as heard
@@ -22,6 +24,22 @@ use Rattle.socket_wire.specs.Open.{Connections, ServesServer, without_client, wi
 -- These are so many octets of the buffer, where it has as many.
 abbrev pub IsPiece : (count : ℕ) (buffer octets : List ℕ) → Type 0
 IsPiece count buffer octets = count ≤ length buffer → octets ≡ take count buffer
+
+-- It carries the octets of the buffer's front, as many as were received.
+abbrev pub CarriesFront : {A : Type 0} → (buffer : List ℕ) → (List ℕ → Arrival A) → Arrival A → Type 0
+CarriesFront buffer carrying arrival = (count : ℕ) × (count ≤ length buffer) × (arrival ≡ carrying (take count buffer))
+
+-- A client's datagram, if there is one.
+abbrev pub IsDatagram : {A : Type 0} → (buffer : List ℕ) → Tried A → Type 0
+IsDatagram buffer (Arrived arrival) = (from : Peer) × CarriesFront buffer (ClientDatagram from) arrival
+IsDatagram buffer Served = Unit {0}
+IsDatagram buffer Nothing = Unit {0}
+
+-- Taking of the socket for datagrams. No connection, no ask and no number changes.
+pub record TakesDatagram {R A Streams Listeners : Type 0} (result : Result (Tried A) AllocError)
+    (before after : Sockets R A Streams Listeners) : Type 0 where
+  pub arrives : IfOk result (IsDatagram after.buffer.value)
+  pub rest : after ≡ record before { buffer = after.buffer }
 
 -- What arrives of the client with this number: the octets that were heard, unless memory ran out.
 abbrev pub Arrives : {A : Type 0} → (conn : ℕ) (buffer : List ℕ) → Option Heard → Result (Tried A) AllocError → Type 0
@@ -83,8 +101,15 @@ abbrev pub left_by : {A X : Type 0} → (port : ℕ) → Result (Tried A) AllocE
 left_by port (Ok (Arrived (PathGone _))) asks = remove_entry (is_at (nat_cmp port)) asks
 left_by port _ asks = asks
 
+-- A datagram at this port, or the end of its path, if there is one.
+abbrev pub IsOfAsk : {A : Type 0} → (port : ℕ) (buffer : List ℕ) → Tried A → Type 0
+IsOfAsk port buffer (Arrived (PathGone gone)) = gone ≡ path.Udp port
+IsOfAsk port buffer (Arrived arrival) = (from : Peer) × CarriesFront buffer (ServerDatagram port from) arrival
+IsOfAsk port buffer Served = Unit {0}
+IsOfAsk port buffer Nothing = Unit {0}
+
 -- Taking of the socket of the ask at this port.
 pub record TakesAsk {R A Streams Listeners : Type 0} (port : ℕ) (result : Result (Tried A) AllocError) (before after : Sockets R A Streams Listeners) : Type 0 where
   pub asks : after.asks.entries ≡ left_by port result before.asks.entries
-  pub gone : (gone : Path) → result ≡ Ok (Arrived (PathGone gone)) → gone ≡ path.Udp port
+  pub arrives : IfOk result (IsOfAsk port after.buffer.value)
   pub rest : after ≡ record before { asks = after.asks; buffer = after.buffer }

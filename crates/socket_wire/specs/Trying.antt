@@ -1,17 +1,19 @@
 -- Which sockets are tried in turn, whatever events told.
-use Rattle.std.specs.Prelude.{◌≡◌, ℕ, ◌+◌, ◌-◌, ◌^◌, min, is_some, Bool, true, false, Option, Some, None}
+use Rattle.std.specs.Prelude.{◌≡◌, ◌≢◌, ℕ, zero, suc, ◌+◌, ◌%◌, ◌^◌, ◌⊎◌, is_some, Bool, true, false, Option}
+use Rattle.std.specs.Prelude.{Some, None}
 use Rattle.socket_wire.specs.declared.origin.Origin.{Origin}
-use Rattle.socket_wire.specs.declared.origin.Origin.TheVariants.{Client, Ask, Server}
+use Rattle.socket_wire.specs.declared.origin.Origin.TheVariants.{Datagrams, Client, Ask, Server}
+use Rattle.socket_wire.specs.declared.origin.Origin.TheVariants.{Connections as Listener}
 use Rattle.socket_wire.specs.declared.readiness.Ready.{Ready}
 use Rattle.socket_wire.specs.declared.sockets.Sockets.{Sockets}
 use Rattle.socket_wire.specs.Listed.{first_from}
 use Rattle.socket_wire.specs.Open.{Connections, first_number, without_client}
 use Rattle.socket_wire.specs.Rounds.{Noted}
 
--- where the next turn begins: behind the one that was found, at most at the last number; behind the last of them at 0
-abbrev pub next_from : (last : ℕ) → Option ℕ → ℕ
-next_from last (Some number) = min (number + 1) last
-next_from last None = 0
+-- where the next turn begins: behind the one that was found; behind the last of them, and of so many numbers, at 0
+abbrev pub next_from : (size : ℕ) → Option ℕ → ℕ
+next_from size (Some number) = (number + 1) % size
+next_from size None = 0
 
 -- the number of the client that was found
 abbrev pub number_of : Option (ℕ × Bool) → Option ℕ
@@ -44,20 +46,48 @@ server_in_turn sockets = first_number sockets.next_server sockets.connections.se
 -- Trying the next client.
 pub record TriesClient {R A Streams Listeners : Type 0} (now : ℕ) (tried : Bool) (before after : Sockets R A Streams Listeners) : Type 0 where
   pub one : tried ≡ is_some (client_in_turn now before)
-  pub next : after.next_client ≡ next_from (2 ^ 64 - 1) (number_of (client_in_turn now before))
+  pub next : after.next_client ≡ next_from (2 ^ 64) (number_of (client_in_turn now before))
   pub tries : ClosesOrNotes (client_in_turn now before) before.readiness.ready after.readiness.ready before.connections after.connections
   pub rest : after ≡ record before { next_client = after.next_client; readiness = record before.readiness { ready = after.readiness.ready }; connections = after.connections }
 
 -- Trying the socket of the next ask.
 pub record TriesAsk {R A Streams Listeners : Type 0} (tried : Bool) (before after : Sockets R A Streams Listeners) : Type 0 where
   pub one : tried ≡ is_some (ask_in_turn before)
-  pub next : after.next_ask ≡ next_from (2 ^ 16 - 1) (ask_in_turn before)
+  pub next : after.next_ask ≡ next_from (2 ^ 16) (ask_in_turn before)
   pub tries : NotesFirst Ask (ask_in_turn before) before.readiness.ready after.readiness.ready
   pub rest : after ≡ record before { next_ask = after.next_ask; readiness = record before.readiness { ready = after.readiness.ready } }
 
 -- Trying the connection of the next ask.
 pub record TriesServer {R A Streams Listeners : Type 0} (tried : Bool) (before after : Sockets R A Streams Listeners) : Type 0 where
   pub one : tried ≡ is_some (server_in_turn before)
-  pub next : after.next_server ≡ next_from (2 ^ 64 - 1) (server_in_turn before)
+  pub next : after.next_server ≡ next_from (2 ^ 64) (server_in_turn before)
   pub tries : NotesFirst Server (server_in_turn before) before.readiness.ready after.readiness.ready
   pub rest : after ≡ record before { next_server = after.next_server; readiness = record before.readiness { ready = after.readiness.ready } }
+
+-- Tries that follow each other, so many at most; none behind the one that found none.
+unfoldable pub TriesUpTo : {S : Type 0} → (Tries : Bool → S → S → Type 0) → (most : ℕ) → (before after : S) → Type 0
+TriesUpTo Tries zero before after = after ≡ before
+TriesUpTo {S} Tries (suc more) before after =
+    Tries false before after ⊎ ((between : S) × (Tries true before between × TriesUpTo Tries more between after))
+
+-- A round counts itself, and has the socket for datagrams tried, and where it is an eighth one the listener.
+pub record BeginsRound {R A Streams Listeners : Type 0} (before after : Sockets R A Streams Listeners) : Type 0 where
+  pub between : Ready A
+  pub datagrams : Noted Datagrams before.readiness.ready between
+  pub eighth : after.rounds % 8 ≡ 0 → Noted Listener between after.readiness.ready
+  pub others : after.rounds % 8 ≢ 0 → after.readiness.ready ≡ between
+  pub rest : after ≡ record before {
+    rounds = (before.rounds + 1) % 2 ^ 8;
+    readiness = record before.readiness { ready = after.readiness.ready };
+  }
+
+-- A round: then up to twenty clients, twenty sockets of asks and twenty connections of asks are tried.
+pub record TriesOthers {R A Streams Listeners : Type 0} (now : ℕ)
+    (before after : Sockets R A Streams Listeners) : Type 0 where
+  pub begun : Sockets R A Streams Listeners
+  pub behind_clients : Sockets R A Streams Listeners
+  pub behind_asks : Sockets R A Streams Listeners
+  pub begins : BeginsRound before begun
+  pub clients : TriesUpTo (TriesClient now) 20 begun behind_clients
+  pub asks : TriesUpTo TriesAsk 20 behind_clients behind_asks
+  pub servers : TriesUpTo TriesServer 20 behind_asks after

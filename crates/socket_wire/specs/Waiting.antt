@@ -34,3 +34,7 @@ is_done client = client.ended && is_idle client.unanswered client.unsent.left
 abbrev pub is_late : (unanswered : ℕ) (unsent : List ℕ) (took active now deadline : ℕ) → Bool
 is_late unanswered unsent took active now deadline =
     if length unsent == 0 then nat_le (10000 + (if unanswered == 0 then 0 else deadline)) (now - active) else nat_le 10000 (now - took)
+
+-- whether it has waited for nothing for a second
+abbrev pub is_resting : (unanswered : ℕ) (unsent : List ℕ) (active now : ℕ) → Bool
+is_resting unanswered unsent active now = is_idle unanswered unsent && nat_le 1000 (now - active)

@@ -1,7 +1,7 @@
 //! A connection of a client.
 
 ghost use Rattle.std.specs.Prelude.{◌≡◌, ◌+◌, ◌-◌, ◌^◌, nat_lt, length, IfOk, OnOk, OnErr};
-ghost use Rattle.socket_wire.specs.Waiting.{IsNew, is_done, is_idle, is_late};
+ghost use Rattle.socket_wire.specs.Waiting.{IsNew, is_done, is_idle, is_late, is_resting};
 ghost use Rattle.socket_wire.specs.Serving.{HearsPiece, Keeps, Reads, Replies, Sends, Serves, with_frame};
 
 use crate::lost::Lost;
@@ -15,6 +15,10 @@ use tcp_streams::{Unsent, Within};
 
 /// For how many milliseconds a client may send no whole message, or take nothing of its replies (RFC 7766 6.2.3).
 const PATIENCE: u64 = 10_000;
+
+/// For how many milliseconds a client that waits for nothing keeps its connection where another one comes for which no
+/// descriptor is left: in that time its first question is read.
+const REST: u64 = 1_000;
 
 /// How many octets of replies are kept for a client.
 const MOST_UNSENT: usize = 1 << 20;
@@ -69,6 +73,13 @@ impl<A: Allocator + Copy> ClientStream<A> {
         ensures { result ≡ is_idle self.now.unanswered self.now.unsent.left }
     {
         self.unanswered == 0 && self.unsent.is_empty()
+    }
+
+    /// It has waited for nothing for a while.
+    pub fn is_resting(&self, now: u64) -> bool
+        ensures { result ≡ is_resting self.now.unanswered self.now.unsent.left self.now.active now }
+    {
+        self.is_idle() && now.saturating_sub(self.active) >= REST
     }
 
     /// It sends nothing more and waits for nothing.

@@ -4,7 +4,7 @@ ghost use Rattle.std.specs.Prelude.{◌≡◌, ◌+◌, ◌<◌, ◌≤◌, if�
 ghost use Rattle.std.specs.Ordering.{nat_cmp};
 ghost use Rattle.std.specs.Map.{lookup, remove_entry};
 ghost use Rattle.std.specs.BTreeMap.{is_at};
-ghost use Rattle.socket_wire.specs.Listed.{Admits, RepliesOn, ServesOn, first_from, first_idle};
+ghost use Rattle.socket_wire.specs.Listed.{Admits, RepliesOn, ServesOn, first_from, first_idle, first_resting};
 
 use crate::client_stream::{ClientStream, Heard};
 use crate::lost::Lost;
@@ -115,6 +115,18 @@ impl<A: Allocator + Copy> Clients<A> {
     {
         for (conn, client) in &self.open {
             if client.is_idle() {
+                return Some(*conn);
+            }
+        }
+        None
+    }
+
+    /// The oldest that has waited for nothing for a while.
+    pub fn oldest_resting(&self, now: u64) -> Option<u64>
+        ensures { result ≡ first_resting now self.now }
+    {
+        for (conn, client) in &self.open {
+            if client.is_resting(now) {
                 return Some(*conn);
             }
         }

@@ -4,7 +4,7 @@ ghost use Rattle.std.specs.Prelude.{◌≡◌, ◌<◌, length, drop, slice_get,
 ghost use Rattle.std.specs.Prelude.{true, is_some, IsTrue, OnOk, OnErr};
 ghost use Rattle.std.specs.Ordering.{nat_cmp};
 ghost use Rattle.std.specs.BTreeMap.{insert_entry};
-ghost use Rattle.socket_wire.specs.Listed.{Admits, RepliesOn, ServesOn, first_from, first_idle};
+ghost use Rattle.socket_wire.specs.Listed.{Admits, RepliesOn, ServesOn, first_from, first_idle, first_resting};
 ghost use Rattle.socket_wire.specs.Open.{AreNone, MakesPlace, ServesServer, first_number};
 ghost use Rattle.socket_wire.specs.Open.{without_client, without_first, without_server};
 
@@ -101,6 +101,20 @@ impl<A: Allocator + Copy> Connections<A> {
         ensures fewer { IsTrue result → length self.new.clients < length self.old.clients }
     {
         match self.clients.oldest_idle() {
+            Some(conn) => {
+                self.close_client(conn);
+                true
+            }
+            None => false,
+        }
+    }
+
+    /// Closes the oldest connection of a client that has waited for nothing for a while; false where there is none.
+    pub fn close_resting(&mut self, now: u64) -> bool
+        ensures closed { self.new ≡ without_first (first_resting now self.old.clients) self.old }
+        ensures found { result ≡ is_some (first_resting now self.old.clients) }
+    {
+        match self.clients.oldest_resting(now) {
             Some(conn) => {
                 self.close_client(conn);
                 true

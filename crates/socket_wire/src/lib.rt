@@ -16,5 +16,6 @@ mod receive_buffer;
 mod servers;
 mod sockets;
 mod wire;
+mod words;
 
 pub use wire::MioWire;

@@ -2,7 +2,7 @@
 
 ghost use Rattle.std.specs.Prelude.{◌≡◌, ◌≤◌, ◌+◌, ◌%◌, [], IsTrue, IfOk, ◌↔◌};
 ghost use Rattle.std.specs.BTreeSet.{btree_set_len};
-ghost use Rattle.socket_wire.specs.Rounds.{Dropped, Finds, Gives, GivesOnTurn, IsBegun, IsNothing, Noted};
+ghost use Rattle.socket_wire.specs.Rounds.{Dropped, Finds, Gives, GivesOnTurn, IsBegun, IsNothing, Noted, NotedStay};
 
 use crate::origin::Origin;
 use mio::event::Source;
@@ -80,6 +80,17 @@ impl<A: Allocator + Copy> Ready<A> {
         }
     }
 
+    /// The sockets that the events tell of.
+    fn add_each(&mut self, events: &Events<A>)
+        ensures { NotedStay self.old self.new }
+    {
+        for event in events {
+            if let Some(origin) = Origin::of(event.token()) {
+                self.add(origin);
+            }
+        }
+    }
+
     fn remove(&mut self, origin: Origin)
         ensures { Dropped origin self.old self.new }
     {
@@ -137,17 +148,14 @@ impl<A: Allocator + Copy> Readiness<A> {
     /// Waits until something is ready, for so many milliseconds at most; no turn waits for long.
     pub fn wait(&mut self, pause: u64)
         requires { pause ≤ 5 }
-        ensures { self.new.turn ≡ self.old.turn }
+        ensures stay { NotedStay self.old.ready self.new.ready }
+        ensures turn { self.new.turn ≡ self.old.turn }
     {
         let pause = Some(Duration::from_millis(pause));
         if self.poll.poll(&mut self.events, pause).is_err() {
             return;
         }
-        for event in &self.events {
-            if let Some(origin) = Origin::of(event.token()) {
-                self.ready.add(origin);
-            }
-        }
+        self.ready.add_each(&self.events);
     }
 
     /// The socket may be ready. Where memory ran out it isn't noted; then it is tried when its turn comes.

@@ -1,8 +1,10 @@
 //! The sockets of a wire, and what arrives on them.
 
-ghost use Rattle.std.specs.Prelude.{◌≡◌, ◌||◌, length, nat_lt, IfOk};
-ghost use Rattle.std.specs.BTreeMap.{btree_map_len};
+ghost use Rattle.std.specs.Prelude.{◌≡◌, [], IfOk};
 ghost use Rattle.socket_wire.specs.Arriving.{AreNew, TellsEnd};
+ghost use Rattle.socket_wire.specs.Attempting.{TriesReady};
+ghost use Rattle.socket_wire.specs.Looking.{EndsTurn, Looks, TakesTurn, TakesTurnAtOnce, has_asks};
+ghost use Rattle.socket_wire.specs.Words.{GivesWords};
 
 mod putting;
 mod taking;
@@ -12,13 +14,14 @@ use crate::connections::{Closed, Connections};
 use crate::listeners::{connections_at, datagrams_at};
 use crate::numbers::Numbers;
 use crate::readiness::Readiness;
+use crate::words::Words;
 use mio::net::{TcpListener, UdpSocket};
 use std::alloc::{AllocError, Allocator};
 use std::collections::BTreeMap;
 use std::io;
 use std::net::Net;
 use step_values::Path;
-use suffix_routes::Peer;
+use suffix_routes::{Limits, Peer};
 use taking::Tried;
 use wires::Arrival;
 
@@ -44,6 +47,7 @@ pub(crate) struct Sockets<'a, R: Net, A: Allocator> {
     numbers: Numbers,
     asks: BTreeMap<u16, UdpSocket, A>,
     buffer: Box<[u8; LARGEST], A>,
+    words: Words,
     /// How long a question may wait for its reply, in milliseconds.
     deadline: u64,
     /// When sockets were tried that no event told of, and in how many rounds.
@@ -56,8 +60,16 @@ pub(crate) struct Sockets<'a, R: Net, A: Allocator> {
 
 impl<'a, R: Net, A: Allocator + Copy> Sockets<'a, R, A> {
     /// Listens at the peer's address by UDP and TCP. `Err` where the system refuses, or memory ran out.
-    pub fn new(rt: &'a R, alloc: A, listen: Peer, deadline: u64) -> io::Result<Sockets<'a, R, A>>
-        ensures { IfOk result (λ sockets. AreNew sockets) }
+    pub fn new(
+        rt: &'a R,
+        alloc: A,
+        listen: Peer,
+        limits: &Limits,
+        words: Words,
+    ) -> io::Result<Sockets<'a, R, A>>
+        ensures new { IfOk result (λ sockets. AreNew sockets) }
+        ensures deadline { IfOk result (λ sockets. sockets.deadline ≡ limits.now.deadline_ms) }
+        ensures words { IfOk result (λ sockets. sockets.words ≡ words) }
     {
         let readiness = Readiness::new(rt, alloc)?;
         let datagrams = datagrams_at(rt, &readiness, listen)?;
@@ -73,7 +85,8 @@ impl<'a, R: Net, A: Allocator + Copy> Sockets<'a, R, A> {
             numbers: Numbers::new(),
             asks: BTreeMap::new(alloc),
             buffer,
-            deadline,
+            words,
+            deadline: limits.deadline_ms,
             tried: 0,
             rounds: 0,
             next_client: 0,
@@ -82,22 +95,44 @@ impl<'a, R: Net, A: Allocator + Copy> Sockets<'a, R, A> {
         })
     }
 
+    /// The random words for the next step.
+    pub fn words(&mut self) -> [u32; 8]
+        ensures gives { GivesWords result self.old.words self.new.words }
+        ensures rest { self.new ≡ record self.old { words = self.new.words } }
+    {
+        self.words.next()
+    }
+
     /// What arrives next: first the end of a connection that the wire closed.
     pub fn arrival(&mut self, now: u64) -> Result<Arrival<A>, AllocError>
-        ensures { TellsEnd result self.old self.new }
+        ensures end { TellsEnd result self.old self.new }
+        ensures turn { self.old.connections.closed ≡ [] → TakesTurnAtOnce now result self.old self.new }
     {
         match self.connections.next_end() {
-            Some(Closed::Client(conn)) => return Ok(Arrival::ClientClosed { conn }),
+            Some(Closed::Client(conn)) => Ok(Arrival::ClientClosed { conn }),
             Some(Closed::Server(conn)) => {
                 let path = Path::Tcp(conn);
-                return Ok(Arrival::PathGone { path });
+                Ok(Arrival::PathGone { path })
             }
-            None => {}
+            None => self.take_turn(now),
         }
+    }
+
+    /// What arrives where no end is to be told.
+    fn take_turn(&mut self, now: u64) -> Result<Arrival<A>, AllocError>
+        ensures { TakesTurn now result self.old self.new }
+    {
         let has_waited = self.look(now);
-        if let Some(arrival) = self.try_ready(now)? {
-            return Ok(arrival);
+        match self.try_ready(now)? {
+            Some(arrival) => Ok(arrival),
+            None => self.end_turn(has_waited, now),
         }
+    }
+
+    /// Nothing came of what may be ready. Waits where it hasn't waited yet, and nothing may be ready any more.
+    fn end_turn(&mut self, has_waited: bool, now: u64) -> Result<Arrival<A>, AllocError>
+        ensures { EndsTurn has_waited now result self.old self.new }
+    {
         if has_waited || !self.readiness.is_empty() {
             return Ok(Arrival::Nothing);
         }
@@ -107,7 +142,9 @@ impl<'a, R: Net, A: Allocator + Copy> Sockets<'a, R, A> {
 
     /// Looks what is ready; waits where nothing is. True where it waited. Before sockets are tried that no event told
     /// of, events are taken only where something may be ready: else the turn waits for them once these turn out empty.
-    fn look(&mut self, now: u64) -> bool {
+    fn look(&mut self, now: u64) -> bool
+        ensures { Looks now result self.old self.new }
+    {
         if now.saturating_sub(self.tried) >= PAUSE {
             self.tried = now;
             if !self.readiness.is_empty() {
@@ -127,8 +164,10 @@ impl<'a, R: Net, A: Allocator + Copy> Sockets<'a, R, A> {
     }
 
     /// What arrives of a socket that may be ready. `None` where none is ready any more, or many were tried.
-    fn try_ready(&mut self, now: u64) -> Result<Option<Arrival<A>>, AllocError> {
-        for _ in 0..TRIES {
+    fn try_ready(&mut self, now: u64) -> Result<Option<Arrival<A>>, AllocError>
+        ensures { TriesReady 64 now result self.old self.new }
+    {
+        for _tried in 0..TRIES {
             let Some(origin) = self.readiness.next() else {
                 return Ok(None);
             };
@@ -143,7 +182,7 @@ impl<'a, R: Net, A: Allocator + Copy> Sockets<'a, R, A> {
 
     /// A socket or a connection of an ask is open.
     fn has_asks(&self) -> bool
-        ensures { result ≡ (nat_lt 0 (btree_map_len self.now.asks) || nat_lt 0 (length self.now.connections.servers)) }
+        ensures { result ≡ has_asks self.now }
     {
         !self.asks.is_empty() || self.connections.has_server()
     }

@@ -4,9 +4,7 @@ ghost use Rattle.std.specs.Prelude.{◌≡◌, IfOk};
 
 use crate::moments::Moments;
 use crate::sockets::Sockets;
-use rand_chacha::ChaCha12Rng;
-use rand_core::SeedableRng;
-use rand_core::utils::NextWord;
+use crate::words::Words;
 use std::alloc::{Allocator, Global};
 use std::io;
 use std::marker::Model;
@@ -14,39 +12,38 @@ use std::net::Net;
 use std::random::RandomSource;
 use std::rt::Clock;
 use step_values::Action;
-use suffix_routes::Peer;
+use suffix_routes::{Limits, Peer};
 use wires::{Arrival, Wire, WireFault};
 
 /// A wire over sockets. It listens at one address by UDP and TCP, asks from a socket of its own for each ask, and waits
-/// for none of them. Contracts see how many faults it counted.
+/// for none of them. Contracts see how many faults it counted, and how long a question on a connection may wait.
 #[derive(Drop)]
 pub struct MioWire<'a, R: Net + Clock, A: Allocator = Global> {
     sockets: Sockets<'a, R, A>,
     moments: Moments<'a, R>,
-    random: ChaCha12Rng,
     faults: u64,
 }
 
 impl<'a, R: Net + Clock, A: Allocator> Model for MioWire<'a, R, A> {
-    ghost use Rattle.std.specs.Prelude.{ℕ};
+    ghost use Rattle.socket_wire.specs.Seen.{SeenWire};
 
-    ghost Value = { ℕ };
+    ghost Value = { SeenWire };
 
-    ghost view = { λ w. w.faults };
+    ghost view = { λ w. record { faults = w.faults; deadline = w.sockets.deadline } };
 }
 
 impl<'a, R: Net + Clock + RandomSource, A: Allocator + Copy> MioWire<'a, R, A> {
-    /// A wire that listens at this address, and counted no fault. A client on a connection waits for its reply for at
-    /// most `deadline` milliseconds. `Err` where the system refuses, or memory ran out.
-    pub fn new(rt: &'a R, alloc: A, listen: Peer, deadline: u64) -> io::Result<MioWire<'a, R, A>>
-        ensures { IfOk result (λ faults. faults ≡ 0) }
+    /// A wire that listens at this address, and counted no fault. A question on a connection waits for its reply for as
+    /// long as the limits let it. `Err` where the system refuses, or memory ran out.
+    pub fn new(rt: &'a R, alloc: A, listen: Peer, limits: &Limits) -> io::Result<MioWire<'a, R, A>>
+        ensures faults { IfOk result (λ wire. wire.faults ≡ 0) }
+        ensures deadline { IfOk result (λ wire. wire.deadline ≡ limits.now.deadline_ms) }
     {
         let mut seed = [0u8; 32];
         rt.fill_bytes(&mut seed)?;
         Ok(MioWire {
-            sockets: Sockets::new(rt, alloc, listen, deadline)?,
+            sockets: Sockets::new(rt, alloc, listen, limits, Words::new(seed))?,
             moments: Moments::new(rt)?,
-            random: ChaCha12Rng::from_seed(seed),
             faults: 0,
         })
     }
@@ -57,7 +54,7 @@ impl<R: Net + Clock, A: Allocator + Copy> Wire<A> for MioWire<'_, R, A> {
 
     ghost told = { λ _. None };
 
-    ghost fault_count = { λ faults. faults };
+    ghost fault_count = { λ wire. wire.faults };
 
     fn arrival(&mut self) -> Result<Arrival<A>, WireFault> {
         if self.faults == u64::MAX {
@@ -91,11 +88,7 @@ impl<R: Net + Clock, A: Allocator + Copy> Wire<A> for MioWire<'_, R, A> {
     }
 
     fn words(&mut self) -> [u32; 8] {
-        let mut words = [0u32; 8];
-        for word in &mut words {
-            *word = self.random.next_word();
-        }
-        words
+        self.sockets.words()
     }
 
     fn faults(&self) -> u64 {

@@ -1,7 +1,7 @@
 //! What calls for nothing takes no memory: of one growth that is allowed, one is left after the step. So a body that
 //! copies a stranger's octets is found even where it bears the refusal in silence.
 
-use crate::worked::{PATH, REPLY, SECOND, SERVER, WORDS, asked, delivers, sends};
+use crate::worked::{PATH, REPLY, SECOND, SERVER, WORDS, asked, config, delivers, sends};
 use forwarder_core::Forwarder;
 use lru::DefaultHasher;
 use refusing_allocator::Refusing;
@@ -109,6 +109,16 @@ fn what_calls_for_nothing_takes_no_memory(rt: HostRuntime) -> Result<(), Fail> {
 fn a_restart_by_its_call_takes_no_memory(rt: HostRuntime) -> Result<(), Fail> {
     let heap = Refusing::new(rt.alloc());
     let mut forwarder = asked(&heap)?;
+    heap.allow(1);
+    forwarder.restart();
+    assert!(rt; Box::new(&heap, 0u8).is_ok());
+    Ok(())
+}
+
+#[test]
+fn a_restart_of_a_new_forwarder_takes_no_memory(rt: HostRuntime) -> Result<(), Fail> {
+    let heap = Refusing::new(rt.alloc());
+    let mut forwarder = Forwarder::new(&heap, config(&heap)?, DefaultHasher::default())?;
     heap.allow(1);
     forwarder.restart();
     assert!(rt; Box::new(&heap, 0u8).is_ok());

@@ -5,6 +5,10 @@ pub mod Offers
 pub mod Finding
 pub mod Ending
 pub mod Rows
+pub mod AtOnce
+pub mod Asked
+pub mod AskRows
+pub mod AskHistory
 pub mod Theorem
 pub mod CallerLemmas
 pub mod Worked

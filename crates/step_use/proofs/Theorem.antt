@@ -1,9 +1,10 @@
 -- A row keeps what mirrors, and uses what stands.
-use Rattle.std.proofs.Common.{◌≡◌, ◌∙◌, ℕ, ◌^◌, ◌≤◌, List, [], ◌∷◌, ◌++◌, Bool, true, false, refl, sym, ap, subst, inl, inr, arith, Option, Some, None}
-use Rattle.std.specs.Prelude.{◌==◌, min, max, nat_lt, reverse, Result, Ok, Err}
-use Rattle.std.specs.List.{AllByRecursion}
-use Rattle.std.proofs.lemmas.Bool.{cond-true, cond-false, eq-eqb, true≢false}
-use Rattle.std.proofs.lemmas.List.{reverse-append}
+use Rattle.std.proofs.Common.{◌≡◌, ◌∙◌, ℕ, ◌^◌, ◌≤◌, List, [], ◌∷◌, ◌++◌, length, Bool, true, false, refl, sym, ap}
+use Rattle.std.proofs.Common.{subst, inl, inr, arith, Some, None, append_assoc}
+use Rattle.std.specs.Prelude.{min, max, nat_lt, reverse}
+use Rattle.std.specs.List.{concat, AllByRecursion}
+use Rattle.std.proofs.lemmas.Bool.{true≢false}
+use Rattle.std.proofs.lemmas.List.{reverse-append, length-map}
 use Rattle.dns_message.specs.Header.{header_in}
 use Rattle.dns_message.specs.Values.{Question}
 use Rattle.dns_message.specs.Questions.{one_question}
@@ -18,27 +19,32 @@ use Rattle.trust_rank.specs.Formed.{IsPiece}
 use Rattle.trust_rank.specs.Walks.{most_aliases, walk_of}
 use Rattle.record_cache.specs.Values.{Held, Cache}
 use Rattle.record_cache.specs.Entries.{AreHeld}
-use Rattle.answer_builder.specs.declared.fault.Fault.{Fault}
-use Rattle.answer_builder.specs.Transports.{answer_of}
 use Rattle.step_values.specs.declared.event.Client.{Client}
-use Rattle.step_values.specs.declared.action.Why.TheVariants.{TooLarge}
 use Rattle.step_values.specs.Values.{Event, from_client, delivery, path_failed, tick, restart, Request, Delivered, Handed, Outcome, Step}
 use Rattle.step_history.specs.History.{is_restart, is_taken, moment_at, Carries}
 use Rattle.step_history.specs.Carried.{CarriedInEra, then_carried}
-use Rattle.step_history.specs.Causes.{is_unserved}
+use Rattle.step_history.specs.Sound.{unanswered}
 use Rattle.step_rules.specs.State.{Waiting, State}
-use Rattle.step_rules.specs.LookingUp.{Met, ends, Looked, look_up, promoted_all}
+use Rattle.step_rules.specs.LookingUp.{Looked, look_up, promoted_all}
 use Rattle.step_rules.specs.Offering.{put_all, unkept_of}
-use Rattle.step_rules.specs.Steps.{Done, start, using, reply_step, answered, sends, transport_of}
-use Rattle.step_rules.specs.Row.{fate_by, fate_at, taken_now, row_of_fate, row_of_route, row_of_question, row_of_request, row_of_end, row_of_acceptance, row_of_delivery, Happens, HandsOctets, effective, Row}
+use Rattle.step_rules.specs.Steps.{Done, start}
+use Rattle.step_rules.specs.Row.{is_due_at, fate_by, row_of_request, row_of_end, row_of_acceptance, row_of_delivery}
+use Rattle.step_rules.specs.Row.{Happens, HandsOctets, effective, Row}
 use Rattle.step_keeping.specs.Kept.{CanBeKept}
 use Rattle.step_keeping.proofs.CallerLemmas.{All-weaker, promotions_keep_cached, same_look_ups}
 use Rattle.step_soundness.specs.Explains.{Explains}
-use Rattle.step_soundness.specs.Runs.{Run, IsExplained}
-use Rattle.step_soundness.proofs.CallerLemmas.{row_explained, start_explained, append_nil, IsHeard, heard, heard_carried, carries, offered}
+use Rattle.step_soundness.specs.Runs.{Run}
+use Rattle.step_soundness.proofs.CallerLemmas.{row_explained, start_explained, append_nil, IsHeard}
+use Rattle.step_soundness.proofs.CallerLemmas.{heard, heard_carried, carries, offered}
 use Rattle.step_use.specs.Standing.{standing}
-use Rattle.step_use.specs.Use.{IsOneOf, HasFewSlots, FoundMemory, HasRoom, AsksToLookUp, LeadsToEnd, IsKnown, AnswersAtOnce, UsesWhatStands}
-use Rattle.step_use.specs.Mirrors.{Mirrors, IsMirrored, StaysMirrored}
+use Rattle.step_use.specs.Use.{IsOneOf, HasFewSlots, FoundMemory, HasRoom, AsksToLookUp, LeadsToEnd, IsKnown}
+use Rattle.step_use.specs.Use.{AnswersAtOnce}
+use Rattle.step_use.specs.Mirrors.{Mirrors, IsMirrored, FullyExplains, StaysFullyExplained}
+use Rattle.step_use.specs.Service.{ServesTruly, ComesTo, ServesOnTruly}
+use Rattle.step_use.proofs.Asked.{AreServedOn}
+use Rattle.step_use.proofs.AskRows.{event_row}
+use Rattle.step_use.proofs.AskHistory.{asks_for_waiting}
+use Rattle.step_use.proofs.AtOnce.{IsHit, is_hit, hit_is, is_hit_so, IsOwnAnswer, hit_is_owned}
 use Rattle.step_use.proofs.Ending.{Ends, look_up_ends}
 use Rattle.step_use.proofs.Finding.{finds_the_same}
 use Rattle.step_use.proofs.Offers.{offers_mirror, promotions_mirror, mirrors_later}
@@ -70,7 +76,8 @@ none_sent r e = absurd (cc)
 none_came : (d : Delivered) → None ≡ Some d → ⊥
 none_came d e = absurd (cc)
 
-module _ (c : Config) (past : List Step) (w : List (List ℕ)) (s : State) (x : Explains c past w s) (was : IsMirrored c past s) (now : ℕ) (words : List ℕ) (unkept : ℕ) (more : Bool) where
+module _ (c : Config) (past : List Step) (w : List (List ℕ)) (s : State) (x : Explains c past w s)
+    (was : IsMirrored c past w s) (now : ℕ) (words : List ℕ) (unkept : ℕ) (more : Bool) where
   abbrev n : ℕ
   n = effective now s
 
@@ -182,92 +189,134 @@ module _ (c : Config) (past : List Step) (w : List (List ℕ)) (s : State) (x : 
 
   -- ---- a question that is known
 
-  module _ (client : Client) (octets : List ℕ) (d : Done) (is_row : d ≡ row_of_request c n words client octets s) where
+  module _ (client : Client) (octets : List ℕ) (are : AreOctets octets) (d : Done)
+      (is_row : d ≡ row_of_request c n words client octets s) where
     abbrev step : Step
     step = told (from_client client octets) d
 
     moment_so : n ≡ moment_at (step ∷ past)
     moment_so = ap (max (min now (2 ^ 62))) x.moment
 
-    module _ (q : Question) (carried : List Held) (asks : AsksToLookUp c step client q) (is : CarriedInEra c past carried) (room : HasRoom c past carried) (known : IsKnown c step past carried q) where
-      octets_are : asks.octets ≡ octets
-      octets_are = ap (λ (r : Request). r.octets) (sym (sent_is _ _ asks.sends))
+    abbrev Hit : Type 0
+    Hit = IsHit c past w s x now words unkept more client octets are
 
-      abbrev y : Waiting
-      y = taken_now n client (header_in octets) q
+    -- the cache answers it
+    known_is_hit : (q : Question) (carried : List Held) → AsksToLookUp c step client q → CarriedInEra c past carried
+        → HasRoom c past carried → IsKnown c step past carried q → Hit
+    known_is_hit q carried asks is room known = record {
+      takes = subst (λ (o : List ℕ). is_taken o ≡ true) octets_are asks.taken;
+      opcode = subst (λ (o : List ℕ). (header_in o).opcode ≡ 0) octets_are asks.opcode;
+      question = q;
+      reads = subst (λ (o : List ℕ). one_question o ≡ Some q) octets_are asks.reads;
+      served = asks.served;
+      route = asks.route;
+      on_route = asks.on_route;
+      end = leads.0;
+      ends_so = ap (λ (v : Looked). v.met) same ∙ leads.1;
+    }
+      where
+        octets_are : asks.octets ≡ octets
+        octets_are = ap (λ (r : Request). r.octets) (sym (sent_is _ _ asks.sends))
 
-      abbrev l : Looked
-      l = look_up c.routes n s.cache.entries most_aliases [] q
+        mirrored : Mirrors n carried s.cache.entries
+        mirrored = before carried is room
 
-      mirrored : Mirrors n carried s.cache.entries
-      mirrored = before carried is room
+        -- its look-up among the entries is that in what stands
+        same : look_up c.routes n s.cache.entries most_aliases [] q ≡ look_up c.routes n
+            (standing n carried) most_aliases [] q
+        same = same_look_ups c.routes n s.cache.entries (standing n carried)
+            (finds_the_same c.routes n s.cache.capacity s.cache.entries (standing n carried) x.cache.held
+            (mirrored.stands n (omega arith)) (mirrored.held n (omega arith)))
+            most_aliases [] q
 
-      -- its look-up among the entries is that in what stands
-      same : l ≡ look_up c.routes n (standing n carried) most_aliases [] q
-      same = same_look_ups c.routes n s.cache.entries (standing n carried)
-          (finds_the_same c.routes n s.cache.capacity s.cache.entries (standing n carried) x.cache.held (mirrored.stands n (omega arith)) (mirrored.held n (omega arith)))
-          most_aliases [] q
-
-      leads : Ends (look_up c.routes n (standing n carried) most_aliases [] q)
-      leads = look_up_ends c.routes n (standing n carried) most_aliases [] q
-          (subst (λ (t : ℕ). LeadsToEnd c.routes t (standing t carried) most_aliases q) (sym moment_so) known)
-
-      abbrev end : Held
-      end = leads.0
-
-      ends_so : l.met ≡ ends end
-      ends_so = ap (λ (v : Looked). v.met) same ∙ leads.1
-
-      row_is : d ≡ reply_step n (answered n y l.held end) (using l.used s)
-      row_is =
-          is_row
-          ∙ cond-true (is_taken octets) _ _ (subst (λ (o : List ℕ). is_taken o ≡ true) octets_are asks.taken)
-          ∙ cond-true ((header_in octets).opcode == 0) _ _ (eq-eqb (header_in octets).opcode 0 (subst (λ (o : List ℕ). (header_in o).opcode ≡ 0) octets_are asks.opcode))
-          ∙ ap (row_of_question c n words client (header_in octets) s) (subst (λ (o : List ℕ). one_question o ≡ Some q) octets_are asks.reads)
-          ∙ cond-false (is_unserved q) _ _ asks.served
-          ∙ ap (row_of_route c n words y s) asks.on_route
-          ∙ ap (λ (m : Met). row_of_fate c n words (using l.used s) (fate_at c n y l m)) ends_so
-
-      pub answers_at_once : AnswersAtOnce step client
-      answers_at_once = by (answer_of y.asked (l.held ++ end ∷ []) n (transport_of client)) refl
-        where
-          actions_are : d.actions ≡ answered n y l.held end ∷ []
-          actions_are = ap (λ (z : Done). z.actions) row_is
-
-          by : (r : Result (List ℕ) Fault) → answer_of y.asked (l.held ++ end ∷ []) n (transport_of client) ≡ r → AnswersAtOnce step client
-          by (Ok text) told_so = record { octets = text; why = Rattle.step_values.specs.declared.action.Why.TheVariants.Answered; actions = actions_are ∙ (λ i. sends Rattle.step_values.specs.declared.action.Why.TheVariants.Answered y (told_so i) ∷ []); reason = inl refl }
-          by (Err fault) told_so = record { octets = Rattle.step_history.specs.Replies.failure_text y.asked TooLarge; why = TooLarge; actions = actions_are ∙ (λ i. sends Rattle.step_values.specs.declared.action.Why.TheVariants.Answered y (told_so i) ∷ []); reason = inr refl }
+        leads : Ends (look_up c.routes n (standing n carried) most_aliases [] q)
+        leads = look_up_ends c.routes n (standing n carried) most_aliases [] q
+            (subst (λ (t : ℕ). LeadsToEnd c.routes t (standing t carried) most_aliases q) (sym moment_so) known)
 
   -- ---- each event
 
-  abbrev UsesNow : Event → Done → Type 0
-  UsesNow e d = (client : Client) (q : Question) (carried : List Held) → AsksToLookUp c (told e d) client q → CarriedInEra c past carried
-      → HasRoom c past carried → IsKnown c (told e d) past carried q → AnswersAtOnce (told e d) client
+  abbrev UsesNow : Event → Done → List ℕ → Type 0
+  UsesNow e d os = (client : Client) (q : Question) (carried : List Held) → (asks : AsksToLookUp c (told e d) client q)
+      → CarriedInEra c past carried
+      → HasRoom c past carried → IsKnown c (told e d) past carried q
+      → AnswersAtOnce c (told e d) past (concat w) os client asks.octets
 
-  after_event : (e : Event) → HandsOctets e → (d : Done) → Happens c n words s e d → d.unkept ≡ unkept → MirrorsAfter e d × UsesNow e d
-  after_event (from_client client octets) are d h same = (
-    quiet_after (from_client client octets) d refl (subst (IsQuiet n s.cache) (sym h) (request_is c n words s client octets)) (λ ps k. none_came _ k.accepts.matches.delivered),
-    λ other q carried asks is room known.
-        let client_is : other ≡ client = ap (λ (r : Request). r.client) (sym (sent_is _ _ asks.sends)) in
-        subst (AnswersAtOnce (told (from_client client octets) d)) (sym client_is)
-        (answers_at_once client octets d h q carried (subst (λ (z : Client). AsksToLookUp c (told (from_client client octets) d) z q) client_is asks) is room known),
+  -- some owners of its replies explain the state after it
+  abbrev IsExplainedAfter : Event → Done → Type 0
+  IsExplainedAfter e d = (os : List ℕ) × Explains c (told e d ∷ past) (os ∷ w) d.state
+
+  abbrev IsUsedAfter : Event → Done → Type 0
+  IsUsedAfter e d = (os : List ℕ) × Explains c (told e d ∷ past) (os ∷ w) d.state × UsesNow e d os
+
+  -- a message that the cache answers is its own answer's owner; of any other nothing is known
+  message_after : (client : Client) (octets : List ℕ) (are : AreOctets octets) (d : Done)
+      → d ≡ row_of_request c n words client octets s → more ≡ is_due_at c d.state.moment d.state
+      → IsExplainedAfter (from_client client octets) d → (b : Bool)
+      → is_hit c past w s x now words unkept more client octets are ≡ b → IsUsedAfter (from_client client octets) d
+  message_after client octets are d h more_is other true hit = (
+    length past ∷ [],
+    own.explained,
+    λ asker q carried asks is room known.
+        let one : Request = record { client = client; octets = octets } in
+        let other : Request = record { client = asker; octets = asks.octets } in
+        subst (λ (r : Request). AnswersAtOnce c (told (from_client client octets) d) past (concat w)
+        (length past ∷ []) r.client r.octets) (sent_is one other asks.sends)
+        (record {
+          octets = own.octets;
+          why = own.why;
+          actions = own.actions;
+          reason = own.reason;
+          owner = refl;
+          right =
+              own.right;
+        }),
   )
-  after_event (delivery path from octets) are d h same = (
-    delivered_after path from octets h.0 are d h.1 same,
-    λ other q carried asks is room known. absurd (none_sent _ asks.sends),
+    where
+      own : IsOwnAnswer c past w s x now words unkept more client octets are d
+      own = hit_is_owned c past w s x now words unkept more client octets are
+          (is_hit_so c past w s x now words unkept more client octets are hit) d h more_is
+  message_after client octets are d h more_is other false not_hit = (
+    other.0,
+    other.1,
+    λ asker q carried asks is room known.
+        let asker_is : asker ≡ client = ap (λ (r : Request). r.client) (sym (sent_is _ _ asks.sends)) in
+        let hit = known_is_hit client octets are d h q carried
+        (subst (λ (z : Client). AsksToLookUp c (told
+        (from_client client octets) d) z q) asker_is asks) is room known in
+        absurd (true≢false (sym (hit_is c past w s x now words unkept more client octets are hit) ∙ not_hit)),
   )
-  after_event (path_failed path) are d h same = (
-    quiet_after (path_failed path) d refl (subst (IsQuiet n s.cache) (sym h) (path_is c n words s (ask_on path s.asks))) (λ ps k. none_came _ k.accepts.matches.delivered),
-    λ other q carried asks is room known. absurd (none_sent _ asks.sends),
+
+  used_after : (e : Event) → HandsOctets e → (d : Done) → Happens c n words s e d
+      → more ≡ is_due_at c d.state.moment d.state → IsExplainedAfter e d → IsUsedAfter e d
+  used_after (from_client client octets) are d h more_is other =
+      message_after client octets are d h more_is other
+      (is_hit c past w s x now words unkept more client octets are) refl
+  used_after (delivery path from octets) are d h more_is other =
+      (other.0, other.1, λ client q carried asks is room known. absurd (none_sent _ asks.sends))
+  used_after (path_failed path) are d h more_is other =
+      (other.0, other.1, λ client q carried asks is room known. absurd (none_sent _ asks.sends))
+  used_after tick are d h more_is other = (
+    other.0,
+    other.1,
+    λ client q carried asks is room known. absurd (none_sent _ asks.sends),
   )
-  after_event tick are d h same = (
-    quiet_after tick d refl (subst (IsQuiet n s.cache) (sym h) (tick_is c n words s)) (λ ps k. none_came _ k.accepts.matches.delivered),
-    λ other q carried asks is room known. absurd (none_sent _ asks.sends),
-  )
-  after_event restart are d h same = (
-    restarted d h,
-    λ other q carried asks is room known. absurd (none_sent _ asks.sends),
-  )
+  used_after restart are d h more_is other =
+      (other.0, other.1, λ client q carried asks is room known. absurd (none_sent _ asks.sends))
+
+  mirrored_after : (e : Event) → HandsOctets e → (d : Done) → Happens c n words s e d → d.unkept ≡ unkept
+      → MirrorsAfter e d
+  mirrored_after (from_client client octets) are d h same =
+      quiet_after (from_client client octets) d refl
+      (subst (IsQuiet n s.cache) (sym h) (request_is c n words s client octets))
+      (λ ps k. none_came _ k.accepts.matches.delivered)
+  mirrored_after (delivery path from octets) are d h same = delivered_after path from octets h.0 are d h.1 same
+  mirrored_after (path_failed path) are d h same =
+      quiet_after (path_failed path) d refl (subst (IsQuiet n s.cache) (sym h)
+      (path_is c n words s (ask_on path s.asks))) (λ ps k. none_came _ k.accepts.matches.delivered)
+  mirrored_after tick are d h same =
+      quiet_after tick d refl (subst (IsQuiet n s.cache) (sym h) (tick_is c n words s))
+      (λ ps k. none_came _ k.accepts.matches.delivered)
+  mirrored_after restart are d h same = restarted d h
     where
       nothing_there : (t : ℕ) → Mirrors t [] []
       nothing_there t = record { was_carried = λ y among. among; stands = λ m le y among alive. among; held = λ m le y among. among }
@@ -279,36 +328,124 @@ module _ (c : Config) (past : List Step) (w : List (List ℕ)) (s : State) (x : 
 
 -- ---- rows, and runs
 
-pub row_mirrors : (c : Config) (past : List Step) (w : List (List ℕ)) (s : State) (h : Handed) (o : Outcome) (s' : State) → Explains c past w s → IsMirrored c past s → Row c s h o s'
-    → IsMirrored c (record { handed = h; outcome = o } ∷ past) s'
-row_mirrors c past w s h o s' x was r =
-    let both = after_event c past w s x was h.now h.words o.unkept o.more h.event r.octets (record { actions = o.actions; unkept = o.unkept; state = s' }) r.happens refl in
-    record { mirrors = both.0; uses = (was.uses, both.1) }
+pub row_fully_explained : (c : Config) (past : List Step) (w : List (List ℕ)) (s : State) (h : Handed) (o : Outcome)
+    (s' : State) → FullyExplains c past w s → Row c s h o s'
+    → (os : List ℕ) × FullyExplains c (record { handed = h; outcome = o } ∷ past) (os ∷ w) s'
+row_fully_explained c past w s h o s' both r = (
+  used.0,
+  record {
+    explained = used.1;
+    mirrored = record { mirrors = mirrors; uses = (both.mirrored.uses, used.2) };
+    served = on.served;
+    asked = (both.asked, asks_for_waiting c past w s both.explained t (used.0 ∷ w) s' used.1 on);
+  },
+)
+  where
+    t : Step
+    t = record { handed = h; outcome = o }
 
-pub row_stays_mirrored : (c : Config) (s : State) (h : Handed) (o : Outcome) (s' : State) → Row c s h o s' → StaysMirrored c s h o s'
-row_stays_mirrored c s h o s' r = λ past w x was. row_mirrors c past w s h o s' x was r
+    d : Done
+    d = record { actions = o.actions; unkept = o.unkept; state = s' }
 
-pub start_mirrors : (c : Config) → IsMirrored c [] (start c)
-start_mirrors c = record {
-  mirrors = λ carried is room. subst (λ (z : List Held). Mirrors 0 z []) (sym is) (record { was_carried = λ y among. among; stands = λ m le y among alive. among; held = λ m le y among. among });
-  uses = tt;
+    mirrors : (carried : List Held) → CarriedInEra c (t ∷ past) carried → HasRoom c (t ∷ past) carried
+        → Mirrors s'.moment carried s'.cache.entries
+    mirrors = mirrored_after c past w s both.explained both.mirrored h.now h.words o.unkept o.more h.event r.octets d
+        r.happens refl
+
+    used : IsUsedAfter c past w s both.explained both.mirrored h.now h.words o.unkept o.more h.event d
+    used = used_after c past w s both.explained both.mirrored h.now h.words o.unkept o.more h.event r.octets d r.happens
+        r.more (row_explained c past w s h o s' both.explained r)
+
+    on : AreServedOn s.asks s'.asks s'.waiting
+    on = event_row c (effective h.now s) h.words s both.served both.explained.asks_are.in_turn past
+        both.explained.tried h.event d r.happens
+
+pub row_stays_fully_explained : (c : Config) (s : State) (h : Handed) (o : Outcome) (s' : State) → Row c s h o s'
+    → StaysFullyExplained c s h o s'
+row_stays_fully_explained c s h o s' r = λ past w both. row_fully_explained c past w s h o s' both r
+
+pub start_fully_explained : (c : Config) → IsConfig c → FullyExplains c [] [] (start c)
+start_fully_explained c config = record {
+  explained = start_explained c config;
+  mirrored = record {
+    mirrors = λ carried is room. subst (λ (z : List Held). Mirrors 0 z []) (sym is)
+        (record { was_carried = λ y among. among; stands = λ m le y among alive. among; held = λ m le y among. among });
+    uses = tt;
+  };
+  served = record { asked = tt; wanting = tt };
+  asked = tt;
 }
 
+run_fully_explained : (c : Config) (s s' : State) (steps : List Step) (past : List Step) (w : List (List ℕ))
+    → FullyExplains c past w s → Run c s steps s'
+    → (w' : List (List ℕ)) × FullyExplains c (reverse steps ++ past) w' s'
+run_fully_explained c s s' [] past w both run = (w, subst (FullyExplains c past w) (sym run) both)
+run_fully_explained c s s' (t ∷ steps) past w both run =
+    let more = row_fully_explained c past w s t.handed t.outcome run.0 both run.1 in
+    let rest = run_fully_explained c run.0 s' steps (t ∷ past) (more.0 ∷ w) more.1 run.2 in (
+      rest.0,
+      subst (λ (all : List Step). FullyExplains c all rest.0 s')
+          (sym (ap (λ (xs : List Step). xs ++ past) (reverse-append (t ∷ []) steps)
+          ∙ append_assoc (reverse steps) (t ∷ []) past)) rest.1,
+    )
+
+-- the questions that own no reply are those that wait
+few_wait : (c : Config) (past : List Step) (w : List (List ℕ)) (s : State) → Explains c past w s
+    → length (unanswered past (concat w)) ≤ c.limits.questions
+few_wait c past w s x =
+    let one = length-map x.numbers_of (λ (z : Waiting × ℕ). z.0) in
+    let two = length-map x.numbers_of (λ (z : Waiting × ℕ). z.1) in
+    let waiting = ap length x.waiting in
+    let numbers = ap length x.numbers in
+    let few = x.few in
+    omega (arith, one, two, waiting, numbers, few)
+
+-- one list of owners is that of all claims
+pub run_serves_truly : (c : Config) (steps : List Step) (s : State) → ComesTo c steps s → ServesTruly c steps
+run_serves_truly c steps s came =
+    let all = run_fully_explained c (start c) s steps [] [] (start_fully_explained c came.config) came.run in
+    let one = subst (λ (past : List Step). FullyExplains c past all.0 s) (append_nil (reverse steps)) all.1 in
+    record {
+      sound = record {
+        owners = all.0;
+        sound = one.explained.sound;
+        tells = one.explained.tells;
+        few = few_wait c (reverse steps) all.0 s one.explained;
+      };
+      asks = one.explained.asked_well;
+      waiting = one.asked;
+      uses = one.mirrored.uses;
+    }
+
+-- ---- runs that go on
+
+run_goes_on : (c : Config) (s mid s' : State) (steps more : List Step) → Run c s steps mid → Run c mid more s'
+    → Run c s (steps ++ more) s'
+run_goes_on c s mid s' [] more run rest = subst (λ (z : State). Run c z more s') run rest
+run_goes_on c s mid s' (t ∷ steps) more run rest = (run.0, run.1, run_goes_on c run.0 mid s' steps more run.2 rest)
+
+pub comes_on : (c : Config) (s s' : State) (steps more : List Step) → ComesTo c steps s → Run c s more s'
+    → ComesTo c (steps ++ more) s'
+comes_on c s s' steps more came run = record {
+  config = came.config;
+  run =
+      run_goes_on c (start c) s s' steps more came.run run;
+}
+
+-- a run of rows serves on truly
+pub run_serves_on : (c : Config) (s s' : State) (more : List Step) → Run c s more s' → ServesOnTruly c s more
+run_serves_on c s s' more run = λ steps came. run_serves_truly c (steps ++ more) s'
+    (comes_on c s s' steps more came run)
+
+-- so does one row
+pub row_serves_on : (c : Config) (s : State) (h : Handed) (o : Outcome) (s' : State) → Row c s h o s'
+    → ServesOnTruly c s (record { handed = h; outcome = o } ∷ [])
+row_serves_on c s h o s' r = run_serves_on c s s' (record { handed = h; outcome = o } ∷ []) (s', r, refl)
+
 -- the same, where a step was stored
-pub mirrored_more : (c c' : Config) (steps steps' : List Step) (s s' : State) (h : Handed) (o : Outcome) → c' ≡ c → steps' ≡ steps ++ record { handed = h; outcome = o } ∷ []
-    → IsExplained c steps s → IsMirrored c (reverse steps) s → StaysMirrored c s h o s' → IsMirrored c' (reverse steps') s'
-mirrored_more c c' steps steps' s s' h o same pushed x was stays =
-    subst (λ (p : Config × List Step). IsMirrored p.0 p.1 s') (λ i. (sym same i, sym (ap (λ (xs : List Step). reverse xs) pushed ∙ reverse-append steps (record { handed = h; outcome = o } ∷ [])) i))
-    (stays (reverse steps) x.0 x.1 was)
-
-run_mirrors : (c : Config) (s s' : State) (steps : List Step) (past : List Step) (w : List (List ℕ)) → Explains c past w s → IsMirrored c past s → Run c s steps s' → IsMirrored c (reverse steps ++ past) s'
-run_mirrors c s s' [] past w x was run = subst (IsMirrored c past) (sym run) was
-run_mirrors c s s' (t ∷ steps) past w x was run =
-    let more = row_explained c past w s t.handed t.outcome run.0 x run.1 in
-    let rest = run_mirrors c run.0 s' steps (t ∷ past) (more.0 ∷ w) more.1 (row_mirrors c past w s t.handed t.outcome run.0 x was run.1) run.2 in
-    subst (λ (all : List Step). IsMirrored c all s') (sym (ap (λ (xs : List Step). xs ++ past) (reverse-append (t ∷ []) steps) ∙ Rattle.std.proofs.Common.append_assoc (reverse steps) (t ∷ []) past)) rest
-
-pub run_uses : (c : Config) (steps : List Step) (s : State) → IsConfig c → Run c (start c) steps s → UsesWhatStands c (reverse steps)
-run_uses c steps s config run =
-    let all = run_mirrors c (start c) s steps [] [] (start_explained c config) (start_mirrors c) run in
-    subst (UsesWhatStands c) (append_nil (reverse steps)) all.uses
+pub came_more : (c c' : Config) (steps steps' : List Step) (s s' : State) (h : Handed) (o : Outcome) → c' ≡ c
+    → steps' ≡ steps ++ record { handed = h; outcome = o } ∷ []
+    → ComesTo c steps s → Row c s h o s' → ComesTo c' steps' s'
+came_more c c' steps steps' s s' h o same pushed came row =
+    subst (λ (p : Config × List Step). ComesTo p.0 p.1 s') (λ i. (sym same i, sym pushed i))
+    (comes_on c s s' steps (record { handed = h; outcome = o } ∷ []) came (s', row, refl))

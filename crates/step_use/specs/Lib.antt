@@ -1,4 +1,6 @@
 pub mod Standing
 pub mod Use
+pub mod Asking
 pub mod Mirrors
+pub mod Service
 pub mod Laws

@@ -1,6 +1,6 @@
 -- What is claimed of the use of what replies carried: a question is answered at once of which enough stands.
 use Rattle.std.specs.Prelude.{◌≡◌, ℕ, zero, suc, ◌≤◌, true, false, List, [], ◌∷◌, length, Option, None, Some, ◌⊎◌}
-use Rattle.std.specs.List.{AllByRecursion}
+use Rattle.std.specs.List.{concat, AllByRecursion}
 use Rattle.dns_message.specs.Header.{header_in}
 use Rattle.dns_message.specs.Values.{Question}
 use Rattle.suffix_routes.specs.Values.{Config, Route}
@@ -18,6 +18,7 @@ use Rattle.step_history.specs.History.{is_restart, moment_at, is_taken, Reads, S
 use Rattle.step_history.specs.Carried.{CarriedInEra}
 use Rattle.step_history.specs.Causes.{is_unserved}
 use Rattle.step_history.specs.Answers.{asked_at}
+use Rattle.step_history.specs.Sound.{unanswered, RightReply}
 use Rattle.step_use.specs.Standing.{standing}
 
 -- ---- room
@@ -78,17 +79,26 @@ LeadsToEnd routes n stood (suc more) q = EndsOrLeadsOn (λ name. LeadsToEnd rout
 abbrev pub IsKnown : Config → Step → List Step → List Held → Question → Type 0
 IsKnown c s past carried q = LeadsToEnd c.routes (moment_at (s ∷ past)) (standing (moment_at (s ∷ past)) carried) 8 q
 
--- the client gets its answer, and nothing else is done; a failure tells it that the answer passes what TCP carries
-pub record AnswersAtOnce (s : Step) (client : Client) : Type 0 where
+-- Nothing is done but one reply, which the step's own question owns, and for which it is right; a failure tells that
+-- the answer passes what TCP carries (RFC 1035 4.2.2). `owners` own the replies before it, `is` those of the step.
+pub record AnswersAtOnce (c : Config) (s : Step) (past : List Step) (owners is : List ℕ) (client : Client)
+    (request : List ℕ)
+    : Type 0 where
   pub octets : List ℕ
   pub why : Why
   pub actions : s.outcome.actions ≡ send_reply client octets why ∷ []
   pub reason : (why ≡ Answered) ⊎ (why ≡ TooLarge)
+  pub owner : is ≡ length past ∷ []
+  pub right : RightReply (record { config = c; asked = s; before = past; now = s ∷ past }) client request
+      (length (unanswered past owners)) why octets
 
--- Each question is answered at once of which enough stands, where the cache has room for what its era carried.
-abbrev pub UsesWhatStands : Config → List Step → Type 0
-UsesWhatStands c [] = Unit {0}
-UsesWhatStands c (s ∷ past) =
-    UsesWhatStands c past
-    × ((client : Client) (q : Question) (carried : List Held) → AsksToLookUp c s client q → CarriedInEra c past carried
-    → HasRoom c past carried → IsKnown c s past carried q → AnswersAtOnce s client)
+-- Each question is answered at once of which enough stands, where the cache has room for what its era carried. w has
+-- for each step, the newest first, the owners of its replies.
+abbrev pub UsesWhatStands : Config → List Step → List (List ℕ) → Type 0
+UsesWhatStands c [] w = Unit {0}
+UsesWhatStands c (s ∷ past) [] = ⊥
+UsesWhatStands c (s ∷ past) (is ∷ w) =
+    UsesWhatStands c past w
+    × ((client : Client) (q : Question) (carried : List Held) → (asks : AsksToLookUp c s client q)
+    → CarriedInEra c past carried
+    → HasRoom c past carried → IsKnown c s past carried q → AnswersAtOnce c s past (concat w) is client asks.octets)

@@ -1,6 +1,6 @@
 //! A message as the reply to a question, and what it has at one name of the walk: RFC 1034 3.6.2, RFC 2308 2.
 
-ghost use Rattle.std.specs.Prelude.{◌≡◌, IfOk, is_none};
+ghost use Rattle.std.specs.Prelude.{◌≡◌, ◌≢◌, IfOk, OnErr, None, is_none};
 ghost use Rattle.std.specs.List.{list_any};
 ghost use Rattle.std.specs.Option.{IfSome};
 ghost use Rattle.trust_rank.specs.Denials.{soa_for};
@@ -231,7 +231,8 @@ fn set_met<A: Allocator>(kind: u16, set: Piece<A>) -> Met<A>
 /// The name that an alias leads to: that of its one record.
 #[tactic(auto, using(crate::proofs::PieceLaws::no_target))]
 fn target_of<A: Allocator + Copy>(alloc: A, piece: &Piece<A>) -> Result<Option<Name<A>>, AllocError>
-    ensures { IfOk result (λ target. target ≡ target_of piece.now.body) }
+    ensures target { IfOk result (λ target. target ≡ target_of piece.now.body) }
+    ensures memory { OnErr result (target_of piece.now.body ≢ None) }
 {
     let Body::Rows(rows) = &piece.body else {
         return Ok(None);
@@ -244,7 +245,8 @@ fn target_of<A: Allocator + Copy>(alloc: A, piece: &Piece<A>) -> Result<Option<N
 
 /// An alias leads on; a CNAME set of more than one record is lame.
 fn alias_met<A: Allocator + Copy>(alloc: A, alias: Piece<A>) -> Result<Met<A>, AllocError>
-    ensures { IfOk result (λ met. met_of met ≡ leads alias (target_of alias.body)) }
+    ensures met { IfOk result (λ met. met_of met ≡ leads alias (target_of alias.body)) }
+    ensures memory { OnErr result (target_of alias.body ≢ None) }
 {
     match target_of(alloc, &alias)? {
         None => Ok(Met::Lame),

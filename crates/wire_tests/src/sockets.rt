@@ -14,7 +14,7 @@ use std::io::{Read, Write};
 use std::mem::forget;
 use std::net::{Ipv4Addr, SocketAddr, SocketAddrV4};
 use std::test::Fail;
-use suffix_routes::{Config, Peer};
+use suffix_routes::{Config, Limits, Peer};
 
 /// How often `serve` is called at most until a packet has come.
 const CALLS: u32 = 400;
@@ -58,6 +58,13 @@ const fn local(port: u16) -> Peer {
 
 fn address(port: u16) -> SocketAddr {
     SocketAddr::V4(SocketAddrV4::new(Ipv4Addr::LOCALHOST, port))
+}
+
+/// The limits of both configurations, as far as a wire knows them.
+fn limits() -> Limits {
+    let mut limits = Limits::defaults();
+    limits.deadline_ms = 30_000;
+    limits
 }
 
 /// What came or went is what it should be.
@@ -129,7 +136,7 @@ fn ask_by_udp(rt: &HostRuntime, wire: &mut MioWire<'_, HostRuntime>) -> Result<(
 
 #[test]
 fn a_question_by_udp(rt: HostRuntime) -> Result<(), Fail> {
-    let mut wire = MioWire::new(&rt, rt.alloc(), local(15353), 30_000)?;
+    let mut wire = MioWire::new(&rt, rt.alloc(), local(15353), &limits())?;
     let asked = ask_by_udp(&rt, &mut wire);
     forget(wire);
     asked
@@ -181,7 +188,7 @@ fn ask_over_tcp(rt: &HostRuntime, wire: &mut MioWire<'_, HostRuntime>) -> Result
 
 #[test]
 fn a_question_over_tcp_in_two_pieces(rt: HostRuntime) -> Result<(), Fail> {
-    let mut wire = MioWire::new(&rt, rt.alloc(), local(15355), 30_000)?;
+    let mut wire = MioWire::new(&rt, rt.alloc(), local(15355), &limits())?;
     let asked = ask_over_tcp(&rt, &mut wire);
     forget(wire);
     asked

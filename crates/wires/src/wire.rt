@@ -102,7 +102,7 @@ pub trait Wire<A: Allocator> {
     fn moment(&mut self) -> u64
         ensures tells { TellsMore (told self.old) (moment_was result) (told self.new) };
 
-    /// Fresh random words.
+    /// Random words, of which nobody was sent any.
     fn words(&mut self) -> [u32; 8]
         ensures tells { TellsMore (told self.old) (words_were result) (told self.new) };
 

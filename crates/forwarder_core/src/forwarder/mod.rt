@@ -1,6 +1,6 @@
 //! The forwarder, and its step.
 
-ghost use Rattle.std.specs.Prelude.{◌≡◌, ◌^◌, ◌≤◌, ◌<◌, ◌+◌, ◌*◌, [], false, IfOk, IfSome, OnErr, IsOk, map};
+ghost use Rattle.std.specs.Prelude.{◌≡◌, ◌^◌, ◌≤◌, ◌<◌, ◌+◌, ◌*◌, [], ◌∷◌, false, IfOk, IfSome, OnErr, IsOk, map};
 ghost use Rattle.suffix_routes.specs.Values.{IsConfig};
 ghost use Rattle.step_values.specs.Values.{event_of};
 ghost use Rattle.plain_list.specs.Octets.{AreOctets};
@@ -9,7 +9,8 @@ ghost use Rattle.step_rules.specs.Row.{HandsOctets, TakesNoMemory, effective, Ro
 ghost use Rattle.step_rules.specs.Progress.{left_to_do, ServesSomething, next_due, IsInOrder};
 ghost use Rattle.step_soundness.specs.Runs.{StaysExplained};
 ghost use Rattle.step_soundness.specs.Explains.{Explains};
-ghost use Rattle.step_use.specs.Mirrors.{IsMirrored, StaysMirrored};
+ghost use Rattle.step_use.specs.Mirrors.{FullyExplains, StaysFullyExplained};
+ghost use Rattle.step_use.specs.Service.{ComesTo, ServesOnTruly};
 
 mod change;
 mod tick;
@@ -195,7 +196,8 @@ impl<H: BuildHasher + Drop, A: Allocator + Copy> Forwarder<H, A> {
     pub fn new(alloc: A, config: Config<A>, hasher: H) -> Result<Forwarder<H, A>, AllocError>
         ensures new { IfOk result (λ forwarder. forwarder ≡ record { config = config; state = start config }) }
         ensures explained { IfOk result (λ forwarder. Explains forwarder.config [] [] forwarder.state) }
-        ensures mirrored { IfOk result (λ forwarder. IsMirrored forwarder.config [] forwarder.state) }
+        ensures whole { IfOk result (λ forwarder. FullyExplains forwarder.config [] [] forwarder.state) }
+        ensures new_run { IfOk result (λ forwarder. ComesTo forwarder.config [] forwarder.state) }
     {
         let capacity = config.limits.inquiries;
         let preferred = first_places(alloc, config.routes())?;
@@ -234,9 +236,12 @@ impl<H: BuildHasher + Drop, A: Allocator + Copy> Forwarder<H, A> {
         ensures row { IfOk result (λ outcome. Row self.old.config self.old.state (record { now = now; words = words; event = event_of event }) outcome self.new.state) }
         // What explains the state before explains, with this step and an owner for each of its replies, the state after.
         ensures explained { IfOk result (λ outcome. StaysExplained self.old.config self.old.state (record { now = now; words = words; event = event_of event }) outcome self.new.state) }
-        // What stands of that history, and is mirrored in the state before, is mirrored, with this step, in the state after: so a
-        // question of which enough stands is answered in its own step, where the cache has room.
-        ensures mirrored { IfOk result (λ outcome. StaysMirrored self.old.config self.old.state (record { now = now; words = words; event = event_of event }) outcome self.new.state) }
+        // So it is of what stands of that history and is mirrored in the state, and of asks and those who wait, which
+        // serve each other: a question of which enough stands is answered by its own step, where the cache has room.
+        ensures whole { IfOk result (λ outcome. StaysFullyExplained self.old.config self.old.state (record { now = now; words = words; event = event_of event }) outcome self.new.state) }
+        // Behind whatever steps led a new forwarder to the state before, this one serves truly: with one list of owners
+        // each claim holds of the whole run.
+        ensures truly { IfOk result (λ outcome. ServesOnTruly self.old.config self.old.state (record { handed = record { now = now; words = words; event = event_of event }; outcome = outcome } ∷ [])) }
         ensures config { self.new.config ≡ self.old.config }
         // A message that is dropped, a delivery that matches nothing, the failure of a path without an ask, a tick with
         // nothing due and a restart never want memory.

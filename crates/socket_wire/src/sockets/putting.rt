@@ -2,7 +2,7 @@
 
 ghost use Rattle.std.specs.Prelude.{◌≡◌, IfOk, is_ok};
 ghost use Rattle.socket_wire.specs.Queries.{IsBegunWith};
-ghost use Rattle.socket_wire.specs.Putting.{AnswersOn, ListsPort, MayMakeRoom, PutsAction, PutsQuery};
+ghost use Rattle.socket_wire.specs.Putting.{AnswersOn, ListsPort, MayMakeRoom, PutsAction, PutsQuery, with_spent};
 
 use super::Sockets;
 use crate::address::address_of;
@@ -17,8 +17,20 @@ use step_values::{Action, Client};
 use suffix_routes::Peer;
 
 impl<R: Net, A: Allocator + Copy> Sockets<'_, R, A> {
-    /// Does an action. `Err` where the system refuses, or memory ran out.
+    /// Does an action. `Err` where the system refuses, or memory ran out. With an ask the random words are spent that its
+    /// identifier and port came from, whatever becomes of it.
     pub fn put(&mut self, action: &Action<A>, now: u64) -> io::Result<()>
+        ensures { PutsAction action.now now (is_ok result) (with_spent action.now self.old) self.new }
+    {
+        match action {
+            Action::AskUdp { .. } | Action::AskTcp { .. } => self.words.spend(),
+            Action::CloseUdp { .. } | Action::CloseTcp { .. } | Action::Reply { .. } => {}
+        }
+        self.act(action, now)
+    }
+
+    /// Does an action, the words aside.
+    fn act(&mut self, action: &Action<A>, now: u64) -> io::Result<()>
         ensures { PutsAction action.now now (is_ok result) self.old self.new }
     {
         match action {

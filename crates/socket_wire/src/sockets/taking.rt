@@ -1,8 +1,9 @@
 //! What is taken of a socket.
 
 ghost use Rattle.std.specs.Prelude.{IfOk};
-ghost use Rattle.socket_wire.specs.Arriving.{TakesIn};
-ghost use Rattle.socket_wire.specs.Taking.{IsPiece, TakesAsk, TakesClient, TakesServer};
+ghost use Rattle.socket_wire.specs.Arriving.{MayCloseResting, TakesConnection, TakesIn};
+ghost use Rattle.socket_wire.specs.Attempting.{Attempts};
+ghost use Rattle.socket_wire.specs.Taking.{IsPiece, TakesAsk, TakesClient, TakesDatagram, TakesServer};
 
 use super::Sockets;
 use crate::address::peer_of;
@@ -28,7 +29,9 @@ pub(super) enum Tried<A: Allocator> {
 
 impl<R: Net, A: Allocator + Copy> Sockets<'_, R, A> {
     /// Tries a socket. `Err` where memory for what arrived ran out.
-    pub(super) fn attempt(&mut self, origin: Origin, now: u64) -> Result<Tried<A>, AllocError> {
+    pub(super) fn attempt(&mut self, origin: Origin, now: u64) -> Result<Tried<A>, AllocError>
+        ensures { Attempts origin now result self.old self.new }
+    {
         match origin {
             Origin::Datagrams => self.take_datagram(),
             Origin::Connections => Ok(self.take_connection(now)),
@@ -39,7 +42,9 @@ impl<R: Net, A: Allocator + Copy> Sockets<'_, R, A> {
     }
 
     /// A client's datagram.
-    fn take_datagram(&mut self) -> Result<Tried<A>, AllocError> {
+    fn take_datagram(&mut self) -> Result<Tried<A>, AllocError>
+        ensures { TakesDatagram result self.old self.new }
+    {
         let Ok((count, from)) = self.datagrams.recv_from(&mut self.buffer[..]) else {
             return Ok(Tried::Nothing);
         };
@@ -50,15 +55,27 @@ impl<R: Net, A: Allocator + Copy> Sockets<'_, R, A> {
         Ok(Tried::Arrived(Arrival::ClientDatagram { from, bytes }))
     }
 
-    /// A client's connection.
-    fn take_connection(&mut self, now: u64) -> Tried<A> {
+    /// A client's connection. Where no descriptor is left for it, the oldest of a client that has waited for nothing
+    /// for a while is closed, so that the next turn has one.
+    fn take_connection(&mut self, now: u64) -> Tried<A>
+        ensures { TakesConnection now result self.old self.new }
+    {
         match self.listener.accept() {
             Ok((stream, _)) => {
                 let _refused = self.admit(stream, now);
                 Tried::Served
             }
+            Err(error) if self.frees_descriptor(&error, now) => Tried::Served,
             Err(_) => Tried::Nothing,
         }
+    }
+
+    /// Where no descriptor was left, closes the oldest connection of a client that has waited for nothing for a while.
+    /// True where one was closed.
+    fn frees_descriptor(&mut self, error: &io::Error, now: u64) -> bool
+        ensures { MayCloseResting now result self.old self.new }
+    {
+        error.raw_os_error() == Some(libc::EMFILE) && self.connections.close_resting(now)
     }
 
     /// Lists a client's connection under the next number. Where there are as many as may be, the oldest that waits for

@@ -1,6 +1,6 @@
 //! Sockets that are tried in turn, whatever events told.
 
-ghost use Rattle.socket_wire.specs.Trying.{TriesAsk, TriesClient, TriesServer};
+ghost use Rattle.socket_wire.specs.Trying.{BeginsRound, TriesAsk, TriesClient, TriesOthers, TriesServer, TriesUpTo};
 
 use super::Sockets;
 use crate::origin::Origin;
@@ -17,25 +17,55 @@ const ROUNDS: u8 = 8;
 impl<R: Net, A: Allocator + Copy> Sockets<'_, R, A> {
     /// Has the socket for datagrams, the listener in every eighth round, and some of the other sockets tried in turn,
     /// whatever events told.
-    pub(super) fn try_others(&mut self, now: u64) {
+    pub(super) fn try_others(&mut self, now: u64)
+        ensures { TriesOthers now self.old self.new }
+    {
+        self.begin_round();
+        self.try_clients(now);
+        self.try_asks();
+        self.try_servers();
+    }
+
+    /// Has the socket for datagrams tried, and the listener in every eighth round.
+    fn begin_round(&mut self)
+        ensures { BeginsRound self.old self.new }
+    {
         self.readiness.add(Origin::Datagrams);
         self.rounds = self.rounds.wrapping_add(1);
         if self.rounds % ROUNDS == 0 {
             self.readiness.add(Origin::Connections);
         }
-        for _ in 0..AT_ONCE {
+    }
+
+    /// Has the next clients tried, up to the last one.
+    fn try_clients(&mut self, now: u64)
+        ensures { TriesUpTo (TriesClient now) 20 self.old self.new }
+    {
+        for _tried in 0..AT_ONCE {
             if !self.try_client(now) {
-                break;
+                return;
             }
         }
-        for _ in 0..AT_ONCE {
+    }
+
+    /// Has the sockets of the next asks tried, up to the last one.
+    fn try_asks(&mut self)
+        ensures { TriesUpTo TriesAsk 20 self.old self.new }
+    {
+        for _tried in 0..AT_ONCE {
             if !self.try_ask() {
-                break;
+                return;
             }
         }
-        for _ in 0..AT_ONCE {
+    }
+
+    /// Has the connections of the next asks tried, up to the last one.
+    fn try_servers(&mut self)
+        ensures { TriesUpTo TriesServer 20 self.old self.new }
+    {
+        for _tried in 0..AT_ONCE {
             if !self.try_server() {
-                break;
+                return;
             }
         }
     }
@@ -49,7 +79,7 @@ impl<R: Net, A: Allocator + Copy> Sockets<'_, R, A> {
             .client_from(self.next_client, now, self.deadline)
         {
             Some((conn, is_late)) => {
-                self.next_client = conn.saturating_add(1);
+                self.next_client = conn.wrapping_add(1);
                 if is_late {
                     self.connections.close_client(conn);
                 } else {
@@ -70,7 +100,7 @@ impl<R: Net, A: Allocator + Copy> Sockets<'_, R, A> {
     {
         match self.asks.range(self.next_ask..).next() {
             Some((port, _)) => {
-                self.next_ask = port.saturating_add(1);
+                self.next_ask = port.wrapping_add(1);
                 self.readiness.add(Origin::Ask(*port));
                 true
             }
@@ -87,7 +117,7 @@ impl<R: Net, A: Allocator + Copy> Sockets<'_, R, A> {
     {
         match self.connections.server_from(self.next_server) {
             Some(conn) => {
-                self.next_server = conn.saturating_add(1);
+                self.next_server = conn.wrapping_add(1);
                 self.readiness.add(Origin::Server(conn));
                 true
             }

@@ -10,6 +10,7 @@ loop-len-init c =
     record {
       filled = filled_first c.args.bytes.now _ c.new-walk.result _ c.new-walk.ensures.used (rw c.new-walk.ensures.bound c.requires.inside) c.new-walk.ensures.start;
       known = c.requires.known;
+      beyond = rw c.new-walk.ensures.bound (λ h. h);
     }
 
 pub returns-in_err-step_at-clause-exact : goal.returns-in_err-step_at-clause-exact
@@ -35,6 +36,7 @@ loop-len-preserved-in-Label c =
     record {
       filled = filled_more c.args.bytes.now old (put_mid from count old written) _ c.loop-len.walk _ _ now p (text ∙ ap (λ (ys : List ℕ). take from old ++ ys) (c.copy_from_slice.ensures.after ∙ c.part.ensures));
       known = c.loop-len.invariant.known;
+      beyond = c.loop-len.invariant.beyond;
     }
 
 pub loop-len-preserved : goal.loop-len-preserved
@@ -44,4 +46,5 @@ loop-len-preserved c =
     (record {
       filled = filled_on c.args.bytes.now c.loop-len.octets c.loop-len.walk c.in-Pointer.target c.resolve-start.result _ c.loop-len.invariant.filled is c.resolve-start.ensures.leads;
       known = c.resolve-start.ensures.known;
+      beyond = λ h. absurd cc;
     })

@@ -5,10 +5,9 @@ use Rattle.suffix_routes.specs.Values.{Config}
 use Rattle.step_values.specs.Values.{event_of, Handed, Step}
 use Rattle.step_rules.specs.State.{Running}
 use Rattle.step_rules.specs.Row.{Row}
-use Rattle.step_rules.specs.Steps.{start}
-use Rattle.step_soundness.specs.Runs.{Run, IsExplained, StaysExplained}
-use Rattle.step_soundness.proofs.CallerLemmas.{explained_is_sound, explained_more, run_more, stays_at, handed_more}
-use Rattle.step_use.proofs.CallerLemmas.{run_uses}
+use Rattle.step_soundness.proofs.CallerLemmas.{handed_more}
+use Rattle.step_use.specs.Service.{ComesTo}
+use Rattle.step_use.proofs.CallerLemmas.{run_serves_truly, came_more}
 use Rattle.network_model.proofs.run.run_list.Goals as goal
 
 pub loop-entry-init : goal.loop-entry-init
@@ -17,8 +16,10 @@ loop-entry-init g c =
     record {
       config = config;
       handed = ap (λ (steps : List Step). map (λ (s : Step). s.handed) steps) c.new-steps.ensures.items;
-      run = subst (λ (steps : List Step). Run c.args.config.now (start c.args.config.now) steps c.in_ok-forwarder.forwarder.state) (sym c.new-steps.ensures.items) (ap (λ (r : Running). r.state) c.in_ok-forwarder.ensures.new ∙ ap (λ (k : Config). start k) c.in_ok-own.ensures);
-      explained = subst (λ (steps : List Step). IsExplained c.args.config.now steps c.in_ok-forwarder.forwarder.state) (sym c.new-steps.ensures.items) (subst (λ (k : Config). IsExplained k [] c.in_ok-forwarder.forwarder.state) config ([], c.in_ok-forwarder.ensures.explained));
+      came = subst (λ (steps : List Step). ComesTo c.args.config.now steps c.in_ok-forwarder.forwarder.state)
+          (sym c.new-steps.ensures.items)
+          (subst (λ (k : Config). ComesTo k [] c.in_ok-forwarder.forwarder.state) config
+          c.in_ok-forwarder.ensures.new_run);
     }
 
 pub loop-entry-preserved : goal.loop-entry-preserved
@@ -26,12 +27,13 @@ loop-entry-preserved g c =
     let i = c.loop-entry.invariant in
     let same = ap (λ e. record { now = c.entry.inside.now; words = c.entry.inside.words; event = event_of e }) c.in_ok-event.ensures ∙ c.entry.view_is in
     let row = subst (λ (h : Handed). Row c.loop-entry.forwarder.config c.loop-entry.forwarder.state h c.in_ok-outcome.outcome c.step.new.self.state) same c.in_ok-outcome.ensures.row in
-    let stays = subst (λ (h : Handed). StaysExplained c.loop-entry.forwarder.config c.loop-entry.forwarder.state h c.in_ok-outcome.outcome c.step.new.self.state) same c.in_ok-outcome.ensures.explained in
     record {
       config = c.in_ok-outcome.ensures.config ∙ i.config;
       handed = handed_more _ _ c.in_ok-entry.entry c.entry-item.result c.in_ok-outcome.outcome c.args.handed.now c.loop-entry.entry-index c.in_ok-push.ensures.items i.handed (omega arith) c.in_ok-entry.ensures c.entry-item.is;
-      run = run_more _ c.loop-entry.forwarder.config _ _ _ _ _ c.in_ok-entry.entry c.in_ok-outcome.outcome i.config c.in_ok-push.ensures.items i.run row;
-      explained = explained_more c.args.config.now c.args.config.now _ _ c.loop-entry.forwarder.state _ c.in_ok-entry.entry c.in_ok-outcome.outcome refl c.in_ok-push.ensures.items i.explained (stays_at _ c.loop-entry.forwarder.config _ _ _ _ i.config stays);
+      came = came_more c.args.config.now c.args.config.now _ _ c.loop-entry.forwarder.state _ c.in_ok-entry.entry
+          c.in_ok-outcome.outcome refl c.in_ok-push.ensures.items i.came
+          (subst (λ (k : Config). Row k c.loop-entry.forwarder.state c.in_ok-entry.entry c.in_ok-outcome.outcome
+          c.step.new.self.state) i.config row);
     }
 
 pub returns-clause-handed : goal.returns-clause-handed
@@ -40,8 +42,9 @@ returns-clause-handed g c =
     let test = c.loop-entry-test.false in
     c.loop-entry.invariant.handed ∙ ap (λ (n : ℕ). take n c.args.handed.now) (let all : c.loop-entry.entry-index ≡ length c.args.handed.now = omega (arith, far, test) in all) ∙ take-length c.args.handed.now
 
-pub returns-clause-sound : goal.returns-clause-sound
-returns-clause-sound g c = explained_is_sound c.args.config.now c.loop-entry.steps.items c.loop-entry.forwarder.state c.loop-entry.invariant.explained
+pub returns-clause-run : goal.returns-clause-run
+returns-clause-run g c = (c.loop-entry.forwarder.state, c.loop-entry.invariant.came.run)
 
-pub returns-clause-uses : goal.returns-clause-uses
-returns-clause-uses g c = run_uses c.args.config.now c.loop-entry.steps.items c.loop-entry.forwarder.state c.loop-entry.invariant.explained.1.config c.loop-entry.invariant.run
+pub returns-clause-truly : goal.returns-clause-truly
+returns-clause-truly g c =
+    run_serves_truly c.args.config.now c.loop-entry.steps.items c.loop-entry.forwarder.state c.loop-entry.invariant.came

@@ -1,13 +1,11 @@
 use Rattle.std.proofs.Common.{◌≡◌, take}
 use Rattle.std.specs.Prelude.{map}
-use Rattle.step_rules.specs.Steps.{start}
-use Rattle.step_soundness.specs.Runs.{Run, IsExplained}
+use Rattle.step_use.specs.Service.{ComesTo}
 use Rattle.network_model.proofs.run.run_list.Given as goal
 
 abbrev pub invariant-loop-entry : goal.invariant-loop-entry
 invariant-loop-entry g l = record {
   config : l.forwarder.config ≡ l.fn.config;
   handed : map (λ s. s.handed) l.steps.items ≡ take l.entry-index l.handed;
-  run : Run l.fn.config (start l.fn.config) l.steps.items l.forwarder.state;
-  explained : IsExplained l.fn.config l.steps.items l.forwarder.state;
+  came : ComesTo l.fn.config l.steps.items l.forwarder.state;
 }

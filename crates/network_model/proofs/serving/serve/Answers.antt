@@ -1,5 +1,8 @@
+use Rattle.std.proofs.Common.{◌≡◌, ℕ, arith, refl, subst}
 use Rattle.std.proofs.lemmas.Result.{err_from_is_err_and}
-use Rattle.network_model.proofs.Turns.{turns_none, turns_more, turns_cut}
+use Rattle.network_model.specs.declared.counts.Served.{Served}
+use Rattle.network_model.specs.Serving.{standing}
+use Rattle.network_model.proofs.Turns.{TurnsSoFar, turns_none, turns_more, turns_end, turns_cut}
 use Rattle.network_model.proofs.serving.serve.Goals as goal
 
 pub loop-turn-init : goal.loop-turn-init
@@ -10,3 +13,14 @@ loop-turn-preserved g c = turns_more c.pieces_continue.ensures _ _ _ _ _ _ c.loo
 
 pub returns-in_err-take_turn : goal.returns-in_err-take_turn
 returns-in_err-take_turn g c = let p = err_from_is_err_and c.from_residual.result c.from_residual.ensures.1 in rw p.1 (turns_cut c.pieces_continue.ensures _ _ _ _ _ _ _ _ c.loop-turn-test.true c.loop-turn.invariant c.in_err-take_turn.ensures)
+
+pub returns : goal.returns
+returns g c =
+    let far = c.loop-turn.auto._turn-end in
+    let test = c.loop-turn-test.false in
+    let all : c.loop-turn._turn ≡ c.args.turns = omega (arith, far, test) in
+    let none : Served = record { turns = c.args.turns; lost = 0; refused_puts = 0; refused_arrivals = 0 } in
+    let x = standing c.args.forwarder.now (g.W.Wire.told c.args.wire.now) none in
+    let y = standing c.loop-turn.forwarder (g.W.Wire.told c.loop-turn.wire) c.loop-turn.counts in
+    turns_end c.args.turns c.loop-turn.streams x y refl
+    (subst (λ (n : ℕ). TurnsSoFar n c.loop-turn.streams x y) all c.loop-turn.invariant)

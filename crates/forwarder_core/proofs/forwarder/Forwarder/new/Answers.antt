@@ -1,12 +1,13 @@
-use Rattle.std.proofs.Common.{◌∙◌, ℕ, List, [], ap, subst, sym}
+use Rattle.std.proofs.Common.{◌∙◌, ℕ, List, [], refl, ap, subst, sym}
 use Rattle.std.specs.Prelude.{map}
 use Rattle.suffix_routes.specs.Values.{Config, Route}
 use Rattle.outstanding.specs.Values.{Inquiries}
 use Rattle.step_rules.specs.State.{State}
 use Rattle.step_soundness.specs.Explains.{Explains}
 use Rattle.step_soundness.proofs.CallerLemmas.{start_explained}
-use Rattle.step_use.specs.Mirrors.{IsMirrored}
-use Rattle.step_use.proofs.CallerLemmas.{start_mirrors}
+use Rattle.step_use.specs.Mirrors.{FullyExplains}
+use Rattle.step_use.specs.Service.{ComesTo}
+use Rattle.step_use.proofs.CallerLemmas.{start_fully_explained}
 use Rattle.forwarder_core.proofs.KeptLaws.{kept_first, room_is, cache_is}
 use Rattle.forwarder_core.proofs.forwarder.Forwarder.new.Goals as goal
 
@@ -35,6 +36,12 @@ pub returns-clause-explained : goal.returns-clause-explained
 returns-clause-explained g c =
     subst (λ (s : State). Explains c.args.config [] [] s) (sym (λ i. (returns-clause-new g c i).state)) (start_explained c.args.config c.routes.ensures.accepted)
 
-pub returns-clause-mirrored : goal.returns-clause-mirrored
-returns-clause-mirrored g c =
-    subst (λ (s : State). IsMirrored c.args.config [] s) (sym (λ i. (returns-clause-new g c i).state)) (start_mirrors c.args.config)
+pub returns-clause-whole : goal.returns-clause-whole
+returns-clause-whole g c =
+    subst (λ (s : State). FullyExplains c.args.config [] [] s) (sym (λ i. (returns-clause-new g c i).state))
+    (start_fully_explained c.args.config c.routes.ensures.accepted)
+
+pub returns-clause-new_run : goal.returns-clause-new_run
+returns-clause-new_run g c =
+    subst (λ (s : State). ComesTo c.args.config [] s) (sym (λ i. (returns-clause-new g c i).state))
+    (record { config = c.routes.ensures.accepted; run = refl })

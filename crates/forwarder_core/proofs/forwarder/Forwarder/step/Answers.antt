@@ -1,14 +1,18 @@
 use Rattle.std.proofs.lemmas.Result.{IfOk-weaker}
 use Rattle.step_rules.proofs.CallerLemmas.{less_is_left, left_is_bounded}
 use Rattle.step_soundness.proofs.CallerLemmas.{row_stays}
-use Rattle.step_use.proofs.CallerLemmas.{row_stays_mirrored}
+use Rattle.step_use.proofs.CallerLemmas.{row_stays_fully_explained, row_serves_on}
 use Rattle.forwarder_core.proofs.forwarder.Forwarder.step.Goals as goal
 
 pub returns-clause-explained : goal.returns-clause-explained
 returns-clause-explained g c = IfOk-weaker c.take.result _ _ (λ o row. row_stays _ _ _ o _ row) c.take.ensures.row
 
-pub returns-clause-mirrored : goal.returns-clause-mirrored
-returns-clause-mirrored g c = IfOk-weaker c.take.result _ _ (λ o row. row_stays_mirrored _ _ _ o _ row) c.take.ensures.row
+pub returns-clause-whole : goal.returns-clause-whole
+returns-clause-whole g c = IfOk-weaker c.take.result _ _
+    (λ o row. row_stays_fully_explained _ _ _ o _ row) c.take.ensures.row
+
+pub returns-clause-truly : goal.returns-clause-truly
+returns-clause-truly g c = IfOk-weaker c.take.result _ _ (λ o row. row_serves_on _ _ _ o _ row) c.take.ensures.row
 
 pub returns-clause-bounded : goal.returns-clause-bounded
 returns-clause-bounded g c = left_is_bounded _ _ c.check_order.ensures

@@ -2,23 +2,19 @@ use Rattle.std.proofs.Common.{◌∙◌, ap, subst, [], ◌∷◌, ◌++◌, Lis
 use Rattle.step_values.specs.Values.{event_of, Handed, Step}
 use Rattle.step_rules.specs.State.{Running}
 use Rattle.step_rules.specs.Row.{Row}
-use Rattle.step_soundness.specs.Runs.{StaysExplained}
-use Rattle.step_soundness.proofs.CallerLemmas.{explained_more}
-use Rattle.step_use.specs.Mirrors.{StaysMirrored}
-use Rattle.step_use.proofs.CallerLemmas.{mirrored_more}
+use Rattle.step_use.proofs.CallerLemmas.{came_more}
 use Rattle.network_model.specs.Recordings.{Recording}
 use Rattle.network_model.proofs.recorded.Recorded.step.Goals as goal
 
 pub invariant_of-self-2 : goal.invariant_of-self-2
 invariant_of-self-2 g c =
     let same = ap (λ e. record { now = c.handed.inside.now; words = c.handed.inside.words; event = event_of e }) c.in_ok-event.ensures ∙ c.handed.view_is in
-    let stays = subst (λ (h : Handed). StaysExplained c.self.inside.forwarder.config c.self.inside.forwarder.state h c.in_ok-outcome.outcome c.step.new.self.state) same c.in_ok-outcome.ensures.explained in
-    let mirrors = subst (λ (h : Handed). StaysMirrored c.self.inside.forwarder.config c.self.inside.forwarder.state h c.in_ok-outcome.outcome c.step.new.self.state) same c.in_ok-outcome.ensures.mirrored in
+    let before = c.self.inside.forwarder in
+    let row = subst (λ (h : Handed). Row before.config before.state h c.in_ok-outcome.outcome c.step.new.self.state)
+    same c.in_ok-outcome.ensures.row in
     let pushed = c.push_reserved.ensures.items ∙ ap (λ (xs : List Step). xs ++ record { handed = c.args.handed; outcome = c.in_ok-outcome.outcome } ∷ []) c.in_ok-reserve.ensures.items in
-    record {
-      explained = explained_more _ _ c.self.inside.steps.items _ _ _ c.args.handed c.in_ok-outcome.outcome c.in_ok-outcome.ensures.config pushed c.self.invariant.explained stays;
-      mirrored = mirrored_more _ _ c.self.inside.steps.items _ _ _ c.args.handed c.in_ok-outcome.outcome c.in_ok-outcome.ensures.config pushed c.self.invariant.explained c.self.invariant.mirrored mirrors;
-    }
+    came_more _ _ c.self.inside.steps.items _ _ _ c.args.handed c.in_ok-outcome.outcome
+    c.in_ok-outcome.ensures.config pushed c.self.invariant row
 
 pub returns-clause-ok : goal.returns-clause-ok
 returns-clause-ok g c =

@@ -1,0 +1,8 @@
+pub mod Lists
+pub mod Sets
+pub mod Walks
+pub mod Ranks
+pub mod Denials
+pub mod Servers
+pub mod LookUps
+pub mod Worked

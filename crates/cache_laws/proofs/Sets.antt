@@ -1,0 +1,327 @@
+-- The data and the lifetime of a set.
+use Rattle.std.proofs.Common.{◌≡◌, ℕ, ◌^◌, ◌≤◌, true, false, cond, ◌⊎◌, inl, inr, List, [], ◌∷◌, ◌++◌}
+use Rattle.std.proofs.Common.{Some, refl, sym, ap, ◌∙◌, subst, arith}
+use Rattle.std.specs.Prelude.{min, nat_le, ◌==◌, ◌&&◌, ◌||◌}
+use Rattle.std.specs.List.{list_any}
+use Rattle.std.proofs.lemmas.Bool.{cond-true, cond-false, cond_both, or_parts, and_parts, and_from, eqb-true, eq-eqb}
+use Rattle.std.proofs.lemmas.Bool.{false≢true, both_ways}
+use Rattle.std.proofs.lemmas.Bool.Decides.{nat_tests}
+use Rattle.plain_list.specs.Octets.{same_octets}
+use Rattle.plain_list.proofs.CallerLemmas.{same_octets_decides}
+use Rattle.dns_name.specs.Labels.{same, IsSame}
+use Rattle.dns_name.proofs.CallerLemmas.{same_decides}
+use Rattle.dns_message.specs.Values.{Question, Record}
+use Rattle.trust_rank.specs.Values.{rows, Piece}
+use Rattle.trust_rank.specs.Sets.{is_of, records_for, with_data, with_all_data, seconds_of, lifetime_within, longest}
+use Rattle.trust_rank.specs.Sets.{set_with, set_of}
+use Rattle.cache_laws.specs.Lists.{IsOneOf, NoneTwice}
+use Rattle.cache_laws.specs.Sets.{IsRecordFor, AreDataOf, HasSeconds, IsLowestTtl, IsSetFrom, TopBitIsNone}
+use Rattle.cache_laws.proofs.Lists.{before, behind, one_of_both, only_one, once_more}
+
+-- ---- data that is there already is left out
+
+is_there : (octets : List ℕ) (kept : List (List ℕ)) → list_any (same_octets octets) kept ≡ true → IsOneOf octets kept
+is_there octets [] e = absurd (false≢true e)
+is_there octets (k ∷ kept) e = (elim (same_octets octets k) as
+    (λ b. same_octets octets k ≡ b → (b || list_any (same_octets octets) kept) ≡ true → IsOneOf octets (k ∷ kept)) [
+      | true ↦ λ is _. inl ((same_octets_decides octets k).0 is)
+      | false ↦ λ _ rest. inr (is_there octets kept rest)
+    ]) refl e
+
+is_not_there : (octets : List ℕ) (kept : List (List ℕ)) → list_any (same_octets octets) kept ≡ false
+    → IsOneOf octets kept → ⊥
+is_not_there octets [] e h = h
+is_not_there octets (k ∷ kept) e (inl is) =
+    both_ways (same_octets octets k) (or_parts (same_octets octets k) (list_any (same_octets octets) kept) e).0
+    ((same_octets_decides octets k).1 is)
+is_not_there octets (k ∷ kept) e (inr rest) = is_not_there octets kept
+    (or_parts (same_octets octets k) (list_any (same_octets octets) kept) e).1 rest
+
+with_keeps : (kept : List (List ℕ)) (octets x : List ℕ) → IsOneOf x kept → IsOneOf x (with_data kept octets)
+with_keeps kept octets x h = cond_both (list_any (same_octets octets) kept) kept (kept ++ octets ∷ []) (IsOneOf x)
+    (λ _. h) (λ _. before x kept (octets ∷ []) h)
+
+with_has : (kept : List (List ℕ)) (octets : List ℕ) → IsOneOf octets (with_data kept octets)
+with_has kept octets =
+    cond_both (list_any (same_octets octets) kept) kept (kept ++ octets ∷ []) (IsOneOf octets)
+    (λ t. is_there octets kept t) (λ _. behind octets kept (octets ∷ []) (inl refl))
+
+with_only : (kept : List (List ℕ)) (octets x : List ℕ) → IsOneOf x (with_data kept octets)
+    → IsOneOf x kept ⊎ (x ≡ octets)
+with_only kept octets x = cond_both (list_any (same_octets octets) kept) kept (kept ++ octets ∷ [])
+    (λ (l : List (List ℕ)). IsOneOf x l → IsOneOf x kept ⊎ (x ≡ octets))
+    (λ _ h. inl h)
+    (λ _ h. elim (one_of_both x kept (octets ∷ []) h) [
+      | inl first ↦ inl first
+      | inr second ↦ inr (only_one x octets second)
+    ])
+
+with_once : (kept : List (List ℕ)) (octets : List ℕ) → NoneTwice kept → NoneTwice (with_data kept octets)
+with_once kept octets once =
+    cond_both (list_any (same_octets octets) kept) kept (kept ++ octets ∷ []) NoneTwice (λ _. once)
+    (λ f. once_more kept octets once (is_not_there octets kept f))
+
+all_keeps : (kept : List (List ℕ)) (records : List Record) (x : List ℕ) → IsOneOf x kept
+    → IsOneOf x (with_all_data kept records)
+all_keeps kept [] x h = h
+all_keeps kept (s ∷ records) x h = all_keeps (with_data kept s.rdata) records x (with_keeps kept s.rdata x h)
+
+all_has : (kept : List (List ℕ)) (records : List Record) (r : Record) → IsOneOf r records
+    → IsOneOf r.rdata (with_all_data kept records)
+all_has kept [] r h = absurd h
+all_has kept (s ∷ records) r (inl e) =
+    all_keeps (with_data kept s.rdata) records r.rdata
+    (subst (λ (x : Record). IsOneOf x.rdata (with_data kept s.rdata)) (sym e) (with_has kept s.rdata))
+all_has kept (s ∷ records) r (inr rest) = all_has (with_data kept s.rdata) records r rest
+
+-- a record of these has this data
+record Has (records : List Record) (datum : List ℕ) : Type 0 where
+  pub r : Record
+  pub there : IsOneOf r records
+  pub datum_is : r.rdata ≡ datum
+
+has_more : (s : Record) (records : List Record) (datum : List ℕ) → Has records datum → Has (s ∷ records) datum
+has_more s records datum h = record { r = h.r; there = inr h.there; datum_is = h.datum_is }
+
+all_only : (kept : List (List ℕ)) (records : List Record) (x : List ℕ) → IsOneOf x (with_all_data kept records)
+    → IsOneOf x kept ⊎ Has records x
+all_only kept [] x h = inl h
+all_only kept (s ∷ records) x h = elim (all_only (with_data kept s.rdata) records x h) [
+  | inl first ↦ elim (with_only kept s.rdata x first) [
+    | inl old ↦ inl old
+    | inr new ↦ inr (record { r = s; there = inl refl; datum_is = sym new })
+  ]
+  | inr rest ↦ inr (has_more s records x rest)
+]
+
+all_once : (kept : List (List ℕ)) (records : List Record) → NoneTwice kept → NoneTwice (with_all_data kept records)
+all_once kept [] once = once
+all_once kept (s ∷ records) once = all_once (with_data kept s.rdata) records (with_once kept s.rdata once)
+
+-- ---- the records of a question
+
+pub of_test : (q : Question) (records : List Record) (r : Record) → IsOneOf r records → is_of q r ≡ true
+    → IsRecordFor q records r
+of_test q records r there e =
+    let all = and_parts ((r.kind == q.kind) && (r.class == q.class)) (same r.owner q.name) e in
+    let both = and_parts (r.kind == q.kind) (r.class == q.class) all.0 in
+    record {
+      there = there;
+      kind = eqb-true r.kind q.kind both.0;
+      class = eqb-true r.class q.class both.1;
+      name = (same_decides r.owner q.name).0 all.1;
+    }
+
+pub fits_test : (q : Question) (records : List Record) (r : Record) → IsRecordFor q records r → is_of q r ≡ true
+fits_test q records r h =
+    and_from ((r.kind == q.kind) && (r.class == q.class)) (same r.owner q.name)
+    (and_from (r.kind == q.kind) (r.class == q.class) (eq-eqb r.kind q.kind h.kind) (eq-eqb r.class q.class h.class))
+    ((same_decides r.owner q.name).1 h.name)
+
+among : (q : Question) (records : List Record) (r : Record) → IsOneOf r (records_for q records)
+    → IsOneOf r records × (is_of q r ≡ true)
+among q [] r h = absurd h
+among q (s ∷ records) r h = (elim (is_of q s) as
+    (λ b. is_of q s ≡ b → IsOneOf r (cond b (s ∷ records_for q records) (records_for q records))
+    → IsOneOf r (s ∷ records) × (is_of q r ≡ true)) [
+      | true ↦ λ is there. elim there [
+        | inl e ↦ (inl e, subst (λ (x : Record). is_of q x ≡ true) (sym e) is)
+        | inr rest ↦ let more = among q records r rest in (inr more.0, more.1)
+      ]
+      | false ↦ λ _ there. let more = among q records r there in (inr more.0, more.1)
+    ]) refl h
+
+pub for_is : (q : Question) (records : List Record) (r : Record) → IsOneOf r (records_for q records)
+    → IsRecordFor q records r
+for_is q records r h = let both = among q records r h in of_test q records r both.0 both.1
+
+passes : (q : Question) (records : List Record) (r : Record) → IsOneOf r records → is_of q r ≡ true
+    → IsOneOf r (records_for q records)
+passes q [] r h slot = absurd h
+passes q (s ∷ records) r (inl e) slot = subst (IsOneOf r)
+    (sym (cond-true (is_of q s) (s ∷ records_for q records) (records_for q records)
+    (subst (λ (x : Record). is_of q x ≡ true) e slot))) (inl e)
+passes q (s ∷ records) r (inr rest) slot =
+    cond_both (is_of q s) (s ∷ records_for q records) (records_for q records) (IsOneOf r)
+    (λ _. inr (passes q records r rest slot)) (λ _. passes q records r rest slot)
+
+pub is_for : (q : Question) (records : List Record) (r : Record) → IsRecordFor q records r
+    → IsOneOf r (records_for q records)
+is_for q records r h = passes q records r h.there (fits_test q records r h)
+
+-- ---- data
+
+pub data_of_set : (q : Question) (records : List Record) (first : Record) (others : List Record)
+    → records_for q records ≡ first ∷ others → AreDataOf q records (with_all_data (first.rdata ∷ []) others)
+data_of_set q records first others is = record {
+  only = λ datum h. elim (all_only (first.rdata ∷ []) others datum h) [
+    | inl one ↦ record {
+      r = first;
+      fits = for_is q records first (subst (IsOneOf first) (sym is) (inl refl));
+      datum_is = sym (only_one datum first.rdata one);
+    }
+    | inr more ↦ record {
+      r = more.r;
+      fits = for_is q records more.r
+          (subst (IsOneOf more.r) (sym is) (inr more.there));
+      datum_is = more.datum_is;
+    }
+  ];
+  whole = λ r h. elim (subst (IsOneOf r) is (is_for q records r h)) [
+    | inl e ↦ all_keeps (first.rdata ∷ []) others r.rdata (inl (ap (λ (x : Record). x.rdata) e))
+    | inr rest ↦ all_has (first.rdata ∷ []) others r rest
+  ];
+  once = all_once (first.rdata ∷ []) others (λ none. none, tt);
+}
+
+-- ---- lifetimes
+
+within_most : (most : ℕ) (records : List Record) → lifetime_within most records ≤ most
+within_most most [] = omega arith
+within_most most (s ∷ records) = omega (arith, within_most (min most (seconds_of s.ttl)) records)
+
+within_each : (most : ℕ) (records : List Record) (r : Record) → IsOneOf r records
+    → lifetime_within most records ≤ seconds_of r.ttl
+within_each most [] r h = absurd h
+within_each most (s ∷ records) r (inl e) =
+    subst (λ (x : Record). lifetime_within most (s ∷ records) ≤ seconds_of x.ttl) (sym e)
+    (least most (seconds_of s.ttl) (lifetime_within (min most (seconds_of s.ttl)) records)
+    (within_most (min most (seconds_of s.ttl)) records))
+  where
+    least : (a b c : ℕ) → c ≤ min a b → c ≤ b
+    least a b c h = omega (arith, h)
+within_each most (s ∷ records) r (inr rest) = within_each (min most (seconds_of s.ttl)) records r rest
+
+min_is_one : (a b : ℕ) → (min a b ≡ a) ⊎ (min a b ≡ b)
+min_is_one a b = (elim (nat_le a b) as (λ t. nat_le a b ≡ t → (min a b ≡ a) ⊎ (min a b ≡ b)) [
+  | true ↦ λ is. inl (grind (arith, nat_tests))
+  | false ↦ λ is. inr (grind (arith, nat_tests))
+]) refl
+
+record HasTtl (records : List Record) (seconds : ℕ) : Type 0 where
+  pub r : Record
+  pub there : IsOneOf r records
+  pub seconds_are : seconds ≡ seconds_of r.ttl
+
+within_one : (most : ℕ) (records : List Record) → (lifetime_within most records ≡ most)
+    ⊎ HasTtl records (lifetime_within most records)
+within_one most [] = inl refl
+within_one most (s ∷ records) = elim (within_one (min most (seconds_of s.ttl)) records) [
+  | inl e ↦ elim (min_is_one most (seconds_of s.ttl)) [
+    | inl first ↦ inl (e ∙ first)
+    | inr second ↦ inr (record { r = s; there = inl refl; seconds_are = e ∙ second })
+  ]
+  | inr h ↦ inr (record { r = h.r; there = inr h.there; seconds_are = h.seconds_are })
+]
+
+pub life_of_set : (q : Question) (records : List Record) (first : Record) (others : List Record)
+    → records_for q records ≡ first ∷ others
+    → IsLowestTtl q records (lifetime_within (min longest (seconds_of first.ttl)) others)
+life_of_set q records first others is =
+    let life : ℕ = lifetime_within longest (first ∷ others) in
+    let one : (life ≡ longest) ⊎ HasSeconds q records life = elim (within_one longest (first ∷ others)) [
+      | inl e ↦ inl e
+      | inr h ↦ inr (record {
+        r = h.r;
+        fits = for_is q records h.r (subst (IsOneOf h.r) (sym is) h.there);
+        seconds_are = h.seconds_are;
+      })
+    ] in
+    record {
+      least = λ r h. within_each longest (first ∷ others) r (subst (IsOneOf r) is (is_for q records r h));
+      week = within_most longest (first ∷ others);
+      one = one;
+    }
+
+-- ---- a set of one question is that of its own slot
+
+-- the question for a record
+abbrev pub question_for : Record → Question
+question_for first = record { name = first.owner; kind = first.kind; class = first.class }
+
+pub record Slotted (q : Question) (first : Record) : Type 0 where
+  pub kind : first.kind ≡ q.kind
+  pub class : first.class ≡ q.class
+  pub name : IsSame first.owner q.name
+
+pub slotted : (q : Question) (records : List Record) (first : Record) → IsRecordFor q records first → Slotted q first
+slotted q records first h = record { kind = h.kind; class = h.class; name = h.name }
+
+other_for : (q : Question) (first : Record) (records : List Record) (r : Record) → Slotted q first
+    → IsRecordFor q records r → IsRecordFor (question_for first) records r
+other_for q first records r s h =
+    record { there = h.there; kind = h.kind ∙ sym s.kind; class = h.class ∙ sym s.class; name = h.name ∙ sym s.name }
+
+back_for : (q : Question) (first : Record) (records : List Record) (r : Record) → Slotted q first
+    → IsRecordFor (question_for first) records r → IsRecordFor q records r
+back_for q first records r s h =
+    record { there = h.there; kind = h.kind ∙ s.kind; class = h.class ∙ s.class; name = h.name ∙ s.name }
+
+own_data : (q : Question) (first : Record) (records : List Record) (each : List (List ℕ)) → Slotted q first
+    → AreDataOf q records each → AreDataOf (question_for first) records each
+own_data q first records each s h = record {
+  only = λ datum there. let d = h.only datum there in
+      record { r = d.r; fits = other_for q first records d.r s d.fits; datum_is = d.datum_is };
+  whole = λ r fits. h.whole r (back_for q first records r s fits);
+  once = h.once;
+}
+
+own_life : (q : Question) (first : Record) (records : List Record) (lifetime : ℕ) → Slotted q first
+    → IsLowestTtl q records lifetime → IsLowestTtl (question_for first) records lifetime
+own_life q first records lifetime s h =
+    let one : (lifetime ≡ longest) ⊎ HasSeconds (question_for first) records lifetime = elim h.one [
+      | inl e ↦ inl e
+      | inr d ↦ inr (record { r = d.r; fits = other_for q first records d.r s d.fits; seconds_are = d.seconds_are })
+    ] in
+    record { least = λ r fits. h.least r (back_for q first records r s fits); week = h.week; one = one }
+
+some_is : (a b : ℕ) → Some a ≡ Some b → a ≡ b
+some_is a b e = cc
+
+rows_are : (a b : List (List ℕ)) → rows a ≡ rows b → a ≡ b
+rows_are a b e = cc
+
+-- the set that begins with a record of the question is the section's
+pub set_from : (q : Question) (rank route : ℕ) (records : List Record) (first : Record) (others : List Record)
+    → records_for q records ≡ first ∷ others → IsSetFrom records (set_with rank route first others)
+set_from q rank route records first others is =
+    let at : Slotted q first =
+    slotted q records first (for_is q records first (subst (IsOneOf first) (sym is) (inl refl))) in
+    record {
+      data_are = λ kind each slot body.
+          subst (λ (k : ℕ). AreDataOf (record { name = first.owner; kind = k; class = first.class }) records each)
+          (some_is first.kind kind slot)
+          (subst (AreDataOf (question_for first) records) (rows_are (with_all_data (first.rdata ∷ []) others) each body)
+          (own_data q first records (with_all_data (first.rdata ∷ []) others) at
+          (data_of_set q records first others is)));
+      lives = λ kind each slot body.
+          subst (λ (k : ℕ). IsLowestTtl (record { name = first.owner; kind = k; class = first.class }) records
+          (lifetime_within (min longest (seconds_of first.ttl)) others)) (some_is first.kind kind slot)
+          (own_life q first records (lifetime_within (min longest (seconds_of first.ttl)) others) at
+          (life_of_set q records first others is));
+    }
+
+-- a set of records, as its first and the others
+pub record Begins (rank route : ℕ) (records : List Record) (p : Piece) : Type 0 where
+  pub first : Record
+  pub others : List Record
+  pub records_are : records ≡ first ∷ others
+  pub piece_is : set_with rank route first others ≡ p
+
+pub begins : (rank route : ℕ) (records : List Record) (p : Piece) → set_of rank route records ≡ Some p
+    → Begins rank route records p
+begins rank route [] p e = absurd (cc)
+begins rank route (first ∷ others) p e = record {
+  first = first;
+  others = others;
+  records_are = refl;
+  piece_is = (let is : Some (set_with rank route first others) ≡ Some p = e in cc);
+}
+
+-- ---- TTLs
+
+pub top_bit_is_none : TopBitIsNone
+top_bit_is_none = record {
+  set = λ ttl long. cond-true (nat_le (2 ^ 31) ttl) 0 ttl (grind (arith, nat_tests, long));
+  clear = λ ttl short. cond-false (nat_le (2 ^ 31) ttl) 0 ttl (grind (arith, nat_tests, short));
+}

@@ -1,0 +1,86 @@
+-- What a look-up finds first: RFC 1034 3.6.2, RFC 2308 2, RFC 8020 2.
+use Rattle.std.specs.Prelude.{◌≡◌, ◌≢◌, ◌<◌, ◌≤◌, ℕ, ◌+◌, ◌*◌, List, length, Option, Some, None}
+use Rattle.dns_name.specs.Labels.{IsSame, IsUnder}
+use Rattle.dns_message.specs.Values.{Question, Record}
+use Rattle.suffix_routes.specs.Values.{Route}
+use Rattle.suffix_routes.specs.Routes.{route_of}
+use Rattle.trust_rank.specs.Values.{rows as set_rows, no_data as set_no_data}
+use Rattle.record_cache.specs.Values.{Held}
+use Rattle.record_cache.specs.Entries.{AreHeld}
+use Rattle.record_cache.specs.Laws.{Among}
+use Rattle.negative_cache.specs.Values.{rows, alias, no_data, denied, miss}
+use Rattle.negative_cache.specs.Finding.{found}
+
+-- an entry of the question's name (letter case aside) and class and of this type, before its end: as many seconds after
+-- it was accepted, in milliseconds, as it lives (RFC 1035 3.2.1)
+pub record IsLivingOf (moment : ℕ) (entries : List Held) (q : Question) (kind : ℕ) (h : Held) : Type 0 where
+  pub among : Among h entries
+  pub alive : moment < h.accepted + 1000 * h.piece.lifetime
+  pub name : IsSame q.name h.piece.slot.key
+  pub class : q.class ≡ h.piece.slot.class
+  pub kind_is : h.piece.slot.kind ≡ Some kind
+
+-- the living set of the asked type
+pub record IsAskedSet (moment : ℕ) (entries : List Held) (q : Question) (h : Held) : Type 0 where
+  pub living : IsLivingOf moment entries q q.kind h
+  pub each : List (List ℕ)
+  pub body : h.piece.body ≡ set_rows each
+
+-- the living alias of the name, where another type than CNAME (5) is asked for
+pub record IsAskedAlias (moment : ℕ) (entries : List Held) (q : Question) (h : Held) : Type 0 where
+  pub other : q.kind ≢ 5
+  pub living : IsLivingOf moment entries q 5 h
+  pub each : List (List ℕ)
+  pub body : h.piece.body ≡ set_rows each
+
+-- the living NODATA of the asked type
+pub record IsAskedNoData (moment : ℕ) (entries : List Held) (q : Question) (h : Held) : Type 0 where
+  pub living : IsLivingOf moment entries q q.kind h
+  pub soa : Option Record
+  pub body : h.piece.body ≡ set_no_data soa
+
+-- a living name error of the question's class, which has no type, at or above its name and on the route of its name
+pub record IsNameError (routes : List Route) (moment : ℕ) (entries : List Held) (q : Question) (h : Held) : Type 0 where
+  pub among : Among h entries
+  pub alive : moment < h.accepted + 1000 * h.piece.lifetime
+  pub kind_is : h.piece.slot.kind ≡ None
+  pub class : q.class ≡ h.piece.slot.class
+  pub above : IsUnder q.name h.piece.slot.key
+  pub route : route_of routes h.piece.slot.key ≡ route_of routes q.name
+
+-- no entry is like this
+abbrev pub HasNone : (Held → Type 0) → Type 0
+HasNone P = (h : Held) → P h → ⊥
+
+-- a living name error that denies the name, and no such one has more labels
+pub record IsNearestDenial (routes : List Route) (moment : ℕ) (entries : List Held) (q : Question)
+    (h : Held) : Type 0 where
+  pub denial : IsNameError routes moment entries q h
+  pub nearest : (other : Held) → IsNameError routes moment entries q other
+      → length other.piece.slot.key ≤ length h.piece.slot.key
+
+-- a name error that is the nearest was found
+pub record FindsNearest (routes : List Route) (moment : ℕ) (entries : List Held) (q : Question) : Type 0 where
+  pub h : Held
+  pub found_is : found routes moment entries q ≡ denied h
+  pub near : IsNearestDenial routes moment entries q h
+
+-- What is found: the living set of the type where there is one; else the alias; else NODATA; else the nearest name
+-- error; else nothing.
+pub record FindsInOrder (routes : List Route) (moment : ℕ) (entries : List Held) (q : Question) : Type 0 where
+  pub set : (h : Held) → IsAskedSet moment entries q h → found routes moment entries q ≡ rows h
+  pub alias_next : (h : Held) → HasNone (IsAskedSet moment entries q) → IsAskedAlias moment entries q h
+      → found routes moment entries q ≡ alias h
+  pub no_data_next : (h : Held) → HasNone (IsAskedSet moment entries q) → HasNone (IsAskedAlias moment entries q)
+      → IsAskedNoData moment entries q h → found routes moment entries q ≡ no_data h
+  pub denial_next : (h : Held) → HasNone (IsAskedSet moment entries q) → HasNone (IsAskedAlias moment entries q)
+      → HasNone (IsAskedNoData moment entries q) → IsNameError routes moment entries q h
+      → FindsNearest routes moment entries q
+  pub miss_last : HasNone (IsAskedSet moment entries q) → HasNone (IsAskedAlias moment entries q)
+      → HasNone (IsAskedNoData moment entries q) → HasNone (IsNameError routes moment entries q)
+      → found routes moment entries q ≡ miss
+
+-- So it is among the entries of a cache, of which no two are of one slot.
+abbrev pub LookUpsFindInOrder : Type 0
+LookUpsFindInOrder = (routes : List Route) (moment capacity : ℕ) (entries : List Held) (q : Question)
+    → AreHeld (record { capacity = capacity; entries = entries }) → FindsInOrder routes moment entries q

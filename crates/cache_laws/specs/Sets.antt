@@ -1,0 +1,63 @@
+-- The record sets of a reply: RFC 2181 5 and 8.
+use Rattle.std.specs.Prelude.{◌≡◌, ℕ, ◌^◌, ◌<◌, ◌≤◌, ◌⊎◌, List, Some}
+use Rattle.std.specs.List.{AllByRecursion}
+use Rattle.dns_name.specs.Labels.{IsSame}
+use Rattle.dns_message.specs.Values.{Question, Record, Message}
+use Rattle.suffix_routes.specs.Values.{Config}
+use Rattle.trust_rank.specs.Values.{rows, Piece}
+use Rattle.trust_rank.specs.Sets.{seconds_of}
+use Rattle.trust_rank.specs.Walks.{walk_of}
+use Rattle.cache_laws.specs.Lists.{IsOneOf, NoneTwice}
+
+-- a record of the section with the question's name (letter case aside), type and class
+pub record IsRecordFor (q : Question) (records : List Record) (r : Record) : Type 0 where
+  pub there : IsOneOf r records
+  pub kind : r.kind ≡ q.kind
+  pub class : r.class ≡ q.class
+  pub name : IsSame r.owner q.name
+
+-- a record of the section that has this data, too
+pub record HasDatum (q : Question) (records : List Record) (datum : List ℕ) : Type 0 where
+  pub r : Record
+  pub fits : IsRecordFor q records r
+  pub datum_is : r.rdata ≡ datum
+
+-- each row is the data of such a record, the data of each such record is a row, and no row is there twice (RFC 2181 5)
+pub record AreDataOf (q : Question) (records : List Record) (each : List (List ℕ)) : Type 0 where
+  pub only : (datum : List ℕ) → IsOneOf datum each → HasDatum q records datum
+  pub whole : (r : Record) → IsRecordFor q records r → IsOneOf r.rdata each
+  pub once : NoneTwice each
+
+-- a record of the section lives for so many seconds
+pub record HasSeconds (q : Question) (records : List Record) (seconds : ℕ) : Type 0 where
+  pub r : Record
+  pub fits : IsRecordFor q records r
+  pub seconds_are : seconds ≡ seconds_of r.ttl
+
+-- no record of the set lives shorter (RFC 2181 5.2), and one lives as long, unless that is cut to a week
+pub record IsLowestTtl (q : Question) (records : List Record) (lifetime : ℕ) : Type 0 where
+  pub least : (r : Record) → IsRecordFor q records r → lifetime ≤ seconds_of r.ttl
+  pub week : lifetime ≤ 604800
+  pub one : (lifetime ≡ 604800) ⊎ HasSeconds q records lifetime
+
+-- where a piece is a set: its rows and its lifetime are those of the section's records of its owner, type and class
+pub record IsSetFrom (records : List Record) (p : Piece) : Type 0 where
+  pub data_are : (kind : ℕ) (each : List (List ℕ)) → p.slot.kind ≡ Some kind → p.body ≡ rows each
+      → AreDataOf (record { name = p.owner; kind = kind; class = p.slot.class }) records each
+  pub lives : (kind : ℕ) (each : List (List ℕ)) → p.slot.kind ≡ Some kind → p.body ≡ rows each
+      → IsLowestTtl (record { name = p.owner; kind = kind; class = p.slot.class }) records p.lifetime
+
+-- Each set on the walk of a reply is the whole set that the answer section has of its name, type and class.
+abbrev pub SetsAreWhole : Type 0
+SetsAreWhole = (c : Config) (m : Message) (q : Question) (route : ℕ)
+    → AllByRecursion (IsSetFrom m.answers) (walk_of c m q route).pieces
+
+-- So is each set of name servers beside it the whole one that the authority section has.
+abbrev pub ServerSetsAreWhole : Type 0
+ServerSetsAreWhole = (c : Config) (m : Message) (q : Question) (route : ℕ)
+    → AllByRecursion (IsSetFrom m.authority) (walk_of c m q route).authority
+
+-- A TTL with its top bit set is none, and any other is as many seconds (RFC 2181 8).
+pub record TopBitIsNone : Type 0 where
+  pub set : (ttl : ℕ) → 2 ^ 31 ≤ ttl → seconds_of ttl ≡ 0
+  pub clear : (ttl : ℕ) → ttl < 2 ^ 31 → seconds_of ttl ≡ ttl

@@ -1,0 +1,10 @@
+//! What the definitions of replies and of look-ups are good for, in the words of the RFCs: laws, and no code.
+#![tactic(auto)]
+
+mod entries;
+mod replies;
+
+pub use entries::look_ups_find_in_order;
+pub use replies::{
+    denies_exactly, ranks_are_by_authority, servers_are_all, sets_are_whole, top_bit_is_none,
+};

@@ -1,0 +1,40 @@
+//! What a reply carries.
+
+ghost use Rattle.cache_laws.specs.Denials.{DeniesExactly};
+ghost use Rattle.cache_laws.specs.Ranks.{RanksAreByAuthority};
+ghost use Rattle.cache_laws.specs.Servers.{OthersCarryNone, ServersAreAll, ServersAreApart};
+ghost use Rattle.cache_laws.specs.Sets.{ServerSetsAreWhole, SetsAreWhole, TopBitIsNone};
+
+/// Each set that a reply carries is the whole set that the section has of its name, type and class: each row is the
+/// data of a record, the data of each record is a row, and none is there twice (RFC 2181 5). It lives no longer than
+/// any of its records and than a week, and as long as one of them or a week (RFC 2181 5.2).
+pub fn sets_are_whole()
+    ensures walk { SetsAreWhole }
+    ensures servers { ServerSetsAreWhole }
+{}
+
+/// A TTL with its top bit set counts as 0 seconds, and any other as it is (RFC 2181 8).
+pub fn top_bit_is_none()
+    ensures { TopBitIsNone }
+{}
+
+/// What a reply tells of the asked name has rank 3 exactly where it is authoritative; all else on its walk has rank 1,
+/// and the name servers beside it rank 2 (RFC 2181 5.4.1).
+pub fn ranks_are_by_authority()
+    ensures { RanksAreByAuthority }
+{}
+
+/// A reply ends with a name error exactly where its response code is 3 and its aliases, fewer than eight, lead on the
+/// asked route to a name of which its answer section has neither the asked type nor an alias (RFC 2308 2.1).
+pub fn denies_exactly()
+    ensures { DeniesExactly }
+{}
+
+/// An authoritative reply that is not lame carries each NS record of its authority section that is of the asked class,
+/// whose owner is at or above the asked name and on the asked route, and is the owner of no piece on the walk, in one
+/// set for each owner. A reply that is not authoritative carries none.
+pub fn servers_are_all()
+    ensures all { ServersAreAll }
+    ensures apart { ServersAreApart }
+    ensures none { OthersCarryNone }
+{}

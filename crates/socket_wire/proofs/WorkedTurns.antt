@@ -1,0 +1,74 @@
+-- Walks over what is listed, worked by hand: how soon a number is found, and that it isn't found sooner.
+use Rattle.std.proofs.Common.{◌≡◌, refl, ℕ, ◌<◌, ◌⊎◌, List, [], ◌∷◌, Some, inl, inr, true, false, arith}
+use Rattle.socket_wire.specs.InTurn.{IsGivenWithin, IsTriedInRounds, IsTriedWithin}
+use Rattle.socket_wire.specs.Trying.{next_from}
+use Rattle.socket_wire.specs.Waiting.{is_resting}
+
+differ : (found number : ℕ) → (found < number) ⊎ (number < found) → Some found ≡ Some number → ⊥
+differ found number order is =
+    let same : found ≡ number = cc in
+    elim order [ inl less ↦ omega arith | inr more ↦ omega arith ]
+
+-- three ports that stay listed
+abbrev pub three : ℕ → List (ℕ × ℕ)
+three try = (3, 0) ∷ (5, 0) ∷ (9, 0) ∷ []
+
+-- From 4 on 5, 9, none and then 3 are found: 3 within one try more than are listed, and not sooner.
+pub three_in_four : IsTriedWithin 4 65536 3 4 three
+three_in_four = inr (inr (inr (inl refl)))
+
+pub three_in_three : IsTriedWithin 3 65536 3 4 three → ⊥
+three_in_three (inl is) = differ 5 3 (inr (omega arith)) is
+three_in_three (inr (inl is)) = differ 9 3 (inr (omega arith)) is
+three_in_three (inr (inr (inl is))) = cc
+three_in_three (inr (inr (inr none))) = none
+
+-- In rounds of two tries, of which the first begins behind the last port: none; 3 and 5; 9.
+pub nine_in_three_rounds : IsTriedInRounds 3 2 65536 9 10 three
+nine_in_three_rounds = inr (inr (inl refl))
+
+pub nine_in_two_rounds : IsTriedInRounds 2 2 65536 9 10 three → ⊥
+nine_in_two_rounds (inl is) = omega arith
+nine_in_two_rounds (inr (inl is)) = omega arith
+nine_in_two_rounds (inr (inr none)) = none
+
+-- Behind the last port of all the walk begins anew at once.
+abbrev pub first_and_last : ℕ → List (ℕ × ℕ)
+first_and_last try = (1024, 0) ∷ (65535, 0) ∷ []
+
+pub first_behind_last : IsTriedWithin 2 65536 1024 65535 first_and_last
+first_behind_last = inr (inl refl)
+
+pub first_not_at_last : IsTriedWithin 1 65536 1024 65535 first_and_last → ⊥
+first_not_at_last (inl is) = differ 65535 1024 (inr (omega arith)) is
+first_not_at_last (inr none) = none
+
+-- Three tokens that stay noted: behind 10 come 18, 26 and then 10 again.
+abbrev pub tokens : ℕ → List ℕ
+tokens turn = 10 ∷ 18 ∷ 26 ∷ []
+
+pub same_in_three : IsGivenWithin 3 10 10 tokens
+same_in_three = inr (inr (inl refl))
+
+pub same_in_two : IsGivenWithin 2 10 10 tokens → ⊥
+same_in_two (inl is) = differ 18 10 (inr (omega arith)) is
+same_in_two (inr (inl is)) = differ 26 10 (inr (omega arith)) is
+same_in_two (inr (inr none)) = none
+
+-- Behind the last port of all the first comes, behind the one before it the last.
+pub behind_the_last : next_from 65536 (Some 65535) ≡ 0
+behind_the_last = refl
+
+pub behind_the_one_before : next_from 65536 (Some 65534) ≡ 65535
+behind_the_one_before = refl
+
+-- ---- a client that has waited for nothing for a second, or a millisecond less, or that waits for a reply
+
+pub rests : is_resting 0 [] 1000 2000 ≡ true
+rests = refl
+
+pub rests_too_short : is_resting 0 [] 1001 2000 ≡ false
+rests_too_short = refl
+
+pub rests_not : is_resting 1 [] 1000 2000 ≡ false
+rests_not = refl

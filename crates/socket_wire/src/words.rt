@@ -1,0 +1,58 @@
+//! The random words of a wire.
+
+ghost use Rattle.std.specs.Prelude.{◌≡◌, true};
+ghost use Rattle.rand_chacha.specs.ChaCha.{of_seed};
+ghost use Rattle.socket_wire.specs.Words.{GivesWords};
+
+use rand_chacha::ChaCha12Rng;
+use rand_core::SeedableRng;
+use rand_core::utils::NextWord;
+
+/// Random words. The same are given again until they are spent: words that were sent to nobody tell nobody anything.
+#[derive(Drop)]
+pub(crate) struct Words {
+    random: ChaCha12Rng,
+    drawn: [u32; 8],
+    is_spent: bool,
+}
+
+impl Words {
+    /// Words by this seed; none were given.
+    pub fn new(seed: [u8; 32]) -> Words
+        ensures { (result.random ≡ of_seed seed) × (result.is_spent ≡ true) }
+    {
+        Words {
+            random: ChaCha12Rng::from_seed(seed),
+            drawn: [0; 8],
+            is_spent: true,
+        }
+    }
+
+    /// The words that were given last, or where they are spent new ones.
+    pub fn next(&mut self) -> [u32; 8]
+        ensures { GivesWords result self.old self.new }
+    {
+        if self.is_spent {
+            let random = &mut self.random;
+            self.drawn = [
+                random.next_word(),
+                random.next_word(),
+                random.next_word(),
+                random.next_word(),
+                random.next_word(),
+                random.next_word(),
+                random.next_word(),
+                random.next_word(),
+            ];
+            self.is_spent = false;
+        }
+        self.drawn
+    }
+
+    /// New words are given from now on.
+    pub fn spend(&mut self)
+        ensures { self.new ≡ record self.old { is_spent = true } }
+    {
+        self.is_spent = true;
+    }
+}

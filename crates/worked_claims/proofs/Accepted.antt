@@ -1,0 +1,186 @@
+-- A worked reply, whole: what it matches, why it is accepted, and what it carried; and the answer that it justifies.
+use Rattle.std.proofs.Common.{◌≡◌, ℕ, List, [], ◌∷◌, Some, Ok, refl, inl, inr, arith}
+use Rattle.dns_message.specs.Names.{step as name_step, walk_in, name_within}
+use Rattle.dns_message.specs.Data.{octets_within, parts_at, data_at}
+use Rattle.dns_message.specs.Shapes.{shape_of}
+use Rattle.dns_message.specs.Header.{header_of, header_in}
+use Rattle.dns_message.specs.Records.{octets_end, question_at, record_at, counted}
+use Rattle.dns_message.specs.Messages.{message_at, message_of, first_question}
+use Rattle.dns_message.specs.Values.{Message}
+use Rattle.dns_message.specs.Writing.{◌▹◌, each, name_text, data_text, with_length, written}
+use Rattle.dns_message.proofs.CallerLemmas.{message_read_is_spelled}
+use Rattle.suffix_routes.specs.Values.{Config}
+use Rattle.suffix_routes.specs.Routes.{route_of}
+use Rattle.trust_rank.specs.Values.{rows, Piece}
+use Rattle.trust_rank.specs.Walks.{walk_from, servers_from}
+use Rattle.record_cache.specs.Values.{Held}
+use Rattle.outstanding.specs.declared.ask.Path.TheVariants.{Udp}
+use Rattle.step_values.specs.declared.action.Why.TheVariants.{Answered}
+use Rattle.step_values.specs.Values.{from_client, delivery, send_reply, ask_udp, close_udp, Step}
+use Rattle.step_history.specs.History.{Look, ShownAsk, Matches, Accepts, Carries}
+use Rattle.step_history.specs.Carried.{CarriedInEra, Justified}
+use Rattle.step_history.specs.Answers.{Chain, Answers}
+use Rattle.step_rules.proofs.Played.{a, address, server, config}
+use Rattle.worked_claims.proofs.Texts.{question_text, client, step_of}
+use Rattle.worked_claims.proofs.Silent.{nothing_heard}
+
+-- ---- a question for the address of a.e, and its reply
+
+abbrev pub asked : Step
+asked = step_of 1000 (524296 ∷ []) (from_client client (question_text 7 1))
+    (ask_udp 1032 server (question_text 8 1) ∷ [])
+
+-- an answer with this identifier, these octets of flags, and the address with this time to live
+abbrev pub answer_with : ℕ → ℕ → ℕ → ℕ → List ℕ
+answer_with id high low ttl =
+    0 ∷ id ∷ high ∷ low ∷ 0 ∷ 1 ∷ 0 ∷ 1 ∷ 0 ∷ 0 ∷ 0 ∷ 0 ∷ 1 ∷ 97 ∷ 1 ∷ 101 ∷ 0 ∷ 0 ∷ 1 ∷ 0 ∷ 1 ∷ 192 ∷ 12 ∷ 0 ∷ 1 ∷ 0
+    ∷ 1 ∷ 0 ∷ 0 ∷ 0 ∷ ttl ∷ 0 ∷ 4 ∷ 198 ∷ 51 ∷ 100 ∷ 5 ∷ []
+
+-- what the server says: authoritative, RD, and 60 seconds
+abbrev pub reply_text : List ℕ
+reply_text = answer_with 8 133 0 60
+
+-- what the client gets of it: RD and RA
+abbrev pub client_text : List ℕ
+client_text = answer_with 7 129 128 60
+
+abbrev pub answered : Step
+answered = step_of 1020 [] (delivery (Udp 1032) server reply_text)
+    (close_udp 1032 ∷ send_reply client client_text Answered ∷ [])
+
+-- a message that says so, with this header's identifier and flags
+abbrev pub says : ℕ → Message
+says ttl = record {
+  header = header_in (answer_with 8 133 0 ttl);
+  questions = address a ∷ [];
+  answers = record { owner = a; kind = 1; class = 1; ttl = ttl; rdata = 198 ∷ 51 ∷ 100 ∷ 5 ∷ [] } ∷ [];
+  authority = [];
+  additional = [];
+}
+
+reply_is_read : message_of reply_text ≡ Ok (says 60)
+unfolding message_at header_of counted question_at octets_end record_at data_at octets_within parts_at shape_of
+    name_within walk_in name_step
+reply_is_read = refl
+
+abbrev pub said : Message
+said = record {
+  header = header_in client_text;
+  questions = address a ∷ [];
+  answers = record { owner = a; kind = 1; class = 1; ttl = 60; rdata = 198 ∷ 51 ∷ 100 ∷ 5 ∷ [] } ∷ [];
+  authority = [];
+  additional = [];
+}
+
+answer_is_read : message_of client_text ≡ Ok said
+unfolding message_at header_of counted question_at octets_end record_at data_at octets_within parts_at shape_of
+    name_within walk_in name_step
+answer_is_read = refl
+
+-- ---- it is accepted, and carried the address
+
+abbrev pub ask : ShownAsk
+ask = record { path = Udp 1032; server = server; octets = question_text 8 1; moment = 1000 }
+
+abbrev pub piece : Piece
+piece = record {
+  owner = a;
+  slot = record { key = a; class = 1; kind = Some 1 };
+  body = rows ((198 ∷ 51 ∷ 100 ∷ 5 ∷ []) ∷ []);
+  lifetime = 60;
+  rank = 3;
+  route = 0;
+}
+
+-- a question may cost so many tries, and an answer be told for so many seconds past its end
+abbrev pub with_limits : ℕ → ℕ → Config
+with_limits tries stale_s = record config { limits = record config.limits { tries = tries; stale_s = stale_s } }
+
+pub matches : (tries stale_s : ℕ) → Matches (with_limits tries stale_s) answered (asked ∷ []) ask reply_text (address a)
+unfolding first_question question_at octets_end name_within walk_in name_step
+matches tries stale_s = record {
+  delivered = refl;
+  is_listed = refl;
+  is_live = omega arith;
+  long_enough = omega arith;
+  not_too_long = omega arith;
+  is_reply = refl;
+  opcode = refl;
+  identifier = refl;
+  ask_reads = refl;
+  question = address a;
+  reads = refl;
+  same_question_as_ask = refl;
+}
+
+pub accepts : (tries stale_s : ℕ)
+    → Accepts (with_limits tries stale_s) answered (asked ∷ []) ask (address a) 0 (says 60)
+unfolding route_of walk_from servers_from
+accepts tries stale_s = record {
+  octets = reply_text;
+  matches = matches tries stale_s;
+  spells = message_read_is_spelled reply_text (says 60) reply_is_read;
+  untruncated = refl;
+  rcode = inl refl;
+  route_is = refl;
+  not_lame = refl;
+}
+
+pub carries : (tries stale_s : ℕ) → Carries (with_limits tries stale_s) answered (asked ∷ []) (piece ∷ [])
+unfolding route_of walk_from servers_from
+carries tries stale_s = record {
+  ask = ask;
+  asked = address a;
+  route = 0;
+  message = says 60;
+  accepts = accepts tries stale_s;
+  are = refl;
+}
+
+-- ---- it justifies the answer
+
+abbrev pub held : Held
+held = record { piece = piece; accepted = 1020 }
+
+-- a question carries nothing
+pub carried_before : (tries stale_s : ℕ) → CarriedInEra (with_limits tries stale_s) (asked ∷ []) []
+carried_before tries stale_s = inr (inl (refl, nothing_heard (with_limits tries stale_s) asked [] refl, refl))
+
+pub carried_now : (tries stale_s : ℕ) → CarriedInEra (with_limits tries stale_s) (answered ∷ asked ∷ []) (held ∷ [])
+carried_now tries stale_s = inr (inr (refl, piece ∷ [], [], carries tries stale_s, carried_before tries stale_s, refl))
+
+-- the question, seen from the step of its reply
+abbrev pub seen : Look
+seen = record { config = config; asked = asked; before = []; now = answered ∷ asked ∷ [] }
+
+-- what came while the client waited may serve it
+pub justified : Justified seen a held
+unfolding route_of
+justified = record {
+  old = [];
+  new = held ∷ [];
+  carried_before = carried_before 4 0;
+  carried_now = carried_now 4 0;
+  on_route = refl;
+  counts = inr (inl refl);
+}
+
+pub chain : Chain seen (address a) [] held
+chain = record {
+  last = address a;
+  leads = record { few = omega arith; follows = refl };
+  justified = justified;
+  ends = refl;
+}
+
+pub answers : Answers seen client (header_in (question_text 7 1)) (address a) client_text
+unfolding written ◌▹◌ each name_text data_text with_length shape_of
+answers = record {
+  aliases = [];
+  end = held;
+  chain = chain;
+  text = refl;
+  fits = tt;
+  message = said;
+  spells = message_read_is_spelled client_text said answer_is_read;
+}

@@ -1,0 +1,104 @@
+-- A worked denial by the configuration, whole: a.e is denied, which is told at once; a step later, for a name that is
+-- not denied,
+-- for another opcode and for what is not served, no such answer is right.
+use Rattle.std.proofs.Common.{◌≡◌, ℕ, List, [], ◌∷◌, length, Some, Ok, refl, sym, ap, ◌∙◌, arith}
+use Rattle.std.proofs.lemmas.Bool.{true≢false}
+use Rattle.dns_message.specs.Names.{step as name_step, walk_in, name_within}
+use Rattle.dns_message.specs.Header.{header_of, header_in}
+use Rattle.dns_message.specs.Records.{octets_end, question_at, counted}
+use Rattle.dns_message.specs.Messages.{message_at, message_of, first_question}
+use Rattle.dns_message.specs.Values.{Question, Message}
+use Rattle.dns_message.specs.Writing.{◌▹◌, each, name_text, written}
+use Rattle.dns_message.proofs.CallerLemmas.{message_read_is_spelled}
+use Rattle.suffix_routes.specs.Routes.{route_of as route_there}
+use Rattle.step_values.specs.declared.action.Why.TheVariants.{LocalDenied}
+use Rattle.step_values.specs.Values.{from_client, tick, send_reply, Step}
+use Rattle.step_history.specs.Names.{is_local}
+use Rattle.step_history.specs.History.{Look}
+use Rattle.step_history.specs.Causes.{is_unserved}
+use Rattle.step_history.specs.Local.{ChainToLocal, LocalAnswers}
+use Rattle.step_history.specs.Sound.{RightReply, RightLocalAnswer}
+use Rattle.step_rules.proofs.Played.{a, address, config}
+use Rattle.worked_claims.proofs.Texts.{question_text, status_text, with_flags, client, step_of}
+use Rattle.worked_claims.proofs.Reasons.{denies_a}
+use Rattle.worked_claims.proofs.Silent.{nothing_followed}
+
+-- ---- told at once
+
+-- RA and result code 3, and the question
+abbrev denial : List ℕ
+denial = with_flags 7 129 131 1
+
+abbrev told : Step
+told = step_of 1000 [] (from_client client (question_text 7 1)) (send_reply client denial LocalDenied ∷ [])
+
+abbrev at_once : Look
+at_once = record { config = denies_a; asked = told; before = []; now = told ∷ [] }
+
+abbrev said : Message
+said = record { header = header_in denial; questions = address a ∷ []; answers = []; authority = []; additional = [] }
+
+is_read : message_of denial ≡ Ok said
+unfolding message_at header_of counted question_at octets_end name_within walk_in name_step
+is_read = refl
+
+chain : ChainToLocal at_once (address a) []
+unfolding route_there
+chain = record {
+  last = address a;
+  leads = record { few = omega arith; follows = refl };
+  denied = refl;
+  at_once = λ none. refl;
+}
+
+answers : LocalAnswers at_once client (header_in (question_text 7 1)) (address a) denial
+unfolding written ◌▹◌ each name_text
+answers = record {
+  aliases = [];
+  chain = chain;
+  text = refl;
+  fits = tt;
+  message = said;
+  spells = message_read_is_spelled denial said is_read;
+}
+
+a_denial_at_once : RightReply at_once client (question_text 7 1) 0 LocalDenied denial
+unfolding first_question question_at octets_end name_within walk_in name_step
+a_denial_at_once = record { opcode = refl; question = address a; reads = refl; served = refl; answers = answers }
+
+-- ---- what is no such answer
+
+abbrev later : Look
+later = record at_once { now = step_of 1001 [] tick [] ∷ told ∷ [] }
+
+a_step_later : (request octets : List ℕ) → RightLocalAnswer later client request octets → ⊥
+a_step_later request octets h =
+    let to = h.answers.chain in
+    let steps : 2 ≡ 1 =
+    ap length (to.at_once
+    (nothing_followed later h.question to.last h.answers.aliases (refl, (refl, tt)) to.leads.follows).0) in
+    omega (arith, steps)
+
+-- where the root's servers are asked for it
+abbrev not_denied : Look
+not_denied = record at_once { config = config }
+
+of_a_name_that_is_not_denied : (octets : List ℕ) → RightLocalAnswer not_denied client (question_text 7 1) octets → ⊥
+unfolding first_question question_at octets_end name_within walk_in name_step route_there
+of_a_name_that_is_not_denied octets h =
+    let reads : Some (address a) ≡ Some h.question = h.reads in
+    let own : address a ≡ h.question = cc in
+    let to = h.answers.chain in
+    let last : to.last ≡ h.question =
+    (nothing_followed not_denied h.question to.last h.answers.aliases (refl, tt) to.leads.follows).1 in
+    true≢false (sym to.denied ∙ ap (λ (q : Question). is_local config q.name) (last ∙ sym own))
+
+for_another_opcode : (l : Look) (octets : List ℕ) → RightLocalAnswer l client (status_text 7) octets → ⊥
+for_another_opcode l octets h = let opcode : 2 ≡ 0 = h.opcode in omega (arith, opcode)
+
+for_every_type : (l : Look) (octets : List ℕ) → RightLocalAnswer l client (question_text 7 255) octets → ⊥
+unfolding first_question question_at octets_end name_within walk_in name_step
+for_every_type l octets h =
+    let reads : Some (record (address a) { kind = 255 }) ≡ Some h.question = h.reads in
+    let same : record (address a) { kind = 255 } ≡ h.question = cc in
+    true≢false (ap is_unserved same ∙ h.served)

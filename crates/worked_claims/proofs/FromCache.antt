@@ -1,0 +1,72 @@
+-- When an answer from cache is the same as an earlier one, computed: at the same moment and to an equal question it has
+-- to be.
+use Rattle.std.proofs.Common.{◌≡◌, ℕ, List, [], ◌∷◌, Bool, true, false, refl, sym, ap, subst, inl, inr}
+use Rattle.std.proofs.Common.{arith}
+use Rattle.std.proofs.lemmas.Bool.{true≢false}
+use Rattle.dns_message.specs.Names.{step as name_step, walk_in, name_within}
+use Rattle.dns_message.specs.Records.{octets_end, question_at}
+use Rattle.dns_message.specs.Messages.{first_question}
+use Rattle.dns_message.specs.Values.{Question}
+use Rattle.step_values.specs.declared.action.Why.{Why}
+use Rattle.step_values.specs.declared.action.Why.TheVariants.{Answered, LocalDenied}
+use Rattle.step_values.specs.Values.{from_client, restart, send_reply, Step}
+use Rattle.step_history.specs.Sound.{FromCache, Replies, SameSections, SameAsEarlierFromCache}
+use Rattle.step_rules.proofs.Played.{a, address, config}
+use Rattle.worked_claims.proofs.Texts.{question_text, client, step_of}
+use Rattle.worked_claims.proofs.Silent.{nothing_heard}
+use Rattle.worked_claims.proofs.SameAnswers.{answer, other_identifiers_are_the_same, other_ttls_are_not_the_same}
+
+-- an answer at 2000, and a later one
+abbrev hit : Step
+hit = step_of 2000 [] (from_client client (question_text 7 1)) (send_reply client (answer 9 128 60 5 6) Answered ∷ [])
+
+is_from_cache : FromCache hit (address a) (answer 9 128 60 5 6)
+unfolding first_question question_at octets_end name_within walk_in name_step
+is_from_cache = (refl, inl (refl, refl))
+
+-- what is told otherwise is no answer from cache
+abbrev denied : Step
+denied = step_of 2000 [] (from_client client (question_text 7 1))
+    (send_reply client (answer 9 128 60 5 6) LocalDenied ∷ [])
+
+abbrev is_answered : Why → Bool
+is_answered Answered = true
+is_answered why = false
+
+a_local_denial_is_not_from_cache : (q : Question) (octets : List ℕ) → FromCache denied q octets → ⊥
+a_local_denial_is_not_from_cache q octets hit = by hit.1
+  where
+    by : Replies denied.outcome.actions octets → ⊥
+    by (inl is) = true≢false (sym (ap is_answered is.0))
+    by (inr more) = more
+
+-- its one answer
+the_answer : (octets : List ℕ) → Replies hit.outcome.actions octets → answer 9 128 60 5 6 ≡ octets
+the_answer octets (inl is) = is.1
+the_answer octets (inr more) = absurd more
+
+-- with another identifier it is the same
+the_same_again : SameAsEarlierFromCache config 2000 (address a) (answer 7 128 60 5 6) (hit ∷ [])
+the_same_again runs now quiet = (
+  λ q octets from same. subst (SameSections (answer 7 128 60 5 6))
+      (the_answer octets from.1) other_identifiers_are_the_same,
+  tt,
+)
+
+-- with other TTLs it is not
+with_another_ttl : SameAsEarlierFromCache config 2000 (address a) (answer 7 128 59 5 6) (hit ∷ []) → ⊥
+unfolding first_question question_at octets_end name_within walk_in name_step
+with_another_ttl h =
+    other_ttls_are_not_the_same
+    ((h refl refl (nothing_heard config hit [] refl)).0 (address a) (answer 9 128 60 5 6) is_from_cache refl)
+
+-- a second later it may have other TTLs
+a_second_later : SameAsEarlierFromCache config 3000 (address a) (answer 7 128 59 5 6) (hit ∷ [])
+a_second_later runs now quiet = absurd (let moments : 2000 ≡ 3000 = now in omega (arith, moments))
+
+-- and after a restart anything
+abbrev restarted : Step
+restarted = step_of 2000 [] restart []
+
+after_a_restart : SameAsEarlierFromCache config 2000 (address a) (answer 7 128 59 5 6) (restarted ∷ hit ∷ [])
+after_a_restart runs now quiet = absurd (true≢false runs)

@@ -1,0 +1,10 @@
+//! What each row of the table keeps to in its actions.
+
+ghost use Rattle.worked_claims.specs.Laws.{StepsAskOnceAtMost, StepsCloseOnceAtMost, StepsCloseWhatIsListed};
+
+/// A step asks once at most, and gives up one path at most: that of an ask which was listed before it.
+pub fn steps_ask_and_close_once()
+    ensures asks { StepsAskOnceAtMost }
+    ensures closes { StepsCloseOnceAtMost }
+    ensures listed { StepsCloseWhatIsListed }
+{}
