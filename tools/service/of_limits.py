@@ -5,7 +5,8 @@ import socket
 import struct
 import time
 
-from .messages import UNKNOWN, expect, framed, is_answer, long_reply_to, question, reply_to, take_frame
+from .messages import (
+    REFUSED, SERVFAIL, UNKNOWN, code, expect, framed, is_answer, long_reply_to, question, reply_to, take_frame)
 from .running import Forwarder, Server, case, free_port, spent
 
 
@@ -44,10 +45,15 @@ def more_clients_than_may_be(program):
 
 @case
 def no_descriptor_is_left(program):
+    """Connections that have waited for nothing for a second give way to a query, and none that has just come does."""
     server = Server()
     with Forwarder(program, [server.port], descriptors=40) as forwarder:
-        clients = [forwarder.tcp() for _ in range(80)]
+        clients = [forwarder.tcp() for _ in range(40)]
         time.sleep(0.1)
+        expect(code(forwarder.ask_udp(question())), SERVFAIL)
+        clients[0].sendall(framed(question("elsewhere.test")))
+        expect(code(take_frame(clients[0])), REFUSED)
+        time.sleep(2.5)
         for n in range(10):
             is_answer(forwarder.ask_udp(question(f"n{n}.example")), question(f"n{n}.example"))
         for client in clients:

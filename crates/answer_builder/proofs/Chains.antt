@@ -1,7 +1,5 @@
 -- An answer that ends with the last piece of a chain.
-use Rattle.std.proofs.Common.{◌≡◌, ℕ, zero, suc, ◌+◌, ◌-◌, ◌<◌, List, [], ◌∷◌, ◌++◌, length, map, take, drop, get_or}
-use Rattle.std.proofs.Common.{refl, sym, ap, subst, ◌∙◌, append_assoc, drop-cons, arith}
-use Rattle.std.proofs.Common.{Option, Some, None, Bor, MatchOption}
+use Rattle.std.proofs.Common.{◌≡◌, ℕ, zero, suc, ◌+◌, ◌-◌, ◌<◌, List, [], ◌∷◌, ◌++◌, length, map, take, drop, get_or, refl, sym, ap, subst, ◌∙◌, append_assoc, drop-cons, arith, Option, Some, None, Bor, MatchOption}
 use Rattle.std.proofs.lemmas.List.{append-nil, take_more, map-append}
 use Rattle.std.specs.List.{flat_map, slice_get, AllByRecursion}
 use Rattle.std.specs.Prelude.{option_map}
@@ -11,7 +9,8 @@ use Rattle.dns_message.specs.Borrowed.{records_in}
 use Rattle.record_cache.specs.Values.{Held}
 use Rattle.answer_builder.specs.Values.{Told}
 use Rattle.answer_builder.specs.Answers.{answers_of, told_at, told_stale, sections_told}
-use Rattle.answer_builder.specs.Building.{end_of, end_authority, end_rcode, ending, lent, listed}
+use Rattle.answer_builder.specs.Building.{end_of, end_authority, end_rcode, ending, listed}
+use Rattle.plain_list.specs.Borrowed.{lent}
 
 ending_is : (chain : List Told) → ending (flat_map answers_of chain) (end_of chain) ≡ sections_told chain
 ending_is [] = refl

@@ -1,13 +1,8 @@
 -- How an answer is put together from borrowed things.
-use Rattle.std.specs.Prelude.{ℕ, if◌then◌else◌, map, nat_le, true, List, [], ◌∷◌, length, Option, Some, None}
-use denote.Ref.{Bor}
+use Rattle.std.specs.Prelude.{ℕ, if◌then◌else◌, nat_le, true, List, [], ◌∷◌, length, Option, Some, None}
 use Rattle.dns_message.specs.Values.{Record, Message}
 use Rattle.answer_builder.specs.Values.{Told, Sections}
 use Rattle.answer_builder.specs.Answers.{authority_of, last_of, rcode_of}
-
--- what is borrowed, as it is
-abbrev pub lent : {T : Type 0} → List (Bor T) → List T
-lent refs = map (λ x. x.now) refs
 
 -- the records of a set that may be missing
 abbrev pub listed : Option (List Record) → List Record

@@ -2,6 +2,7 @@
 use Rattle.std.specs.Prelude.{ℕ, Bool, List, Option}
 use Rattle.dns_message.specs.Values.{Question, Record}
 use Rattle.trust_rank.specs.Values.{Piece}
+use Rattle.dns_message.specs.Header.{Header}
 
 -- what a client asked, as far as its answer repeats it: RFC 1035 4.1.1 and 4.1.2
 pub record Asked : Type 0 where
@@ -20,3 +21,7 @@ pub record Sections : Type 0 where
   pub answers : List Record
   pub authority : List Record
   pub rcode : ℕ
+
+-- what the answer to a request with this header repeats of it, and of its question where there is one
+abbrev pub asked_in : Header → Option Question → Asked
+asked_in h q = record { id = h.id; opcode = h.opcode; rd = h.rd; question = q }

@@ -5,12 +5,12 @@ ghost use Rattle.std.specs.List.{AllByRecursion};
 ghost use Rattle.dns_message.specs.Writing.{written};
 ghost use Rattle.answer_builder.specs.Answers.{error_response, local_sections, sections_told, IsEarlier};
 ghost use Rattle.answer_builder.specs.Faults.{Gives};
-ghost use Rattle.answer_builder.specs.Building.{lent};
+ghost use Rattle.plain_list.specs.Borrowed.{lent};
 ghost use Rattle.answer_builder.specs.Transports.{answer_of, local_answer_of, stale_answer_of, text_of};
 
 use crate::asked::{Asked, AskedRef, Transport};
 use crate::fault::Fault;
-use crate::records::{NAME_ERROR, end_of, set_of, sets_at, sets_of};
+use crate::records::{end_of, set_of, sets_at, sets_of};
 use crate::sections::SectionsRef;
 use crate::text::{header_of, put_bare, put_text};
 use crate::told::{ToldRef, last_at, told_left, told_stale};
@@ -18,6 +18,7 @@ use dns_message::MessageParts;
 use plain_list::Octets;
 use record_cache::Held;
 use std::alloc::{AllocError, Allocator};
+use trust_rank::NAME_ERROR;
 
 /// Room for what UDP carries (RFC 1035 4.2.1).
 const ROOM: usize = 512;

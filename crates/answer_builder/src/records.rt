@@ -7,16 +7,14 @@ ghost use Rattle.dns_message.specs.Borrowed.{data_of, records_in};
 ghost use Rattle.dns_message.specs.Data.{IsShaped};
 ghost use Rattle.trust_rank.specs.Values.{unboxed};
 ghost use Rattle.answer_builder.specs.Answers.{aged, answers_of, authority_of, rcode_of, record_of, told_at, IsEarlier};
-ghost use Rattle.answer_builder.specs.Building.{end_authority, end_rcode, lent, listed};
+ghost use Rattle.answer_builder.specs.Building.{end_authority, end_rcode, listed};
+ghost use Rattle.plain_list.specs.Borrowed.{lent};
 
 use crate::told::ToldRef;
 use dns_message::{DataRef, Record, RowsRef};
 use record_cache::Held;
 use std::alloc::{AllocError, Allocator};
-use trust_rank::{Body, Piece};
-
-/// The response code of a name error (RFC 1035 4.1.1).
-pub(crate) const NAME_ERROR: u8 = 3;
+use trust_rank::{Body, NAME_ERROR, Piece};
 
 /// The response code of an answer that ends with this piece.
 fn rcode_of<A: Allocator>(piece: &Piece<A>) -> u8

@@ -6,7 +6,7 @@ use std::alloc::Global;
 use std::io;
 use std::io::{ErrorKind, Write};
 use std::test::Fail;
-use tcp_streams::Unsent;
+use tcp_frames::Unsent;
 
 /// A stream that takes at most so many octets of a write, and fails where it is told none.
 #[derive(Drop)]

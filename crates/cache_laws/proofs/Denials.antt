@@ -9,7 +9,7 @@ use Rattle.suffix_routes.specs.Routes.{route_of}
 use Rattle.trust_rank.specs.Values.{rows, Piece, ends_denied, Walk, Reply, reply_of}
 use Rattle.trust_rank.specs.Sets.{records_for, with_all_data, set_with, set_of}
 use Rattle.trust_rank.specs.Denials.{soa_for}
-use Rattle.trust_rank.specs.Walks.{Met, met_nothing, met_set, met_no_data, met_name_error, met_alias, met_lame}
+use Rattle.trust_rank.specs.Walks.{AtName, met_nothing, met_set, met_no_data, met_name_error, met_alias, met_lame}
 use Rattle.trust_rank.specs.Walks.{is_place, is_on_route, rank_at, at_name, answer_set, alias_set, has_many}
 use Rattle.trust_rank.specs.Walks.{target_of, is_referral, name_error_at, no_data_at, denial_met, denial_at, leads}
 use Rattle.trust_rank.specs.Walks.{alias_or, set_or, met_at, most_aliases, lame_walk, is_lame, behind, go_on}
@@ -239,7 +239,7 @@ behind_denied p w = by (is_lame w.end)
     by true e = absurd (cc)
     by false e = e
 
-go_denied : (r : Reply) (left : ℕ) (is_first : Bool) (name : List (List ℕ)) (rest : List (List ℕ) → Walk) (met : Met)
+go_denied : (r : Reply) (left : ℕ) (is_first : Bool) (name : List (List ℕ)) (rest : List (List ℕ) → Walk) (met : AtName)
     → met_at r is_first name ≡ met
     → ((target : List (List ℕ)) → (rest target).end ≡ ends_denied → Denies r left target)
     → (go_on rest name met).end ≡ ends_denied → Denies r (suc left) name
@@ -271,7 +271,7 @@ walk_denied r (suc left) is_first name e = go_denied r left is_first name (λ ta
 error_met : (r : Reply) (is_first : Bool) (name : List (List ℕ)) → IsDeniedAt r name
     → met_at r is_first name ≡ met_name_error (name_error_at r name)
 error_met r is_first name d =
-    let denial : Met = denial_at r is_first name in
+    let denial : AtName = denial_at r is_first name in
     cond-true (is_on_route r name) (set_or r.question.kind (answer_set r r.question.kind name)
     (alias_or (alias_set r name) denial)) met_nothing (is_on r name d.on_route)
     ∙ ap (λ (o : Option Piece). set_or r.question.kind o (alias_or (alias_set r name) denial))
@@ -325,7 +325,7 @@ has_alias r name target a = let q : Question = at_name r 5 name in
 alias_met : (r : Reply) (is_first : Bool) (name target : List (List ℕ)) (a : IsAliasAt r name target)
     (h : HasAlias r name target) → met_at r is_first name ≡ met_alias h.alias target
 alias_met r is_first name target a h =
-    let denial : Met = denial_at r is_first name in
+    let denial : AtName = denial_at r is_first name in
     cond-true (is_on_route r name) (set_or r.question.kind (answer_set r r.question.kind name)
     (alias_or (alias_set r name) denial)) met_nothing (is_on r name a.on_route)
     ∙ ap (λ (o : Option Piece). set_or r.question.kind o (alias_or (alias_set r name) denial))
@@ -342,11 +342,11 @@ denies : (r : Reply) (left count : ℕ) (is_first : Bool) (name last : List (Lis
 unfolding walk_from
 denies r zero count is_first name last few lead d = absurd (omega (arith, few))
 denies r (suc left) zero is_first name last few lead d =
-    ap (λ (met : Met). (go_on (λ target. walk_from r left false target) name met).end)
+    ap (λ (met : AtName). (go_on (λ target. walk_from r left false target) name met).end)
     (error_met r is_first name (subst (IsDeniedAt r) (sym lead) d))
 denies r (suc left) (suc count) is_first name last few lead d =
     let h : HasAlias r name lead.0 = has_alias r name lead.0 lead.1 in
-    ap (λ (met : Met). (go_on (λ target. walk_from r left false target) name met).end)
+    ap (λ (met : AtName). (go_on (λ target. walk_from r left false target) name met).end)
     (alias_met r is_first name lead.0 lead.1 h)
     ∙ denied_behind h.alias (walk_from r left false lead.0)
     (denies r left count false lead.0 last (omega (arith, few)) lead.2 d)

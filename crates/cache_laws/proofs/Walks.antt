@@ -7,13 +7,13 @@ use Rattle.dns_message.specs.Values.{Question, Message}
 use Rattle.suffix_routes.specs.Values.{Config}
 use Rattle.trust_rank.specs.Values.{Piece, Walk, Reply, reply_of}
 use Rattle.trust_rank.specs.Denials.{soa_for}
-use Rattle.trust_rank.specs.Walks.{Met, met_nothing, met_set, met_no_data, met_name_error, met_alias, met_lame}
+use Rattle.trust_rank.specs.Walks.{AtName, met_nothing, met_set, met_no_data, met_name_error, met_alias, met_lame}
 use Rattle.trust_rank.specs.Walks.{is_on_route, answer_set, alias_set, has_many, target_of, is_referral}
 use Rattle.trust_rank.specs.Walks.{name_error_at, no_data_at, denial_met, denial_at, leads, alias_or, set_or, met_at}
 use Rattle.trust_rank.specs.Walks.{most_aliases, lame_walk, is_lame, behind, go_on, walk_from, servers_from}
 use Rattle.trust_rank.specs.Walks.{carries_servers, with_servers, walk_of}
 
-abbrev EachMet : (Piece → Type 0) → Met → Type 0
+abbrev EachMet : (Piece → Type 0) → AtName → Type 0
 EachMet P met_nothing = Unit {0}
 EachMet P (met_set p) = P p
 EachMet P (met_no_data p) = P p
@@ -49,13 +49,13 @@ led : (P : Piece → Type 0) (p : Piece) (target : Option (List (List ℕ))) →
 led P p None h = tt
 led P p (Some target) h = h
 
-met_alias_or : (r : Reply) (P : Piece → Type 0) (name : List (List ℕ)) (o : Option Piece) (other : Met) → OfAll r P
+met_alias_or : (r : Reply) (P : Piece → Type 0) (name : List (List ℕ)) (o : Option Piece) (other : AtName) → OfAll r P
     → alias_set r name ≡ o → EachMet P other → EachMet P (alias_or o other)
 met_alias_or r P name None other h e m = m
 met_alias_or r P name (Some p) other h e m = led P p (target_of p.body)
     (h.sets 5 name p (alias_is (r.question.kind == 5) (answer_set r 5 name) p e))
 
-met_set_or : (r : Reply) (P : Piece → Type 0) (name : List (List ℕ)) (o : Option Piece) (other : Met) → OfAll r P
+met_set_or : (r : Reply) (P : Piece → Type 0) (name : List (List ℕ)) (o : Option Piece) (other : AtName) → OfAll r P
     → answer_set r r.question.kind name ≡ o → EachMet P other → EachMet P (set_or r.question.kind o other)
 met_set_or r P name None other h e m = m
 met_set_or r P name (Some p) other h e m =
@@ -83,7 +83,7 @@ behind_each P p w one rest =
     cond_both (is_lame w.end) lame_walk (led_by p w) (λ (x : Walk). AllByRecursion P x.pieces) (λ _. tt)
     (λ _. (one, rest))
 
-go_each : (P : Piece → Type 0) (name : List (List ℕ)) (rest : List (List ℕ) → Walk) (met : Met) → EachMet P met
+go_each : (P : Piece → Type 0) (name : List (List ℕ)) (rest : List (List ℕ) → Walk) (met : AtName) → EachMet P met
     → ((target : List (List ℕ)) → AllByRecursion P (rest target).pieces) → AllByRecursion P (go_on rest name met).pieces
 go_each P name rest met_nothing m h = tt
 go_each P name rest (met_set p) m h = (m, tt)
@@ -130,7 +130,7 @@ behind_plain : (p : Piece) (w : Walk) → w.authority ≡ [] → (behind p w).au
 behind_plain p w e = cond_both (is_lame w.end) lame_walk (led_by p w) (λ (x : Walk). x.authority ≡ []) (λ _. refl)
     (λ _. e)
 
-go_plain : (name : List (List ℕ)) (rest : List (List ℕ) → Walk) (met : Met)
+go_plain : (name : List (List ℕ)) (rest : List (List ℕ) → Walk) (met : AtName)
     → ((target : List (List ℕ)) → (rest target).authority ≡ []) → (go_on rest name met).authority ≡ []
 go_plain name rest met_nothing h = refl
 go_plain name rest (met_set p) h = refl

@@ -168,10 +168,10 @@ fn lower_with_zeros(octets: &[u8]) -> [u8; 255]
 /// So many octets are compared one by one, up to the first that differs.
 const FEW: usize = 32;
 
-/// Equal octets, at most 255, ASCII letter case aside (RFC 1035 2.3.3). More than a few are turned to lower case before any
-/// are compared: with no branch at each octet, many are taken at once.
+/// Octets, at most 255, that are equal in lower case. More than a few are turned to lower case before any are compared: with
+/// no branch at each octet, many are taken at once.
 #[tactic(auto, using(crate::proofs::KeyOf::padded_same))]
-pub(crate) fn is_same_text(a: &[u8], b: &[u8]) -> bool
+fn is_same_in_lower_case(a: &[u8], b: &[u8]) -> bool
     requires { length a.now ≤ 255 }
     ensures { IsTrue result ↔ (map to_ascii_lowercase a.now ≡ map to_ascii_lowercase b.now) }
 {
@@ -179,6 +179,15 @@ pub(crate) fn is_same_text(a: &[u8], b: &[u8]) -> bool
         return a.eq_ignore_ascii_case(b);
     }
     a.len() == b.len() && lower_with_zeros(a) == lower_with_zeros(b)
+}
+
+/// Equal octets, at most 255, ASCII letter case aside (RFC 1035 2.3.3). Most that are equal are spelled alike, so they are
+/// compared as they are first.
+pub(crate) fn is_same_text(a: &[u8], b: &[u8]) -> bool
+    requires { length a.now ≤ 255 }
+    ensures { IsTrue result ↔ (map to_ascii_lowercase a.now ≡ map to_ascii_lowercase b.now) }
+{
+    a == b || is_same_in_lower_case(a, b)
 }
 
 /// The key of a name that has these octets.

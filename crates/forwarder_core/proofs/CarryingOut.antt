@@ -5,24 +5,31 @@ use Rattle.suffix_routes.specs.Values.{Config}
 use Rattle.step_values.specs.Values.{Event, Action, actions_of, Outcome}
 use Rattle.trust_rank.specs.declared.slot.Slot.{Slot}
 use Rattle.trust_rank.specs.Values.{Piece}
-use Rattle.step_rules.specs.State.{State}
-use Rattle.step_rules.specs.LookingUp.{promoted_all}
-use Rattle.step_rules.specs.Offering.{put_all, unkept_of}
-use Rattle.step_rules.specs.Steps.{offering_step, using, with_entries}
-use Rattle.step_rules.specs.Row.{Happens, HandsOctets, effective, Row}
-use Rattle.step_changes.specs.declared.next.Change.{Change}
-use Rattle.step_changes.specs.declared.next.Change.TheVariants.{Nothing, Join, Open, Close, SendOn, AskAgain, Expire}
-use Rattle.step_changes.specs.declared.next.Next.{Next}
-use Rattle.step_changes.specs.Next.{changed, pieces_of, next_of, IsDecided, IsDecidedQuietly, IsOutcome}
+use Rattle.step_table.specs.State.{State, turn}
+use Rattle.alias_chains.specs.LookingUp.{promoted_all}
+use Rattle.alias_chains.specs.Offering.{put_all, unkept_of, pieces_of}
+use Rattle.step_table.specs.Steps.{offering_step, with_promoted, with_entries}
+use Rattle.step_table.specs.Row.{Happens, HandsOctets, effective, Row}
+use Rattle.step_actions.specs.declared.decision.Change.{Change}
+use Rattle.step_actions.specs.declared.decision.Change.TheVariants.{Nothing, Join, Open, Close, SendOn, AskAgain, Expire}
+use Rattle.step_actions.specs.declared.decision.Decision.{Decision}
+use Rattle.step_actions.specs.Decision.{changed, next_of, IsDecided, IsDecidedQuietly, IsOutcome}
 
 -- what was put in place is what was decided
-by_change : {A : Type 0} (n : ℕ) (rooms : List Bool) (s : State) (actions : List Action) (used : List Slot) (ps : List Piece) (change : Change A)
+by_change : {A : Type 0} (n : ℕ) (rooms : List Bool) (s : State) (actions : List Action) (used : List Slot)
+    (ps : List Piece) (change : Change A)
     → record {
       actions = actions;
-      unkept = unkept_of (changed n s change).cache.capacity (changed n s change).moment rooms ps (promoted_all used (changed n s change).cache.entries);
-      state = with_entries (put_all (changed n s change).cache.capacity (changed n s change).moment rooms ps (promoted_all used (changed n s change).cache.entries)) (changed n s change);
+      unkept = unkept_of (changed n s change).cache.capacity (changed n s change).moment rooms ps
+          (promoted_all used (changed n s change).cache.entries);
+      state = with_entries (put_all (changed n s change).cache.capacity (changed n s change).moment rooms ps
+          (promoted_all used (changed n s change).cache.entries)) (changed n s change);
     }
-    ≡ offering_step n rooms ps (record { actions = actions; unkept = 0; state = changed n (using used s) change })
+    ≡ offering_step n rooms ps (record {
+      actions = actions;
+      unkept = 0;
+      state = changed n (with_promoted used s) change;
+    })
 by_change n rooms s actions used ps Nothing = refl
 by_change n rooms s actions used ps (Join b) = refl
 by_change n rooms s actions used ps (Open b) = refl
@@ -31,31 +38,43 @@ by_change n rooms s actions used ps (SendOn b) = refl
 by_change n rooms s actions used ps (AskAgain path b) = refl
 by_change n rooms s actions used ps (Expire closed) = refl
 
-pub carried_out : {A : Type 0} (n : ℕ) (rooms : List Bool) (s : State) (d : Next A) (mid after : State) (unkept : ℕ) → mid ≡ changed n s d.change
-    → after ≡ with_entries (put_all mid.cache.capacity mid.moment rooms (pieces_of d.carried.items) (promoted_all d.used mid.cache.entries)) mid
-    → unkept ≡ unkept_of mid.cache.capacity mid.moment rooms (pieces_of d.carried.items) (promoted_all d.used mid.cache.entries)
+pub carried_out : {A : Type 0} (n : ℕ) (rooms : List Bool) (s : State) (d : Decision A) (mid after : State)
+    (unkept : ℕ) → mid ≡ changed n s d.change
+    → after ≡ with_entries (put_all mid.cache.capacity mid.moment rooms (pieces_of d.carried.items)
+    (promoted_all d.used mid.cache.entries)) mid
+    → unkept ≡ unkept_of mid.cache.capacity mid.moment rooms (pieces_of d.carried.items)
+    (promoted_all d.used mid.cache.entries)
     → record { actions = actions_of d.actions; unkept = unkept; state = after } ≡ next_of n rooms s d
 carried_out n rooms s d mid after unkept first second count =
     (λ i. record { actions = actions_of d.actions; unkept = count i; state = second i })
     ∙ (λ i. record {
       actions = actions_of d.actions;
-      unkept = unkept_of (first i).cache.capacity (first i).moment rooms (pieces_of d.carried.items) (promoted_all d.used (first i).cache.entries);
-      state = with_entries (put_all (first i).cache.capacity (first i).moment rooms (pieces_of d.carried.items) (promoted_all d.used (first i).cache.entries)) (first i);
+      unkept = unkept_of (first i).cache.capacity (first i).moment rooms (pieces_of d.carried.items)
+          (promoted_all d.used (first i).cache.entries);
+      state = with_entries (put_all (first i).cache.capacity (first i).moment rooms (pieces_of d.carried.items)
+          (promoted_all d.used (first i).cache.entries)) (first i);
     })
     ∙ by_change n rooms s (actions_of d.actions) d.used (pieces_of d.carried.items) d.change
 
 -- an outcome that is what was decided
-pub row_is : {A : Type 0} (c : Config) (s s' : State) (now n : ℕ) (words : List ℕ) (e : Event) (d : Option (Next A)) (next : Next A) (o : Outcome) → n ≡ effective now s → HandsOctets e → IsDecided c n words s e d → d ≡ Some next
-    → ((rooms : List Bool) × IsOutcome c (next_of n rooms s next) o s') → Row c s (record { now = now; words = words; event = e }) o s'
+pub row_is : {A : Type 0} (c : Config) (s s' : State) (now n : ℕ) (words : List ℕ) (e : Event)
+    (d : Option (Decision A)) (next : Decision A) (o : Outcome) → n ≡ effective now s → HandsOctets e
+    → IsDecided (turn c n words s) e d → d ≡ Some next
+    → ((rooms : List Bool) × IsOutcome c (next_of n rooms s next) o s')
+    → Row c s (record { now = now; words = words; event = e }) o s'
 row_is {A} c s s' now n words e d next o moment octets decided is out =
     let rooms = out.0 in
     let done = out.1 in
-    let happens : Happens c n words s e (next_of n rooms s next) = subst (IsDecided c n words s e) is decided rooms in
+    let happens : Happens (turn c n words s) e (next_of n rooms s next) =
+    subst (IsDecided (turn c n words s) e) is decided rooms in
     record {
       octets = octets;
-      happens = subst (λ (m : ℕ). Happens c m words s e (record { actions = o.actions; unkept = o.unkept; state = s' })) moment (subst (Happens c n words s e) (sym done.done) happens);
+      happens = subst (λ (m : ℕ). Happens (turn c m words s) e
+          (record { actions = o.actions; unkept = o.unkept; state = s' })) moment
+          (subst (Happens (turn c n words s) e) (sym done.done) happens);
       more = done.more;
     }
 
-pub quiet_at : {A : Type 0} (d : Option (Next A)) (next : Next A) → d ≡ Some next → IsDecidedQuietly {A = A} (Ok d) → (next.used ≡ []) × (next.change ≡ Nothing)
-quiet_at {A} d next is quiet = subst (λ (r : Option (Next A)). IsDecidedQuietly {A = A} (Ok r)) is quiet
+pub quiet_at : {A : Type 0} (d : Option (Decision A)) (next : Decision A) → d ≡ Some next
+    → IsDecidedQuietly {A = A} (Ok d) → (next.used ≡ []) × (next.change ≡ Nothing)
+quiet_at {A} d next is quiet = subst (λ (r : Option (Decision A)). IsDecidedQuietly {A = A} (Ok r)) is quiet

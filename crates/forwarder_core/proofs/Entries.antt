@@ -14,10 +14,9 @@ use Rattle.record_cache.specs.declared.cache.Offered.TheVariants.{Kept, Outranke
 use Rattle.negative_cache.specs.Entries.{denies}
 use Rattle.negative_cache.specs.Showing.{shown}
 use Rattle.answer_builder.specs.Answers.{IsEarlier}
-use Rattle.step_rules.specs.LookingUp.{promoted_all}
-use Rattle.step_rules.specs.Offering.{shown_by, ended_so, put, put_all, unkept_of}
-use Rattle.step_rules.specs.Row.{held_at}
-use Rattle.step_soundness.proofs.CallerLemmas.{All-append, All-filter}
+use Rattle.alias_chains.specs.LookingUp.{promoted_all}
+use Rattle.alias_chains.specs.Offering.{shown_by, ended_so, put, put_all, unkept_of, held_at}
+use Rattle.step_table.proofs.CallerLemmas.{All-append, All-filter}
 
 All-take : (P : Held → Type 0) (n : ℕ) (es : List Held) → AllByRecursion P es → AllByRecursion P (take n es)
 All-take P zero es all = tt

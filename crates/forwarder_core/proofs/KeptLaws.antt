@@ -12,23 +12,23 @@ use Rattle.outstanding.specs.declared.ask.Path.TheVariants.{Udp, Tcp}
 use Rattle.outstanding.specs.Lists.{without_path, AreInTurn, AreListed, MayBegin}
 use Rattle.outstanding.specs.Due as due
 use Rattle.outstanding.specs.Values.{Ask, Inquiries}
-use Rattle.step_rules.specs.State.{Waiting, State}
-use Rattle.step_rules.specs.Attempts.{servers_in}
-use Rattle.step_rules.specs.Steps.{ask_list, tcp_count, waits_for}
-use Rattle.step_rules.specs.Row.{deadline_of, timeout_of}
+use Rattle.step_table.specs.State.{State}
+use Rattle.waiting_questions.specs.Values.{Waiting, waits_for}
+use Rattle.step_table.specs.Attempts.{servers_in}
+use Rattle.step_table.specs.Steps.{ask_list, tcp_count}
+use Rattle.step_table.specs.Ticks.{deadline_of}
+use Rattle.step_table.specs.Replies.{timeout_of}
 use Rattle.record_cache.specs.Values.{Held, Cache}
 use Rattle.answer_builder.specs.Answers.{IsEarlier}
-use Rattle.step_rules.specs.Progress.{AreTakenInTurn, IsTry, IsOnRoute, lesser, least, IsInOrder}
-use Rattle.step_rules.proofs.CallerLemmas.{first_due, first_late, first_deadline}
-use Rattle.step_soundness.specs.Explains.{IsBelow, ArePreferred}
-use Rattle.step_soundness.proofs.CallerLemmas.{All-append, All-filter, All-weaker, append_nil, preferred_first, preferred_put}
-use Rattle.step_changes.specs.declared.next.Preferred.{Preferred}
-use Rattle.step_changes.specs.Kept.{IsKeptAsk, HoldsEarlier, IsKept}
-use Rattle.step_changes.specs.Next.{left_waiting, left_or_sent, with_preferred, IfFollows, IsSentEarlier, IsServed}
-use Rattle.step_replies.specs.Onward.{Onward, sent_on}
+use Rattle.step_table.specs.Progress.{AreTakenInTurn, IsTry, IsOnRoute, lesser, least, IsInOrder, IsBelow, ArePreferred}
+use Rattle.step_table.proofs.CallerLemmas.{first_due, first_late, first_deadline, All-append, All-filter, All-weaker, append_nil, preferred_first, preferred_put}
+use Rattle.step_actions.specs.declared.decision.Preferred.{Preferred}
+use Rattle.step_actions.specs.Kept.{IsKeptAsk, HoldsEarlier, IsKeptForwarder}
+use Rattle.step_actions.specs.Decision.{left_waiting, left_or_sent, with_preferred, IfFollows, IsSentEarlier, IsServed}
+use Rattle.waiting_questions.specs.Onward.{Onward, sent_on}
 use Rattle.waiting_questions.specs.Settling.{left_by, settled}
 use Rattle.dns_message.specs.Values.{Question}
-use Rattle.step_decisions.proofs.CallerLemmas.{later_entries, later_held, kept_rest, kept_without}
+use Rattle.step_actions.proofs.CallerLemmas.{later_entries, later_held, kept_rest, kept_without}
 
 -- ---- asks, later
 
@@ -65,7 +65,7 @@ fewer test (x ∷ xs) = cond_both (test x) (x ∷ filter test xs) (filter test x
 
 -- ---- changes
 
-pub kept_later : (c : Config) (e : Cache) (i : Inquiries) (ws : List Waiting) (ps : List ℕ) (m n k : ℕ) → IsKept c e i ws ps m k → m ≤ n → n ≤ 2 ^ 62 → IsKept c e i ws ps n k
+pub kept_later : (c : Config) (e : Cache) (i : Inquiries) (ws : List Waiting) (ps : List ℕ) (m n k : ℕ) → IsKeptForwarder c e i ws ps m k → m ≤ n → n ≤ 2 ^ 62 → IsKeptForwarder c e i ws ps n k
 kept_later c e i ws ps m n k kept le small = record {
   config = kept.config;
   cache = kept.cache;
@@ -82,8 +82,8 @@ kept_later c e i ws ps m n k kept le small = record {
 }
 
 -- one question more
-pub kept_joined : (c : Config) (e : Cache) (i : Inquiries) (ws ws' : List Waiting) (ps : List ℕ) (m n k : ℕ) (x : Waiting) → IsKept c e i ws ps m k → m ≤ n → n ≤ 2 ^ 62 → length ws < c.limits.questions → x.taken ≡ n → HoldsEarlier n x → ws' ≡ ws ++ x ∷ [] → IsKept c e i ws' ps n k
-kept_joined c e i ws ws' ps m n k x kept le small room at earlier is = subst (λ (xs : List Waiting). IsKept c e i xs ps n k) (sym is) (record {
+pub kept_joined : (c : Config) (e : Cache) (i : Inquiries) (ws ws' : List Waiting) (ps : List ℕ) (m n k : ℕ) (x : Waiting) → IsKeptForwarder c e i ws ps m k → m ≤ n → n ≤ 2 ^ 62 → length ws < c.limits.questions → x.taken ≡ n → HoldsEarlier n x → ws' ≡ ws ++ x ∷ [] → IsKeptForwarder c e i ws' ps n k
+kept_joined c e i ws ws' ps m n k x kept le small room at earlier is = subst (λ (xs : List Waiting). IsKeptForwarder c e i xs ps n k) (sym is) (record {
   config = kept.config;
   cache = kept.cache;
   accepted = later_entries m n e.entries le kept.accepted;
@@ -99,9 +99,9 @@ kept_joined c e i ws ws' ps m n k x kept le small room at earlier is = subst (λ
 })
 
 -- one ask more
-pub kept_asked : (c : Config) (e : Cache) (i i' : Inquiries) (ws : List Waiting) (ps : List ℕ) (m n k j : ℕ) (listed : List Ask) (a : Ask) → IsKept c e i ws ps m k → m ≤ n → n ≤ 2 ^ 62 → AllByRecursion (IsKeptAsk c m k) listed → IsKeptAsk c n (k + j) a → k + j < 2 ^ 64
-    → i' ≡ record i { asks = listed ++ a ∷ [] } → IsKept c e i' ws ps n (k + j)
-kept_asked c e i i' ws ps m n k j listed a kept le small all one fits is = subst (λ (q : Inquiries). IsKept c e q ws ps n (k + j)) (sym is) (record {
+pub kept_asked : (c : Config) (e : Cache) (i i' : Inquiries) (ws : List Waiting) (ps : List ℕ) (m n k j : ℕ) (listed : List Ask) (a : Ask) → IsKeptForwarder c e i ws ps m k → m ≤ n → n ≤ 2 ^ 62 → AllByRecursion (IsKeptAsk c m k) listed → IsKeptAsk c n (k + j) a → k + j < 2 ^ 64
+    → i' ≡ record i { asks = listed ++ a ∷ [] } → IsKeptForwarder c e i' ws ps n (k + j)
+kept_asked c e i i' ws ps m n k j listed a kept le small all one fits is = subst (λ (q : Inquiries). IsKeptForwarder c e q ws ps n (k + j)) (sym is) (record {
   config = kept.config;
   cache = kept.cache;
   accepted = later_entries m n e.entries le kept.accepted;
@@ -117,10 +117,10 @@ kept_asked c e i i' ws ps m n k j listed a kept le small all one fits is = subst
 })
 
 -- questions fewer
-pub kept_left : (c : Config) (e : Cache) (i : Inquiries) (ws ws' : List Waiting) (ps : List ℕ) (m k : ℕ) (r : Option Ask) → IsKept c e i ws ps m k → ws' ≡ left_waiting r ws → IsKept c e i ws' ps m k
-kept_left c e i ws ws' ps m k r kept is = subst (λ (xs : List Waiting). IsKept c e i xs ps m k) (sym is) (by r)
+pub kept_left : (c : Config) (e : Cache) (i : Inquiries) (ws ws' : List Waiting) (ps : List ℕ) (m k : ℕ) (r : Option Ask) → IsKeptForwarder c e i ws ps m k → ws' ≡ left_waiting r ws → IsKeptForwarder c e i ws' ps m k
+kept_left c e i ws ws' ps m k r kept is = subst (λ (xs : List Waiting). IsKeptForwarder c e i xs ps m k) (sym is) (by r)
   where
-    by : (o : Option Ask) → IsKept c e i (left_waiting o ws) ps m k
+    by : (o : Option Ask) → IsKeptForwarder c e i (left_waiting o ws) ps m k
     by None = kept
     by (Some a) = record {
       config = kept.config;
@@ -186,10 +186,10 @@ no_more_settled q (fate ∷ fates) (x ∷ xs) =
     (λ _. one_no_more x (settled q fates xs) xs (no_more_settled q fates xs) fate) (λ _. let rest = no_more_settled q (fate ∷ fates) xs in omega (arith, rest))
 
 -- questions are sent on
-pub kept_sent : (c : Config) (e : Cache) (i : Inquiries) (ws ws' : List Waiting) (ps : List ℕ) (m k : ℕ) (r : Option Ask) (onward : List (Option Onward)) → IsKept c e i ws ps m k → AllByRecursion (IsSentEarlier m) onward → ws' ≡ left_or_sent r onward ws → IsKept c e i ws' ps m k
-kept_sent c e i ws ws' ps m k r onward kept earlier is = subst (λ (xs : List Waiting). IsKept c e i xs ps m k) (sym is) (by r)
+pub kept_sent : (c : Config) (e : Cache) (i : Inquiries) (ws ws' : List Waiting) (ps : List ℕ) (m k : ℕ) (r : Option Ask) (onward : List (Option Onward)) → IsKeptForwarder c e i ws ps m k → AllByRecursion (IsSentEarlier m) onward → ws' ≡ left_or_sent r onward ws → IsKeptForwarder c e i ws' ps m k
+kept_sent c e i ws ws' ps m k r onward kept earlier is = subst (λ (xs : List Waiting). IsKeptForwarder c e i xs ps m k) (sym is) (by r)
   where
-    by : (o : Option Ask) → IsKept c e i (left_or_sent o onward ws) ps m k
+    by : (o : Option Ask) → IsKeptForwarder c e i (left_or_sent o onward ws) ps m k
     by None = kept
     by (Some a) = record {
       config = kept.config;
@@ -207,13 +207,13 @@ kept_sent c e i ws ws' ps m k r onward kept earlier is = subst (λ (xs : List Wa
     }
 
 -- the ask on a path is closed, and another is listed, where there is one
-pub kept_next : (c : Config) (e : Cache) (i i' : Inquiries) (ws : List Waiting) (ps : List ℕ) (m n k : ℕ) (path : Path) (s : State) (listed : List Ask) (next : Option Ask) → IsKept c e i ws ps m k → m ≤ n → n ≤ 2 ^ 62 → s.tcp_asks ≡ k → IfFollows c n s listed next
-    → i' ≡ record i { asks = without_path path i.asks ++ ask_list next } → IsKept c e i' ws ps n (k + tcp_count next)
+pub kept_next : (c : Config) (e : Cache) (i i' : Inquiries) (ws : List Waiting) (ps : List ℕ) (m n k : ℕ) (path : Path) (s : State) (listed : List Ask) (next : Option Ask) → IsKeptForwarder c e i ws ps m k → m ≤ n → n ≤ 2 ^ 62 → s.tcp_asks ≡ k → IfFollows c n s listed next
+    → i' ≡ record i { asks = without_path path i.asks ++ ask_list next } → IsKeptForwarder c e i' ws ps n (k + tcp_count next)
 kept_next c e i i' ws ps m n k path s listed None kept le small same follows is =
     let later = kept_later c e i ws ps m n k kept le small in
     let fewer = kept_without c e i i' ws ps n k (Some path) later (is ∙ (λ j. record i { asks = append_nil (without_path path i.asks) j })) in
     let count : k ≡ k + 0 = omega arith in
-    subst (λ (j : ℕ). IsKept c e i' ws ps n j) count fewer
+    subst (λ (j : ℕ). IsKeptForwarder c e i' ws ps n j) count fewer
 kept_next c e i i' ws ps m n k path s listed (Some a) kept le small same follows is =
     kept_asked c e i i' ws ps m n k (tcp_count (Some a)) (without_path path i.asks) a kept le small (kept_rest c m k path i.asks kept.asks)
     (subst (λ (j : ℕ). IsKeptAsk c n (j + tcp_count (Some a)) a) same follows.kept)
@@ -229,9 +229,9 @@ pub next_begins : (c : Config) (n : ℕ) (s : State) (listed : List Ask) (next :
 next_begins c n s listed None follows = tt
 next_begins c n s listed (Some a) follows = follows.begins
 
-pub kept_dropped : (c : Config) (e : Cache) (i : Inquiries) (ws ws' : List Waiting) (ps : List ℕ) (m k : ℕ) → IsKept c e i ws ps m k → ws' ≡ drop 1 ws → IsKept c e i ws' ps m k
-kept_dropped c e i [] ws' ps m k kept is = subst (λ (xs : List Waiting). IsKept c e i xs ps m k) (sym is) kept
-kept_dropped c e i (x ∷ ws) ws' ps m k kept is = subst (λ (xs : List Waiting). IsKept c e i xs ps m k) (sym is) (record {
+pub kept_dropped : (c : Config) (e : Cache) (i : Inquiries) (ws ws' : List Waiting) (ps : List ℕ) (m k : ℕ) → IsKeptForwarder c e i ws ps m k → ws' ≡ drop 1 ws → IsKeptForwarder c e i ws' ps m k
+kept_dropped c e i [] ws' ps m k kept is = subst (λ (xs : List Waiting). IsKeptForwarder c e i xs ps m k) (sym is) kept
+kept_dropped c e i (x ∷ ws) ws' ps m k kept is = subst (λ (xs : List Waiting). IsKeptForwarder c e i xs ps m k) (sym is) (record {
   config = kept.config;
   cache = kept.cache;
   accepted = kept.accepted;
@@ -247,10 +247,10 @@ kept_dropped c e i (x ∷ ws) ws' ps m k kept is = subst (λ (xs : List Waiting)
 })
 
 -- another server is preferred
-pub kept_preferred : (c : Config) (e : Cache) (i : Inquiries) (ws : List Waiting) (ps ps' : List ℕ) (m k : ℕ) (preferred : Option Preferred) → IsKept c e i ws ps m k → IsServed c preferred → ps' ≡ with_preferred preferred ps → IsKept c e i ws ps' m k
-kept_preferred c e i ws ps ps' m k preferred kept served is = subst (λ (qs : List ℕ). IsKept c e i ws qs m k) (sym is) (by preferred served)
+pub kept_preferred : (c : Config) (e : Cache) (i : Inquiries) (ws : List Waiting) (ps ps' : List ℕ) (m k : ℕ) (preferred : Option Preferred) → IsKeptForwarder c e i ws ps m k → IsServed c preferred → ps' ≡ with_preferred preferred ps → IsKeptForwarder c e i ws ps' m k
+kept_preferred c e i ws ps ps' m k preferred kept served is = subst (λ (qs : List ℕ). IsKeptForwarder c e i ws qs m k) (sym is) (by preferred served)
   where
-    by : (o : Option Preferred) → IsServed c o → IsKept c e i ws (with_preferred o ps) m k
+    by : (o : Option Preferred) → IsServed c o → IsKeptForwarder c e i ws (with_preferred o ps) m k
     by None h = kept
     by (Some p) h = record {
       config = kept.config;
@@ -268,9 +268,9 @@ kept_preferred c e i ws ps ps' m k preferred kept served is = subst (λ (qs : Li
     }
 
 -- other entries are kept
-pub kept_entries : (c : Config) (e e' : Cache) (entries : List Held) (i : Inquiries) (ws : List Waiting) (ps : List ℕ) (m k : ℕ) → IsKept c e i ws ps m k → AllByRecursion (IsOnRoute c) entries → AllByRecursion (IsEarlier m) entries
-    → e' ≡ record e { entries = entries } → IsKept c e' i ws ps m k
-kept_entries c e e' entries i ws ps m k kept on earlier is = subst (λ (q : Cache). IsKept c q i ws ps m k) (sym is) (record {
+pub kept_entries : (c : Config) (e e' : Cache) (entries : List Held) (i : Inquiries) (ws : List Waiting) (ps : List ℕ) (m k : ℕ) → IsKeptForwarder c e i ws ps m k → AllByRecursion (IsOnRoute c) entries → AllByRecursion (IsEarlier m) entries
+    → e' ≡ record e { entries = entries } → IsKeptForwarder c e' i ws ps m k
+kept_entries c e e' entries i ws ps m k kept on earlier is = subst (λ (q : Cache). IsKeptForwarder c q i ws ps m k) (sym is) (record {
   config = kept.config;
   cache = record { capacity = kept.cache.capacity; on_routes = on };
   accepted = earlier;
@@ -286,11 +286,11 @@ kept_entries c e e' entries i ws ps m k kept on earlier is = subst (λ (q : Cach
 })
 
 -- a new forwarder
-pub kept_first : (c : Config) (e : Cache) (i : Inquiries) (ws : List Waiting) (ps : List ℕ) → IsConfig c → e ≡ record { capacity = c.limits.cache; entries = [] } → i ≡ record { capacity = c.limits.inquiries; asks = [] } → ws ≡ [] → ps ≡ map (λ r. 0) c.routes → IsKept c e i ws ps 0 0
+pub kept_first : (c : Config) (e : Cache) (i : Inquiries) (ws : List Waiting) (ps : List ℕ) → IsConfig c → e ≡ record { capacity = c.limits.cache; entries = [] } → i ≡ record { capacity = c.limits.inquiries; asks = [] } → ws ≡ [] → ps ≡ map (λ r. 0) c.routes → IsKeptForwarder c e i ws ps 0 0
 kept_first c e i ws ps config empty is none places =
-    subst (λ (q : Cache). IsKept c q i ws ps 0 0) (sym empty)
-    (subst (λ (q : Inquiries). IsKept c (record { capacity = c.limits.cache; entries = [] }) q ws ps 0 0) (sym is)
-    (subst (λ (xs : List Waiting). IsKept c (record { capacity = c.limits.cache; entries = [] }) (record { capacity = c.limits.inquiries; asks = [] }) xs ps 0 0) (sym none) (record {
+    subst (λ (q : Cache). IsKeptForwarder c q i ws ps 0 0) (sym empty)
+    (subst (λ (q : Inquiries). IsKeptForwarder c (record { capacity = c.limits.cache; entries = [] }) q ws ps 0 0) (sym is)
+    (subst (λ (xs : List Waiting). IsKeptForwarder c (record { capacity = c.limits.cache; entries = [] }) (record { capacity = c.limits.inquiries; asks = [] }) xs ps 0 0) (sym none) (record {
       config = config;
       cache = record { capacity = refl; on_routes = tt };
       accepted = tt;
@@ -332,7 +332,7 @@ timeouts_least c [] = refl
 timeouts_least c (a ∷ asks) = sooner_one (due.due_of c.limits.ask_ms a) (due.next_due c.limits.ask_ms asks) ∙ ap (λ (o : Option ℕ). Some (lesser (timeout_of c a) o)) (timeouts_least c asks)
 
 -- both lists are in order
-pub kept_in_order : (c : Config) (e : Cache) (i : Inquiries) (ws : List Waiting) (ps : List ℕ) (m k : ℕ) → IsKept c e i ws ps m k → AreListed i → IsInOrder c (record { cache = e; asks = i.asks; waiting = ws; preferred = ps; moment = m; tcp_asks = k })
+pub kept_in_order : (c : Config) (e : Cache) (i : Inquiries) (ws : List Waiting) (ps : List ℕ) (m k : ℕ) → IsKeptForwarder c e i ws ps m k → AreListed i → IsInOrder c (record { cache = e; asks = i.asks; waiting = ws; preferred = ps; moment = m; tcp_asks = k })
 kept_in_order c e i ws ps m k kept are = record {
   cache = kept.cache;
   asks = are.in_turn;

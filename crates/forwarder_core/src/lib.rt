@@ -2,7 +2,9 @@
 //! what is to be done; it reads no clock, opens no socket and draws nothing at random.
 #![tactic(auto)]
 
+mod deciding;
 mod forwarder;
+mod lists;
 
 pub use forwarder::Forwarder;
 pub use step_values::{Action, Client, Event, Handed, Outcome, Path, Step, Why};

@@ -1,7 +1,6 @@
 //! The commands.
 
 use crate::arguments::{LONGEST, are, argument, text};
-use crate::counted::Counted;
 use crate::fault::Fault;
 use crate::files::Opened;
 use crate::refused::say_refused;
@@ -86,9 +85,8 @@ where
     R: Env + Print + AllocGlobal + Net + Clock + RandomSource,
 {
     let turns = turns(rt).ok_or(Fault::Usage)?;
-    let served = serve_config(rt, rt.alloc(), named_config(rt)?, turns)?;
-    println!(rt; "{}", Counted::of(served))?;
-    Ok(())
+    let config = named_config(rt)?;
+    serve_config(rt, rt.alloc(), config, turns, &mut io::writer(rt))
 }
 
 /// Replays standard input. What was printed before a fault is written out, too.

@@ -39,6 +39,9 @@ servers = [\"192.0.2.1:53\"]
 const PRINTED: &[u8] =
     b"1 ask-udp 1032 192.0.2.1:53 0008010000010000000000000161076578616d706c650000010001\n";
 
+/// What is printed where no turn is served.
+const COUNTED: &[u8] = b"turns 0 lost 0\n";
+
 /// A reader that fails.
 #[derive(Drop)]
 struct Broken;
@@ -176,13 +179,16 @@ fn a_service_that_finds_no_memory(rt: HostRuntime) {
         let Ok(config) = read_config(rt.alloc(), &heap, &mut input) else {
             break;
         };
+        let mut printed = Vec::new(rt.alloc());
         heap.allow(count);
-        let ended = serve_config(&rt, &heap, config, 0);
+        let ended = serve_config(&rt, &heap, config, 0, &mut printed);
         heap.allow(u64::MAX);
         if ended.is_ok() {
+            assert_eq!(rt; printed.as_slice(), COUNTED);
             break;
         }
-        assert_eq!(rt; ended, Err(ReplayFault::Memory), "{count} granted");
+        let memory = Err(Fault::Stopped(ReplayFault::Memory));
+        assert_eq!(rt; ended, memory, "{count} granted");
         refused = count + 1;
     }
     assert!(rt; 0 < refused && refused < 100);

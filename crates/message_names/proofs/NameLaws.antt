@@ -6,14 +6,14 @@ use Rattle.std.proofs.Math.Seq.{drop-cons}
 use Rattle.dns_name.specs.Labels.{size_of}
 use Rattle.message_names.specs.declared.fault.Fault.{Fault}
 use Rattle.message_names.specs.declared.fault.Fault.TheVariants.{NameLong}
-use Rattle.message_names.specs.declared.walk.Step.{Step}
-use Rattle.message_names.specs.declared.walk.Step.TheVariants as steps
+use Rattle.message_names.specs.declared.walk.NameOctet.{NameOctet}
+use Rattle.message_names.specs.declared.walk.NameOctet.TheVariants as steps
 use Rattle.message_names.specs.declared.walk.Bound.{Bound}
-use Rattle.message_names.specs.declared.walk.Walk.{Walk}
+use Rattle.message_names.specs.declared.walk.NameCursor.{NameCursor}
 use Rattle.message_names.specs.Reading.{◌>>=◌}
 use Rattle.message_names.specs.Names.{target, NameAt, at_root, at_label, at_pointer, step, Stays, with_label, ending, go_on, walk_in, steps_left, name_within, name_at, whole, end_of, resume, Advances}
 
-abbrev pub did : Step → Result Step Fault
+abbrev pub did : NameOctet → Result NameOctet Fault
 did s = Ok s
 
 pub takes_label : (bytes : List ℕ) (s : Bound) (o f used len : ℕ) → step bytes s o f used ≡ did (steps.Label len) → Stays bytes s o f used (steps.Label len)
@@ -29,7 +29,7 @@ leads_back bytes s o f used p e = grind (arith, e)
 abbrev Enough : ℕ → ℕ → List ℕ → Type 0
 Enough k m bytes = (s : Bound) (o f used : ℕ) → used ≤ 254 → steps_left f used ≤ k → steps_left f used ≤ m → walk_in k bytes s o f used ≡ walk_in m bytes s o f used
 
-enough_by : (k m : ℕ) (bytes : List ℕ) → Enough k m bytes → (s : Bound) (o f used : ℕ) → used ≤ 254 → steps_left f used ≤ suc k → steps_left f used ≤ suc m → (r : Result Step Fault) → step bytes s o f used ≡ r
+enough_by : (k m : ℕ) (bytes : List ℕ) → Enough k m bytes → (s : Bound) (o f used : ℕ) → used ≤ 254 → steps_left f used ≤ suc k → steps_left f used ≤ suc m → (r : Result NameOctet Fault) → step bytes s o f used ≡ r
     → (r >>= go_on (λ s' o' f' used'. walk_in k bytes s' o' f' used') bytes s o f used) ≡ (r >>= go_on (λ s' o' f' used'. walk_in m bytes s' o' f' used') bytes s o f used)
 enough_by k m bytes rest s o f used le a b (Err e) is = refl
 enough_by k m bytes rest s o f used le a b (Ok steps.End) is = refl
@@ -50,21 +50,21 @@ enough (suc k) (suc m) bytes s o f used le a b =
 -- ---- a step on the way
 
 -- what is read from w on, once its step is known
-pub resume_step : (bytes : List ℕ) (w : Walk) → w.used ≤ 254
+pub resume_step : (bytes : List ℕ) (w : NameCursor) → w.used ≤ 254
     → resume bytes w ≡ end_of w.end (step bytes w.bound w.offset w.run w.used >>= go_on (λ s' o' f' used'. walk_in (w.run + (254 - w.used)) bytes s' o' f' used') bytes w.bound w.offset w.run w.used)
 unfolding resume walk_in
 resume_step bytes w le =
     let one : steps_left w.run w.used ≡ suc (w.run + (254 - w.used)) = omega arith in
     rw one refl
 
-pub resume_fault : (bytes : List ℕ) (w : Walk) (e : Fault) → w.used ≤ 254 → step bytes w.bound w.offset w.run w.used ≡ Err e → resume bytes w ≡ Err e
+pub resume_fault : (bytes : List ℕ) (w : NameCursor) (e : Fault) → w.used ≤ 254 → step bytes w.bound w.offset w.run w.used ≡ Err e → resume bytes w ≡ Err e
 resume_fault bytes w e le is = resume_step bytes w le ∙ rw is (end_of_err w.end e)
   where
     end_of_err : (end : Option ℕ) (e : Fault) → end_of end (Err e) ≡ Err e
     end_of_err None e = refl
     end_of_err (Some x) e = refl
 
-pub resume_end : (bytes : List ℕ) (w : Walk) → w.used ≤ 254 → step bytes w.bound w.offset w.run w.used ≡ did steps.End → resume bytes w ≡ Ok ([], unwrap_or w.end (w.offset + 1))
+pub resume_end : (bytes : List ℕ) (w : NameCursor) → w.used ≤ 254 → step bytes w.bound w.offset w.run w.used ≡ did steps.End → resume bytes w ≡ Ok ([], unwrap_or w.end (w.offset + 1))
 resume_end bytes w le is = resume_step bytes w le ∙ rw is (end_of_ok w.end (w.offset + 1))
   where
     end_of_ok : (end : Option ℕ) (e : ℕ) → end_of end (Ok ([], e)) ≡ Ok ([], unwrap_or end e)
@@ -81,7 +81,7 @@ end_of_ending None e r = refl
 end_of_ending (Some x) e (Ok n) = refl
 end_of_ending (Some x) e (Err f) = refl
 
-pub resume_label : (bytes : List ℕ) (w : Walk) (len : ℕ) → w.used ≤ 254 → step bytes w.bound w.offset w.run w.used ≡ did (steps.Label len)
+pub resume_label : (bytes : List ℕ) (w : NameCursor) (len : ℕ) → w.used ≤ 254 → step bytes w.bound w.offset w.run w.used ≡ did (steps.Label len)
     → resume bytes w ≡ with_label (take len (drop (w.offset + 1) bytes)) (resume bytes (record { offset = w.offset + 1 + len; run = w.run; used = w.used + len + 1; bound = w.bound; end = w.end }))
 unfolding resume
 resume_label bytes w len le is =
@@ -89,7 +89,7 @@ resume_label bytes w len le is =
     let same = enough (w.run + (254 - w.used)) (steps_left w.run (w.used + len + 1)) bytes w.bound (w.offset + 1 + len) w.run (w.used + len + 1) (omega (arith, t)) (omega (arith, t)) (omega arith) in
     resume_step bytes w le ∙ rw (is, same) (end_of_label w.end (take len (drop (w.offset + 1) bytes)) (walk_in (steps_left w.run (w.used + len + 1)) bytes w.bound (w.offset + 1 + len) w.run (w.used + len + 1)))
 
-pub resume_pointer : (bytes : List ℕ) (w : Walk) (p : ℕ) → w.used ≤ 254 → step bytes w.bound w.offset w.run w.used ≡ did (steps.Pointer p)
+pub resume_pointer : (bytes : List ℕ) (w : NameCursor) (p : ℕ) → w.used ≤ 254 → step bytes w.bound w.offset w.run w.used ≡ did (steps.Pointer p)
     → resume bytes w ≡ resume bytes (record { offset = p; run = p; used = w.used; bound = whole bytes; end = Some (unwrap_or w.end (w.offset + 2)) })
 unfolding resume
 resume_pointer bytes w p le is =
@@ -146,7 +146,7 @@ pub label_step : (bytes : List ℕ) (s : Bound) (o f used len : ℕ) → step by
 unfolding step
 label_step bytes s o f used len e = grind (arith, e)
 
-pub advances : (bytes : List ℕ) (first w : Walk) (len : ℕ) → step bytes w.bound w.offset w.run w.used ≡ did (steps.Label len) → w.used ≡ first.used → w.run ≤ first.run → w.bound.stop ≤ length bytes
+pub advances : (bytes : List ℕ) (first w : NameCursor) (len : ℕ) → step bytes w.bound w.offset w.run w.used ≡ did (steps.Label len) → w.used ≡ first.used → w.run ≤ first.run → w.bound.stop ≤ length bytes
     → resume bytes first ≡ with_label (take len (drop (w.offset + 1) bytes)) (resume bytes (record { offset = w.offset + 1 + len; run = w.run; used = w.used + len + 1; bound = w.bound; end = w.end }))
     → Advances bytes (take len (drop (w.offset + 1) bytes)) first (record { offset = w.offset + 1 + len; run = w.run; used = w.used + len + 1; bound = w.bound; end = w.end })
 advances bytes first w len is used back stop read =
@@ -179,7 +179,7 @@ pointer_step : (bytes : List ℕ) (s : Bound) (o f used p : ℕ) → step bytes 
 unfolding step
 pointer_step bytes s o f used p e = record { high = grind (arith, e); within = grind (arith, e); there = grind (arith, e); back = grind (arith, e) }
 
-sound_by : (k : ℕ) (bytes : List ℕ) → Sound k bytes → (s : Bound) (o f used : ℕ) (ls : List (List ℕ)) (e : ℕ) → s.stop ≤ length bytes → used ≤ 254 → (r : Result Step Fault) → step bytes s o f used ≡ r
+sound_by : (k : ℕ) (bytes : List ℕ) → Sound k bytes → (s : Bound) (o f used : ℕ) (ls : List (List ℕ)) (e : ℕ) → s.stop ≤ length bytes → used ≤ 254 → (r : Result NameOctet Fault) → step bytes s o f used ≡ r
     → (r >>= go_on (λ s' o' f' used'. walk_in k bytes s' o' f' used') bytes s o f used) ≡ read_as ls e → Reads bytes s o f used ls e
 sound_by k bytes rest s o f used ls e in_ le (Err fault) is read = absurd cc
 sound_by k bytes rest s o f used ls e in_ le (Ok steps.End) is read =

@@ -6,8 +6,8 @@ use Rattle.std.proofs.Math.Seq.{drop-cons}
 use Rattle.dns_name.specs.Labels.{label_octets, labels_of, IsLabel, IsLaidOut}
 use Rattle.dns_name.proofs.CallerLemmas.{labels_of_nothing, no_octets_are_laid_out, label_put_last, labels_joined, size_with_labels}
 use Rattle.message_names.specs.declared.fault.Fault.{Fault}
-use Rattle.message_names.specs.declared.walk.Step.TheVariants as steps
-use Rattle.message_names.specs.declared.walk.Walk.{Walk}
+use Rattle.message_names.specs.declared.walk.NameOctet.TheVariants as steps
+use Rattle.message_names.specs.declared.walk.NameCursor.{NameCursor}
 use Rattle.message_names.specs.Names.{step, with_label, resume, whole}
 use Rattle.message_names.specs.Shortcuts.{SameRun}
 use Rattle.message_names.specs.Runs.{with_front, Passes, Begins}
@@ -29,7 +29,7 @@ label_alone l (Ok n) = refl
 label_alone l (Err fault) = refl
 
 -- one label is read
-pub passes_label : (bytes : List ℕ) (w : Walk) (len : ℕ) → w.used ≤ 254 → w.bound.stop ≤ length bytes → step bytes w.bound w.offset w.run w.used ≡ did (steps.Label len)
+pub passes_label : (bytes : List ℕ) (w : NameCursor) (len : ℕ) → w.used ≤ 254 → w.bound.stop ≤ length bytes → step bytes w.bound w.offset w.run w.used ≡ did (steps.Label len)
     → Passes bytes (take (len + 1) (drop w.offset bytes)) w (record { offset = w.offset + 1 + len; run = w.run; used = w.used + len + 1; bound = w.bound; end = w.end })
 passes_label bytes w len room stop is =
     let t = takes_label bytes w.bound w.offset w.run w.used len is in
@@ -40,7 +40,7 @@ passes_label bytes w len room stop is =
     let one : IsLabel label = record { some = omega (arith, long, t); short = omega (arith, long, t) } in
     let grown = label_put_last [] (label_octets label) label no_octets_are_laid_out one (omega (arith, one.short)) refl in
     let alone : labels_of (label_octets label) ≡ label ∷ [] = grown.labels ∙ rw labels_of_nothing refl in
-    let after : Walk = record { offset = w.offset + 1 + len; run = w.run; used = w.used + len + 1; bound = w.bound; end = w.end } in
+    let after : NameCursor = record { offset = w.offset + 1 + len; run = w.run; used = w.used + len + 1; bound = w.bound; end = w.end } in
     rw text
     (record {
       read = rw alone (resume_label bytes w len room is ∙ label_alone label (resume bytes after));
@@ -53,14 +53,14 @@ passes_label bytes w len room stop is =
 -- ---- labels that are copied one behind another
 
 -- the first of these octets are the labels that were read
-pub record Filled (bytes octets : List ℕ) (w : Walk) (all : Result (List (List ℕ) × ℕ) Fault) : Type 0 where
+pub record Filled (bytes octets : List ℕ) (w : NameCursor) (all : Result (List (List ℕ) × ℕ) Fault) : Type 0 where
   pub read : with_front (labels_of (take w.used octets)) (resume bytes w) ≡ all
   pub laid : IsLaidOut (take w.used octets)
   pub size : length (take w.used octets) ≡ w.used
   pub room : w.used ≤ 254
   pub stop : w.bound.stop ≤ length bytes
 
-pub filled_first : (bytes octets : List ℕ) (w : Walk) (all : Result (List (List ℕ) × ℕ) Fault) → w.used ≡ 0 → w.bound.stop ≤ length bytes → resume bytes w ≡ all → Filled bytes octets w all
+pub filled_first : (bytes octets : List ℕ) (w : NameCursor) (all : Result (List (List ℕ) × ℕ) Fault) → w.used ≡ 0 → w.bound.stop ≤ length bytes → resume bytes w ≡ all → Filled bytes octets w all
 filled_first bytes octets w all none stop is = record {
   read = ap (λ (n : ℕ). with_front (labels_of (take n octets)) (resume bytes w)) none ∙ ap (λ (ls : List (List ℕ)). with_front ls (resume bytes w)) labels_of_nothing ∙ front_none (resume bytes w) ∙ is;
   laid = rw none no_octets_are_laid_out;
@@ -69,7 +69,7 @@ filled_first bytes octets w all none stop is = record {
   stop = stop;
 }
 
-pub filled_more : (bytes old new labels : List ℕ) (w v : Walk) (all : Result (List (List ℕ) × ℕ) Fault) → Filled bytes old w all → Passes bytes labels w v → take v.used new ≡ take w.used old ++ labels → Filled bytes new v all
+pub filled_more : (bytes old new labels : List ℕ) (w v : NameCursor) (all : Result (List (List ℕ) × ℕ) Fault) → Filled bytes old w all → Passes bytes labels w v → take v.used new ≡ take w.used old ++ labels → Filled bytes new v all
 filled_more bytes old new labels w v all f p text =
     let both = labels_joined (take w.used old) labels f.laid p.laid (omega (arith, size_with_labels [] (take w.used old) f.laid, labels_of_nothing, f.size, p.used, p.room)) in
     record {
@@ -84,10 +84,10 @@ filled_more bytes old new labels w v all f p text =
 pub room_behind : (octets : List ℕ) (used : ℕ) → length (take used octets) ≡ used → used ≤ length octets
 room_behind octets used size = omega (arith, length-take used octets, size)
 
-pub filled_fault : (bytes octets : List ℕ) (w : Walk) (all : Result (List (List ℕ) × ℕ) Fault) (fault : Fault) → Filled bytes octets w all → step bytes w.bound w.offset w.run w.used ≡ Err fault → all ≡ Err fault
+pub filled_fault : (bytes octets : List ℕ) (w : NameCursor) (all : Result (List (List ℕ) × ℕ) Fault) (fault : Fault) → Filled bytes octets w all → step bytes w.bound w.offset w.run w.used ≡ Err fault → all ≡ Err fault
 filled_fault bytes octets w all fault f is = sym f.read ∙ ap (with_front (labels_of (take w.used octets))) (resume_fault bytes w fault f.room is)
 
-pub filled_end : (bytes octets : List ℕ) (w : Walk) (all : Result (List (List ℕ) × ℕ) Fault) → Filled bytes octets w all → step bytes w.bound w.offset w.run w.used ≡ did steps.End → Begins octets w.used (unwrap_or w.end (w.offset + 1)) all
+pub filled_end : (bytes octets : List ℕ) (w : NameCursor) (all : Result (List (List ℕ) × ℕ) Fault) → Filled bytes octets w all → step bytes w.bound w.offset w.run w.used ≡ did steps.End → Begins octets w.used (unwrap_or w.end (w.offset + 1)) all
 filled_end bytes octets w all f is = record {
   labels = sym f.read ∙ ap (with_front (labels_of (take w.used octets))) (resume_end bytes w f.room is) ∙ ap (λ (ls : List (List ℕ)). Ok (ls, unwrap_or w.end (w.offset + 1))) (append-nil (labels_of (take w.used octets)));
   laid = f.laid;
@@ -95,7 +95,7 @@ filled_end bytes octets w all f is = record {
 }
 
 -- a pointer is followed to where its target comes to
-pub filled_on : (bytes octets : List ℕ) (w : Walk) (p start : ℕ) (all : Result (List (List ℕ) × ℕ) Fault) → Filled bytes octets w all → step bytes w.bound w.offset w.run w.used ≡ did (steps.Pointer p) → SameRun bytes p start
+pub filled_on : (bytes octets : List ℕ) (w : NameCursor) (p start : ℕ) (all : Result (List (List ℕ) × ℕ) Fault) → Filled bytes octets w all → step bytes w.bound w.offset w.run w.used ≡ did (steps.Pointer p) → SameRun bytes p start
     → Filled bytes octets (record { offset = start; run = start; used = w.used; bound = whole bytes; end = Some (unwrap_or w.end (w.offset + 2)) }) all
 filled_on bytes octets w p start all f is leads =
     let read = resume_pointer bytes w p f.room is in

@@ -4,7 +4,7 @@ use Rattle.std.proofs.lemmas.List.{get_or-set_other, get_or-replicate, length-re
 use Rattle.std.proofs.Math.ListN.{get_or-eq_default}
 use Rattle.std.proofs.lemmas.Grind.{get_or-set_at}
 use Rattle.std.proofs.lemmas.Bool.{cases_eq, cases_lt}
-use Rattle.message_names.specs.declared.walk.Step.TheVariants as steps
+use Rattle.message_names.specs.declared.walk.NameOctet.TheVariants as steps
 use Rattle.message_names.specs.Names.{target, step, whole, resume}
 use Rattle.message_names.specs.Shortcuts.{SameRun, IsShortcut, AreShortcuts}
 use Rattle.message_names.proofs.NameLaws.{did, resume_pointer}

@@ -7,9 +7,9 @@ use Rattle.std.proofs.lemmas.Bool.{cases_eq, cases_lt}
 use Rattle.dns_name.specs.Labels.{size_of}
 use Rattle.message_names.specs.declared.fault.Fault.{Fault}
 use Rattle.message_names.specs.declared.fault.Fault.TheVariants.{NameLong}
-use Rattle.message_names.specs.declared.walk.Step.TheVariants as steps
+use Rattle.message_names.specs.declared.walk.NameOctet.TheVariants as steps
 use Rattle.message_names.specs.declared.walk.Bound.{Bound}
-use Rattle.message_names.specs.declared.walk.Walk.{Walk}
+use Rattle.message_names.specs.declared.walk.NameCursor.{NameCursor}
 use Rattle.message_names.specs.Reading.{behind}
 use Rattle.message_names.specs.Names.{target, NameAt, at_root, at_label, at_pointer, step, with_label, ending, walk_in, steps_left, whole, end_of, resume, behind_labels}
 use Rattle.message_names.specs.Sizes.{size_read, size_behind, AreSizes}
@@ -132,42 +132,42 @@ kept bytes sizes place value inside known is o some = ⊎_elim here elsewhere (c
 -- ---- steps of a walk that measures
 
 -- behind so many octets, what is left from w on is this
-abbrev pub Left : List ℕ → Walk → ℕ → Result ℕ Fault → Type 0
+abbrev pub Left : List ℕ → NameCursor → ℕ → Result ℕ Fault → Type 0
 Left bytes w k all = more k (size_read (resume bytes w)) ≡ all
 
 pub left_first : (bytes : List ℕ) (o used k : ℕ) → k ≡ 0 → Left bytes (behind_labels bytes o used) k (size_behind bytes o used)
 left_first bytes o used k none = rw none (more_none (size_read (resume bytes (behind_labels bytes o used))) ∙ size_from bytes o used None)
 
-pub left_fault : (bytes : List ℕ) (w : Walk) (k : ℕ) (all : Result ℕ Fault) (fault : Fault) → w.used ≤ 254 → step bytes w.bound w.offset w.run w.used ≡ Err fault → Left bytes w k all → all ≡ Err fault
+pub left_fault : (bytes : List ℕ) (w : NameCursor) (k : ℕ) (all : Result ℕ Fault) (fault : Fault) → w.used ≤ 254 → step bytes w.bound w.offset w.run w.used ≡ Err fault → Left bytes w k all → all ≡ Err fault
 left_fault bytes w k all fault room is left = sym left ∙ ap (λ (r : Result (List (List ℕ) × ℕ) Fault). more k (size_read r)) (resume_fault bytes w fault room is)
 
-pub left_end : (bytes : List ℕ) (w : Walk) (k size : ℕ) (all : Result ℕ Fault) → w.used ≤ 254 → step bytes w.bound w.offset w.run w.used ≡ did steps.End → size ≡ k + 1 → Left bytes w k all → all ≡ Ok size
+pub left_end : (bytes : List ℕ) (w : NameCursor) (k size : ℕ) (all : Result ℕ Fault) → w.used ≤ 254 → step bytes w.bound w.offset w.run w.used ≡ did steps.End → size ≡ k + 1 → Left bytes w k all → all ≡ Ok size
 left_end bytes w k size all room is so left =
     sym left ∙ ap (λ (r : Result (List (List ℕ) × ℕ) Fault). more k (size_read r)) (resume_end bytes w room is) ∙ ap (λ (n : ℕ). Ok n) (sym so)
 
-pub left_label : (bytes : List ℕ) (w : Walk) (len k j : ℕ) (all : Result ℕ Fault) → w.used ≤ 254 → w.bound.stop ≤ length bytes → step bytes w.bound w.offset w.run w.used ≡ did (steps.Label len) → j ≡ k + (len + 1) → Left bytes w k all
+pub left_label : (bytes : List ℕ) (w : NameCursor) (len k j : ℕ) (all : Result ℕ Fault) → w.used ≤ 254 → w.bound.stop ≤ length bytes → step bytes w.bound w.offset w.run w.used ≡ did (steps.Label len) → j ≡ k + (len + 1) → Left bytes w k all
     → Left bytes (record { offset = w.offset + 1 + len; run = w.run; used = w.used + len + 1; bound = w.bound; end = w.end }) j all
 left_label bytes w len k j all room stop is so left =
     let t = takes_label bytes w.bound w.offset w.run w.used len is in
     let label : List ℕ = take len (drop (w.offset + 1) bytes) in
     let long : length label ≡ len = omega (arith, length-take len (drop (w.offset + 1) bytes), length-drop (w.offset + 1) bytes, t) in
-    let after : Walk = record { offset = w.offset + 1 + len; run = w.run; used = w.used + len + 1; bound = w.bound; end = w.end } in
+    let after : NameCursor = record { offset = w.offset + 1 + len; run = w.run; used = w.used + len + 1; bound = w.bound; end = w.end } in
     let on : size_read (resume bytes w) ≡ more (len + 1) (size_read (resume bytes after)) =
     ap size_read (resume_label bytes w len room is) ∙ size_of_label label (resume bytes after) ∙ ap (λ (n : ℕ). more (n + 1) (size_read (resume bytes after))) long in
     rw so (sym (more_again k (len + 1) (size_read (resume bytes after))) ∙ ap (more k) (sym on) ∙ left)
 
-left_at : (bytes : List ℕ) (w : Walk) (p : ℕ) → w.used ≤ 254 → step bytes w.bound w.offset w.run w.used ≡ did (steps.Pointer p) → size_read (resume bytes w) ≡ size_behind bytes p w.used
+left_at : (bytes : List ℕ) (w : NameCursor) (p : ℕ) → w.used ≤ 254 → step bytes w.bound w.offset w.run w.used ≡ did (steps.Pointer p) → size_read (resume bytes w) ≡ size_behind bytes p w.used
 left_at bytes w p room is = ap size_read (resume_pointer bytes w p room is) ∙ size_from bytes p w.used (Some (unwrap_or w.end (w.offset + 2)))
 
-pub left_pointer : (bytes : List ℕ) (w : Walk) (p k : ℕ) (all : Result ℕ Fault) → w.used ≤ 254 → step bytes w.bound w.offset w.run w.used ≡ did (steps.Pointer p) → Left bytes w k all → Left bytes (behind_labels bytes p w.used) k all
+pub left_pointer : (bytes : List ℕ) (w : NameCursor) (p k : ℕ) (all : Result ℕ Fault) → w.used ≤ 254 → step bytes w.bound w.offset w.run w.used ≡ did (steps.Pointer p) → Left bytes w k all → Left bytes (behind_labels bytes p w.used) k all
 left_pointer bytes w p k all room is left = ap (more k) (size_from bytes p w.used None ∙ sym (left_at bytes w p room is)) ∙ left
 
-pub left_known : (bytes : List ℕ) (w : Walk) (p known k size : ℕ) (all : Result ℕ Fault) → w.used ≤ 254 → step bytes w.bound w.offset w.run w.used ≡ did (steps.Pointer p) → size_behind bytes p 0 ≡ Ok known → w.used + known ≤ 255 → size ≡ k + known
+pub left_known : (bytes : List ℕ) (w : NameCursor) (p known k size : ℕ) (all : Result ℕ Fault) → w.used ≤ 254 → step bytes w.bound w.offset w.run w.used ≡ did (steps.Pointer p) → size_behind bytes p 0 ≡ Ok known → w.used + known ≤ 255 → size ≡ k + known
     → Left bytes w k all → all ≡ Ok size
 left_known bytes w p known k size all room is so fits sum left =
     sym left ∙ ap (more k) (left_at bytes w p room is ∙ known_fits bytes p w.used known room so fits) ∙ ap (λ (n : ℕ). Ok n) (sym sum)
 
-pub left_long : (bytes : List ℕ) (w : Walk) (p known k : ℕ) (all : Result ℕ Fault) → w.used ≤ 254 → step bytes w.bound w.offset w.run w.used ≡ did (steps.Pointer p) → size_behind bytes p 0 ≡ Ok known → 255 < w.used + known
+pub left_long : (bytes : List ℕ) (w : NameCursor) (p known k : ℕ) (all : Result ℕ Fault) → w.used ≤ 254 → step bytes w.bound w.offset w.run w.used ≡ did (steps.Pointer p) → size_behind bytes p 0 ≡ Ok known → 255 < w.used + known
     → Left bytes w k all → all ≡ Err NameLong
 left_long bytes w p known k all room is so long left =
     sym left ∙ ap (more k) (left_at bytes w p room is ∙ known_long bytes p w.used known room so long)
@@ -190,7 +190,7 @@ left_here_by bytes o f used size (Ok n) back room read is =
     }
 left_here_by bytes o f used size (Err fault) back room read is = absurd cc
 
-pub left_here : (bytes : List ℕ) (w : Walk) (size : ℕ) → w.bound ≡ whole bytes → w.run ≤ w.offset → w.used ≤ 254 → Left bytes w w.used (Ok size) → Here bytes w.offset w.used size
+pub left_here : (bytes : List ℕ) (w : NameCursor) (size : ℕ) → w.bound ≡ whole bytes → w.run ≤ w.offset → w.used ≤ 254 → Left bytes w w.used (Ok size) → Here bytes w.offset w.used size
 unfolding resume
 left_here bytes w size bound back room left =
     let read : more w.used (size_read (walk_in (steps_left w.run w.used) bytes w.bound w.offset w.run w.used)) ≡ Ok size = ap (more w.used) (sym (size_of_end w.end (walk_in (steps_left w.run w.used) bytes w.bound w.offset w.run w.used))) ∙ left in
@@ -208,35 +208,35 @@ not_skipped (Ok n) e fault is = absurd cc
 not_skipped (Err other) e fault is = cc
 
 -- behind what was read so far, the name ends here
-abbrev pub Skips : List ℕ → Walk → Result ℕ Fault → Type 0
+abbrev pub Skips : List ℕ → NameCursor → Result ℕ Fault → Type 0
 Skips bytes w all = behind (resume bytes w) ≡ all
 
-pub skip_fault : (bytes : List ℕ) (w : Walk) (fault : Fault) (all : Result ℕ Fault) → w.used ≤ 254 → step bytes w.bound w.offset w.run w.used ≡ Err fault → Skips bytes w all → Err fault ≡ all
+pub skip_fault : (bytes : List ℕ) (w : NameCursor) (fault : Fault) (all : Result ℕ Fault) → w.used ≤ 254 → step bytes w.bound w.offset w.run w.used ≡ Err fault → Skips bytes w all → Err fault ≡ all
 skip_fault bytes w fault all room is read = sym (ap behind (resume_fault bytes w fault room is)) ∙ read
 
-pub skip_end : (bytes : List ℕ) (w : Walk) (all : Result ℕ Fault) → w.used ≤ 254 → w.end ≡ None → step bytes w.bound w.offset w.run w.used ≡ did steps.End → Skips bytes w all → Ok (w.offset + 1) ≡ all
+pub skip_end : (bytes : List ℕ) (w : NameCursor) (all : Result ℕ Fault) → w.used ≤ 254 → w.end ≡ None → step bytes w.bound w.offset w.run w.used ≡ did steps.End → Skips bytes w all → Ok (w.offset + 1) ≡ all
 skip_end bytes w all room own is read =
     let here : unwrap_or w.end (w.offset + 1) ≡ w.offset + 1 = ap (λ (x : Option ℕ). unwrap_or x (w.offset + 1)) own in
     sym (ap (λ (n : ℕ). Ok n) here) ∙ sym (ap behind (resume_end bytes w room is)) ∙ read
 
-pub skip_label : (bytes : List ℕ) (w : Walk) (len : ℕ) (all : Result ℕ Fault) → w.used ≤ 254 → step bytes w.bound w.offset w.run w.used ≡ did (steps.Label len) → Skips bytes w all
+pub skip_label : (bytes : List ℕ) (w : NameCursor) (len : ℕ) (all : Result ℕ Fault) → w.used ≤ 254 → step bytes w.bound w.offset w.run w.used ≡ did (steps.Label len) → Skips bytes w all
     → Skips bytes (record { offset = w.offset + 1 + len; run = w.run; used = w.used + len + 1; bound = w.bound; end = w.end }) all
 skip_label bytes w len all room is read =
-    let after : Walk = record { offset = w.offset + 1 + len; run = w.run; used = w.used + len + 1; bound = w.bound; end = w.end } in
+    let after : NameCursor = record { offset = w.offset + 1 + len; run = w.run; used = w.used + len + 1; bound = w.bound; end = w.end } in
     sym (ap behind (resume_label bytes w len room is) ∙ behind_label (take len (drop (w.offset + 1) bytes)) (resume bytes after)) ∙ read
 
-skip_at : (bytes : List ℕ) (w : Walk) (p : ℕ) → w.used ≤ 254 → w.end ≡ None → step bytes w.bound w.offset w.run w.used ≡ did (steps.Pointer p)
+skip_at : (bytes : List ℕ) (w : NameCursor) (p : ℕ) → w.used ≤ 254 → w.end ≡ None → step bytes w.bound w.offset w.run w.used ≡ did (steps.Pointer p)
     → behind (resume bytes w) ≡ behind (ending (w.offset + 2) (walk_in (steps_left p w.used) bytes (whole bytes) p p w.used))
 unfolding resume
 skip_at bytes w p room own is =
     ap behind (resume_pointer bytes w p room is) ∙ ap (λ (x : Option ℕ). behind (ending (unwrap_or x (w.offset + 2)) (walk_in (steps_left p w.used) bytes (whole bytes) p p w.used))) own
 
-pub skip_pointer : (bytes : List ℕ) (w : Walk) (p size : ℕ) (all : Result ℕ Fault) → w.used ≤ 254 → w.end ≡ None → step bytes w.bound w.offset w.run w.used ≡ did (steps.Pointer p) → size_behind bytes p w.used ≡ Ok size → Skips bytes w all → Ok (w.offset + 2) ≡ all
+pub skip_pointer : (bytes : List ℕ) (w : NameCursor) (p size : ℕ) (all : Result ℕ Fault) → w.used ≤ 254 → w.end ≡ None → step bytes w.bound w.offset w.run w.used ≡ did (steps.Pointer p) → size_behind bytes p w.used ≡ Ok size → Skips bytes w all → Ok (w.offset + 2) ≡ all
 unfolding size_behind
 skip_pointer bytes w p size all room own is sized read =
     sym (skip_at bytes w p room own is ∙ skipped (walk_in (steps_left p w.used) bytes (whole bytes) p p w.used) (w.offset + 2) size sized) ∙ read
 
-pub skip_lost : (bytes : List ℕ) (w : Walk) (p : ℕ) (fault : Fault) (all : Result ℕ Fault) → w.used ≤ 254 → w.end ≡ None → step bytes w.bound w.offset w.run w.used ≡ did (steps.Pointer p) → size_behind bytes p w.used ≡ Err fault → Skips bytes w all → Err fault ≡ all
+pub skip_lost : (bytes : List ℕ) (w : NameCursor) (p : ℕ) (fault : Fault) (all : Result ℕ Fault) → w.used ≤ 254 → w.end ≡ None → step bytes w.bound w.offset w.run w.used ≡ did (steps.Pointer p) → size_behind bytes p w.used ≡ Err fault → Skips bytes w all → Err fault ≡ all
 unfolding size_behind
 skip_lost bytes w p fault all room own is lost read =
     sym (skip_at bytes w p room own is ∙ not_skipped (walk_in (steps_left p w.used) bytes (whole bytes) p p w.used) (w.offset + 2) fault lost) ∙ read

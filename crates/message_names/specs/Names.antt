@@ -4,11 +4,11 @@ use Rattle.dns_name.specs.Labels.{IsLabel, IsSame, label_octets, lowered}
 use Rattle.message_names.specs.declared.fault.Fault.{Fault}
 use Rattle.message_names.specs.declared.fault.Fault.TheVariants.{Short, LabelForm, Pointer, NameLong, Rdata}
 use Rattle.message_names.specs.declared.walk.Bound.{Bound}
-use Rattle.message_names.specs.declared.walk.Step.{Step}
-use Rattle.message_names.specs.declared.walk.Step.TheVariants as steps
-use Rattle.message_names.specs.declared.walk.Walk.{Walk}
-use Rattle.message_names.specs.declared.walk.Next.{Next}
-use Rattle.message_names.specs.declared.walk.Next.TheVariants as nexts
+use Rattle.message_names.specs.declared.walk.NameOctet.{NameOctet}
+use Rattle.message_names.specs.declared.walk.NameOctet.TheVariants as steps
+use Rattle.message_names.specs.declared.walk.NameCursor.{NameCursor}
+use Rattle.message_names.specs.declared.walk.NextLabel.{NextLabel}
+use Rattle.message_names.specs.declared.walk.NextLabel.TheVariants as nexts
 use Rattle.message_names.specs.Reading.{◌>>=◌}
 
 -- ---- what a name is
@@ -36,7 +36,7 @@ abbrev pub inside : ℕ → Bound
 inside stop = record { stop = stop; beyond = Rdata }
 
 -- what stands at o, where the run began at f and must end before b, and the labels so far take so many octets
-unfoldable pub step : List ℕ → Bound → ℕ → ℕ → ℕ → Result Step Fault
+unfoldable pub step : List ℕ → Bound → ℕ → ℕ → ℕ → Result NameOctet Fault
 step bytes b o f used =
     if nat_le b.stop o then Err b.beyond
     else (if slice_index bytes o == 0 then Ok steps.End
@@ -48,7 +48,7 @@ step bytes b o f used =
     else (if nat_lt (target bytes o) f then Ok (steps.Pointer (target bytes o)) else Err Pointer)))))
 
 -- what a step says of the octets
-abbrev pub Stays : List ℕ → Bound → ℕ → ℕ → ℕ → Step → Type 0
+abbrev pub Stays : List ℕ → Bound → ℕ → ℕ → ℕ → NameOctet → Type 0
 Stays bytes b o f used steps.End = o < b.stop
 Stays bytes b o f used (steps.Label len) = (0 < len) × (len < 64) × (o + 1 + len ≤ b.stop) × (used + len + 2 ≤ 255)
 Stays bytes b o f used (steps.Pointer p) = (p < f) × (o + 2 ≤ b.stop)
@@ -62,7 +62,7 @@ abbrev pub ending : ℕ → Result (List (List ℕ) × ℕ) Fault → Result (Li
 ending e (Ok n) = Ok (n.0, e)
 ending e (Err fault) = Err fault
 
-abbrev pub go_on : (Bound → ℕ → ℕ → ℕ → Result (List (List ℕ) × ℕ) Fault) → List ℕ → Bound → ℕ → ℕ → ℕ → Step → Result (List (List ℕ) × ℕ) Fault
+abbrev pub go_on : (Bound → ℕ → ℕ → ℕ → Result (List (List ℕ) × ℕ) Fault) → List ℕ → Bound → ℕ → ℕ → ℕ → NameOctet → Result (List (List ℕ) × ℕ) Fault
 go_on rest bytes b o f used steps.End = Ok ([], o + 1)
 go_on rest bytes b o f used (steps.Label len) = with_label (take len (drop (o + 1) bytes)) (rest b (o + 1 + len) f (used + len + 1))
 go_on rest bytes b o f used (steps.Pointer p) = ending (o + 2) (rest (whole bytes) p p used)
@@ -91,14 +91,14 @@ end_of None read = read
 end_of (Some e) read = ending e read
 
 -- what is read from a place on the way
-unfoldable pub resume : List ℕ → Walk → Result (List (List ℕ) × ℕ) Fault
+unfoldable pub resume : List ℕ → NameCursor → Result (List (List ℕ) × ℕ) Fault
 resume bytes w = end_of w.end (walk_in (steps_left w.run w.used) bytes w.bound w.offset w.run w.used)
 
 -- the beginning of the name that a pointer leads to, behind labels of so many octets
-abbrev pub behind_labels : List ℕ → ℕ → ℕ → Walk
+abbrev pub behind_labels : List ℕ → ℕ → ℕ → NameCursor
 behind_labels bytes o used = record { offset = o; run = o; used = used; bound = whole bytes; end = None }
 
-pub record Advances (bytes label : List ℕ) (w v : Walk) : Type 0 where
+pub record Advances (bytes label : List ℕ) (w v : NameCursor) : Type 0 where
   pub read : resume bytes w ≡ with_label label (resume bytes v)
   pub is_label : IsLabel label
   pub place : length label + 1 ≤ v.offset
@@ -109,7 +109,7 @@ pub record Advances (bytes label : List ℕ) (w v : Walk) : Type 0 where
   pub stop : v.bound.stop ≤ length bytes
   pub fewer : steps_left v.run v.used < steps_left w.run w.used
 
-abbrev pub Resumes : List ℕ → Walk → Result Next Fault → Type 0
+abbrev pub Resumes : List ℕ → NameCursor → Result NextLabel Fault → Type 0
 Resumes bytes w (Ok (nexts.Label l v)) = Advances bytes l.now w v
 Resumes bytes w (Ok (nexts.End e)) = resume bytes w ≡ Ok ([], e)
 Resumes bytes w (Err fault) = resume bytes w ≡ Err fault

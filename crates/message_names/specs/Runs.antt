@@ -2,7 +2,7 @@
 use Rattle.std.specs.Prelude.{◌≡◌, ℕ, ◌+◌, ◌≤◌, List, ◌++◌, length, take, Result, Ok, Err}
 use Rattle.dns_name.specs.Labels.{labels_of, IsLaidOut}
 use Rattle.message_names.specs.declared.fault.Fault.{Fault}
-use Rattle.message_names.specs.declared.walk.Walk.{Walk}
+use Rattle.message_names.specs.declared.walk.NameCursor.{NameCursor}
 use Rattle.message_names.specs.Names.{resume}
 
 -- the name goes on with these labels
@@ -11,7 +11,7 @@ with_front front (Ok n) = Ok (front ++ n.0, n.1)
 with_front front (Err fault) = Err fault
 
 -- from w to v the reading takes the labels of these octets
-pub record Passes (bytes octets : List ℕ) (w v : Walk) : Type 0 where
+pub record Passes (bytes octets : List ℕ) (w v : NameCursor) : Type 0 where
   pub read : resume bytes w ≡ with_front (labels_of octets) (resume bytes v)
   pub laid : IsLaidOut octets
   pub used : v.used ≡ w.used + length octets

@@ -8,7 +8,7 @@ ghost use Rattle.message_names.specs.declared.fault.Fault.TheVariants.{Memory};
 
 use crate::fault::Fault;
 use crate::shortcuts::resolve;
-use crate::walk::{Bound, Step, Walk, part, step_at};
+use crate::walk::{Bound, NameCursor, NameOctet, part, step_at};
 
 /// Puts the labels of the name at a place, whose run must end before a bound, to the front of `octets`, each behind its
 /// length and without the zero octet at their end. Gives how many octets they take, at most 254, and the place behind the
@@ -28,22 +28,22 @@ pub fn put_labels(
     ensures known { AreShortcuts bytes.now ends.new }
     ensures memory { result ≡ Err Memory → bound.beyond ≡ Memory }
 {
-    let mut walk = Walk::new(bytes, bound, offset);
+    let mut walk = NameCursor::new(bytes, bound, offset);
     loop {
         match step_at(bytes, walk)? {
-            Step::End => return Ok((walk.used, walk.end.unwrap_or(walk.offset + 1))),
-            Step::Label(len) => {
+            NameOctet::End => return Ok((walk.used, walk.end.unwrap_or(walk.offset + 1))),
+            NameOctet::Label(len) => {
                 let used = walk.used + len + 1;
                 octets[walk.used..used].copy_from_slice(part(bytes, walk.offset, len + 1));
-                walk = Walk {
+                walk = NameCursor {
                     offset: walk.offset + 1 + len,
                     used,
                     ..walk
                 };
             }
-            Step::Pointer(target) => {
+            NameOctet::Pointer(target) => {
                 let start = resolve(bytes, ends, target);
-                walk = Walk {
+                walk = NameCursor {
                     offset: start,
                     run: start,
                     used: walk.used,

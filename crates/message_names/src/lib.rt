@@ -14,4 +14,4 @@ pub use labels::put_labels;
 pub use names::{key_at, read_name, readable_name_end, skip_name, skip_same_name};
 pub use numbers::{number16, number32};
 pub use shortcuts::{PLACES, SMALL};
-pub use walk::{Bound, Walk, part};
+pub use walk::{Bound, NameCursor, part};

@@ -1,6 +1,7 @@
 //! Names in a message, with pointers: RFC 1035 4.1.4.
 
-ghost use Rattle.std.specs.Prelude.{◌≡◌, ◌≤◌, IsOk, MatchOption, Ok, Err, length};
+ghost use Rattle.std.specs.Prelude.{◌≡◌, ◌≤◌, ◌↔◌, IsTrue, IsOk, MatchOption, Ok, Err, length, map};
+ghost use Rattle.std.specs.Char.{to_ascii_lowercase};
 ghost use Rattle.message_names.specs.Reading.{Gives, behind};
 ghost use Rattle.message_names.specs.Shortcuts.{AreShortcuts};
 ghost use Rattle.message_names.specs.Sizes.{AreSizes};
@@ -10,7 +11,7 @@ ghost use Rattle.message_names.specs.declared.fault.Fault.TheVariants.{Memory};
 use crate::fault::Fault;
 use crate::labels::put_labels;
 use crate::sizes::size_of_name;
-use crate::walk::{Bound, Next, Step, Walk, next_label, step_at};
+use crate::walk::{Bound, NameCursor, NameOctet, NextLabel, next_label, step_at};
 use dns_name::{Name, NameKey};
 use std::alloc::Allocator;
 
@@ -49,18 +50,18 @@ pub fn skip_name(
     ensures exact { result ≡ behind (name_within bytes.now bound offset) }
     ensures known { AreSizes bytes.now sizes.new }
 {
-    let mut walk = Walk::new(bytes, bound, offset);
+    let mut walk = NameCursor::new(bytes, bound, offset);
     loop {
         match step_at(bytes, walk)? {
-            Step::End => return Ok(walk.offset + 1),
-            Step::Label(len) => {
-                walk = Walk {
+            NameOctet::End => return Ok(walk.offset + 1),
+            NameOctet::Label(len) => {
+                walk = NameCursor {
                     offset: walk.offset + 1 + len,
                     used: walk.used + len + 1,
                     ..walk
                 };
             }
-            Step::Pointer(target) => {
+            NameOctet::Pointer(target) => {
                 size_of_name(bytes, sizes, target, walk.used)?;
                 return Ok(walk.offset + 2);
             }
@@ -88,19 +89,26 @@ pub fn readable_name_end(bytes: &[u8], offset: usize) -> usize
     }
 }
 
+/// Equal octets, ASCII letter case aside. Most labels that are equal are spelled alike, so octets are compared first.
+fn is_same_label(a: &[u8], b: &[u8]) -> bool
+    ensures { IsTrue result ↔ (map to_ascii_lowercase a.now ≡ map to_ascii_lowercase b.now) }
+{
+    a == b || a.eq_ignore_ascii_case(b)
+}
+
 /// The place behind the name at a place, where it is this one, letter case aside (RFC 1035 2.3.3); `None` where it is
 /// another, or cannot be read. It takes no memory.
 pub fn skip_same_name<A: Allocator>(bytes: &[u8], offset: usize, name: &Name<A>) -> Option<usize>
     ensures { MatchOption result (NameIs (name_at bytes.now offset) name.now → ⊥) (λ end. NameIs (name_at bytes.now offset) name.now × (behind (name_at bytes.now offset) ≡ Ok end)) }
 {
-    let mut walk = Walk::new(bytes, Bound::whole(bytes), offset);
+    let mut walk = NameCursor::new(bytes, Bound::whole(bytes), offset);
     let mut labels = name.labels();
     loop {
         match next_label(bytes, &mut [], walk).ok()? {
-            Next::End(end) => return labels.next().is_none().then_some(end),
-            Next::Label(label, after) => {
+            NextLabel::End(end) => return labels.next().is_none().then_some(end),
+            NextLabel::Label(label, after) => {
                 let other = labels.next()?;
-                if !label.eq_ignore_ascii_case(other) {
+                if !is_same_label(label, other) {
                     return None;
                 }
                 walk = after;

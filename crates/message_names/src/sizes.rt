@@ -8,7 +8,7 @@ ghost use Rattle.std.specs.Prelude.{◌≡◌, ◌≤◌, ◌<◌, Ok, IfSome, s
 ghost use Rattle.message_names.specs.Sizes.{AreSizes, size_behind};
 
 use crate::fault::Fault;
-use crate::walk::{Bound, Step, Walk, step_at};
+use crate::walk::{Bound, NameCursor, NameOctet, step_at};
 
 /// What is remembered of a place.
 fn known_size(sizes: &[u8], place: usize) -> Option<usize>
@@ -27,25 +27,25 @@ fn measure(bytes: &[u8], sizes: &[u8], start: usize, used: usize) -> Result<usiz
     requires known { AreSizes bytes.now sizes.now }
     ensures { result ≡ size_behind bytes.now start used }
 {
-    let mut walk = Walk::behind(bytes, start, used);
+    let mut walk = NameCursor::behind(bytes, start, used);
     loop {
         match step_at(bytes, walk)? {
-            Step::End => return Ok(walk.used + 1 - used),
-            Step::Label(len) => {
-                walk = Walk {
+            NameOctet::End => return Ok(walk.used + 1 - used),
+            NameOctet::Label(len) => {
+                walk = NameCursor {
                     offset: walk.offset + 1 + len,
                     used: walk.used + len + 1,
                     ..walk
                 };
             }
-            Step::Pointer(target) => {
+            NameOctet::Pointer(target) => {
                 if let Some(size) = known_size(sizes, target) {
                     if walk.used + size > 255 {
                         return Err(Fault::NameLong);
                     }
                     return Ok(walk.used + size - used);
                 }
-                walk = Walk::behind(bytes, target, walk.used);
+                walk = NameCursor::behind(bytes, target, walk.used);
             }
         }
     }
@@ -58,19 +58,19 @@ fn remember(bytes: &[u8], sizes: &mut [u8], start: usize, size: usize)
     requires read { size_behind bytes.now start 0 ≡ Ok size }
     ensures { AreSizes bytes.now sizes.new }
 {
-    let mut walk = Walk::behind(bytes, start, 0);
+    let mut walk = NameCursor::behind(bytes, start, 0);
     while walk.offset < sizes.len() && sizes[walk.offset] == 0 {
         let left = (size - walk.used) as u8;
         sizes[walk.offset] = left;
         match step_at(bytes, walk) {
-            Ok(Step::Label(len)) => {
-                walk = Walk {
+            Ok(NameOctet::Label(len)) => {
+                walk = NameCursor {
                     offset: walk.offset + 1 + len,
                     used: walk.used + len + 1,
                     ..walk
                 };
             }
-            Ok(Step::Pointer(target)) => walk = Walk::behind(bytes, target, walk.used),
+            Ok(NameOctet::Pointer(target)) => walk = NameCursor::behind(bytes, target, walk.used),
             _ => return,
         }
     }

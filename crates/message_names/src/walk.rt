@@ -42,7 +42,7 @@ impl Bound {
 
 /// What stands at one place of a name.
 #[derive(Clone, Copy)]
-pub(crate) enum Step {
+pub(crate) enum NameOctet {
     /// The name ends.
     End,
     /// A label of so many octets.
@@ -53,7 +53,7 @@ pub(crate) enum Step {
 
 /// Where the reading of a name stands: a cursor, in octets from the front of the message.
 #[derive(Clone, Copy)]
-pub struct Walk {
+pub struct NameCursor {
     /// The place that is read next.
     pub offset: usize,
     /// Where the present run of labels began.
@@ -66,26 +66,26 @@ pub struct Walk {
     pub end: Option<usize>,
 }
 
-impl Walk {
+impl NameCursor {
     /// The beginning of the name at a place. Nothing is read yet.
     #[tactic(auto, unfolding(crate::specs::Names::resume, crate::specs::Names::name_within))]
-    pub fn new(bytes: &[u8], bound: Bound, offset: usize) -> Walk
+    pub fn new(bytes: &[u8], bound: Bound, offset: usize) -> NameCursor
         ensures used { result.used ≡ 0 }
         ensures bound { result.bound ≡ bound }
         ensures end { result.end ≡ None }
         ensures start { resume bytes.now result ≡ name_within bytes.now bound offset }
     {
-        Walk {
+        NameCursor {
             bound,
-            ..Walk::behind(bytes, offset, 0)
+            ..NameCursor::behind(bytes, offset, 0)
         }
     }
 
     /// The beginning of the name that a pointer leads to, behind labels of so many octets.
-    pub(crate) fn behind(bytes: &[u8], offset: usize, used: usize) -> Walk
+    pub(crate) fn behind(bytes: &[u8], offset: usize, used: usize) -> NameCursor
         ensures { result ≡ behind_labels bytes.now offset used }
     {
-        Walk {
+        NameCursor {
             offset,
             run: offset,
             used,
@@ -96,9 +96,9 @@ impl Walk {
 }
 
 /// What comes next in a name.
-pub enum Next<'a> {
+pub enum NextLabel<'a> {
     /// A label of 1 to 63 octets without its length, and where the reading stands behind it.
-    Label(&'a [u8], Walk),
+    Label(&'a [u8], NameCursor),
     /// The name ends, and its own octets end before this place.
     End(usize),
 }
@@ -115,7 +115,7 @@ pub fn part(bytes: &[u8], start: usize, len: usize) -> &[u8]
 
 /// What stands at the next place: RFC 1035 4.1.4. The order of the tests is the order of the faults.
 #[tactic(auto, unfolding(crate::specs::Names::step))]
-pub(crate) fn step_at(bytes: &[u8], walk: Walk) -> Result<Step, Fault>
+pub(crate) fn step_at(bytes: &[u8], walk: NameCursor) -> Result<NameOctet, Fault>
     requires used { walk.used ≤ 254 }
     requires stop { walk.bound.stop ≤ length bytes.now }
     ensures exact { result ≡ step bytes.now walk.bound walk.offset walk.run walk.used }
@@ -129,7 +129,7 @@ pub(crate) fn step_at(bytes: &[u8], walk: Walk) -> Result<Step, Fault>
     }
     let first = bytes[at] as usize;
     if first == 0 {
-        return Ok(Step::End);
+        return Ok(NameOctet::End);
     }
     if first < 64 {
         if stop - at - 1 < first {
@@ -138,7 +138,7 @@ pub(crate) fn step_at(bytes: &[u8], walk: Walk) -> Result<Step, Fault>
         if walk.used + first > 253 {
             return Err(Fault::NameLong);
         }
-        return Ok(Step::Label(first));
+        return Ok(NameOctet::Label(first));
     }
     if first < 192 {
         return Err(Fault::LabelForm);
@@ -148,7 +148,7 @@ pub(crate) fn step_at(bytes: &[u8], walk: Walk) -> Result<Step, Fault>
     }
     let target = (first - 192) * 256 + bytes[at + 1] as usize;
     if target < walk.run {
-        Ok(Step::Pointer(target))
+        Ok(NameOctet::Pointer(target))
     } else {
         Err(Fault::Pointer)
     }
@@ -160,7 +160,11 @@ pub(crate) fn step_at(bytes: &[u8], walk: Walk) -> Result<Step, Fault>
 /// The fault is the first from where the walk stands (RFC 1035 4.1.4): `Short` or `Rdata` where an octet lies beyond
 /// the bound, `NameLong` where the name would have more than 255 octets, `LabelForm` where neither a label nor a
 /// pointer begins, `Pointer` where one does not lead to before the run that it ends.
-pub fn next_label<'a>(bytes: &'a [u8], ends: &mut [u16], walk: Walk) -> Result<Next<'a>, Fault>
+pub fn next_label<'a>(
+    bytes: &'a [u8],
+    ends: &mut [u16],
+    walk: NameCursor,
+) -> Result<NextLabel<'a>, Fault>
     requires used { walk.used ≤ 254 }
     requires stop { walk.bound.stop ≤ length bytes.now }
     requires known { AreShortcuts bytes.now ends.old }
@@ -170,19 +174,19 @@ pub fn next_label<'a>(bytes: &'a [u8], ends: &mut [u16], walk: Walk) -> Result<N
     let mut walk = walk;
     loop {
         match step_at(bytes, walk)? {
-            Step::End => return Ok(Next::End(walk.end.unwrap_or(walk.offset + 1))),
-            Step::Label(len) => {
+            NameOctet::End => return Ok(NextLabel::End(walk.end.unwrap_or(walk.offset + 1))),
+            NameOctet::Label(len) => {
                 let label = part(bytes, walk.offset + 1, len);
-                let after = Walk {
+                let after = NameCursor {
                     offset: walk.offset + 1 + len,
                     used: walk.used + len + 1,
                     ..walk
                 };
-                return Ok(Next::Label(label, after));
+                return Ok(NextLabel::Label(label, after));
             }
-            Step::Pointer(target) => {
+            NameOctet::Pointer(target) => {
                 let start = resolve(bytes, ends, target);
-                walk = Walk {
+                walk = NameCursor {
                     offset: start,
                     run: start,
                     used: walk.used,

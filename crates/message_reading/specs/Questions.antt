@@ -1,5 +1,5 @@
 -- When two questions are one, and the one question of a message.
-use Rattle.std.specs.Prelude.{ℕ, Bool, if◌then◌else◌, ◌==◌, ◌&&◌, List, Option, Some, None, Result, Ok, Err, slice_index}
+use Rattle.std.specs.Prelude.{ℕ, Bool, if◌then◌else◌, ◌==◌, ◌&&◌, List, Option, Some, None, Result, Ok, Err, slice_index, ◌||◌, nat_le}
 use Rattle.dns_name.specs.Labels.{same}
 use Rattle.message_names.specs.declared.fault.Fault.{Fault}
 use Rattle.message_reading.specs.Values.{Question}
@@ -17,3 +17,11 @@ question_read (Err fault) = None
 -- the question of octets that count just one, where it can be read
 abbrev pub one_question : List ℕ → Option Question
 one_question octets = if slice_index (header_in octets).counts 0 == 1 then question_read (first_question octets) else None
+
+-- the same question at another name
+abbrev pub asked_at : Question → List (List ℕ) → Question
+asked_at q name = record { name = name; kind = q.kind; class = q.class }
+
+-- questions for what is no data, or for more than one type or class (RFC 1035 3.2.3 and 3.2.5, RFC 6895 3.1)
+abbrev pub is_unserved : Question → Bool
+is_unserved q = (q.kind == 0) || (q.kind == 41) || (nat_le 128 q.kind && nat_le q.kind 255) || (q.class == 255)

@@ -16,10 +16,7 @@ use record_cache::{Cache, Held, key_ending};
 use std::alloc::Allocator;
 use std::hash::BuildHasher;
 use suffix_routes::Config;
-use trust_rank::Slot;
-
-/// The type CNAME.
-const CNAME: u16 = 5;
+use trust_rank::{CNAME, Slot};
 
 /// What a question comes to at a moment, in milliseconds: that the configuration denies its name, else the first that
 /// is held alive of the set of the type, the alias where another type is asked for (RFC 1034 3.6.2), NODATA of the type

@@ -14,10 +14,7 @@ use dns_name::Name;
 use record_cache::{Cache, Held};
 use std::alloc::Allocator;
 use std::hash::BuildHasher;
-use trust_rank::Slot;
-
-/// The type CNAME.
-const CNAME: u16 = 5;
+use trust_rank::{CNAME, Slot};
 
 /// What the cache holds for a question at a moment, in milliseconds, where an entry counts as well that ended fewer
 /// than so many seconds ago, at most a day of them: the window (RFC 8767 5). It is the first that is there of the set

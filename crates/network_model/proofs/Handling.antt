@@ -9,10 +9,10 @@ use Rattle.outstanding.specs.Values.{Ask}
 use Rattle.outstanding.specs.Lists.{on_path as ask_on}
 use Rattle.suffix_routes.specs.Values.{Config}
 use Rattle.step_values.specs.Values.{Event, from_client, delivery, path_failed, tick, restart, Outcome, Step}
-use Rattle.step_rules.specs.State.{State, Running}
-use Rattle.step_rules.specs.Row.{Row, is_due_at, effective}
-use Rattle.step_rules.specs.Progress.{left_to_do, ServesSomething}
-use Rattle.step_soundness.specs.Runs.{Run}
+use Rattle.step_table.specs.State.{State, Running}
+use Rattle.step_table.specs.Row.{Row, is_due_at, effective}
+use Rattle.step_table.specs.Progress.{left_to_do, ServesSomething}
+use Rattle.theorem_sound.specs.Runs.{Run}
 use Rattle.network_model.specs.declared.counts.Served.{Served}
 use Rattle.wires.specs.Wire.{Told, Put, ◌then◌, TellsMore, moment_was, words_were}
 use Rattle.network_model.specs.Events.{Taken, PutsItsActions, step_in, steps_in, failed_of, more_in, joined, IsChain, AreTicks}

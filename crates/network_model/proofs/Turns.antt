@@ -10,9 +10,9 @@ use Rattle.tcp_frames.specs.Laws.{PiecesContinue}
 use Rattle.suffix_routes.specs.Values.{Config}
 use Rattle.outstanding.specs.declared.ask.Path.TheVariants.{Udp, Tcp}
 use Rattle.step_values.specs.Values.{Event, Step}
-use Rattle.step_rules.specs.State.{Running}
-use Rattle.step_soundness.specs.Runs.{Run}
-use Rattle.step_use.proofs.CallerLemmas.{run_serves_on}
+use Rattle.step_table.specs.State.{Running}
+use Rattle.theorem_sound.specs.Runs.{Run}
+use Rattle.theorem_use.proofs.CallerLemmas.{run_serves_on}
 use Rattle.network_model.specs.declared.counts.Served.{Served}
 use Rattle.network_model.specs.declared.streams.Streams.{Streams}
 use Rattle.wires.specs.Wire.{Arrival, nothing, client_datagram, client_stream, client_closed, server_datagram, server_stream, path_gone, Told, ◌then◌, TellsMore, arrived}

@@ -2,7 +2,7 @@
 use Rattle.std.specs.Prelude.{◌≡◌, ◌⊎◌, ℕ, suc, ◌+◌, ◌*◌, ◌<◌, ◌≤◌, Bool, true, false, List, [], ◌∷◌, length, map, Option, Some, None}
 use Rattle.outstanding.specs.declared.ask.Path.{Path}
 use Rattle.step_values.specs.Values.{Event, from_client, delivery, path_failed, tick, restart, Action}
-use Rattle.step_rules.specs.State.{Running}
+use Rattle.step_table.specs.State.{Running}
 use Rattle.network_model.specs.declared.counts.Served.{Served}
 use Rattle.wires.specs.Wire.{Put, Told, silence, TellsMore}
 use Rattle.network_model.specs.Events.{Taken, failed_of, more_in, tells_more, joined, IsChain, AreTicks}

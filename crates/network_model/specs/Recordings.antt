@@ -1,7 +1,7 @@
 -- A forwarder beside its stored history.
 use Rattle.std.specs.Prelude.{List}
 use Rattle.step_values.specs.Values.{Step}
-use Rattle.step_rules.specs.State.{Running}
+use Rattle.step_table.specs.State.{Running}
 
 -- the forwarder as it is now, and the steps that led there, the oldest first
 pub record Recording : Type 0 where

@@ -3,10 +3,10 @@ use Rattle.std.specs.Prelude.{◌≡◌, ℕ, ◌+◌, ◌-◌, ◌^◌, ◌≤�
 use Rattle.std.specs.List.{AllByRecursion}
 use Rattle.std.specs.declared.alloc.AllocError.{AllocError}
 use Rattle.step_values.specs.Values.{ask_in, SentAsk, Outcome}
-use Rattle.step_rules.specs.State.{Running}
-use Rattle.step_rules.specs.Progress.{left_to_do}
-use Rattle.step_soundness.specs.Runs.{Run}
-use Rattle.step_use.specs.Service.{ServesOnTruly}
+use Rattle.step_table.specs.State.{Running}
+use Rattle.step_table.specs.Progress.{left_to_do}
+use Rattle.theorem_sound.specs.Runs.{Run}
+use Rattle.theorem_use.specs.Service.{ServesOnTruly}
 use Rattle.network_model.specs.declared.counts.Served.{Served}
 use Rattle.wires.specs.Wire.{Arrival, Put, Told, silence, ◌then◌, TellsMore, arrived}
 use Rattle.network_model.specs.Events.{Taken, PutsItsActions, steps_in, Turn, taken_in_turn, taken_in, AreTurns, IsCutShort}

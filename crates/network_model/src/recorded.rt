@@ -2,9 +2,9 @@
 
 ghost use Rattle.std.specs.Prelude.{◌≡◌, ◌∷◌, ◌++◌, [], IfOk, OnOk, OnErr};
 ghost use Rattle.step_values.specs.Values.{Outcome};
-ghost use Rattle.step_rules.specs.Row.{Row};
-ghost use Rattle.step_rules.specs.Steps.{start};
-ghost use Rattle.step_use.specs.Service.{ServesTruly};
+ghost use Rattle.step_table.specs.Row.{Row};
+ghost use Rattle.step_table.specs.Steps.{start};
+ghost use Rattle.theorem_use.specs.Service.{ServesTruly};
 
 use forwarder_core::Forwarder;
 use std::alloc::{AllocError, Allocator, Global};
@@ -22,7 +22,7 @@ pub struct Recorded<H: BuildHasher, A: Allocator = Global> {
 }
 
 impl<H: BuildHasher, A: Allocator> Model for Recorded<H, A> {
-    ghost use Rattle.step_use.specs.Service.{ComesTo};
+    ghost use Rattle.theorem_use.specs.Service.{ComesTo};
     ghost use Rattle.network_model.specs.Recordings.{Recording};
 
     ghost Value = { Recording };

@@ -1,10 +1,10 @@
 //! A run over a list of what is handed in.
 
 ghost use Rattle.std.specs.Prelude.{◌≡◌, map, IfOk};
-ghost use Rattle.step_rules.specs.State.{State};
-ghost use Rattle.step_rules.specs.Steps.{start};
-ghost use Rattle.step_soundness.specs.Runs.{Run};
-ghost use Rattle.step_use.specs.Service.{ServesTruly};
+ghost use Rattle.step_table.specs.State.{State};
+ghost use Rattle.step_table.specs.Steps.{start};
+ghost use Rattle.theorem_sound.specs.Runs.{Run};
+ghost use Rattle.theorem_use.specs.Service.{ServesTruly};
 
 use forwarder_core::Forwarder;
 use lru::DefaultHasher;

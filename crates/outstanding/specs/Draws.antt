@@ -1,9 +1,10 @@
 -- The identifier and the port that random words give an ask by UDP (RFC 5452 9.2).
-use Rattle.std.specs.Prelude.{ℕ, ◌+◌, ◌/◌, ◌%◌, Bool, false, ◌==◌, ◌||◌, not, if◌then◌else◌, List, [], ◌∷◌, Option, Some, None}
+use Rattle.std.specs.Prelude.{ℕ, ◌+◌, ◌/◌, ◌%◌, Bool, false, ◌==◌, ◌||◌, not, if◌then◌else◌, List, [], ◌∷◌, Option, Some, None, ◌-◌, ◌^◌, true, get_or}
 use Rattle.std.specs.List.{list_any}
 use Rattle.outstanding.specs.declared.ask.Path.TheVariants.{Udp}
 use Rattle.outstanding.specs.Values.{Ask}
 use Rattle.outstanding.specs.Lists.{same_path, without_path}
+use Rattle.dns_message.specs.Values.{Question, Message}
 
 -- the port of a word, from 1024 on
 abbrev pub port_of : ℕ → ℕ
@@ -30,3 +31,17 @@ udp_draw (word ∷ words) asks freed = if is_free (port_of word) asks freed then
 abbrev pub without_port : Option ℕ → List Ask → List Ask
 without_port None asks = asks
 without_port (Some port) asks = without_path (Udp port) asks
+
+-- the text of an ask: RD alone, and one question (RFC 1035 4.1.1)
+abbrev pub ask_message : ℕ → Question → Message
+ask_message id q = record {
+  header = record { id = id; qr = false; opcode = 0; aa = false; tc = false; rd = true; ra = false; z = 0; rcode = 0; counts = 1 ∷ 0 ∷ 0 ∷ 0 ∷ [] };
+  questions = q ∷ [];
+  answers = [];
+  authority = [];
+  additional = [];
+}
+
+-- by TCP, identifier and connection: that of the first word, and how many asks went by TCP before; the last number is never given
+abbrev pub drawn_by_tcp : List ℕ → ℕ → Option (ℕ × ℕ)
+drawn_by_tcp words count = if count == 2 ^ 64 - 1 then None else Some (get_or words 0 0 % 65536, count)

@@ -1,5 +1,5 @@
 -- Lists of asks, in the order in which they were asked: what is looked up in them, and what holds of each that is kept.
-use Rattle.std.specs.Prelude.{◌≡◌, ◌^◌, ◌≤◌, Bool, false, ◌==◌, not, List, [], ◌∷◌, length, filter, Option, None}
+use Rattle.std.specs.Prelude.{◌≡◌, ◌^◌, ◌≤◌, Bool, false, ◌==◌, not, List, [], ◌∷◌, length, filter, Option, None, true}
 use Rattle.std.specs.List.{find, AllByRecursion}
 use Rattle.dns_message.specs.Values.{Question}
 use Rattle.outstanding.specs.declared.ask.Path.{Path}
@@ -53,3 +53,7 @@ pub record MayBegin (ask : Ask) (asks : List Ask) : Type 0 where
   pub question : of_question ask.question asks ≡ None
   pub later : AllByRecursion (λ a. a.asked ≤ ask.asked) asks
   pub in_time : IsInTime ask
+
+abbrev pub is_tcp : Path → Bool
+is_tcp (Udp port) = false
+is_tcp (Tcp conn) = true

@@ -78,12 +78,12 @@ fn number_of(octets: &[u8]) -> u32
 /// An ask, and the key of its question, which is made once. It is seen as the ask. The key stands first, where a search by
 /// question looks.
 #[derive(Drop)]
-pub(crate) struct Keyed<A: Allocator> {
+pub(crate) struct KeyedAsk<A: Allocator> {
     key: QuestionKey,
     ask: Ask<A>,
 }
 
-impl<A: Allocator> Model for Keyed<A> {
+impl<A: Allocator> Model for KeyedAsk<A> {
     ghost use Rattle.std.specs.Prelude.{◌≡◌};
     ghost use Rattle.outstanding.specs.Orders.{question_key};
     ghost use Rattle.outstanding.specs.Values.{Ask};
@@ -95,12 +95,12 @@ impl<A: Allocator> Model for Keyed<A> {
     ghost invariant = { λ l. l.key ≡ question_key l.ask.question };
 }
 
-impl<A: Allocator> Keyed<A> {
-    pub(crate) fn new(ask: Ask<A>) -> Keyed<A>
+impl<A: Allocator> KeyedAsk<A> {
+    pub(crate) fn new(ask: Ask<A>) -> KeyedAsk<A>
         ensures { result ≡ ask }
     {
         let key = QuestionKey::of(&ask.question);
-        Keyed { key, ask }
+        KeyedAsk { key, ask }
     }
 
     pub(crate) fn ask(&self) -> &Ask<A>
@@ -112,7 +112,7 @@ impl<A: Allocator> Keyed<A> {
     pub(crate) fn into_ask(self) -> Ask<A>
         ensures { result ≡ self }
     {
-        let Keyed { key: _, ask } = self;
+        let KeyedAsk { key: _, ask } = self;
         ask
     }
 

@@ -6,7 +6,7 @@ ghost use Rattle.outstanding.specs.Tables.{AreNumbered, compared_by_number, Cove
 ghost use Rattle.outstanding.specs.Orders.{key_cmp, path_cmp, path_number, question_key};
 
 use crate::ask::Path;
-use crate::keyed::{Keyed, QuestionKey};
+use crate::keyed::{KeyedAsk, QuestionKey};
 use crate::numbered::NumberedKey;
 use slab::Slab;
 use std::alloc::Allocator;
@@ -15,7 +15,7 @@ use std::collections::VecDeque;
 
 /// Where the key of the ask on a path stands among keys in the order of the paths, or where it would go.
 pub(crate) fn place_on<A: Allocator>(
-    asks: &Slab<Keyed<A>, A>,
+    asks: &Slab<KeyedAsk<A>, A>,
     keys: &VecDeque<NumberedKey, A>,
     path: Path,
 ) -> Result<usize, usize>
@@ -35,7 +35,7 @@ pub(crate) fn place_on<A: Allocator>(
 /// where they are equal the ask is looked at. A key without an ask comes first then.
 #[inline]
 fn compare_path<A: Allocator>(
-    asks: &Slab<Keyed<A>, A>,
+    asks: &Slab<KeyedAsk<A>, A>,
     key: NumberedKey,
     number: u32,
     path: Path,
@@ -53,7 +53,7 @@ fn compare_path<A: Allocator>(
 
 /// Where the key of the ask with a question stands among keys in the order of the questions, or where it would go.
 pub(crate) fn place_of<A: Allocator>(
-    asks: &Slab<Keyed<A>, A>,
+    asks: &Slab<KeyedAsk<A>, A>,
     keys: &VecDeque<NumberedKey, A>,
     question: &QuestionKey,
 ) -> Result<usize, usize>
@@ -73,7 +73,7 @@ pub(crate) fn place_of<A: Allocator>(
 /// only where they are equal the ask is looked at. A key without an ask comes first then.
 #[inline]
 fn compare_question<A: Allocator>(
-    asks: &Slab<Keyed<A>, A>,
+    asks: &Slab<KeyedAsk<A>, A>,
     key: NumberedKey,
     number: u32,
     question: &QuestionKey,

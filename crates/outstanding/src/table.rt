@@ -7,11 +7,11 @@ ghost use Rattle.outstanding.specs.Lists.{of_question, on_path, without_path};
 ghost use Rattle.outstanding.specs.Tables.{asks_of, HasRoom, IsIndexed};
 
 use crate::ask::{Ask, Path};
-use crate::keyed::{Keyed, QuestionKey};
+use crate::keyed::{KeyedAsk, QuestionKey};
 use crate::numbered::NumberedKey;
 use crate::places::{place_of, place_on};
+use arrival_order::KeysInTurn;
 use dns_message::Question;
-use keys_in_turn::KeysInTurn;
 use slab::Slab;
 use std::alloc::{AllocError, Allocator};
 use std::collections::VecDeque;
@@ -21,7 +21,7 @@ use std::collections::VecDeque;
 /// in its list; where a key is put or taken out there, those before it move or those behind it, whichever are fewer.
 #[derive(Drop)]
 pub(crate) struct Table<A: Allocator> {
-    asks: Slab<Keyed<A>, A>,
+    asks: Slab<KeyedAsk<A>, A>,
     by_path: VecDeque<NumberedKey, A>,
     by_question: VecDeque<NumberedKey, A>,
     in_turn: KeysInTurn<A>,
@@ -109,7 +109,7 @@ impl<A: Allocator> Table<A> {
         ensures indexed { IsIndexed self.new }
         ensures list { asks_of self.new ≡ asks_of self.old ++ ask ∷ [] }
     {
-        let keyed = Keyed::new(ask);
+        let keyed = KeyedAsk::new(ask);
         let Err(path) = place_on(&self.asks, &self.by_path, keyed.ask().path) else {
             unreachable!();
         };

@@ -10,10 +10,7 @@ use crate::counts::Marks;
 use crate::endings::ending;
 use std::alloc::{Allocator, Global};
 use std::marker::Model;
-use trust_rank::{Piece, Slot};
-
-/// The type CNAME.
-const CNAME: u16 = 5;
+use trust_rank::{CNAME, Piece, Slot};
 
 /// A piece, and when it was accepted.
 #[derive(Drop)]

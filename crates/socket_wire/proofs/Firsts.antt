@@ -10,7 +10,7 @@ use Rattle.std.specs.Map.{keys_of}
 use Rattle.std.specs.Ordering.{nat_cmp}
 use Rattle.std.specs.declared.cmp.Ordering.TheVariants.{Less}
 use Rattle.std.specs.declared.ops.Bound.TheVariants.{Included, Unbounded}
-use Rattle.socket_wire.specs.Open.{first_number}
+use Rattle.stream_connections.specs.Open.{first_number}
 use Rattle.socket_wire.specs.Rounds.{IsAmong}
 use Rattle.socket_wire.proofs.Passing.{is_from_or_below}
 

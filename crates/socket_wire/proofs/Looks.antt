@@ -3,9 +3,9 @@ use Rattle.std.proofs.Common.{◌≡◌, refl, ap, sym, ◌∙◌, List, [], dro
 use Rattle.std.specs.Prelude.{Ok, unwrap_or}
 use Rattle.wires.specs.declared.wire.Arrival.{Arrival}
 use Rattle.wires.specs.declared.wire.Arrival.TheVariants.{Nothing}
-use Rattle.socket_wire.specs.declared.connections.Closed.{Closed}
+use Rattle.stream_connections.specs.declared.connections.Closed.{Closed}
 use Rattle.socket_wire.specs.Looking.{given_of}
-use Rattle.socket_wire.specs.Open.{Connections}
+use Rattle.stream_connections.specs.Open.{Connections}
 
 pub given_is : {A : Type 0} (found : Option (Arrival A)) → Ok (unwrap_or found Nothing) ≡ given_of (Ok found)
 given_is (Some arrival) = refl

@@ -8,7 +8,7 @@ use Rattle.socket_wire.specs.declared.origin.Origin.{Origin}
 use Rattle.socket_wire.specs.declared.readiness.Round.{Round}
 use Rattle.socket_wire.specs.declared.sockets.Sockets.{Sockets}
 use Rattle.socket_wire.specs.InTurn.{IsGivenWithin, IsTriedWithin, StaysListed}
-use Rattle.socket_wire.specs.Open.{first_number}
+use Rattle.stream_connections.specs.Open.{first_number}
 use Rattle.socket_wire.specs.Rounds.{Gives, next_token}
 use Rattle.socket_wire.specs.Tokens.{HasToken, token_of}
 use Rattle.socket_wire.specs.Trying.{TriesAsk, TriesClient, TriesServer, TriesUpTo, ask_in_turn, client_in_turn}

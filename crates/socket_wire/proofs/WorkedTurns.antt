@@ -1,8 +1,7 @@
 -- Walks over what is listed, worked by hand: how soon a number is found, and that it isn't found sooner.
-use Rattle.std.proofs.Common.{◌≡◌, refl, ℕ, ◌<◌, ◌⊎◌, List, [], ◌∷◌, Some, inl, inr, true, false, arith}
+use Rattle.std.proofs.Common.{◌≡◌, refl, ℕ, ◌<◌, ◌⊎◌, List, [], ◌∷◌, Some, inl, inr, arith}
 use Rattle.socket_wire.specs.InTurn.{IsGivenWithin, IsTriedInRounds, IsTriedWithin}
 use Rattle.socket_wire.specs.Trying.{next_from}
-use Rattle.socket_wire.specs.Waiting.{is_resting}
 
 differ : (found number : ℕ) → (found < number) ⊎ (number < found) → Some found ≡ Some number → ⊥
 differ found number order is =
@@ -61,14 +60,3 @@ behind_the_last = refl
 
 pub behind_the_one_before : next_from 65536 (Some 65534) ≡ 65535
 behind_the_one_before = refl
-
--- ---- a client that has waited for nothing for a second, or a millisecond less, or that waits for a reply
-
-pub rests : is_resting 0 [] 1000 2000 ≡ true
-rests = refl
-
-pub rests_too_short : is_resting 0 [] 1001 2000 ≡ false
-rests_too_short = refl
-
-pub rests_not : is_resting 1 [] 1000 2000 ≡ false
-rests_not = refl

@@ -5,13 +5,13 @@ use Rattle.std.specs.declared.alloc.AllocError.{AllocError}
 use Rattle.step_values.specs.declared.Path.TheVariants as path
 use Rattle.wires.specs.declared.wire.Arrival.{Arrival}
 use Rattle.wires.specs.declared.wire.Arrival.TheVariants.{ClientClosed, PathGone}
-use Rattle.socket_wire.specs.declared.connections.Closed.{Closed}
-use Rattle.socket_wire.specs.declared.connections.Closed.TheVariants.{Client, Server}
+use Rattle.stream_connections.specs.declared.connections.Closed.{Closed}
+use Rattle.stream_connections.specs.declared.connections.Closed.TheVariants.{Client, Server}
 use Rattle.socket_wire.specs.declared.sockets.Sockets.{Sockets}
 use Rattle.socket_wire.specs.declared.sockets.taking.Tried.{Tried}
 use Rattle.socket_wire.specs.declared.sockets.taking.Tried.TheVariants.{Arrived, Served, Nothing}
-use Rattle.socket_wire.specs.Listed.{Admits, first_idle, first_resting}
-use Rattle.socket_wire.specs.Open.{AreNone, Connections, without_first}
+use Rattle.stream_connections.specs.Listed.{Admits, first_idle, first_resting}
+use Rattle.stream_connections.specs.Open.{AreNone, Connections, without_first}
 use Rattle.socket_wire.specs.Rounds.{IsBegun}
 
 -- with a place for one client more: where there are 1,024, the oldest that waits for nothing goes

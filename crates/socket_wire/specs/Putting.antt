@@ -1,5 +1,6 @@
 -- What an action does to the sockets of asks and to the connections.
-use Rattle.std.specs.Prelude.{◌≡◌, ℕ, ◌⊎◌, Bool, true, false, not, List, Option, Some, None, Result, Ok, Err, if◌then◌else◌}
+use Rattle.std.specs.Prelude.{◌≡◌, ℕ, ◌⊎◌, Bool, true, false, not, List, Option, Some, None, Result, Ok, Err}
+use Rattle.std.specs.Prelude.{if◌then◌else◌}
 use Rattle.std.specs.Ordering.{nat_cmp}
 use Rattle.std.specs.Map.{remove_entry}
 use Rattle.std.specs.BTreeMap.{insert_entry, is_at}
@@ -7,19 +8,21 @@ use Rattle.suffix_routes.specs.declared.peer.Peer.{Peer}
 use Rattle.step_values.specs.declared.action.Action.{Action}
 use Rattle.step_values.specs.declared.action.Action.TheVariants.{AskUdp, AskTcp, CloseUdp, CloseTcp, Reply}
 use Rattle.step_values.specs.declared.event.Client.TheVariants.{Udp, Tcp}
-use Rattle.socket_wire.specs.declared.client_stream.ClientStream.{ClientStream}
-use Rattle.socket_wire.specs.declared.servers.ServerStream.{ServerStream}
+use Rattle.stream_connections.specs.declared.client_stream.ClientStream.{ClientStream}
+use Rattle.stream_connections.specs.declared.servers.ServerStream.{ServerStream}
 use Rattle.socket_wire.specs.declared.sockets.Sockets.{Sockets}
-use Rattle.socket_wire.specs.declared.lost.Lost.{Lost}
-use Rattle.socket_wire.specs.Listed.{RepliesOn, first_idle}
-use Rattle.socket_wire.specs.Open.{Connections, without_client, without_first, without_server}
-use Rattle.socket_wire.specs.Queries.{IsBegunWith}
-use Rattle.socket_wire.specs.Serving.{is_over}
+use Rattle.stream_connections.specs.declared.lost.Lost.{Lost}
+use Rattle.stream_connections.specs.Listed.{RepliesOn, first_resting}
+use Rattle.stream_connections.specs.Open.{Connections, without_client, without_first, without_server}
+use Rattle.stream_connections.specs.Queries.{IsBegunWith}
+use Rattle.stream_connections.specs.Serving.{is_over}
 
--- Nothing that is listed has changed, unless the oldest client that waits for nothing was closed for its descriptor.
-abbrev pub MayMakeRoom : {A : Type 0} → Connections A → Connections A → Type 0
-MayMakeRoom before after =
-    (after ≡ record before { has_room = after.has_room }) ⊎ (after ≡ record (without_first (first_idle before.clients) before) { has_room = after.has_room })
+-- Nothing that is listed has changed, unless the oldest client that has waited for nothing for a while was closed for
+-- its descriptor.
+abbrev pub MayMakeRoom : {A : Type 0} → (now : ℕ) → Connections A → Connections A → Type 0
+MayMakeRoom now before after =
+    (after ≡ record before { has_room = after.has_room })
+    ⊎ (after ≡ record (without_first (first_resting now before.clients) before) { has_room = after.has_room })
 
 -- A query by UDP: its port is listed, and no other socket has changed; where it isn't sent none has.
 abbrev pub ListsPort : {X : Type 0} → (port : ℕ) → (is_done : Bool) → List (ℕ × X) → List (ℕ × X) → Type 0
@@ -27,17 +30,22 @@ ListsPort {X} port true before after = (socket : X) × (after ≡ insert_entry n
 ListsPort port false before after = after ≡ before
 
 -- A query over TCP that is begun: its connection is listed.
-pub record Begins {A : Type 0} (conn : ℕ) (server : Peer) (query : List ℕ) (before after : Connections A) : Type 0 where
+pub record Begins {A : Type 0} (conn : ℕ) (server : Peer) (query : List ℕ) (now : ℕ) (before after : Connections A)
+    : Type 0 where
   pub between : Connections A
   pub stream : ServerStream A
   pub begun : IsBegunWith server query stream
-  pub room : MayMakeRoom before between
-  pub listed : after ≡ record between { servers = insert_entry nat_cmp between.servers conn stream; has_room = after.has_room }
+  pub room : MayMakeRoom now before between
+  pub listed : after ≡ record between {
+    servers = insert_entry nat_cmp between.servers conn stream;
+    has_room = after.has_room;
+  }
 
 -- A query over TCP.
-abbrev pub ListsServer : {A : Type 0} → (conn : ℕ) (server : Peer) (query : List ℕ) → (is_done : Bool) → Connections A → Connections A → Type 0
-ListsServer conn server query true before after = Begins conn server query before after
-ListsServer conn server query false before after = MayMakeRoom before after
+abbrev pub ListsServer : {A : Type 0} → (conn : ℕ) (server : Peer) (query : List ℕ) (now : ℕ) → (is_done : Bool)
+    → Connections A → Connections A → Type 0
+ListsServer conn server query now true before after = Begins conn server query now before after
+ListsServer conn server query now false before after = MayMakeRoom now before after
 
 -- whether a reply is on its way
 abbrev pub is_answered : Option (Result Bool Lost) → Bool
@@ -52,34 +60,53 @@ is_closed_behind (Some (Err lost)) = is_over lost
 is_closed_behind None = false
 
 -- A reply on the connection with this number, and where that is over then, its end. No other client changes.
-pub record AnswersOn {A : Type 0} (conn : ℕ) (reply : List ℕ) (now : ℕ) (is_done : Bool) (before after : Connections A) : Type 0 where
+pub record AnswersOn {A : Type 0} (conn : ℕ) (reply : List ℕ) (now : ℕ) (is_done : Bool)
+    (before after : Connections A) : Type 0 where
   pub answer : Option (Result Bool Lost)
   pub clients : List (ℕ × ClientStream A)
   pub replies : RepliesOn conn reply now answer before.clients clients
   pub told : is_done ≡ is_answered answer
-  pub closes : after ≡ (if is_closed_behind answer then without_client conn (record before { clients = clients }) else record before { clients = clients })
+  pub closes : after ≡
+      (if is_closed_behind answer then without_client conn (record before { clients = clients })
+      else record before { clients = clients })
 
 -- What an action does, whether the wire did it or refused it.
-abbrev pub Puts : {A X : Type 0} → Action A → (now : ℕ) → (is_done : Bool) → (asks asks' : List (ℕ × X)) → (before after : Connections A) → Type 0
-Puts (AskUdp port _ _) now is_done asks asks' before after = ListsPort port is_done asks asks' × MayMakeRoom before after
-Puts (AskTcp conn server query) now is_done asks asks' before after = (asks' ≡ asks) × ListsServer conn server query is_done before after
-Puts (CloseUdp port) now is_done asks asks' before after = (is_done ≡ true) × (asks' ≡ remove_entry (is_at (nat_cmp port)) asks) × (after ≡ before)
-Puts (CloseTcp conn) now is_done asks asks' before after = (is_done ≡ true) × (asks' ≡ asks) × (after ≡ without_server conn before)
+abbrev pub Puts : {A X : Type 0} → Action A → (now : ℕ) → (is_done : Bool) → (asks asks' : List (ℕ × X))
+    → (before after : Connections A) → Type 0
+Puts (AskUdp port _ _) now is_done asks asks' before after =
+    ListsPort port is_done asks asks' × MayMakeRoom now before after
+Puts (AskTcp conn server query) now is_done asks asks' before after =
+    (asks' ≡ asks) × ListsServer conn server query now is_done before after
+Puts (CloseUdp port) now is_done asks asks' before after =
+    (is_done ≡ true) × (asks' ≡ remove_entry (is_at (nat_cmp port)) asks) × (after ≡ before)
+Puts (CloseTcp conn) now is_done asks asks' before after =
+    (is_done ≡ true) × (asks' ≡ asks) × (after ≡ without_server conn before)
 Puts (Reply (Udp _) _ _) now is_done asks asks' before after = (asks' ≡ asks) × (after ≡ before)
-Puts (Reply (Tcp conn) reply _) now is_done asks asks' before after = (asks' ≡ asks) × AnswersOn conn reply now is_done before after
+Puts (Reply (Tcp conn) reply _) now is_done asks asks' before after =
+    (asks' ≡ asks) × AnswersOn conn reply now is_done before after
 
 -- Putting an action.
-pub record PutsAction {R A Streams Listeners : Type 0} (action : Action A) (now : ℕ) (is_done : Bool) (before after : Sockets R A Streams Listeners) : Type 0 where
+pub record PutsAction {R A Streams Listeners : Type 0} (action : Action A) (now : ℕ) (is_done : Bool)
+    (before after : Sockets R A Streams Listeners) : Type 0 where
   pub puts : Puts action now is_done before.asks.entries after.asks.entries before.connections after.connections
-  pub rest : after ≡ record before { asks = after.asks; connections = after.connections; readiness = record before.readiness { ready = after.readiness.ready } }
+  pub rest : after ≡ record before {
+    asks = after.asks;
+    connections = after.connections;
+    readiness = record before.readiness { ready = after.readiness.ready };
+  }
 
 -- Putting a query over TCP.
-pub record PutsQuery {R A Streams Listeners : Type 0} (conn : ℕ) (server : Peer) (query : List ℕ) (is_done : Bool) (before after : Sockets R A Streams Listeners) : Type 0 where
-  pub lists : ListsServer conn server query is_done before.connections after.connections
-  pub rest : after ≡ record before { connections = after.connections; readiness = record before.readiness { ready = after.readiness.ready } }
+pub record PutsQuery {R A Streams Listeners : Type 0} (conn : ℕ) (server : Peer) (query : List ℕ) (now : ℕ)
+    (is_done : Bool) (before after : Sockets R A Streams Listeners) : Type 0 where
+  pub lists : ListsServer conn server query now is_done before.connections after.connections
+  pub rest : after ≡ record before {
+    connections = after.connections;
+    readiness = record before.readiness { ready = after.readiness.ready };
+  }
 
 -- the sockets once the random words in an action are spent: those of an ask
-abbrev pub with_spent : {R A Streams Listeners : Type 0} → Action A → Sockets R A Streams Listeners → Sockets R A Streams Listeners
+abbrev pub with_spent : {R A Streams Listeners : Type 0} → Action A → Sockets R A Streams Listeners
+    → Sockets R A Streams Listeners
 with_spent (AskUdp _ _ _) sockets = record sockets { words = record sockets.words { is_spent = true } }
 with_spent (AskTcp _ _ _) sockets = record sockets { words = record sockets.words { is_spent = true } }
 with_spent action sockets = sockets

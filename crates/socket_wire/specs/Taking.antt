@@ -12,14 +12,14 @@ use Rattle.suffix_routes.specs.declared.peer.Peer.{Peer}
 use Rattle.wires.specs.declared.wire.Arrival.{Arrival}
 use Rattle.wires.specs.declared.wire.Arrival.TheVariants.{ClientDatagram, ClientStream as ArrivesOfClient}
 use Rattle.wires.specs.declared.wire.Arrival.TheVariants.{ServerDatagram, ServerStream, PathGone}
-use Rattle.socket_wire.specs.declared.client_stream.ClientStream.{ClientStream}
-use Rattle.socket_wire.specs.declared.client_stream.Heard.{Heard}
-use Rattle.socket_wire.specs.declared.client_stream.Heard.TheVariants as heard
+use Rattle.stream_connections.specs.declared.client_stream.ClientStream.{ClientStream}
+use Rattle.stream_connections.specs.declared.client_stream.Heard.{Heard}
+use Rattle.stream_connections.specs.declared.client_stream.Heard.TheVariants as heard
 use Rattle.socket_wire.specs.declared.sockets.taking.Tried.{Tried}
 use Rattle.socket_wire.specs.declared.sockets.taking.Tried.TheVariants.{Arrived, Served, Nothing}
-use Rattle.socket_wire.specs.declared.servers.ServerStream.{ServerStream as ServerConnection}
-use Rattle.socket_wire.specs.Listed.{ServesOn}
-use Rattle.socket_wire.specs.Open.{Connections, ServesServer, without_client, without_server}
+use Rattle.stream_connections.specs.declared.servers.ServerStream.{ServerStream as ServerConnection}
+use Rattle.stream_connections.specs.Listed.{ServesOn}
+use Rattle.stream_connections.specs.Open.{Connections, ServesServer, without_client, without_server}
 
 -- These are so many octets of the buffer, where it has as many.
 abbrev pub IsPiece : (count : ℕ) (buffer octets : List ℕ) → Type 0

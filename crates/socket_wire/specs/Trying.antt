@@ -6,8 +6,8 @@ use Rattle.socket_wire.specs.declared.origin.Origin.TheVariants.{Datagrams, Clie
 use Rattle.socket_wire.specs.declared.origin.Origin.TheVariants.{Connections as Listener}
 use Rattle.socket_wire.specs.declared.readiness.Ready.{Ready}
 use Rattle.socket_wire.specs.declared.sockets.Sockets.{Sockets}
-use Rattle.socket_wire.specs.Listed.{first_from}
-use Rattle.socket_wire.specs.Open.{Connections, first_number, without_client}
+use Rattle.stream_connections.specs.Listed.{first_from}
+use Rattle.stream_connections.specs.Open.{Connections, first_number, without_client}
 use Rattle.socket_wire.specs.Rounds.{Noted}
 
 -- where the next turn begins: behind the one that was found; behind the last of them, and of so many numbers, at 0

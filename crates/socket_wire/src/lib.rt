@@ -3,17 +3,12 @@
 
 mod address;
 mod asks;
-mod client_stream;
-mod clients;
-mod connections;
 mod listeners;
-mod lost;
 mod moments;
 mod numbers;
 mod origin;
 mod readiness;
 mod receive_buffer;
-mod servers;
 mod sockets;
 mod wire;
 mod words;

@@ -10,7 +10,6 @@ mod putting;
 mod taking;
 mod trying;
 
-use crate::connections::{Closed, Connections};
 use crate::listeners::{connections_at, datagrams_at};
 use crate::numbers::Numbers;
 use crate::readiness::Readiness;
@@ -21,6 +20,7 @@ use std::collections::BTreeMap;
 use std::io;
 use std::net::Net;
 use step_values::Path;
+use stream_connections::{Closed, Connections};
 use suffix_routes::{Limits, Peer};
 use taking::Tried;
 use wires::Arrival;

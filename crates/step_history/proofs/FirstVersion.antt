@@ -6,7 +6,7 @@ use Rattle.step_values.specs.declared.event.Client.{Client}
 use Rattle.step_values.specs.declared.event.Client.TheVariants.{Udp, Tcp}
 use Rattle.step_values.specs.declared.action.Why.TheVariants.{TooLarge}
 use Rattle.suffix_routes.specs.Values.{HasNeither}
-use Rattle.step_history.specs.Names.{is_local}
+use Rattle.suffix_routes.specs.Serving.{is_local}
 use Rattle.step_history.specs.History.{Look}
 use Rattle.step_history.specs.Causes.{Cause, AnswerIsTooLarge}
 use Rattle.step_history.specs.Laws.{FirstVersionStandsAlone}

@@ -9,7 +9,7 @@ use Rattle.dns_message.specs.Values.{Question}
 use Rattle.dns_message.specs.Names.{step as name_step, walk_in, name_within}
 use Rattle.dns_message.specs.Records.{octets_end, question_at}
 use Rattle.dns_message.specs.Messages.{first_question}
-use Rattle.dns_message.specs.Questions.{same_question}
+use Rattle.dns_message.specs.Questions.{same_question, is_unserved}
 use Rattle.outstanding.specs.declared.ask.Path.TheVariants.{Udp}
 use Rattle.step_values.specs.declared.event.Client.{Client}
 use Rattle.step_values.specs.declared.event.Client.TheVariants.{Udp as FromUdp}
@@ -19,7 +19,7 @@ use Rattle.step_history.specs.History.{moment_at, Look, ShownAsk, listed, Matche
 use Rattle.step_history.specs.Answers.{FollowsAliases}
 use Rattle.step_history.specs.Accounting.{is_due}
 use Rattle.step_history.specs.Asked.{IsRightAsk, IsServerFor}
-use Rattle.step_history.specs.Causes.{is_unserved, AllTriesFailed}
+use Rattle.step_history.specs.Causes.{AllTriesFailed}
 
 -- ---- which questions are served
 

@@ -12,10 +12,11 @@ use Rattle.dns_message.specs.Shapes.{shape_of}
 use Rattle.trust_rank.specs.Values.{rows, no_data, denied, Body}
 use Rattle.record_cache.specs.Values.{Held}
 use Rattle.record_cache.specs.Ageing.{end_of}
-use Rattle.step_history.specs.Names.{route_of, is_local}
+use Rattle.suffix_routes.specs.Serving.{route_of, is_local}
 use Rattle.step_history.specs.History.{moment_at, Look}
 use Rattle.step_history.specs.Stale.{JustifiedPastItsEnd, ChainPastEnds}
-use Rattle.step_history.specs.Replies.{asked_in, full_text, stale_sections, denied_sections}
+use Rattle.step_history.specs.Replies.{full_text, stale_sections, denied_sections}
+use Rattle.answer_builder.specs.Values.{asked_in}
 
 -- ---- names below e, and pieces that came at 1020
 

@@ -7,16 +7,17 @@ use Rattle.dns_message.specs.Names.{step as name_step, walk_in, name_within}
 use Rattle.dns_message.specs.Writing.{◌▹◌, each, name_text, data_text, with_length, written}
 use Rattle.dns_message.specs.Shapes.{shape_of}
 use Rattle.trust_rank.specs.Values.{rows, no_data, denied, Piece, found, ends_no_data, ends_denied, elsewhere, lame}
-use Rattle.trust_rank.specs.Walks.{target_of}
+use Rattle.trust_rank.specs.Walks.{target_of, is_lame}
 use Rattle.record_cache.specs.Values.{Held}
 use Rattle.record_cache.specs.Ageing.{end_of, seconds_left}
 use Rattle.record_cache.specs.Laws.{Among}
 use Rattle.step_values.specs.declared.action.Why.TheVariants.{ChainLong}
-use Rattle.step_history.specs.Names.{route_of}
-use Rattle.step_history.specs.History.{moment_at, Look, is_lame}
+use Rattle.suffix_routes.specs.Serving.{route_of}
+use Rattle.step_history.specs.History.{moment_at, Look}
 use Rattle.step_history.specs.Carried.{then_carried, NotReplaced, Justified}
 use Rattle.step_history.specs.Answers.{has_slot, EndsChain}
-use Rattle.step_history.specs.Replies.{asked_in, answer_text, failure_text}
+use Rattle.step_history.specs.Replies.{answer_text, failure_text}
+use Rattle.answer_builder.specs.Values.{asked_in}
 
 -- ---- names below e, and pieces of them
 

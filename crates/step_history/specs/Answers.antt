@@ -11,15 +11,13 @@ use Rattle.record_cache.specs.Values.{Held}
 use Rattle.step_values.specs.declared.event.Client.{Client}
 use Rattle.step_history.specs.History.{Look, moment_at}
 use Rattle.step_history.specs.Carried.{Justified}
-use Rattle.step_history.specs.Replies.{asked_in, answer_text, cut_text, sized_for, FitsTransport}
+use Rattle.step_history.specs.Replies.{answer_text, cut_text, sized_for, FitsTransport}
+use Rattle.answer_builder.specs.Values.{asked_in}
+use Rattle.dns_message.specs.Questions.{asked_at}
 
 -- the piece tells of this name, class and type
 abbrev pub has_slot : Piece → List (List ℕ) → ℕ → Option ℕ → Bool
 has_slot p name class kind = same_slot p.slot (record { key = name; class = class; kind = kind })
-
--- the same question at another name
-abbrev pub asked_at : Question → List (List ℕ) → Question
-asked_at q name = record { name = name; kind = q.kind; class = q.class }
 
 -- these justified aliases lead, one after another, from the first question to the last; a question for CNAME follows none
 -- (RFC 1034 3.6.2)

@@ -6,13 +6,14 @@ use Rattle.dns_message.specs.Questions.{same_question}
 use Rattle.dns_message.specs.Writing.{written}
 use Rattle.suffix_routes.specs.declared.peer.Peer.{Peer}
 use Rattle.suffix_routes.specs.Values.{Config, Route}
-use Rattle.step_history.specs.Names.{route_of}
+use Rattle.suffix_routes.specs.Serving.{route_of}
 use Rattle.outstanding.specs.declared.ask.Path.{Path}
 use Rattle.outstanding.specs.declared.ask.Path.TheVariants.{Udp, Tcp}
 use Rattle.outstanding.specs.Lists.{same_path}
 use Rattle.step_values.specs.Values.{Action, SentAsk, ask_in, Step}
 use Rattle.step_history.specs.History.{ShownAsk, listed, closes_path, tcp_asks, Reads}
-use Rattle.step_history.specs.Draws.{ask_message, drawn, drawn_by_tcp}
+use Rattle.step_history.specs.Draws.{drawn}
+use Rattle.outstanding.specs.Draws.{ask_message, drawn_by_tcp}
 
 -- the two are on different paths, and ask different questions
 pub record DiffersFrom (a b : ShownAsk) : Type 0 where

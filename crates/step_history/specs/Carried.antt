@@ -7,7 +7,7 @@ use Rattle.record_cache.specs.Values.{Held}
 use Rattle.record_cache.specs.Ageing.{end_of}
 use Rattle.record_cache.specs.Laws.{Among}
 use Rattle.step_values.specs.Values.{Step}
-use Rattle.step_history.specs.Names.{route_of}
+use Rattle.suffix_routes.specs.Serving.{route_of}
 use Rattle.step_history.specs.History.{is_restart, moment_at, Look, Carries, NothingAccepted}
 
 -- pieces that came at the moment t, put before those that were there, the newest first

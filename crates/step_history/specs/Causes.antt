@@ -1,5 +1,5 @@
 -- Why a question is answered without success.
-use Rattle.std.specs.Prelude.{◌≡◌, ◌≢◌, ℕ, zero, suc, ◌+◌, ◌-◌, ◌^◌, ◌<◌, ◌≤◌, Bool, true, false, ◌==◌, ◌&&◌, ◌||◌, nat_le, List, [], ◌∷◌, length, Some, None, ◌⊎◌}
+use Rattle.std.specs.Prelude.{◌≡◌, ◌≢◌, ℕ, zero, suc, ◌+◌, ◌-◌, ◌^◌, ◌<◌, ◌≤◌, true, false, List, [], ◌∷◌, length, Some, None, ◌⊎◌}
 use Rattle.std.specs.List.{AllByRecursion}
 use Rattle.dns_message.specs.Values.{Question}
 use Rattle.suffix_routes.specs.Values.{Config}
@@ -8,20 +8,17 @@ use Rattle.step_values.specs.declared.event.Client.TheVariants.{Udp, Tcp}
 use Rattle.step_values.specs.declared.action.Why.{Why}
 use Rattle.step_values.specs.declared.action.Why.TheVariants.{Answered, BadFormat, BadOpcode, NotServed, NoRoute, QuestionsFull, InquiriesFull, NoPort, Exhausted, Deadline, ChainLong, TooLarge, Stale, LocalDenied}
 use Rattle.step_values.specs.Values.{tick, Action, Step}
-use Rattle.step_history.specs.Names.{route_of, is_local}
-use Rattle.dns_message.specs.Questions.{same_question}
+use Rattle.suffix_routes.specs.Serving.{route_of, is_local}
+use Rattle.dns_message.specs.Questions.{same_question, is_unserved}
 use Rattle.dns_message.specs.Header.{header_in}
 use Rattle.record_cache.specs.Values.{Held}
 use Rattle.step_history.specs.History.{is_restart, before_newest, Look, ShownAsk, listed, on_path, closes_path, tcp_asks, moment_at, NothingAccepted, Reads}
 use Rattle.step_history.specs.Answers.{FollowsAliases, Leads, Chain}
 use Rattle.step_history.specs.Stale.{ChainPastEnds}
 use Rattle.step_history.specs.Local.{ChainToLocal}
-use Rattle.step_history.specs.Replies.{asked_in, answer_text, full_text, stale_sections, denied_sections}
+use Rattle.step_history.specs.Replies.{answer_text, full_text, stale_sections, denied_sections}
+use Rattle.answer_builder.specs.Values.{asked_in}
 use Rattle.step_history.specs.Draws.{drawn}
-
--- questions for what is no data, or for more than one type or class (RFC 1035 3.2.3 and 3.2.5, RFC 6895 3.1)
-abbrev pub is_unserved : Question → Bool
-is_unserved q = (q.kind == 0) || (q.kind == 41) || (nat_le 128 q.kind && nat_le q.kind 255) || (q.class == 255)
 
 abbrev pub newest_actions : List Step → List Action
 newest_actions [] = []

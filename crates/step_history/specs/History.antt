@@ -1,5 +1,5 @@
 -- A history is the list of its steps, the newest first: what is said of a step is said of the list that begins with it.
-use Rattle.std.specs.Prelude.{◌≡◌, ℕ, ◌+◌, ◌^◌, ◌<◌, ◌≤◌, Bool, true, false, if◌then◌else◌, ◌&&◌, not, nat_le, min, max, List, [], ◌∷◌, ◌++◌, length, filter, Option, Some, None, ◌⊎◌}
+use Rattle.std.specs.Prelude.{◌≡◌, ℕ, ◌+◌, ◌^◌, ◌<◌, ◌≤◌, Bool, true, false, if◌then◌else◌, not, min, max, List, [], ◌∷◌, ◌++◌, length, filter, Option, Some, None, ◌⊎◌}
 use Rattle.std.specs.List.{find, list_any}
 use Rattle.dns_message.specs.Values.{Question, Message}
 use Rattle.dns_message.specs.Messages.{Spells}
@@ -7,15 +7,14 @@ use Rattle.suffix_routes.specs.declared.peer.Peer.{Peer}
 use Rattle.suffix_routes.specs.Values.{Config}
 use Rattle.step_values.specs.declared.event.Client.{Client}
 use Rattle.outstanding.specs.declared.ask.Path.{Path}
-use Rattle.outstanding.specs.declared.ask.Path.TheVariants.{Udp, Tcp}
-use Rattle.outstanding.specs.Lists.{same_path}
+use Rattle.outstanding.specs.Lists.{same_path, is_tcp}
 use Rattle.step_values.specs.Values.{Event, from_client, delivery, path_failed, tick, restart, Action, Request, request_in, delivery_in, SentAsk, ask_in, closed_path_in, Step}
-use Rattle.step_history.specs.Names.{route_of}
-use Rattle.dns_message.specs.Questions.{same_question}
+use Rattle.suffix_routes.specs.Serving.{route_of}
+use Rattle.dns_message.specs.Questions.{same_question, one_question}
 use Rattle.dns_message.specs.Header.{header_in}
-use Rattle.dns_message.specs.Questions.{one_question}
-use Rattle.trust_rank.specs.Values.{Piece, End, found, ends_no_data, ends_denied, elsewhere, lame}
-use Rattle.trust_rank.specs.Walks.{walk_of}
+use Rattle.trust_rank.specs.Values.{Piece}
+use Rattle.trust_rank.specs.Walks.{walk_of, is_lame}
+use Rattle.step_values.specs.Requests.{is_taken}
 
 abbrev pub is_restart_event : Event → Bool
 is_restart_event restart = true
@@ -82,10 +81,6 @@ listed (s ∷ past) = if is_restart s then [] else asks_after (moment_at (s ∷ 
 abbrev pub on_path : Path → List ShownAsk → Option ShownAsk
 on_path path asks = find (λ a. same_path a.path path) asks
 
-abbrev pub is_tcp : Path → Bool
-is_tcp (Udp port) = false
-is_tcp (Tcp conn) = true
-
 abbrev pub count_tcp : Option SentAsk → ℕ
 count_tcp None = 0
 count_tcp (Some a) = if is_tcp a.path then 1 else 0
@@ -134,14 +129,6 @@ pub record Matches (c : Config) (s : Step) (past : List Step) (ask : ShownAsk) (
   pub reads : Reads octets question
   pub same_question_as_ask : same_question question asked ≡ true
 
--- a reply that ends so tells nothing of what was asked
-abbrev pub is_lame : End → Bool
-is_lame lame = true
-is_lame (elsewhere name) = false
-is_lame found = false
-is_lame ends_no_data = false
-is_lame ends_denied = false
-
 -- the newest step is accepted: whole, neither truncated nor a failure, and not lame
 pub record Accepts (c : Config) (s : Step) (past : List Step) (ask : ShownAsk) (asked : Question) (route : ℕ) (m : Message) : Type 0 where
   pub octets : List ℕ
@@ -165,10 +152,6 @@ abbrev pub NothingAccepted : Config → Step → List Step → Type 0
 NothingAccepted c s past = (ps : List Piece) → Carries c s past ps → ⊥
 
 -- ---- a client's message
-
--- octets of a client are dropped if they are too few or too many, or are themselves a reply
-abbrev pub is_taken : List ℕ → Bool
-is_taken octets = nat_le 12 (length octets) && nat_le (length octets) 65535 && not (header_in octets).qr
 
 abbrev pub is_taken_request : Option Request → Bool
 is_taken_request None = false

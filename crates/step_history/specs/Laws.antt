@@ -6,7 +6,7 @@ use Rattle.step_values.specs.Values.{Step}
 use Rattle.record_cache.specs.Values.{Held}
 use Rattle.step_values.specs.declared.event.Client.{Client}
 use Rattle.step_values.specs.declared.action.Why.TheVariants.{TooLarge, Stale, LocalDenied}
-use Rattle.step_history.specs.Names.{route_of}
+use Rattle.suffix_routes.specs.Serving.{route_of}
 use Rattle.step_history.specs.History.{is_restart, InEra, Look, moment_at}
 use Rattle.step_history.specs.Carried.{CarriedInEra}
 use Rattle.step_history.specs.Causes.{Cause, AnswerIsTooLarge}

@@ -1,4 +1,3 @@
-pub mod Names
 pub mod History
 pub mod Carried
 pub mod Replies

@@ -5,10 +5,11 @@ use Rattle.dns_message.specs.Values.{Question, Message}
 use Rattle.dns_message.specs.Messages.{Spells}
 use Rattle.record_cache.specs.Values.{Held}
 use Rattle.step_values.specs.declared.event.Client.{Client}
-use Rattle.step_history.specs.Names.{is_local}
+use Rattle.suffix_routes.specs.Serving.{is_local}
 use Rattle.step_history.specs.History.{Look, moment_at}
 use Rattle.step_history.specs.Answers.{Leads}
-use Rattle.step_history.specs.Replies.{asked_in, full_text, short_text, denied_sections, sized_for, FitsTransport}
+use Rattle.step_history.specs.Replies.{full_text, short_text, denied_sections, sized_for, FitsTransport}
+use Rattle.answer_builder.specs.Values.{asked_in}
 
 -- justified aliases lead from the question to a name that the configuration denies; where there are none, its own name is
 -- denied, which is told at once

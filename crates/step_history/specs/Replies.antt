@@ -1,7 +1,5 @@
 -- The messages that clients get.
-use Rattle.std.specs.Prelude.{ℕ, ◌≤◌, List, [], ◌∷◌, ◌++◌, length, map, Option}
-use Rattle.dns_message.specs.Header.{Header}
-use Rattle.dns_message.specs.Values.{Question}
+use Rattle.std.specs.Prelude.{ℕ, ◌≤◌, List, [], ◌∷◌, ◌++◌, length, map}
 use Rattle.dns_message.specs.Writing.{written}
 use Rattle.record_cache.specs.Values.{Held}
 use Rattle.answer_builder.specs.Values.{Asked, Sections}
@@ -10,11 +8,7 @@ use Rattle.answer_builder.specs.Transports.{over_udp}
 use Rattle.step_values.specs.declared.event.Client.{Client}
 use Rattle.step_values.specs.declared.event.Client.TheVariants.{Udp, Tcp}
 use Rattle.step_values.specs.declared.action.Why.{Why}
-use Rattle.step_values.specs.declared.action.Why.TheVariants.{Answered, BadFormat, BadOpcode, NotServed, NoRoute, QuestionsFull, InquiriesFull, NoPort, Exhausted, Deadline, ChainLong, TooLarge, Stale, LocalDenied}
-
--- what the answer to a request with this header repeats of it, and of its question where there is one
-abbrev pub asked_in : Header → Option Question → Asked
-asked_in h q = record { id = h.id; opcode = h.opcode; rd = h.rd; question = q }
+use Rattle.step_values.specs.Requests.{rcode_of_why}
 
 -- the answer from a chain of aliases and what ends it, with the seconds that are left at the moment t
 abbrev pub answer_text : Asked → List Held → Held → ℕ → List ℕ
@@ -49,23 +43,6 @@ sized_for (Tcp conn) full cut = full
 abbrev pub FitsTransport : Client → List ℕ → Type 0
 FitsTransport (Udp peer) octets = Unit {0}
 FitsTransport (Tcp conn) octets = length octets ≤ 65535
-
--- the response code of each reply (RFC 1035 4.1.1)
-abbrev pub rcode_of_why : Why → ℕ
-rcode_of_why Answered = 0
-rcode_of_why BadFormat = 1
-rcode_of_why BadOpcode = 4
-rcode_of_why NotServed = 4
-rcode_of_why NoRoute = 5
-rcode_of_why QuestionsFull = 2
-rcode_of_why InquiriesFull = 2
-rcode_of_why NoPort = 2
-rcode_of_why Exhausted = 2
-rcode_of_why Deadline = 2
-rcode_of_why ChainLong = 2
-rcode_of_why TooLarge = 2
-rcode_of_why Stale = 0
-rcode_of_why LocalDenied = 3
 
 -- the failure that tells this reason
 abbrev pub failure_text : Asked → Why → List ℕ

@@ -8,14 +8,15 @@ use Rattle.step_values.specs.declared.event.Client.{Client}
 use Rattle.step_values.specs.declared.action.Why.{Why}
 use Rattle.step_values.specs.declared.action.Why.TheVariants.{Answered, BadFormat, BadOpcode, Stale, LocalDenied}
 use Rattle.step_values.specs.Values.{Request, request_in, Action, SentReply, reply_in_action, Step}
-use Rattle.dns_message.specs.Questions.{same_question}
+use Rattle.dns_message.specs.Questions.{same_question, is_unserved}
 use Rattle.dns_message.specs.Header.{header_in}
 use Rattle.step_history.specs.History.{is_restart, InEra, moment_at, Look, NothingAccepted, Reads, Sends, takes_question}
 use Rattle.step_history.specs.Answers.{Answers}
-use Rattle.step_history.specs.Replies.{asked_in, failure_text}
+use Rattle.step_history.specs.Replies.{failure_text}
+use Rattle.answer_builder.specs.Values.{asked_in}
 use Rattle.step_history.specs.Stale.{StaleAnswers}
 use Rattle.step_history.specs.Local.{LocalAnswers}
-use Rattle.step_history.specs.Causes.{AllTriesFailed, Cause, is_unserved}
+use Rattle.step_history.specs.Causes.{AllTriesFailed, Cause}
 
 -- a number is among these
 abbrev pub among : ℕ → List ℕ → Bool

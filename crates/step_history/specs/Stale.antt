@@ -9,11 +9,13 @@ use Rattle.record_cache.specs.Values.{Held}
 use Rattle.record_cache.specs.Ageing.{end_of}
 use Rattle.record_cache.specs.Laws.{Among}
 use Rattle.step_values.specs.declared.event.Client.{Client}
-use Rattle.step_history.specs.Names.{route_of}
+use Rattle.suffix_routes.specs.Serving.{route_of}
 use Rattle.step_history.specs.History.{before_newest, Look, moment_at}
 use Rattle.step_history.specs.Carried.{CarriedInEra, NotReplaced}
-use Rattle.step_history.specs.Answers.{has_slot, asked_at}
-use Rattle.step_history.specs.Replies.{asked_in, full_text, short_text, stale_sections, sized_for, FitsTransport}
+use Rattle.step_history.specs.Answers.{has_slot}
+use Rattle.dns_message.specs.Questions.{asked_at}
+use Rattle.step_history.specs.Replies.{full_text, short_text, stale_sections, sized_for, FitsTransport}
+use Rattle.answer_builder.specs.Values.{asked_in}
 
 abbrev pub IsSet : Body → Type 0
 IsSet (rows each) = Unit {0}

@@ -1,5 +1,6 @@
 pub mod Values
 pub mod Routes
+pub mod Serving
 pub mod Peers
 pub mod Places
 pub mod Positions

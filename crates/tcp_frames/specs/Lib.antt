@@ -1,3 +1,5 @@
 pub mod Frames
 pub mod Runs
 pub mod Laws
+pub mod Counting
+pub mod Unsent

@@ -1,18 +1,23 @@
 //! DNS messages over TCP: each goes behind its length in two octets, the high one first (RFC 1035 4.2.2, RFC 7766 8).
 //!
 //! `frame` makes the octets of one message for the stream. A `FrameReader` takes the octets of a stream in pieces as
-//! they come, cut anywhere, and gives the messages back whole and in order.
+//! they come, cut anywhere, and gives the messages back whole and in order. What is kept of a stream beside its messages is
+//! where it stands in its frames (`Within`), and the octets that it is still to take (`Unsent`).
 #![tactic(auto)]
 
 mod fault;
+mod framing;
 mod laws;
 mod reading;
+mod unsent;
 mod writing;
 
 pub use fault::FrameFault;
+pub use framing::Within;
 pub use laws::{
     all_frames_are_taken, cut_does_not_matter, frames_are_found, frames_are_unique,
     nothing_is_lost, pieces_continue, unfinished_has_no_frame,
 };
 pub use reading::FrameReader;
+pub use unsent::Unsent;
 pub use writing::frame;

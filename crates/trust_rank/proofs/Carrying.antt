@@ -11,7 +11,7 @@ use Rattle.suffix_routes.specs.Routes.{route_of}
 use Rattle.trust_rank.specs.Values.{Piece, found, ends_no_data, ends_denied, Reply}
 use Rattle.trust_rank.specs.Sets.{is_of, records_for, set_with, set_of}
 use Rattle.trust_rank.specs.Denials.{soa_for}
-use Rattle.trust_rank.specs.Walks.{Met, met_nothing, met_set, met_no_data, met_name_error, met_alias, met_lame, is_place, is_on_route, rank_at, at_name, answer_set, alias_set, has_many, target_of, is_referral, name_error_at, no_data_at, denial_met, denial_at, leads, alias_or, set_or, met_at}
+use Rattle.trust_rank.specs.Walks.{AtName, met_nothing, met_set, met_no_data, met_name_error, met_alias, met_lame, is_place, is_on_route, rank_at, at_name, answer_set, alias_set, has_many, target_of, is_referral, name_error_at, no_data_at, denial_met, denial_at, leads, alias_or, set_or, met_at}
 use Rattle.trust_rank.specs.Formed.{IsSoa}
 use Rattle.trust_rank.specs.Laws.{IsCarriedFor, IsAliasTo, IsLastBody}
 use Rattle.trust_rank.proofs.PieceLaws.{HaveShape, set_shape, set_with_is_piece, found_is_soa, denial_short}
@@ -100,7 +100,7 @@ name_error_carried r name shaped on = record {
 -- ---- what is met at a name
 
 -- what is met is carried for the name; nothing is met at the first name only where that is off the route
-abbrev pub Meets : Reply → Bool → List (List ℕ) → Met → Type 0
+abbrev pub Meets : Reply → Bool → List (List ℕ) → AtName → Type 0
 Meets r is_first name met_nothing = is_first ≡ true → is_on_route r name ≡ true → ⊥
 Meets r is_first name (met_set p) = IsCarriedFor r name (Some r.question.kind) p × IsLastBody found p.body
 Meets r is_first name (met_no_data p) = IsCarriedFor r name (Some r.question.kind) p × IsLastBody ends_no_data p.body
@@ -139,14 +139,14 @@ followed false o p e = (refl, e)
 not_five : (kind : ℕ) → (kind == 5) ≡ false → kind ≢ 5
 not_five kind f is = false≢true (sym f ∙ eq-eqb kind 5 is)
 
-meets_alias : (r : Reply) (is_first : Bool) (name : List (List ℕ)) (o : Option Piece) (denial : Met) → AreShaped r.answers → is_on_route r name ≡ true → alias_set r name ≡ o → Meets r is_first name denial
+meets_alias : (r : Reply) (is_first : Bool) (name : List (List ℕ)) (o : Option Piece) (denial : AtName) → AreShaped r.answers → is_on_route r name ≡ true → alias_set r name ≡ o → Meets r is_first name denial
     → Meets r is_first name (alias_or o denial)
 meets_alias r is_first name None denial shaped on e other = other
 meets_alias r is_first name (Some p) denial shaped on e other =
     let f : ((r.question.kind == 5) ≡ false) × (answer_set r 5 name ≡ Some p) = followed (r.question.kind == 5) (answer_set r 5 name) p e in
     meets_target r is_first name p (target_of p.body) refl (set_carried r 5 name p shaped on f.1) (not_five r.question.kind f.0)
 
-meets_set : (r : Reply) (is_first : Bool) (name : List (List ℕ)) (o : Option Piece) (other : Met) → AreShaped r.answers → is_on_route r name ≡ true → answer_set r r.question.kind name ≡ o
+meets_set : (r : Reply) (is_first : Bool) (name : List (List ℕ)) (o : Option Piece) (other : AtName) → AreShaped r.answers → is_on_route r name ≡ true → answer_set r r.question.kind name ≡ o
     → Meets r is_first name other → Meets r is_first name (set_or r.question.kind o other)
 meets_set r is_first name None other shaped on e met = met
 meets_set r is_first name (Some p) other shaped on e met =

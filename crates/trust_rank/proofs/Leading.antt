@@ -9,7 +9,7 @@ use Rattle.dns_message.specs.Messages.{AreShaped}
 use Rattle.suffix_routes.specs.Routes.{route_of}
 use Rattle.trust_rank.specs.Values.{Piece, End, found, ends_no_data, ends_denied, elsewhere, lame, Walk, Reply, reply_of}
 use Rattle.trust_rank.specs.Sets.{records_for}
-use Rattle.trust_rank.specs.Walks.{Met, met_nothing, met_set, met_no_data, met_name_error, met_alias, met_lame, is_place, is_on_route, met_at, most_aliases, lame_walk, is_lame, behind, go_on, walk_from, is_name_server, is_server_for, has_owner, begins_set, servers_with, servers_at, servers_from, carries_servers, with_servers}
+use Rattle.trust_rank.specs.Walks.{AtName, met_nothing, met_set, met_no_data, met_name_error, met_alias, met_lame, is_place, is_on_route, met_at, most_aliases, lame_walk, is_lame, behind, go_on, walk_from, is_name_server, is_server_for, has_owner, begins_set, servers_with, servers_at, servers_from, carries_servers, with_servers}
 use Rattle.trust_rank.specs.Laws.{IsCarriedFor, IsAliasTo, Lead, last_kind, IsLastBody, Closes, EndsSo, WalkLeads, IsServerSet, ServersFit}
 use Rattle.trust_rank.proofs.PieceLaws.{set_shape, set_with_is_piece}
 use Rattle.trust_rank.proofs.Carrying.{Meets, meets, on_route_is}
@@ -49,7 +49,7 @@ behind_well r most name target p pieces authority lame alias h = refl
 one_closes : (r : Reply) (most : ℕ) (name : List (List ℕ)) (end : End) (p : Piece) → IsCarriedFor r name (last_kind r end) p → IsLastBody end p.body → Closes r (suc most) name end (p ∷ [])
 one_closes r most name end p carried body = record { aliases = []; last = p; last_name = name; whole = refl; few = omega arith; lead = refl; carried = carried; body = body }
 
-go_well : (r : Reply) (most : ℕ) (is_first : Bool) (name : List (List ℕ)) (rest : List (List ℕ) → Walk) (met : Met) → Meets r is_first name met → ((target : List (List ℕ)) → EndsWell r most target (rest target))
+go_well : (r : Reply) (most : ℕ) (is_first : Bool) (name : List (List ℕ)) (rest : List (List ℕ) → Walk) (met : AtName) → Meets r is_first name met → ((target : List (List ℕ)) → EndsWell r most target (rest target))
     → EndsWell r (suc most) name (go_on rest name met)
 go_well r most is_first name rest met_nothing m h = (omega arith, refl)
 go_well r most is_first name rest (met_set p) m h = one_closes r most name found p m.0 m.1
@@ -77,7 +77,7 @@ behind_moved p pieces authority ends_denied = λ name e. absurd (cc)
 behind_moved p pieces authority (elsewhere last) = λ name e. omega arith
 behind_moved p pieces authority lame = λ name e. absurd (cc)
 
-go_moved : (r : Reply) (name : List (List ℕ)) (rest : List (List ℕ) → Walk) (met : Met) → Meets r true name met → is_on_route r name ≡ true → Moved (go_on rest name met)
+go_moved : (r : Reply) (name : List (List ℕ)) (rest : List (List ℕ) → Walk) (met : AtName) → Meets r true name met → is_on_route r name ≡ true → Moved (go_on rest name met)
 go_moved r name rest met_nothing m on = λ last e. absurd (m refl on)
 go_moved r name rest (met_set p) m on = λ last e. absurd (cc)
 go_moved r name rest (met_no_data p) m on = λ last e. absurd (cc)
@@ -95,7 +95,7 @@ walk_moved r most name answers authority on = go_moved r name (λ target. walk_f
 behind_plain : (p : Piece) (w : Walk) → w.authority ≡ [] → (behind p w).authority ≡ []
 behind_plain p w e = cond_both (is_lame w.end) lame_walk (record { pieces = p ∷ w.pieces; authority = w.authority; end = w.end }) (λ (x : Walk). x.authority ≡ []) (λ _. refl) (λ _. e)
 
-go_plain : (name : List (List ℕ)) (rest : List (List ℕ) → Walk) (met : Met) → ((target : List (List ℕ)) → (rest target).authority ≡ []) → (go_on rest name met).authority ≡ []
+go_plain : (name : List (List ℕ)) (rest : List (List ℕ) → Walk) (met : AtName) → ((target : List (List ℕ)) → (rest target).authority ≡ []) → (go_on rest name met).authority ≡ []
 go_plain name rest met_nothing h = refl
 go_plain name rest (met_set p) h = refl
 go_plain name rest (met_no_data p) h = refl

@@ -3,7 +3,7 @@ use Rattle.std.proofs.Common.{◌≡◌, ℕ, suc, Bool, false, List, [], ◌∷
 use Rattle.std.proofs.lemmas.Bool.{cond-false}
 use Rattle.std.proofs.lemmas.List.{append-nil}
 use Rattle.trust_rank.specs.Values.{Piece, End, elsewhere, Walk, Reply}
-use Rattle.trust_rank.specs.Walks.{Met, met_nothing, met_alias, met_at, ending, lame_walk, is_lame, behind, go_on, walk_from}
+use Rattle.trust_rank.specs.Walks.{AtName, met_nothing, met_alias, met_at, ending, lame_walk, is_lame, behind, go_on, walk_from}
 
 -- these pieces, and the walk behind them
 abbrev pub before : List Piece → Walk → Walk
@@ -27,14 +27,14 @@ abbrev pub GoesOn : Reply → List Piece → ℕ → Bool → List (List ℕ) �
 GoesOn r ps left is_first name whole = before ps (walk_from r left is_first name) ≡ whole
 
 -- at a name, with aliases left
-walk_here : (r : Reply) (ps : List Piece) (left less : ℕ) (is_first : Bool) (name : List (List ℕ)) (met : Met) (whole : Walk) → GoesOn r ps left is_first name whole → left ≡ suc less
+walk_here : (r : Reply) (ps : List Piece) (left less : ℕ) (is_first : Bool) (name : List (List ℕ)) (met : AtName) (whole : Walk) → GoesOn r ps left is_first name whole → left ≡ suc less
     → met ≡ met_at r is_first name → before ps (go_on (λ t. walk_from r less false t) name met) ≡ whole
 unfolding walk_from
 walk_here r ps left less is_first name met whole so_far is here =
-    ap (λ (m : Met). before ps (go_on (λ t. walk_from r less false t) name m)) here ∙ sym (ap (λ (n : ℕ). before ps (walk_from r n is_first name)) is) ∙ so_far
+    ap (λ (m : AtName). before ps (go_on (λ t. walk_from r less false t) name m)) here ∙ sym (ap (λ (n : ℕ). before ps (walk_from r n is_first name)) is) ∙ so_far
 
 -- the walk ends here, before this piece or with it
-pub ends_here : (r : Reply) (ps qs : List Piece) (left less : ℕ) (is_first : Bool) (name : List (List ℕ)) (met : Met) (end : End) (whole : Walk) → GoesOn r ps left is_first name whole → left ≡ suc less
+pub ends_here : (r : Reply) (ps qs : List Piece) (left less : ℕ) (is_first : Bool) (name : List (List ℕ)) (met : AtName) (end : End) (whole : Walk) → GoesOn r ps left is_first name whole → left ≡ suc less
     → met ≡ met_at r is_first name → go_on (λ t. walk_from r less false t) name met ≡ ending qs end → is_lame end ≡ false → ending (ps ++ qs) end ≡ whole
 ends_here r ps qs left less is_first name met end whole so_far is here ends other =
     sym (ap (before ps) ends ∙ before_end ps qs end other) ∙ walk_here r ps left less is_first name met whole so_far is here
@@ -44,7 +44,7 @@ pub ends_before : (r : Reply) (ps : List Piece) (left less : ℕ) (is_first : Bo
 ends_before r ps left less is_first name whole so_far is here =
     ap (λ (xs : List Piece). ending xs (elsewhere name)) (sym (append-nil ps)) ∙ ends_here r ps [] left less is_first name met_nothing (elsewhere name) whole so_far is here refl refl
 
-pub ends_lame : (r : Reply) (ps : List Piece) (left less : ℕ) (is_first : Bool) (name : List (List ℕ)) (met : Met) (whole : Walk) → GoesOn r ps left is_first name whole → left ≡ suc less
+pub ends_lame : (r : Reply) (ps : List Piece) (left less : ℕ) (is_first : Bool) (name : List (List ℕ)) (met : AtName) (whole : Walk) → GoesOn r ps left is_first name whole → left ≡ suc less
     → met ≡ met_at r is_first name → go_on (λ t. walk_from r less false t) name met ≡ lame_walk → lame_walk ≡ whole
 ends_lame r ps left less is_first name met whole so_far is here ends = sym (ap (before ps) ends ∙ before_lame ps) ∙ walk_here r ps left less is_first name met whole so_far is here
 

@@ -11,7 +11,7 @@ use Rattle.dns_message.proofs.CallerLemmas.{data_that_is_a_name}
 use Rattle.trust_rank.specs.Values.{Body, rows, no_data, denied, Piece, Walk, Reply, reply_of}
 use Rattle.trust_rank.specs.Sets.{is_of, records_for, set_with, set_of}
 use Rattle.trust_rank.specs.Denials.{is_soa_for, soa_for}
-use Rattle.trust_rank.specs.Walks.{Met, met_nothing, met_set, met_no_data, met_name_error, met_alias, met_lame, rank_at, at_name, answer_set, alias_set, has_many, target_of, is_referral, name_error_at, no_data_at, denial_met, denial_at, leads, alias_or, set_or, is_on_route, met_at, most_aliases, is_lame, lame_walk, behind, go_on, walk_from, begins_set, servers_with, servers_at, servers_from, carries_servers}
+use Rattle.trust_rank.specs.Walks.{AtName, met_nothing, met_set, met_no_data, met_name_error, met_alias, met_lame, rank_at, at_name, answer_set, alias_set, has_many, target_of, is_referral, name_error_at, no_data_at, denial_met, denial_at, leads, alias_or, set_or, is_on_route, met_at, most_aliases, is_lame, lame_walk, behind, go_on, walk_from, begins_set, servers_with, servers_at, servers_from, carries_servers}
 use Rattle.trust_rank.specs.Writable.{IsWritable}
 use Rattle.trust_rank.specs.Laws.{PiecesAreWritable}
 use Rattle.trust_rank.proofs.Leading.{walk_plain, all_append}
@@ -49,7 +49,7 @@ soa_can r name can = one_found IsRecord (is_soa_for name r.question.class) r.aut
 
 -- ---- what is met at a name
 
-abbrev MetWritable : Met → Type 0
+abbrev MetWritable : AtName → Type 0
 MetWritable met_nothing = Unit {0}
 MetWritable (met_set p) = IsWritable p
 MetWritable (met_no_data p) = IsWritable p
@@ -69,11 +69,11 @@ leads_writable : (p : Piece) (o : Option (List (List ℕ))) → target_of p.body
 leads_writable p None is can = tt
 leads_writable p (Some target) is can = (can, target_is_name p.body target is)
 
-alias_writable : (o : Option Piece) (other : Met) → IfSome o IsWritable → MetWritable other → MetWritable (alias_or o other)
+alias_writable : (o : Option Piece) (other : AtName) → IfSome o IsWritable → MetWritable other → MetWritable (alias_or o other)
 alias_writable None other can rest = rest
 alias_writable (Some p) other can rest = leads_writable p (target_of p.body) refl can
 
-set_met_writable : (kind : ℕ) (o : Option Piece) (other : Met) → IfSome o IsWritable → MetWritable other → MetWritable (set_or kind o other)
+set_met_writable : (kind : ℕ) (o : Option Piece) (other : AtName) → IfSome o IsWritable → MetWritable other → MetWritable (set_or kind o other)
 set_met_writable kind None other can rest = rest
 set_met_writable kind (Some p) other can rest = cond_both ((kind == 5) && has_many p.body) met_lame (met_set p) MetWritable (λ _. tt) (λ _. can)
 
@@ -111,7 +111,7 @@ AreWritable w = AllByRecursion IsWritable w.pieces
 behind_writable : (p : Piece) (w : Walk) → IsWritable p → AreWritable w → AreWritable (behind p w)
 behind_writable p w can rest = cond_both (is_lame w.end) lame_walk (record { pieces = p ∷ w.pieces; authority = w.authority; end = w.end }) AreWritable (λ _. tt) (λ _. (can, rest))
 
-go_writable : (name : List (List ℕ)) (rest : List (List ℕ) → Walk) (met : Met) → MetWritable met → ((target : List (List ℕ)) → IsName target → AreWritable (rest target)) → AreWritable (go_on rest name met)
+go_writable : (name : List (List ℕ)) (rest : List (List ℕ) → Walk) (met : AtName) → MetWritable met → ((target : List (List ℕ)) → IsName target → AreWritable (rest target)) → AreWritable (go_on rest name met)
 go_writable name rest met_nothing can more = tt
 go_writable name rest (met_set p) can more = (can, tt)
 go_writable name rest (met_no_data p) can more = (can, tt)

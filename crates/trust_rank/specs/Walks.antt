@@ -6,8 +6,8 @@ use Rattle.dns_message.specs.Values.{Question, Record, Message}
 use Rattle.dns_message.specs.Data.{name_of_rdata}
 use Rattle.suffix_routes.specs.Values.{Config}
 use Rattle.suffix_routes.specs.Routes.{route_of}
-use Rattle.trust_rank.specs.declared.reply.Met.{Met as OwnedMet}
-use Rattle.trust_rank.specs.declared.reply.Met.TheVariants as owned
+use Rattle.trust_rank.specs.declared.reply.AtName.{AtName as OwnedAtName}
+use Rattle.trust_rank.specs.declared.reply.AtName.TheVariants as owned
 use Rattle.trust_rank.specs.Values.{Body, rows, no_data, denied, Piece, End, found, ends_no_data, ends_denied, elsewhere, lame, Walk, Reply, reply_of}
 use Rattle.trust_rank.specs.Sets.{records_for, set_of, set_with}
 use Rattle.trust_rank.specs.Denials.{soa_for, no_data_with, name_error_with}
@@ -16,13 +16,13 @@ use Rattle.trust_rank.specs.Denials.{soa_for, no_data_with, name_error_with}
 
 -- What a reply has at a name: nothing that counts, so that it has to be asked for; the asked set; a denial of the type or
 -- of the name; an alias, and the name that it leads to; or what makes the whole reply lame.
-pub data Met : Type 0 where
-  met_nothing : Met
-  met_set : Piece → Met
-  met_no_data : Piece → Met
-  met_name_error : Piece → Met
-  met_alias : Piece → List (List ℕ) → Met
-  met_lame : Met
+pub data AtName : Type 0 where
+  met_nothing : AtName
+  met_set : Piece → AtName
+  met_no_data : Piece → AtName
+  met_name_error : Piece → AtName
+  met_alias : Piece → List (List ℕ) → AtName
+  met_lame : AtName
 
 abbrev pub is_place : Option ℕ → ℕ → Bool
 is_place None route = false
@@ -76,40 +76,40 @@ no_data_at r name = no_data_with (rank_at r name) r.route name r.question.class 
 
 -- where neither the asked set nor an alias stands at the name, which may be the first of the walk: a name error by the
 -- response code; behind an alias with no SOA the name has to be asked for; a referral with no SOA is lame; else NODATA
-abbrev pub denial_met : Reply → Bool → List (List ℕ) → Bool → Met
+abbrev pub denial_met : Reply → Bool → List (List ℕ) → Bool → AtName
 denial_met r is_first name lacks_soa =
     if r.rcode == 3 then met_name_error (name_error_at r name)
     else (if lacks_soa && not is_first then met_nothing
     else (if lacks_soa && is_referral r then met_lame
     else met_no_data (no_data_at r name)))
 
-abbrev pub denial_at : Reply → Bool → List (List ℕ) → Met
+abbrev pub denial_at : Reply → Bool → List (List ℕ) → AtName
 denial_at r is_first name = denial_met r is_first name (is_none (soa_for name r.question.class r.authority))
 
 -- a CNAME set of more than one record is lame (RFC 2181 10.1)
-abbrev pub leads : Piece → Option (List (List ℕ)) → Met
+abbrev pub leads : Piece → Option (List (List ℕ)) → AtName
 leads p None = met_lame
 leads p (Some target) = met_alias p target
 
-abbrev pub alias_or : Option Piece → Met → Met
+abbrev pub alias_or : Option Piece → AtName → AtName
 alias_or None other = other
 alias_or (Some p) other = leads p (target_of p.body)
 
-abbrev pub set_met : ℕ → Piece → Met
+abbrev pub set_met : ℕ → Piece → AtName
 set_met kind p = if (kind == 5) && has_many p.body then met_lame else met_set p
 
-abbrev pub set_or : ℕ → Option Piece → Met → Met
+abbrev pub set_or : ℕ → Option Piece → AtName → AtName
 set_or kind None other = other
 set_or kind (Some p) other = set_met kind p
 
 -- what the reply has at a name: first that holds
-abbrev pub met_at : Reply → Bool → List (List ℕ) → Met
+abbrev pub met_at : Reply → Bool → List (List ℕ) → AtName
 met_at r is_first name =
     if is_on_route r name
     then set_or r.question.kind (answer_set r r.question.kind name) (alias_or (alias_set r name) (denial_at r is_first name))
     else met_nothing
 
-abbrev pub met_of : {A : Type 0} → OwnedMet A → Met
+abbrev pub met_of : {A : Type 0} → OwnedAtName A → AtName
 met_of owned.Nothing = met_nothing
 met_of (owned.Set p) = met_set p
 met_of (owned.NoData p) = met_no_data p
@@ -141,7 +141,7 @@ is_lame (elsewhere name) = false
 abbrev pub behind : Piece → Walk → Walk
 behind alias w = if is_lame w.end then lame_walk else record { pieces = alias ∷ w.pieces; authority = w.authority; end = w.end }
 
-abbrev pub go_on : (List (List ℕ) → Walk) → List (List ℕ) → Met → Walk
+abbrev pub go_on : (List (List ℕ) → Walk) → List (List ℕ) → AtName → Walk
 go_on rest name met_nothing = ending [] (elsewhere name)
 go_on rest name (met_set p) = ending (p ∷ []) found
 go_on rest name (met_no_data p) = ending (p ∷ []) ends_no_data
@@ -194,3 +194,11 @@ with_servers r w =
 -- what a message carries as the reply to a question that was asked on a route, and how its walk ends
 abbrev pub walk_of : Config → Message → Question → ℕ → Walk
 walk_of c m q route = with_servers (reply_of c m q route) (walk_from (reply_of c m q route) most_aliases true q.name)
+
+-- a walk that ends so has a last piece, which ends the look-up
+abbrev pub has_last : End → Bool
+has_last found = true
+has_last ends_no_data = true
+has_last ends_denied = true
+has_last (elsewhere name) = false
+has_last lame = false

@@ -14,7 +14,8 @@ mod walking;
 
 pub use laws::{pieces_are_writable, servers_fit, walk_leads};
 pub use piece::{Body, Piece};
+pub use reply::{CNAME, NAME_ERROR, target_of};
 pub use rows::Rows;
 pub use slot::Slot;
 pub use walk::{End, Walk};
-pub use walking::pieces;
+pub use walking::{MOST_ALIASES, pieces};

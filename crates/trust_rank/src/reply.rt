@@ -21,10 +21,10 @@ use suffix_routes::{Config, RouteId};
 const NS: u16 = 2;
 
 /// The type CNAME.
-const CNAME: u16 = 5;
+pub const CNAME: u16 = 5;
 
 /// The response code of a name error.
-const NAME_ERROR: u8 = 3;
+pub const NAME_ERROR: u8 = 3;
 
 /// A reply, as far as the walk looks at it. The data of its records is of their shapes.
 #[derive(Drop)]
@@ -58,7 +58,7 @@ impl<'a, A: Allocator> Model for Reply<'a, A> {
 
 /// What a reply has at a name.
 #[derive(Drop)]
-pub(crate) enum Met<A: Allocator> {
+pub(crate) enum AtName<A: Allocator> {
     /// Nothing that counts: the name has to be asked for.
     Nothing,
     /// The set that was asked for.
@@ -150,31 +150,31 @@ impl<'a, A: Allocator + Copy> Reply<'a, A> {
     }
 
     /// What the reply has at a name where it has neither the asked set nor an alias.
-    fn met_denial(&self, alloc: A, is_first: bool, name: &Name<A>) -> Result<Met<A>, AllocError>
+    fn met_denial(&self, alloc: A, is_first: bool, name: &Name<A>) -> Result<AtName<A>, AllocError>
         ensures { IfOk result (λ met. met_of met ≡ denial_at self.now is_first name.now) }
     {
         let soa = self.soa_for(alloc, name)?;
         let source = self.source_at(name);
         let denied = self.at_name(self.kind, name);
         if self.rcode == NAME_ERROR {
-            return Ok(Met::NameError(name_error(alloc, source, &denied, soa)?));
+            return Ok(AtName::NameError(name_error(alloc, source, &denied, soa)?));
         }
         let lacks_soa = is_missing(&soa);
         if lacks_soa && !is_first {
-            return Ok(Met::Nothing);
+            return Ok(AtName::Nothing);
         }
         if lacks_soa && self.is_referral() {
-            return Ok(Met::Lame);
+            return Ok(AtName::Lame);
         }
-        Ok(Met::NoData(no_data(alloc, source, &denied, soa)?))
+        Ok(AtName::NoData(no_data(alloc, source, &denied, soa)?))
     }
 
     /// What the reply has at a name, which may be the first of the walk: the asked set, else an alias, else a denial.
-    pub fn met_at(&self, alloc: A, is_first: bool, name: &Name<A>) -> Result<Met<A>, AllocError>
+    pub fn met_at(&self, alloc: A, is_first: bool, name: &Name<A>) -> Result<AtName<A>, AllocError>
         ensures { IfOk result (λ met. met_of met ≡ met_at self.now is_first name.now) }
     {
         if !self.is_on_route(name) {
-            return Ok(Met::Nothing);
+            return Ok(AtName::Nothing);
         }
         if let Some(set) = self.answer_set(alloc, self.kind, name)? {
             return Ok(set_met(self.kind, set));
@@ -219,18 +219,21 @@ fn has_many<A: Allocator>(piece: &Piece<A>) -> bool
 }
 
 /// The asked set ends the walk; a CNAME set of more than one record is lame.
-fn set_met<A: Allocator>(kind: u16, set: Piece<A>) -> Met<A>
+fn set_met<A: Allocator>(kind: u16, set: Piece<A>) -> AtName<A>
     ensures { met_of result ≡ set_met kind set }
 {
     if kind == CNAME && has_many(&set) {
-        return Met::Lame;
+        return AtName::Lame;
     }
-    Met::Set(set)
+    AtName::Set(set)
 }
 
-/// The name that an alias leads to: that of its one record.
+/// The name that an alias leads to: that of its one record. `Err` where memory ran out.
 #[tactic(auto, using(crate::proofs::PieceLaws::no_target))]
-fn target_of<A: Allocator + Copy>(alloc: A, piece: &Piece<A>) -> Result<Option<Name<A>>, AllocError>
+pub fn target_of<A: Allocator + Copy>(
+    alloc: A,
+    piece: &Piece<A>,
+) -> Result<Option<Name<A>>, AllocError>
     ensures target { IfOk result (λ target. target ≡ target_of piece.now.body) }
     ensures memory { OnErr result (target_of piece.now.body ≢ None) }
 {
@@ -244,12 +247,12 @@ fn target_of<A: Allocator + Copy>(alloc: A, piece: &Piece<A>) -> Result<Option<N
 }
 
 /// An alias leads on; a CNAME set of more than one record is lame.
-fn alias_met<A: Allocator + Copy>(alloc: A, alias: Piece<A>) -> Result<Met<A>, AllocError>
+fn alias_met<A: Allocator + Copy>(alloc: A, alias: Piece<A>) -> Result<AtName<A>, AllocError>
     ensures met { IfOk result (λ met. met_of met ≡ leads alias (target_of alias.body)) }
     ensures memory { OnErr result (target_of alias.body ≢ None) }
 {
     match target_of(alloc, &alias)? {
-        None => Ok(Met::Lame),
-        Some(target) => Ok(Met::Alias(alias, target)),
+        None => Ok(AtName::Lame),
+        Some(target) => Ok(AtName::Alias(alias, target)),
     }
 }

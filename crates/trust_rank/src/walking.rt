@@ -6,7 +6,7 @@ ghost use Rattle.trust_rank.specs.Walks.{most_aliases, ending, is_lame, walk_fro
 ghost use Rattle.trust_rank.specs.Values.{end_of};
 
 use crate::piece::Piece;
-use crate::reply::{Met, Reply};
+use crate::reply::{AtName, Reply};
 use crate::servers::servers_beside;
 use crate::walk::{End, Walk};
 use dns_message::{Message, Question};
@@ -15,7 +15,7 @@ use std::alloc::{AllocError, Allocator};
 use suffix_routes::{Config, RouteId};
 
 /// No walk takes more aliases.
-const MOST_ALIASES: u8 = 8;
+pub const MOST_ALIASES: usize = 8;
 
 /// These pieces, and no name servers.
 fn ending<A: Allocator + Copy>(alloc: A, pieces: PlainList<Piece<A>, A>, end: End<A>) -> Walk<A>
@@ -50,12 +50,12 @@ fn walk_from<A: Allocator + Copy>(alloc: A, reply: &Reply<'_, A>) -> Result<Walk
     let mut is_first = true;
     for _ in 0..MOST_ALIASES {
         match reply.met_at(alloc, is_first, &name)? {
-            Met::Nothing => return Ok(ending(alloc, pieces, End::Elsewhere(name))),
-            Met::Set(set) => return ending_with(alloc, pieces, set, End::Found),
-            Met::NoData(denial) => return ending_with(alloc, pieces, denial, End::NoData),
-            Met::NameError(denial) => return ending_with(alloc, pieces, denial, End::Denied),
-            Met::Lame => return Ok(ending(alloc, PlainList::new(alloc), End::Lame)),
-            Met::Alias(alias, target) => {
+            AtName::Nothing => return Ok(ending(alloc, pieces, End::Elsewhere(name))),
+            AtName::Set(set) => return ending_with(alloc, pieces, set, End::Found),
+            AtName::NoData(denial) => return ending_with(alloc, pieces, denial, End::NoData),
+            AtName::NameError(denial) => return ending_with(alloc, pieces, denial, End::Denied),
+            AtName::Lame => return Ok(ending(alloc, PlainList::new(alloc), End::Lame)),
+            AtName::Alias(alias, target) => {
                 pieces.push(alias)?;
                 name = target;
                 is_first = false;

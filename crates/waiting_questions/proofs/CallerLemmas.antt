@@ -2,9 +2,8 @@
 use Rattle.std.proofs.Common.{◌≡◌, List, Option, ap, ◌∙◌}
 use Rattle.std.specs.Prelude.{filter, map}
 use Rattle.dns_message.specs.Values.{Question}
-use Rattle.step_rules.specs.State.{Waiting}
-use Rattle.step_rules.specs.Steps.{waits_for}
-use Rattle.step_replies.specs.Onward.{Onward}
+use Rattle.waiting_questions.specs.Values.{Waiting, waits_for}
+use Rattle.waiting_questions.specs.Onward.{Onward}
 use Rattle.waiting_questions.specs.Settling.{settled, settled_by}
 use Rattle.waiting_questions.proofs.Settled.{settled_each}
 

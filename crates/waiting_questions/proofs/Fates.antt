@@ -6,9 +6,8 @@ use Rattle.std.proofs.lemmas.List.Elements.{All-head, All-tail, All-take, All-fi
 use Rattle.slab.specs.Slab.{Slab, get}
 use Rattle.dns_message.specs.Values.{Question}
 use Rattle.outstanding.specs.Orders.{question_key}
-use Rattle.step_rules.specs.State.{Waiting}
-use Rattle.step_rules.specs.Steps.{waits_for}
-use Rattle.step_replies.specs.Onward.{Onward}
+use Rattle.waiting_questions.specs.Values.{Waiting, waits_for}
+use Rattle.waiting_questions.specs.Onward.{Onward}
 use Rattle.waiting_questions.specs.Indexes.{waiting_under, passes, to_question, AreIndexed, IsRange}
 use Rattle.waiting_questions.specs.Settling.{earlier, left_by, settled, with_at}
 use Rattle.waiting_questions.proofs.Counts.{stands_at}

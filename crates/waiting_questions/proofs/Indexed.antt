@@ -12,8 +12,7 @@ use Rattle.slab.specs.Slab.{Slab, get, Updates}
 use Rattle.dns_message.specs.Values.{Question}
 use Rattle.outstanding.specs.declared.keyed.QuestionKey.{QuestionKey}
 use Rattle.outstanding.specs.Orders.{question_key}
-use Rattle.step_rules.specs.State.{Waiting}
-use Rattle.step_rules.specs.Steps.{waits_for}
+use Rattle.waiting_questions.specs.Values.{Waiting, waits_for}
 use Rattle.waiting_questions.specs.declared.table.Table.{Table}
 use Rattle.waiting_questions.specs.Indexes.{waiting_under, keys_of, passes, to_question, IsByQuestion, IsByTaken, AreKeys, AreIndexed, IsIndexed, IsRange}
 use Rattle.waiting_questions.proofs.Lists.{filter_alike, filter_filter, filter_insert, filter_remove, filter_fails, any_counts, in_filter, from_filter, others, removed, range_grows, before_range}

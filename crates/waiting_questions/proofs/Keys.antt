@@ -7,7 +7,7 @@ use Rattle.std.proofs.lemmas.Option.{none-some, same_Some}
 use Rattle.std.proofs.lemmas.List.Elements.{All-head, All-tail, All-weaker, All-take, All-drop, All-filter, filter_passes, filter_map-append}
 use Rattle.std.proofs.lemmas.List.Kept.{AllPairs-filter}
 use Rattle.slab.specs.Slab.{Slab, get, Updates}
-use Rattle.step_rules.specs.State.{Waiting}
+use Rattle.waiting_questions.specs.Values.{Waiting}
 use Rattle.waiting_questions.specs.Indexes.{waiting_under, passes, AreKeys}
 use Rattle.waiting_questions.proofs.Lists.{all_insert, pairs_insert, others, others_differ}
 

@@ -5,6 +5,6 @@ pub mod Keys
 pub mod Ranges
 pub mod Numbered
 pub mod Indexed
-pub mod SentOn
+pub mod SendingOn
 pub mod Fates
 pub mod CallerLemmas

@@ -13,7 +13,7 @@ use Rattle.slab.specs.Slab.{Slab, get, Updates}
 use Rattle.outstanding.specs.declared.keyed.QuestionKey.{QuestionKey}
 use Rattle.outstanding.specs.declared.numbered.NumberedKey.{NumberedKey}
 use Rattle.outstanding.specs.Orders.{question_key}
-use Rattle.step_rules.specs.State.{Waiting}
+use Rattle.waiting_questions.specs.Values.{Waiting}
 use Rattle.waiting_questions.specs.Indexes.{keys_of, compared, compared_item, to_question, waiting_under, AreNumbered, ArePlaces}
 use Rattle.waiting_questions.proofs.Lists.{all_insert}
 use Rattle.waiting_questions.proofs.Keys.{value_of, at_under, place_under, ArePresent}

@@ -13,8 +13,7 @@ use Rattle.dns_message.specs.Values.{Question}
 use Rattle.outstanding.specs.declared.keyed.QuestionKey.{QuestionKey}
 use Rattle.outstanding.specs.Orders.{key_cmp, question_key}
 use Rattle.outstanding.proofs.CallerLemmas.{question_keys_are_ordered, same_question_by_keys}
-use Rattle.step_rules.specs.State.{Waiting}
-use Rattle.step_rules.specs.Steps.{waits_for}
+use Rattle.waiting_questions.specs.Values.{Waiting, waits_for}
 use Rattle.waiting_questions.specs.Indexes.{passes, compared, to_question, IsByQuestion, AreKeys, IsRange}
 use Rattle.waiting_questions.proofs.Lists.{filter_between}
 use Rattle.waiting_questions.proofs.Keys.{value_of, ArePresent}

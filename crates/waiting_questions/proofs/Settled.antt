@@ -5,9 +5,8 @@ use Rattle.std.specs.List.{cons_option}
 use Rattle.std.proofs.lemmas.Bool.{cond-true, cond-false}
 use Rattle.std.proofs.lemmas.Option.{none-some, same_Some}
 use Rattle.dns_message.specs.Values.{Question}
-use Rattle.step_rules.specs.State.{Waiting}
-use Rattle.step_rules.specs.Steps.{waits_for}
-use Rattle.step_replies.specs.Onward.{Onward}
+use Rattle.waiting_questions.specs.Values.{Waiting, waits_for}
+use Rattle.waiting_questions.specs.Onward.{Onward}
 use Rattle.waiting_questions.specs.Settling.{left_by, settled, settled_by, with_at}
 
 -- without fates all stay

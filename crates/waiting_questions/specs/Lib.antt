@@ -1,3 +1,4 @@
 pub mod Values
+pub mod Onward
 pub mod Indexes
 pub mod Settling

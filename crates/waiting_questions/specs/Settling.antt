@@ -2,9 +2,8 @@
 use Rattle.std.specs.Prelude.{ℕ, suc, if◌then◌else◌, Bool, List, [], ◌∷◌, ◌++◌, length, filter, take, drop, option_map, Option, Some}
 use Rattle.std.specs.List.{cons_option, filter_map}
 use Rattle.dns_message.specs.Values.{Question}
-use Rattle.step_rules.specs.State.{Waiting}
-use Rattle.step_rules.specs.Steps.{waits_for}
-use Rattle.step_replies.specs.Onward.{Onward, sent_on}
+use Rattle.waiting_questions.specs.Values.{Waiting, waits_for}
+use Rattle.waiting_questions.specs.Onward.{Onward, sent_on}
 
 -- what its fate leaves of a question: with aliases and another question it is sent on, with none it is gone
 abbrev pub left_by : Option Onward → Waiting → Option Waiting

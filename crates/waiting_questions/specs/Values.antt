@@ -1,6 +1,22 @@
--- What callers see of the questions that wait.
-use Rattle.std.specs.Prelude.{Bool, List}
-use Rattle.step_rules.specs.State.{Waiting}
+-- A question that waits, and what callers see of all that do.
+use Rattle.std.specs.Prelude.{ℕ, Bool, List}
+use Rattle.dns_message.specs.Values.{Question}
+use Rattle.dns_message.specs.Questions.{same_question}
+use Rattle.record_cache.specs.Values.{Held}
+use Rattle.answer_builder.specs.Values.{Asked}
+use Rattle.step_values.specs.declared.event.Client.{Client}
+
+-- a question that waits: what its answer repeats of it, the aliases that it holds, and what it wants to know now, which is
+-- its own question or the same at the name that its aliases lead to
+pub record Waiting : Type 0 where
+  pub client : Client
+  pub asked : Asked
+  pub taken : ℕ  -- the moment at which it was taken, in milliseconds
+  pub held : List Held
+  pub wanted : Question
+
+abbrev pub waits_for : Question → Waiting → Bool
+waits_for q x = same_question x.wanted q
 
 -- the questions that wait, in the order of taking, and whether one more takes no memory
 pub record WaitingList : Type 0 where

@@ -2,27 +2,27 @@
 
 ghost use Rattle.std.specs.Prelude.{◌≡◌};
 ghost use Rattle.outstanding.specs.Orders.{question_key};
-ghost use Rattle.step_replies.specs.Onward.{sent_on};
+ghost use Rattle.waiting_questions.specs.Onward.{sent_on};
 ghost use Rattle.waiting_questions.specs.Indexes.{to_question};
 
+use crate::waiting::{SentOn, Waiting};
 use outstanding::QuestionKey;
 use std::alloc::Allocator;
 use std::cmp::Ordering;
 use std::marker::Model;
-use step_replies::{SentOn, Waiting};
 
 /// A waiting question, and the key of the question that it wants to know, which is made once. It is seen as the waiting
 /// question. The key stands first, where a search looks.
 #[derive(Drop)]
-pub(crate) struct Keyed<A: Allocator> {
+pub(crate) struct KeyedWaiting<A: Allocator> {
     key: QuestionKey,
     waiting: Waiting<A>,
 }
 
-impl<A: Allocator> Model for Keyed<A> {
+impl<A: Allocator> Model for KeyedWaiting<A> {
     ghost use Rattle.std.specs.Prelude.{◌≡◌};
     ghost use Rattle.outstanding.specs.Orders.{question_key};
-    ghost use Rattle.step_rules.specs.State.{Waiting};
+    ghost use Rattle.waiting_questions.specs.Values.{Waiting};
 
     ghost Value = { Waiting };
 
@@ -31,12 +31,12 @@ impl<A: Allocator> Model for Keyed<A> {
     ghost invariant = { λ l. l.key ≡ question_key l.waiting.wanted };
 }
 
-impl<A: Allocator> Keyed<A> {
-    pub(crate) fn new(waiting: Waiting<A>) -> Keyed<A>
+impl<A: Allocator> KeyedWaiting<A> {
+    pub(crate) fn new(waiting: Waiting<A>) -> KeyedWaiting<A>
         ensures { result ≡ waiting }
     {
         let key = QuestionKey::of(waiting.wanted());
-        Keyed { key, waiting }
+        KeyedWaiting { key, waiting }
     }
 
     /// It holds these aliases from now on, and waits for the question that they lead to.

@@ -5,6 +5,8 @@
 mod keyed;
 mod places;
 mod table;
+mod waiting;
 mod waiting_questions;
 
-pub use waiting_questions::{Those, WaitingQuestions};
+pub use waiting::{Request, SentOn, Waiting};
+pub use waiting_questions::{WaitingFor, WaitingQuestions};

@@ -5,8 +5,8 @@ ghost use Rattle.std.specs.List.{between, All, AllPairs, Contains};
 ghost use Rattle.waiting_questions.specs.Indexes.{compared_item, keys_of, to_question, AreKeys, AreNumbered, BeginsAt, IsByQuestion, IsRange};
 ghost use Rattle.waiting_questions.specs.Settling.{earlier};
 
-use crate::keyed::Keyed;
-use keys_in_turn::KeysInTurn;
+use crate::keyed::KeyedWaiting;
+use arrival_order::KeysInTurn;
 use outstanding::{NumberedKey, QuestionKey};
 use slab::Slab;
 use std::alloc::Allocator;
@@ -17,7 +17,7 @@ use std::collections::VecDeque;
 /// and is looked at only where they are equal. A key without a question comes first then.
 #[inline]
 fn compare<A: Allocator>(
-    waiting: &Slab<Keyed<A>, A>,
+    waiting: &Slab<KeyedWaiting<A>, A>,
     item: NumberedKey,
     question: &QuestionKey,
 ) -> Ordering
@@ -38,7 +38,7 @@ const FEW: usize = 4;
 
 /// From where up to where those stand that wait for a question, among keys in the order of their questions.
 pub(crate) fn range_of<A: Allocator>(
-    waiting: &Slab<Keyed<A>, A>,
+    waiting: &Slab<KeyedWaiting<A>, A>,
     keys: &VecDeque<NumberedKey, A>,
     question: &QuestionKey,
 ) -> (usize, usize)
@@ -52,7 +52,7 @@ pub(crate) fn range_of<A: Allocator>(
 
 /// Up to where those stand that wait for a question, where they begin at this place.
 fn end_from<A: Allocator>(
-    waiting: &Slab<Keyed<A>, A>,
+    waiting: &Slab<KeyedWaiting<A>, A>,
     keys: &VecDeque<NumberedKey, A>,
     question: &QuestionKey,
     start: usize,

@@ -3,28 +3,27 @@
 ghost use Rattle.std.specs.Prelude.{◌≡◌, ◌<◌, ◌≤◌, ◌∷◌, ◌++◌, [], true, not, filter, length, Option, Some, MatchOption, OnOk, slice_get, slice_index};
 ghost use Rattle.std.specs.List.{remove, remove_range, AllByRecursion};
 ghost use Rattle.slab.specs.Slab.{ContainsKey, Updates};
-ghost use Rattle.step_rules.specs.State.{Waiting as Asking};
-ghost use Rattle.step_rules.specs.Steps.{waits_for};
-ghost use Rattle.step_replies.specs.Onward.{sent_on};
+ghost use Rattle.waiting_questions.specs.Values.{Waiting as Asking, waits_for};
+ghost use Rattle.waiting_questions.specs.Onward.{sent_on};
 ghost use Rattle.waiting_questions.specs.Indexes.{has_room, items_of, keys_of, to_question, IsIndexed, IsRange};
 ghost use Rattle.waiting_questions.specs.Settling.{left_by, settled, with_at};
 
-use crate::keyed::Keyed;
+use crate::keyed::KeyedWaiting;
 use crate::places::{place_by_turn, range_of};
+use crate::waiting::{SentOn, Waiting};
+use arrival_order::KeysInTurn;
 use dns_message::Question;
-use keys_in_turn::KeysInTurn;
 use outstanding::{NumberedKey, QuestionKey};
 use slab::Slab;
 use std::alloc::{AllocError, Allocator};
 use std::collections::VecDeque;
-use step_replies::{SentOn, Waiting};
 
 /// The waiting questions, each under a key that the slab picks, and the keys in the order of the questions, those for equal
 /// ones in the order of taking, and of all in the order of taking. Those by question have the numbers of the questions with
 /// them, so that a search seldom looks at what waits.
 #[derive(Drop)]
 pub(crate) struct Table<A: Allocator> {
-    pub(crate) waiting: Slab<Keyed<A>, A>,
+    pub(crate) waiting: Slab<KeyedWaiting<A>, A>,
     pub(crate) by_question: VecDeque<NumberedKey, A>,
     pub(crate) in_turn: KeysInTurn<A>,
 }
@@ -53,7 +52,7 @@ impl<A: Allocator> Table<A> {
     }
 
     /// What was taken first, with its key.
-    pub(crate) fn first(&self) -> Option<&Keyed<A>>
+    pub(crate) fn first(&self) -> Option<&KeyedWaiting<A>>
         requires { IsIndexed self.now }
         ensures { MatchOption result (items_of self.now ≡ []) (λ keyed. slice_get (items_of self.now) 0 ≡ Some keyed.now) }
     {
@@ -93,7 +92,7 @@ impl<A: Allocator> Table<A> {
         ensures indexed { IsIndexed self.new }
         ensures list { items_of self.new ≡ items_of self.old ++ waiting ∷ [] }
     {
-        let keyed = Keyed::new(waiting);
+        let keyed = KeyedWaiting::new(waiting);
         let question = keyed.key();
         let number = question.number();
         let (_, end) = self.range(question);
@@ -207,7 +206,7 @@ impl<A: Allocator> Table<A> {
 }
 
 /// Lets go what waits under a key.
-fn let_go<A: Allocator>(waiting: &mut Slab<Keyed<A>, A>, key: usize)
+fn let_go<A: Allocator>(waiting: &mut Slab<KeyedWaiting<A>, A>, key: usize)
     requires { ContainsKey waiting.old key }
     ensures { Updates waiting.old waiting.new key None }
 {

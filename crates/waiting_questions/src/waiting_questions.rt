@@ -3,19 +3,19 @@
 ghost use Rattle.std.specs.Prelude.{◌≡◌, ◌<◌, ◌≤◌, ◌∷◌, ◌++◌, [], true, not, drop, filter, length, None, Some, IsSome, MatchOption, OnErr, OnOk, slice_get, slice_index};
 ghost use Rattle.std.specs.List.{between, list_any, AllByRecursion};
 ghost use Rattle.slab.specs.Slab.{get};
-ghost use Rattle.step_rules.specs.Steps.{waits_for};
+ghost use Rattle.waiting_questions.specs.Values.{waits_for};
 ghost use Rattle.waiting_questions.specs.Indexes.{keys_of, waiting_under, ArePlaces};
 ghost use Rattle.waiting_questions.specs.Settling.{settled};
 
-use crate::keyed::Keyed;
+use crate::keyed::KeyedWaiting;
 use crate::table::Table;
+use crate::waiting::{SentOn, Waiting};
 use dns_message::Question;
 use outstanding::{NumberedKey, QuestionKey};
 use slab::Slab;
 use std::alloc::{AllocError, Allocator, Global};
 use std::collections::VecDeque;
 use std::marker::Model;
-use step_replies::{SentOn, Waiting};
 
 /// The questions that wait, in the order in which they were taken.
 #[derive(Drop)]
@@ -119,11 +119,11 @@ impl<A: Allocator> WaitingQuestions<A> {
     }
 
     /// Those that wait for this question, in the order of taking. It takes no memory.
-    pub fn for_question(&self, question: &Question<A>) -> Those<'_, A>
+    pub fn for_question(&self, question: &Question<A>) -> WaitingFor<'_, A>
         ensures { result ≡ filter (waits_for question.now) self.now.items }
     {
         let (start, end) = self.table.range(&QuestionKey::of(question));
-        Those::new(&self.table.waiting, &self.table.by_question, start, end)
+        WaitingFor::new(&self.table.waiting, &self.table.by_question, start, end)
     }
 
     /// Whether any but the question that was taken first waits for this one. It takes no memory.
@@ -149,8 +149,8 @@ impl<A: Allocator> WaitingQuestions<A> {
 
 /// Those that wait for one question, in the order of taking.
 #[derive(Drop)]
-pub struct Those<'a, A: Allocator = Global> {
-    waiting: &'a Slab<Keyed<A>, A>,
+pub struct WaitingFor<'a, A: Allocator = Global> {
+    waiting: &'a Slab<KeyedWaiting<A>, A>,
     keys: &'a VecDeque<NumberedKey, A>,
     /// Their keys stand from here on.
     start: usize,
@@ -158,10 +158,10 @@ pub struct Those<'a, A: Allocator = Global> {
     end: usize,
 }
 
-impl<'a, A: Allocator> Model for Those<'a, A> {
+impl<'a, A: Allocator> Model for WaitingFor<'a, A> {
     ghost use Rattle.std.specs.Prelude.{List};
     ghost use Rattle.std.specs.List.{between};
-    ghost use Rattle.step_rules.specs.State.{Waiting};
+    ghost use Rattle.waiting_questions.specs.Values.{Waiting};
     ghost use Rattle.waiting_questions.specs.Indexes.{keys_of, waiting_under, ArePlaces};
 
     ghost Value = { List Waiting };
@@ -171,18 +171,18 @@ impl<'a, A: Allocator> Model for Those<'a, A> {
     ghost invariant = { λ t. ArePlaces t.waiting.now t.keys.now.items t.start t.end };
 }
 
-impl<'a, A: Allocator> Those<'a, A> {
+impl<'a, A: Allocator> WaitingFor<'a, A> {
     /// What waits under the keys from one place up to another.
     fn new(
-        waiting: &'a Slab<Keyed<A>, A>,
+        waiting: &'a Slab<KeyedWaiting<A>, A>,
         keys: &'a VecDeque<NumberedKey, A>,
         start: usize,
         end: usize,
-    ) -> Those<'a, A>
+    ) -> WaitingFor<'a, A>
         requires { ArePlaces waiting.now keys.now.items start end }
         ensures { result ≡ waiting_under waiting.now (between start end (keys_of keys.now.items)) }
     {
-        Those {
+        WaitingFor {
             waiting,
             keys,
             start,
@@ -208,7 +208,7 @@ impl<'a, A: Allocator> Those<'a, A> {
 
 /// What waits under the key at a place.
 fn question_at<'a, A: Allocator>(
-    waiting: &'a Slab<Keyed<A>, A>,
+    waiting: &'a Slab<KeyedWaiting<A>, A>,
     keys: &VecDeque<NumberedKey, A>,
     place: usize,
 ) -> &'a Waiting<A>

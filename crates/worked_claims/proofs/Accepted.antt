@@ -20,7 +20,7 @@ use Rattle.step_values.specs.Values.{from_client, delivery, send_reply, ask_udp,
 use Rattle.step_history.specs.History.{Look, ShownAsk, Matches, Accepts, Carries}
 use Rattle.step_history.specs.Carried.{CarriedInEra, Justified}
 use Rattle.step_history.specs.Answers.{Chain, Answers}
-use Rattle.step_rules.proofs.Played.{a, address, server, config}
+use Rattle.step_table.proofs.Played.{a, address, server, config}
 use Rattle.worked_claims.proofs.Texts.{question_text, client, step_of}
 use Rattle.worked_claims.proofs.Silent.{nothing_heard}
 

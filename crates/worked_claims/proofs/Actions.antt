@@ -6,7 +6,7 @@ use Rattle.outstanding.specs.declared.ask.Path.TheVariants.{Udp, Tcp}
 use Rattle.outstanding.specs.Values.{Ask}
 use Rattle.step_values.specs.declared.action.Why.TheVariants.{Answered}
 use Rattle.step_values.specs.Values.{Action, ask_udp, ask_tcp, close_udp, close_tcp, send_reply}
-use Rattle.step_rules.proofs.Played.{a, address, server}
+use Rattle.step_table.proofs.Played.{a, address, server}
 use Rattle.worked_claims.specs.Laws.{asks_in, closed_in, IsListedOn}
 use Rattle.worked_claims.proofs.Texts.{question_text, client}
 

@@ -23,7 +23,7 @@ use Rattle.step_history.specs.Carried.{CarriedInEra, Justified}
 use Rattle.step_history.specs.Answers.{FollowsAliases, Leads, Chain}
 use Rattle.step_history.specs.Stale.{FollowsPastEnds}
 use Rattle.step_history.specs.Causes.{Cause, FollowsTooMany}
-use Rattle.step_rules.proofs.Played.{a, address, name_data, server, config}
+use Rattle.step_table.proofs.Played.{a, address, name_data, server, config}
 use Rattle.worked_claims.proofs.Texts.{question_text, client, step_of}
 use Rattle.worked_claims.proofs.Silent.{nothing_heard, nothing_justified}
 use Rattle.worked_claims.proofs.Accepted.{asked, ask}

@@ -17,7 +17,7 @@ use Rattle.outstanding.specs.declared.ask.Path.TheVariants.{Udp, Tcp}
 use Rattle.step_values.specs.Values.{from_client, ask_udp, Step}
 use Rattle.step_history.specs.History.{ShownAsk, listed}
 use Rattle.step_history.specs.Asked.{AreApart, IsDrawn, AsksRight, AsksWell}
-use Rattle.step_rules.proofs.Played.{address, server, config}
+use Rattle.step_table.proofs.Played.{address, server, config}
 use Rattle.worked_claims.proofs.Texts.{client, step_of}
 
 -- ---- two asks side by side

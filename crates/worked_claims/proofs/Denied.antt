@@ -13,12 +13,12 @@ use Rattle.dns_message.proofs.CallerLemmas.{message_read_is_spelled}
 use Rattle.suffix_routes.specs.Routes.{route_of as route_there}
 use Rattle.step_values.specs.declared.action.Why.TheVariants.{LocalDenied}
 use Rattle.step_values.specs.Values.{from_client, tick, send_reply, Step}
-use Rattle.step_history.specs.Names.{is_local}
+use Rattle.suffix_routes.specs.Serving.{is_local}
 use Rattle.step_history.specs.History.{Look}
-use Rattle.step_history.specs.Causes.{is_unserved}
+use Rattle.dns_message.specs.Questions.{is_unserved}
 use Rattle.step_history.specs.Local.{ChainToLocal, LocalAnswers}
 use Rattle.step_history.specs.Sound.{RightReply, RightLocalAnswer}
-use Rattle.step_rules.proofs.Played.{a, address, config}
+use Rattle.step_table.proofs.Played.{a, address, config}
 use Rattle.worked_claims.proofs.Texts.{question_text, status_text, with_flags, client, step_of}
 use Rattle.worked_claims.proofs.Reasons.{denies_a}
 use Rattle.worked_claims.proofs.Silent.{nothing_followed}

@@ -1,8 +1,7 @@
 -- Why a question fails in the end, computed: all tries, its deadline, and an answer that is too large; with neighbours
 -- a try, a
 -- step, a question, a millisecond or an octet away.
-use Rattle.std.proofs.Common.{◌≡◌, ℕ, ◌+◌, ◌<◌, ◌≤◌, List, [], ◌∷◌, ◌++◌, length, Bool, Some, true}
-use Rattle.std.proofs.Common.{false, refl, sym, ap, ◌∙◌, subst, inl, inr, arith, length-append}
+use Rattle.std.proofs.Common.{◌≡◌, ℕ, ◌+◌, ◌<◌, ◌≤◌, List, [], ◌∷◌, ◌++◌, length, Bool, Some, true, false, refl, sym, ap, ◌∙◌, subst, inl, inr, arith, length-append}
 use Rattle.std.proofs.lemmas.Bool.{true≢false}
 use Rattle.dns_message.specs.Names.{step as name_step, walk_in, name_within}
 use Rattle.dns_message.specs.Records.{octets_end, question_at}
@@ -19,14 +18,14 @@ use Rattle.record_cache.specs.Values.{Held}
 use Rattle.outstanding.specs.declared.ask.Path.TheVariants.{Udp}
 use Rattle.step_values.specs.declared.event.Client.{Client}
 use Rattle.step_values.specs.declared.event.Client.TheVariants.{Udp as FromUdp}
-use Rattle.step_values.specs.declared.action.Why.TheVariants.{Exhausted, Deadline, TooLarge, Answered, Stale}
-use Rattle.step_values.specs.declared.action.Why.TheVariants.{LocalDenied}
+use Rattle.step_values.specs.declared.action.Why.TheVariants.{Exhausted, Deadline, TooLarge, Answered, Stale, LocalDenied}
 use Rattle.step_values.specs.Values.{Event, from_client, delivery, tick, ask_udp, close_udp, Step}
 use Rattle.step_history.specs.History.{Look, ShownAsk, moment_at}
 use Rattle.step_history.specs.Answers.{Chain}
-use Rattle.step_history.specs.Replies.{asked_in, answer_text}
+use Rattle.step_history.specs.Replies.{answer_text}
+use Rattle.answer_builder.specs.Values.{asked_in}
 use Rattle.step_history.specs.Causes.{Cause, AllTriesFailed, ClosesAsk, LastFailed, AnswerIsTooLarge}
-use Rattle.step_rules.proofs.Played.{a, b, address, server, config}
+use Rattle.step_table.proofs.Played.{a, b, address, server, config}
 use Rattle.worked_claims.proofs.Texts.{question_text, client, stream_client, step_of, the_only_ask, none_listed}
 use Rattle.worked_claims.proofs.Silent.{IsSilent, nothing_heard, nothing_followed}
 use Rattle.worked_claims.proofs.Accepted.{asked, ask, piece, answered, reply_text, carries}

@@ -11,7 +11,7 @@ use Rattle.step_values.specs.declared.action.Why.{Why}
 use Rattle.step_values.specs.declared.action.Why.TheVariants.{Answered, LocalDenied}
 use Rattle.step_values.specs.Values.{from_client, restart, send_reply, Step}
 use Rattle.step_history.specs.Sound.{FromCache, Replies, SameSections, SameAsEarlierFromCache}
-use Rattle.step_rules.proofs.Played.{a, address, config}
+use Rattle.step_table.proofs.Played.{a, address, config}
 use Rattle.worked_claims.proofs.Texts.{question_text, client, step_of}
 use Rattle.worked_claims.proofs.Silent.{nothing_heard}
 use Rattle.worked_claims.proofs.SameAnswers.{answer, other_identifiers_are_the_same, other_ttls_are_not_the_same}

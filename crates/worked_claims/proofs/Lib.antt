@@ -18,3 +18,4 @@ mod PastEnds
 mod Denied
 mod Told
 mod Whole
+mod Eras

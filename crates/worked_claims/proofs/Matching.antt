@@ -1,8 +1,7 @@
 -- Which octets match a listed ask, and which match is accepted, computed: the reply that does, and neighbours that
 -- differ in one
 -- thing: server, path, identifier, flags, question, result code, and what they tell.
-use Rattle.std.proofs.Common.{◌≡◌, ℕ, ◌+◌, ◌<◌, ◌≤◌, List, [], ◌∷◌, get_or, Option, Some, None, Ok, true, false}
-use Rattle.std.proofs.Common.{Bool, refl, sym, ap, ◌∙◌, ◌⊎◌, inl, inr, arith}
+use Rattle.std.proofs.Common.{◌≡◌, ℕ, ◌+◌, ◌<◌, ◌≤◌, List, [], ◌∷◌, get_or, Option, Some, None, Ok, true, false, Bool, refl, sym, ap, ◌∙◌, ◌⊎◌, inl, inr, arith}
 use Rattle.std.proofs.lemmas.Bool.{true≢false}
 use Rattle.dns_message.specs.Names.{step as name_step, walk_in, name_within}
 use Rattle.dns_message.specs.Data.{octets_within, parts_at, data_at}
@@ -15,13 +14,13 @@ use Rattle.dns_message.specs.Values.{Question, Message}
 use Rattle.dns_message.proofs.CallerLemmas.{message_read_is_spelled, one_message_is_spelled}
 use Rattle.suffix_routes.specs.declared.peer.Peer.{Peer}
 use Rattle.suffix_routes.specs.Routes.{route_of as route_there}
-use Rattle.trust_rank.specs.Walks.{walk_from, servers_from, walk_of}
+use Rattle.trust_rank.specs.Walks.{walk_from, servers_from, walk_of, is_lame}
 use Rattle.outstanding.specs.declared.ask.Path.{Path}
 use Rattle.outstanding.specs.declared.ask.Path.TheVariants.{Udp, Tcp}
 use Rattle.step_values.specs.Values.{Delivered, delivery, close_udp, tick, Step}
-use Rattle.step_history.specs.Names.{route_of}
-use Rattle.step_history.specs.History.{ShownAsk, Matches, Accepts, is_lame, moment_at}
-use Rattle.step_rules.proofs.Played.{a, address, server, other_server, config}
+use Rattle.suffix_routes.specs.Serving.{route_of}
+use Rattle.step_history.specs.History.{ShownAsk, Matches, Accepts, moment_at}
+use Rattle.step_table.proofs.Played.{a, address, server, other_server, config}
 use Rattle.worked_claims.proofs.Texts.{with_flags, step_of, the_only_ask, none_listed}
 use Rattle.worked_claims.proofs.Accepted.{asked, ask, answer_with, reply_text, answered, says, matches, accepts}
 

@@ -16,7 +16,7 @@ use Rattle.step_values.specs.Values.{Request, request_in, from_client, tick, res
 use Rattle.step_values.specs.Values.{SentReply, Step}
 use Rattle.step_history.specs.History.{InEra, is_restart, takes_question}
 use Rattle.step_history.specs.Sound.{among, unanswered, Owns, EachOwned}
-use Rattle.step_rules.proofs.Played.{a, address, config}
+use Rattle.step_table.proofs.Played.{a, address, config}
 use Rattle.worked_claims.proofs.Accepted.{asked}
 use Rattle.worked_claims.proofs.Texts.{question_text, status_text, with_flags, failure_with, client, other_client}
 use Rattle.worked_claims.proofs.Texts.{step_of, in_one, in_two}

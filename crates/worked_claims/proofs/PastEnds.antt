@@ -23,7 +23,7 @@ use Rattle.step_history.specs.Carried.{CarriedInEra}
 use Rattle.step_history.specs.Causes.{AllTriesFailed, ClosesAsk}
 use Rattle.step_history.specs.Stale.{JustifiedPastItsEnd, StaleAnswers}
 use Rattle.step_history.specs.Sound.{RightReply, RightStaleAnswer}
-use Rattle.step_rules.proofs.Played.{a, address, server}
+use Rattle.step_table.proofs.Played.{a, address, server}
 use Rattle.worked_claims.proofs.Texts.{question_text, status_text, client, step_of}
 use Rattle.worked_claims.proofs.Silent.{nothing_heard, nothing_carried}
 use Rattle.worked_claims.proofs.Accepted.{asked, answered, answer_with, held, with_limits, carried_now}

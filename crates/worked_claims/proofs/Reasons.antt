@@ -1,8 +1,7 @@
 -- Why a question gets no answer at once, computed: for each reason what the history shows, and neighbours a step, a
 -- question, an
 -- ask or a port away.
-use Rattle.std.proofs.Common.{◌≡◌, ℕ, ◌-◌, ◌^◌, List, [], ◌∷◌, length, Option, Some, None, true, false, refl, sym, ap}
-use Rattle.std.proofs.Common.{◌∙◌, inl, inr, arith}
+use Rattle.std.proofs.Common.{◌≡◌, ℕ, ◌-◌, ◌^◌, List, [], ◌∷◌, length, Option, Some, None, true, false, refl, sym, ap, ◌∙◌, inl, inr, arith}
 use Rattle.std.proofs.lemmas.Bool.{true≢false}
 use Rattle.dns_message.specs.Names.{step as name_step, walk_in, name_within}
 use Rattle.dns_message.specs.Records.{octets_end, question_at}
@@ -10,15 +9,15 @@ use Rattle.dns_message.specs.Messages.{first_question}
 use Rattle.dns_message.specs.Values.{Question}
 use Rattle.suffix_routes.specs.Values.{Config}
 use Rattle.suffix_routes.specs.Routes.{route_of as route_there}
-use Rattle.step_values.specs.declared.action.Why.TheVariants.{BadOpcode, BadFormat, NotServed, NoRoute, QuestionsFull}
-use Rattle.step_values.specs.declared.action.Why.TheVariants.{InquiriesFull, NoPort}
+use Rattle.step_values.specs.declared.action.Why.TheVariants.{BadOpcode, BadFormat, NotServed, NoRoute, QuestionsFull, InquiriesFull, NoPort}
 use Rattle.step_values.specs.Values.{from_client, tick, close_udp, Action, Step}
-use Rattle.step_history.specs.Names.{route_of, is_local}
-use Rattle.step_history.specs.History.{Look, before_newest, tcp_asks}
-use Rattle.step_history.specs.Causes.{Cause, HasNoRoute, is_unserved, newest_words, newest_actions}
-use Rattle.step_history.specs.Draws.{drawn, drawn_by_tcp}
-use Rattle.step_history.specs.History.{listed}
-use Rattle.step_rules.proofs.Played.{a, b, address, server, config}
+use Rattle.suffix_routes.specs.Serving.{route_of, is_local}
+use Rattle.step_history.specs.History.{Look, before_newest, tcp_asks, listed}
+use Rattle.step_history.specs.Causes.{Cause, HasNoRoute, newest_words, newest_actions}
+use Rattle.dns_message.specs.Questions.{is_unserved}
+use Rattle.step_history.specs.Draws.{drawn}
+use Rattle.outstanding.specs.Draws.{drawn_by_tcp}
+use Rattle.step_table.proofs.Played.{a, b, address, server, config}
 use Rattle.worked_claims.proofs.Texts.{question_text, status_text, client, step_of}
 use Rattle.worked_claims.proofs.Silent.{IsSilent, nothing_followed}
 use Rattle.worked_claims.proofs.Accepted.{asked}

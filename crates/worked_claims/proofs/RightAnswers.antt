@@ -7,9 +7,9 @@ use Rattle.dns_message.specs.Messages.{first_question}
 use Rattle.dns_message.specs.Values.{Question}
 use Rattle.step_values.specs.declared.action.Why.TheVariants.{Answered}
 use Rattle.step_history.specs.History.{Look}
-use Rattle.step_history.specs.Causes.{is_unserved}
+use Rattle.dns_message.specs.Questions.{is_unserved}
 use Rattle.step_history.specs.Sound.{RightAnswer, RightReply}
-use Rattle.step_rules.proofs.Played.{a, address}
+use Rattle.step_table.proofs.Played.{a, address}
 use Rattle.worked_claims.proofs.Texts.{question_text, status_text, client}
 use Rattle.worked_claims.proofs.Accepted.{seen, client_text, answers}
 

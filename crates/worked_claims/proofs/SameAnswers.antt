@@ -11,7 +11,7 @@ use Rattle.dns_message.specs.Messages.{Spells, message_at, message_of}
 use Rattle.dns_message.specs.Values.{Record, Message}
 use Rattle.dns_message.proofs.CallerLemmas.{message_read_is_spelled, one_message_is_spelled}
 use Rattle.step_history.specs.Sound.{SameSections}
-use Rattle.step_rules.proofs.Played.{a, address}
+use Rattle.step_table.proofs.Played.{a, address}
 
 -- ---- answers with two addresses of a.e
 

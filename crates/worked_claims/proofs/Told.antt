@@ -11,10 +11,11 @@ use Rattle.dns_message.specs.Writing.{◌▹◌, each, name_text, written}
 use Rattle.suffix_routes.specs.Values.{Config}
 use Rattle.step_values.specs.declared.action.Why.TheVariants.{BadFormat, NoRoute, Deadline}
 use Rattle.step_values.specs.Values.{tick, Step}
-use Rattle.step_history.specs.Replies.{asked_in, failure_text}
+use Rattle.step_history.specs.Replies.{failure_text}
+use Rattle.answer_builder.specs.Values.{asked_in}
 use Rattle.step_history.specs.Accounting.{TellsMore}
 use Rattle.step_history.specs.Sound.{IsErrorResponse, Sound}
-use Rattle.step_rules.proofs.Played.{a, address, config}
+use Rattle.step_table.proofs.Played.{a, address, config}
 use Rattle.worked_claims.proofs.Texts.{question_text, failure_with, step_of}
 use Rattle.worked_claims.proofs.Accepted.{asked}
 

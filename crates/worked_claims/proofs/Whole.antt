@@ -11,7 +11,7 @@ use Rattle.step_values.specs.Values.{SentReply, Step}
 use Rattle.step_history.specs.Accounting.{TellsMore}
 use Rattle.step_history.specs.Asked.{AsksWell}
 use Rattle.step_history.specs.Sound.{Owns, Sound}
-use Rattle.step_rules.proofs.Played.{a, address, config}
+use Rattle.step_table.proofs.Played.{a, address, config}
 use Rattle.worked_claims.proofs.Texts.{question_text, client, in_two}
 use Rattle.worked_claims.proofs.Accepted.{asked, answered, client_text}
 use Rattle.worked_claims.proofs.RightAnswers.{right_answer}

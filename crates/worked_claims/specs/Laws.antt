@@ -6,8 +6,8 @@ use Rattle.outstanding.specs.declared.ask.Path.{Path}
 use Rattle.outstanding.specs.Lists.{on_path}
 use Rattle.outstanding.specs.Values.{Ask}
 use Rattle.step_values.specs.Values.{Action, SentAsk, ask_in, closed_path_in, Handed, Outcome}
-use Rattle.step_rules.specs.State.{State}
-use Rattle.step_rules.specs.Row.{Row}
+use Rattle.step_table.specs.State.{State}
+use Rattle.step_table.specs.Row.{Row}
 
 -- the asks that these actions send
 abbrev pub asks_in : List Action → List SentAsk

@@ -3,25 +3,25 @@
 ghost use Rattle.outstanding.specs.Lists.{MayBegin, on_path as ask_on, without_path};
 ghost use Rattle.std.specs.Prelude.{◌≡◌, ◌^◌, ◌<◌, ◌≤◌, ◌+◌, ◌∷◌, ◌++◌, [], Bool, List, drop, slice_set, length, nat_le, IfOk, OnOk, OnErr, IsOk, IsSome, Some};
 ghost use Rattle.std.specs.List.{AllByRecursion, list_any};
-ghost use Rattle.step_rules.specs.LookingUp.{promoted_all};
-ghost use Rattle.step_rules.specs.Offering.{put_all, unkept_of};
-ghost use Rattle.step_rules.specs.Steps.{ask_list, tcp_count, with_entries};
-ghost use Rattle.step_rules.specs.Row.{is_due_at, deadline_of, timeout_of};
-ghost use Rattle.step_changes.specs.Next.{tcp_count_of, left_or_sent, left_waiting, with_preferred, without_closed, changed, next_of, pieces_of, IsOutcome, IsRouted, CanWait, CanFollow, CanSendOn, CanChange, FitsChange, IsServed};
+ghost use Rattle.alias_chains.specs.LookingUp.{promoted_all};
+ghost use Rattle.alias_chains.specs.Offering.{put_all, unkept_of, pieces_of};
+ghost use Rattle.step_table.specs.Steps.{ask_list, tcp_count, with_entries};
+ghost use Rattle.step_table.specs.Row.{is_due_at};
+ghost use Rattle.step_table.specs.Ticks.{deadline_of};
+ghost use Rattle.step_table.specs.Replies.{timeout_of};
+ghost use Rattle.step_actions.specs.Decision.{tcp_count_of, left_or_sent, left_waiting, with_preferred, without_closed, changed, next_of, IsOutcome, IsRouted, CanWait, CanFollow, CanSendOn, CanChange, FitsChange, IsServed};
 
 use crate::forwarder::Forwarder;
+use crate::lists::{close_inquiry, end_closed, list_ask, send_on};
+use alias_chains::{Slots, offer_all, promote_all};
 use outstanding::{Ask, Path};
 use plain_list::PlainList;
 use record_cache::Held;
 use std::alloc::{AllocError, Allocator};
 use std::hash::BuildHasher;
-use step_changes::{
-    Change, Opening, Preferred, Sending, close_inquiry, end_closed, is_late, is_overdue, list_ask,
-    offer_all, send_on,
-};
-use step_look_ups::{Slots, promote_all};
-use step_replies::Waiting;
+use step_actions::{Change, Opening, Preferred, Sending, is_late, is_overdue};
 use step_values::{Action, Outcome};
+use waiting_questions::Waiting;
 
 /// One more ask by TCP, where the path is a connection.
 fn count_tcp(count: u64, path: Path) -> u64
@@ -78,7 +78,10 @@ impl<H: BuildHasher + Drop, A: Allocator + Copy> Forwarder<H, A> {
         requires later { self.old.state.moment ≤ moment }
         requires in_time { moment ≤ 2 ^ 62 }
         requires fits { CanWait self.old.config moment self.old.state waiting }
-        ensures ok { OnOk result (self.new ≡ record { config = self.old.config; state = record self.old.state { waiting = self.old.state.waiting ++ waiting ∷ []; moment = moment } }) }
+        ensures ok { OnOk result (self.new ≡ record {
+          config = self.old.config;
+          state = record self.old.state { waiting = self.old.state.waiting ++ waiting ∷ []; moment = moment };
+        }) }
         ensures err { OnErr result (self.new ≡ self.old) }
     {
         self.waiting.push(waiting)?;
@@ -92,7 +95,15 @@ impl<H: BuildHasher + Drop, A: Allocator + Copy> Forwarder<H, A> {
         requires in_time { moment ≤ 2 ^ 62 }
         requires waits { CanWait self.old.config moment self.old.state waiting }
         requires follows { CanFollow self.old.config moment self.old.state self.old.state.asks ask }
-        ensures ok { OnOk result (self.new ≡ record { config = self.old.config; state = record self.old.state { asks = self.old.state.asks ++ ask ∷ []; waiting = self.old.state.waiting ++ waiting ∷ []; moment = moment; tcp_asks = self.old.state.tcp_asks + tcp_count_of ask.path } }) }
+        ensures ok { OnOk result (self.new ≡ record {
+          config = self.old.config;
+          state = record self.old.state {
+            asks = self.old.state.asks ++ ask ∷ [];
+            waiting = self.old.state.waiting ++ waiting ∷ [];
+            moment = moment;
+            tcp_asks = self.old.state.tcp_asks + tcp_count_of ask.path;
+          };
+        }) }
         ensures err { OnErr result (self.new ≡ self.old) }
     {
         let count = count_tcp(self.tcp_asks, ask.path);
@@ -109,19 +120,38 @@ impl<H: BuildHasher + Drop, A: Allocator + Copy> Forwarder<H, A> {
         requires later { self.old.state.moment ≤ moment }
         requires in_time { moment ≤ 2 ^ 62 }
         requires served { IsServed self.old.config preferred }
-        ensures { self.new ≡ record { config = self.old.config; state = record self.old.state { asks = without_path path self.old.state.asks; waiting = left_waiting (ask_on path self.old.state.asks) self.old.state.waiting; preferred = with_preferred preferred self.old.state.preferred; moment = moment } } }
+        ensures { self.new ≡ record {
+          config = self.old.config;
+          state = record self.old.state {
+            asks = without_path path self.old.state.asks;
+            waiting = left_waiting (ask_on path self.old.state.asks) self.old.state.waiting;
+            preferred = with_preferred preferred self.old.state.preferred;
+            moment = moment;
+          };
+        } }
     {
         close_inquiry(&mut self.inquiries, &mut self.waiting, path);
         prefer(&mut self.preferred, preferred);
         self.moment = moment;
     }
 
-    /// The ask on a path is closed, and the first ask for what those want that are sent on is listed, where there is one.
+    /// The ask on a path is closed, and the first ask for what those want that are sent on is listed, where there is
+    /// one.
     fn send_all_on(&mut self, moment: u64, sending: Sending<A>)
         requires later { self.old.state.moment ≤ moment }
         requires in_time { moment ≤ 2 ^ 62 }
         requires fits { CanSendOn self.old.config moment self.old.state sending.path sending.preferred sending.onward.items sending.ask }
-        ensures { self.new ≡ record { config = self.old.config; state = record self.old.state { asks = without_path sending.path self.old.state.asks ++ ask_list sending.ask; waiting = left_or_sent (ask_on sending.path self.old.state.asks) sending.onward.items self.old.state.waiting; preferred = with_preferred (Some sending.preferred) self.old.state.preferred; moment = moment; tcp_asks = self.old.state.tcp_asks + tcp_count sending.ask } } }
+        ensures { self.new ≡ record {
+          config = self.old.config;
+          state = record self.old.state {
+            asks = without_path sending.path self.old.state.asks
+                ++ ask_list sending.ask;
+            waiting = left_or_sent (ask_on sending.path self.old.state.asks) sending.onward.items self.old.state.waiting;
+            preferred = with_preferred (Some sending.preferred) self.old.state.preferred;
+            moment = moment;
+            tcp_asks = self.old.state.tcp_asks + tcp_count sending.ask;
+          };
+        } }
     {
         let Sending {
             path,
@@ -141,7 +171,14 @@ impl<H: BuildHasher + Drop, A: Allocator + Copy> Forwarder<H, A> {
         requires in_time { moment ≤ 2 ^ 62 }
         requires listed { IsSome (ask_on path self.old.state.asks) }
         requires follows { CanFollow self.old.config moment self.old.state (without_path path self.old.state.asks) ask }
-        ensures { self.new ≡ record { config = self.old.config; state = record self.old.state { asks = without_path path self.old.state.asks ++ ask ∷ []; moment = moment; tcp_asks = self.old.state.tcp_asks + tcp_count_of ask.path } } }
+        ensures { self.new ≡ record {
+          config = self.old.config;
+          state = record self.old.state {
+            asks = without_path path self.old.state.asks ++ ask ∷ [];
+            moment = moment;
+            tcp_asks = self.old.state.tcp_asks + tcp_count_of ask.path;
+          };
+        } }
     {
         self.tcp_asks = count_tcp(self.tcp_asks, ask.path);
         let _ended = self.inquiries.replace(path, ask);
@@ -152,7 +189,14 @@ impl<H: BuildHasher + Drop, A: Allocator + Copy> Forwarder<H, A> {
     fn expire_first(&mut self, moment: u64, closed: Option<Path>)
         requires later { self.old.state.moment ≤ moment }
         requires in_time { moment ≤ 2 ^ 62 }
-        ensures { self.new ≡ record { config = self.old.config; state = record self.old.state { asks = without_closed closed self.old.state.asks; waiting = drop 1 self.old.state.waiting; moment = moment } } }
+        ensures { self.new ≡ record {
+          config = self.old.config;
+          state = record self.old.state {
+            asks = without_closed closed self.old.state.asks;
+            waiting = drop 1 self.old.state.waiting;
+            moment = moment;
+          };
+        } }
     {
         end_closed(&mut self.inquiries, closed);
         self.waiting.drop_first();
@@ -198,12 +242,14 @@ impl<H: BuildHasher + Drop, A: Allocator + Copy> Forwarder<H, A> {
         }
     }
 
-    /// Promotes the entries that a look-up used, then offers what an accepted reply carries, and tells how many of its pieces
+    /// Promotes the entries that a look-up used, then offers what an accepted reply carries, and tells how many of
+    /// its pieces
     /// found no memory.
     fn keep(&mut self, used: &Slots<A>, carried: Vec<Held<A>, A>) -> u32
         requires few { length (pieces_of carried.items) < 2 ^ 32 }
         requires routed { AllByRecursion (IsRouted self.old.config) (pieces_of carried.items) }
-        ensures { (rooms : List Bool) × (self.new ≡ record self.old { state = with_entries (put_all self.old.state.cache.capacity self.old.state.moment rooms (pieces_of carried.items) (promoted_all used.now self.old.state.cache.entries)) self.old.state })
+        ensures { (rooms : List Bool) × (self.new
+            ≡ record self.old { state = with_entries (put_all self.old.state.cache.capacity self.old.state.moment rooms (pieces_of carried.items) (promoted_all used.now self.old.state.cache.entries)) self.old.state })
             × (result ≡ unkept_of self.old.state.cache.capacity self.old.state.moment rooms (pieces_of carried.items) (promoted_all used.now self.old.state.cache.entries)) }
     {
         promote_all(&mut self.cache, used);
@@ -255,8 +301,19 @@ impl<H: BuildHasher + Drop, A: Allocator + Copy> Forwarder<H, A> {
     ) -> Result<Outcome<A>, AllocError>
         requires later { self.old.state.moment ≤ moment }
         requires in_time { moment ≤ 2 ^ 62 }
-        requires fits { CanChange self.old.config moment self.old.state (record { actions = actions; used = used.now; change = change; carried = carried }) }
-        ensures ok { IfOk result (λ outcome. (rooms : List Bool) × IsOutcome self.old.config (next_of moment rooms self.old.state (record { actions = actions; used = used.now; change = change; carried = carried })) outcome self.new.state) }
+        requires fits { CanChange self.old.config moment self.old.state (record {
+          actions = actions;
+          used = used.now;
+          change = change;
+          carried = carried;
+        }) }
+        ensures ok { IfOk result (λ outcome. (rooms : List Bool)
+            × IsOutcome self.old.config (next_of moment rooms self.old.state (record {
+              actions = actions;
+              used = used.now;
+              change = change;
+              carried = carried;
+            })) outcome self.new.state) }
         ensures config { self.new.config ≡ self.old.config }
         ensures quiet { change ≡ Change.Nothing → IsOk result }
         ensures err { OnErr result (self.new ≡ self.old) }

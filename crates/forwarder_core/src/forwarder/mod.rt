@@ -4,25 +4,27 @@ ghost use Rattle.std.specs.Prelude.{◌≡◌, ◌^◌, ◌≤◌, ◌<◌, ◌+
 ghost use Rattle.suffix_routes.specs.Values.{IsConfig};
 ghost use Rattle.step_values.specs.Values.{event_of};
 ghost use Rattle.plain_list.specs.Octets.{AreOctets};
-ghost use Rattle.step_rules.specs.Steps.{start};
-ghost use Rattle.step_rules.specs.Row.{HandsOctets, TakesNoMemory, effective, Row, is_due_at};
-ghost use Rattle.step_rules.specs.Progress.{left_to_do, ServesSomething, next_due, IsInOrder};
-ghost use Rattle.step_soundness.specs.Runs.{StaysExplained};
-ghost use Rattle.step_soundness.specs.Explains.{Explains};
-ghost use Rattle.step_use.specs.Mirrors.{FullyExplains, StaysFullyExplained};
-ghost use Rattle.step_use.specs.Service.{ComesTo, ServesOnTruly};
+ghost use Rattle.step_table.specs.State.{turn};
+ghost use Rattle.step_table.specs.Steps.{start};
+ghost use Rattle.step_table.specs.Row.{HandsOctets, TakesNoMemory, effective, Row, is_due_at};
+ghost use Rattle.step_table.specs.Progress.{left_to_do, ServesSomething, next_due, IsInOrder};
+ghost use Rattle.theorem_sound.specs.Runs.{StaysExplained};
+ghost use Rattle.theorem_sound.specs.Explains.{Explains};
+ghost use Rattle.theorem_use.specs.Mirrors.{FullyExplains, StaysFullyExplained};
+ghost use Rattle.theorem_use.specs.Service.{ComesTo, ServesOnTruly};
 
 mod change;
 mod tick;
 
+use crate::deciding::decide;
+use crate::lists::forget_all;
 use outstanding::Inquiries;
 use plain_list::PlainList;
 use record_cache::Cache;
 use std::alloc::{AllocError, Allocator, Global};
 use std::hash::BuildHasher;
 use std::marker::Model;
-use step_changes::{Next, forget_all};
-use step_decisions::Situation;
+use step_actions::{Decision, TurnRef};
 use step_values::{Event, Outcome};
 use suffix_routes::{Config, Route};
 use waiting_questions::WaitingQuestions;
@@ -85,14 +87,25 @@ pub struct Forwarder<H: BuildHasher, A: Allocator = Global> {
 }
 
 impl<H: BuildHasher, A: Allocator> Model for Forwarder<H, A> {
-    ghost use Rattle.step_rules.specs.State.{Running};
-    ghost use Rattle.step_changes.specs.Kept.{IsKept};
+    ghost use Rattle.step_table.specs.State.{Running};
+    ghost use Rattle.step_actions.specs.Kept.{IsKeptForwarder};
 
     ghost Value = { Running };
 
-    ghost view = { λ f. record { config = f.config; state = record { cache = f.cache; asks = f.inquiries.asks; waiting = f.waiting.items; preferred = f.preferred.items; moment = f.moment; tcp_asks = f.tcp_asks } } };
+    ghost view = { λ f. record {
+      config = f.config;
+      state = record {
+        cache = f.cache;
+        asks = f.inquiries.asks;
+        waiting = f.waiting.items;
+        preferred = f.preferred.items;
+        moment = f.moment;
+        tcp_asks = f.tcp_asks;
+      };
+    } };
 
-    ghost invariant = { λ f. IsKept f.config f.cache f.inquiries f.waiting.items f.preferred.items f.moment f.tcp_asks };
+    ghost invariant = { λ f. IsKeptForwarder f.config f.cache f.inquiries f.waiting.items f.preferred.items f.moment
+        f.tcp_asks };
 }
 
 impl<H: BuildHasher + Drop, A: Allocator + Copy> Forwarder<H, A> {
@@ -103,22 +116,6 @@ impl<H: BuildHasher + Drop, A: Allocator + Copy> Forwarder<H, A> {
         let _asks = self.inquiries.len();
     }
 
-    /// The forwarder as a step finds it, lent.
-    fn situation(&self) -> Situation<'_, H, A>
-        ensures { result ≡ self.now }
-    {
-        Situation {
-            alloc: self.alloc,
-            config: &self.config,
-            cache: &self.cache,
-            inquiries: &self.inquiries,
-            waiting: &self.waiting,
-            preferred: &self.preferred,
-            moment: self.moment,
-            tcp_asks: self.tcp_asks,
-        }
-    }
-
     /// The greatest moment handed in so far, at most 2^62.
     fn effective(&self, now: u64) -> u64
         ensures value { result ≡ effective now self.now.state }
@@ -126,6 +123,24 @@ impl<H: BuildHasher + Drop, A: Allocator + Copy> Forwarder<H, A> {
         ensures in_time { result ≤ 2 ^ 62 }
     {
         now.min(LATEST).max(self.moment)
+    }
+
+    /// The forwarder as a step finds it, lent, with what the step is handed.
+    fn turn(&self, now: u64, words: [u32; 8]) -> TurnRef<'_, H, A>
+        ensures { result ≡ turn self.now.config (effective now self.now.state) words self.now.state }
+    {
+        TurnRef {
+            alloc: self.alloc,
+            config: &self.config,
+            cache: &self.cache,
+            inquiries: &self.inquiries,
+            waiting: &self.waiting,
+            preferred: &self.preferred,
+            tcp_asks: self.tcp_asks,
+            before: self.moment,
+            moment: self.effective(now),
+            words,
+        }
     }
 
     /// The outcome of a step that does nothing, where nothing is due.
@@ -139,8 +154,8 @@ impl<H: BuildHasher + Drop, A: Allocator + Copy> Forwarder<H, A> {
         }
     }
 
-    /// What an event calls for is decided and put in place. A tick that finds nothing due does without it, and without the
-    /// room on the stack that it takes: so it stands by itself.
+    /// What an event calls for is decided and put in place. A tick that finds nothing due does without it, and
+    /// without the room on the stack that it takes: so it stands by itself.
     #[inline(never)]
     fn act_on(
         &mut self,
@@ -149,20 +164,22 @@ impl<H: BuildHasher + Drop, A: Allocator + Copy> Forwarder<H, A> {
         event: &Event<A>,
     ) -> Result<Outcome<A>, AllocError>
         requires { HandsOctets (event_of event.now) }
-        ensures row { IfOk result (λ outcome. Row self.old.config self.old.state (record { now = now; words = words; event = event_of event.now }) outcome self.new.state) }
+        ensures row { IfOk result (λ outcome. Row self.old.config self.old.state
+            (record { now = now; words = words; event = event_of event.now }) outcome self.new.state) }
         ensures config { self.new.config ≡ self.old.config }
-        ensures no_memory { TakesNoMemory self.old.config (effective now self.old.state) self.old.state (event_of event.now) → IsOk result }
+        ensures no_memory { TakesNoMemory self.old.config (effective now self.old.state) self.old.state
+            (event_of event.now) → IsOk result }
         ensures err { OnErr result (self.new ≡ self.old) }
     {
         let moment = self.effective(now);
         let Some(
-            Next {
+            Decision {
                 actions,
                 used,
                 change,
                 carried,
             },
-        ) = self.situation().decide(moment, words, event)?
+        ) = decide(&self.turn(now, words), event)?
         else {
             self.restart();
             return Ok(self.nothing_done());
@@ -179,9 +196,11 @@ impl<H: BuildHasher + Drop, A: Allocator + Copy> Forwarder<H, A> {
         event: &Event<A>,
     ) -> Result<Outcome<A>, AllocError>
         requires { HandsOctets (event_of event.now) }
-        ensures row { IfOk result (λ outcome. Row self.old.config self.old.state (record { now = now; words = words; event = event_of event.now }) outcome self.new.state) }
+        ensures row { IfOk result (λ outcome. Row self.old.config self.old.state
+            (record { now = now; words = words; event = event_of event.now }) outcome self.new.state) }
         ensures config { self.new.config ≡ self.old.config }
-        ensures no_memory { TakesNoMemory self.old.config (effective now self.old.state) self.old.state (event_of event.now) → IsOk result }
+        ensures no_memory { TakesNoMemory self.old.config (effective now self.old.state) self.old.state
+            (event_of event.now) → IsOk result }
         ensures err { OnErr result (self.new ≡ self.old) }
     {
         let moment = self.effective(now);
@@ -225,32 +244,41 @@ impl<H: BuildHasher + Drop, A: Allocator + Copy> Forwarder<H, A> {
     }
 
     /// One step: what is to be done about the event, at this moment in milliseconds and with these random words. A
-    /// moment below an earlier one counts as that one. `Err` where memory ran out, and then nothing has changed. A piece of
-    /// a reply that finds no memory in the cache refuses no step: `unkept` counts it.
+    /// moment below an earlier one counts as that one. `Err` where memory ran out, and then nothing has changed. A
+    /// piece of a reply that finds no memory in the cache refuses no step: `unkept` counts it.
     pub fn step(
         &mut self,
         now: u64,
         words: [u32; 8],
         event: Event<A>,
     ) -> Result<Outcome<A>, AllocError>
-        ensures row { IfOk result (λ outcome. Row self.old.config self.old.state (record { now = now; words = words; event = event_of event }) outcome self.new.state) }
-        // What explains the state before explains, with this step and an owner for each of its replies, the state after.
-        ensures explained { IfOk result (λ outcome. StaysExplained self.old.config self.old.state (record { now = now; words = words; event = event_of event }) outcome self.new.state) }
+        ensures row { IfOk result (λ outcome. Row self.old.config self.old.state
+            (record { now = now; words = words; event = event_of event }) outcome self.new.state) }
+        // What explains the state before explains, with this step and an owner for each of its replies, the state
+        // after.
+        ensures explained { IfOk result (λ outcome. StaysExplained self.old.config self.old.state
+            (record { now = now; words = words; event = event_of event }) outcome self.new.state) }
         // So it is of what stands of that history and is mirrored in the state, and of asks and those who wait, which
         // serve each other: a question of which enough stands is answered by its own step, where the cache has room.
-        ensures whole { IfOk result (λ outcome. StaysFullyExplained self.old.config self.old.state (record { now = now; words = words; event = event_of event }) outcome self.new.state) }
+        ensures whole { IfOk result (λ outcome. StaysFullyExplained self.old.config self.old.state
+            (record { now = now; words = words; event = event_of event }) outcome self.new.state) }
         // Behind whatever steps led a new forwarder to the state before, this one serves truly: with one list of owners
         // each claim holds of the whole run.
-        ensures truly { IfOk result (λ outcome. ServesOnTruly self.old.config self.old.state (record { handed = record { now = now; words = words; event = event_of event }; outcome = outcome } ∷ [])) }
+        ensures truly { IfOk result (λ outcome. ServesOnTruly self.old.config self.old.state
+            (record { handed = record { now = now; words = words; event = event_of event }; outcome = outcome } ∷ [])) }
         ensures config { self.new.config ≡ self.old.config }
         // A message that is dropped, a delivery that matches nothing, the failure of a path without an ask, a tick with
         // nothing due and a restart never want memory.
-        ensures no_memory { TakesNoMemory self.old.config (effective now self.old.state) self.old.state (event_of event) → IsOk result }
+        ensures no_memory { TakesNoMemory self.old.config (effective now self.old.state) self.old.state
+            (event_of event) → IsOk result }
         ensures err { OnErr result (self.new ≡ self.old) }
         // What is left to do is bounded, and falls with each step that serves something: so ticks, while more is due,
         // come to an end.
-        ensures bounded { left_to_do self.old.config self.old.state ≤ self.old.config.limits.questions + self.old.config.limits.inquiries * self.old.config.limits.tries }
-        ensures less { ServesSomething self.old.config (effective now self.old.state) self.old.state (event_of event) → IfOk result (λ outcome. left_to_do self.old.config self.new.state < left_to_do self.old.config self.old.state) }
+        ensures bounded { left_to_do self.old.config self.old.state ≤ self.old.config.limits.questions +
+            self.old.config.limits.inquiries * self.old.config.limits.tries }
+        ensures less { ServesSomething self.old.config (effective now self.old.state) self.old.state (event_of event)
+            → IfOk result (λ outcome. left_to_do self.old.config self.new.state < left_to_do self.old.config
+            self.old.state) }
     {
         check_octets(&event);
         self.check_order();

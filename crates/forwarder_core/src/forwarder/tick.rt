@@ -1,8 +1,10 @@
 //! What is due, and when something is: the oldest question and the oldest ask tell.
 
 ghost use Rattle.std.specs.Prelude.{◌≡◌, false, map, IsTrue};
-ghost use Rattle.step_rules.specs.Row.{deadline_of, timeout_of, is_due_at};
-ghost use Rattle.step_rules.specs.Progress.{least};
+ghost use Rattle.step_table.specs.Row.{is_due_at};
+ghost use Rattle.step_table.specs.Ticks.{deadline_of};
+ghost use Rattle.step_table.specs.Replies.{timeout_of};
+ghost use Rattle.step_table.specs.Progress.{least};
 ghost use Rattle.step_values.specs.Values.{event_of, tick};
 
 use crate::forwarder::Forwarder;
@@ -13,7 +15,8 @@ use step_values::Event;
 impl<H: BuildHasher + Drop, A: Allocator + Copy> Forwarder<H, A> {
     /// The event is a tick, and nothing is due at this moment.
     pub(crate) fn is_idle_tick(&self, moment: u64, event: &Event<A>) -> bool
-        ensures { IsTrue result → (event_of event.now ≡ tick) × (is_due_at self.now.config moment self.now.state ≡ false) }
+        ensures { IsTrue result → (event_of event.now ≡ tick) × (is_due_at self.now.config moment self.now.state
+            ≡ false) }
     {
         matches!(event, Event::Tick) && !self.is_due_by(moment)
     }

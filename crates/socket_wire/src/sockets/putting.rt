@@ -1,24 +1,25 @@
 //! Actions that a wire does.
 
 ghost use Rattle.std.specs.Prelude.{◌≡◌, IfOk, is_ok};
-ghost use Rattle.socket_wire.specs.Queries.{IsBegunWith};
+ghost use Rattle.stream_connections.specs.Queries.{IsBegunWith};
 ghost use Rattle.socket_wire.specs.Putting.{AnswersOn, ListsPort, MayMakeRoom, PutsAction, PutsQuery, with_spent};
 
 use super::Sockets;
 use crate::address::address_of;
 use crate::asks::ask_socket;
 use crate::origin::Origin;
-use crate::servers::ServerStream;
+use mio::net::TcpStream;
 use std::alloc::Allocator;
 use std::io;
 use std::io::ErrorKind;
 use std::net::Net;
 use step_values::{Action, Client};
+use stream_connections::{ServerStream, unsent_query};
 use suffix_routes::Peer;
 
 impl<R: Net, A: Allocator + Copy> Sockets<'_, R, A> {
-    /// Does an action. `Err` where the system refuses, or memory ran out. With an ask the random words are spent that its
-    /// identifier and port came from, whatever becomes of it.
+    /// Does an action. `Err` where the system refuses, or memory ran out. With an ask the random words are spent that
+    /// its identifier and port came from, whatever becomes of it.
     pub fn put(&mut self, action: &Action<A>, now: u64) -> io::Result<()>
         ensures { PutsAction action.now now (is_ok result) (with_spent action.now self.old) self.new }
     {
@@ -38,12 +39,12 @@ impl<R: Net, A: Allocator + Copy> Sockets<'_, R, A> {
                 port,
                 server,
                 bytes,
-            } => self.ask_udp(*port, *server, bytes.as_slice()),
+            } => self.ask_udp(*port, *server, bytes.as_slice(), now),
             Action::AskTcp {
                 conn,
                 server,
                 bytes,
-            } => self.ask_tcp(*conn, *server, bytes.as_slice()),
+            } => self.ask_tcp(*conn, *server, bytes.as_slice(), now),
             Action::CloseUdp { port } => {
                 let _socket = self.asks.remove(port);
                 Ok(())
@@ -62,14 +63,15 @@ impl<R: Net, A: Allocator + Copy> Sockets<'_, R, A> {
         }
     }
 
-    /// Sends a query from this port.
-    fn ask_udp(&mut self, port: u16, server: Peer, query: &[u8]) -> io::Result<()>
+    /// Sends a query from this port. Where no descriptor is left for it, the oldest connection of a client that has
+    /// waited for nothing for a while is closed.
+    fn ask_udp(&mut self, port: u16, server: Peer, query: &[u8], now: u64) -> io::Result<()>
         ensures lists { ListsPort port (is_ok result) self.old.asks.entries self.new.asks.entries }
-        ensures room { MayMakeRoom self.old.connections self.new.connections }
+        ensures room { MayMakeRoom now self.old.connections self.new.connections }
         ensures rest { self.new ≡ record self.old { asks = self.new.asks; connections = self.new.connections } }
     {
         let opened = match ask_socket(self.rt, &self.readiness, port, server) {
-            Err(error) if self.makes_room(&error) => {
+            Err(error) if self.frees_descriptor(&error, now) => {
                 ask_socket(self.rt, &self.readiness, port, server)
             }
             opened => opened,
@@ -81,34 +83,44 @@ impl<R: Net, A: Allocator + Copy> Sockets<'_, R, A> {
     }
 
     /// Begins a connection, and sends a query as soon as it stands.
-    fn ask_tcp(&mut self, conn: u64, server: Peer, query: &[u8]) -> io::Result<()>
-        ensures { PutsQuery conn server query.now (is_ok result) self.old self.new }
+    fn ask_tcp(&mut self, conn: u64, server: Peer, query: &[u8], now: u64) -> io::Result<()>
+        ensures { PutsQuery conn server query.now now (is_ok result) self.old self.new }
     {
         self.connections.keep_room()?;
-        let stream = match self.begin(conn, server, query) {
-            Err(error) if self.makes_room(&error) => self.begin(conn, server, query)?,
-            begun => begun?,
-        };
+        let stream = self.begin_with_room(conn, server, query, now)?;
         self.connections.list_server(conn, stream)?;
         self.readiness.add(Origin::Server(conn));
         Ok(())
     }
 
-    /// A connection that is begun, with a query for it.
-    fn begin(&self, conn: u64, server: Peer, query: &[u8]) -> io::Result<ServerStream<A>>
-        ensures { IfOk result (λ stream. IsBegunWith server query.now stream) }
-    {
-        ServerStream::open(self.rt, self.alloc, &self.readiness, conn, server, query)
-    }
-
-    /// Where no descriptor was left, closes the oldest connection of a client that waits for nothing. True where one
-    /// was closed.
-    fn makes_room(&mut self, error: &io::Error) -> bool
-        ensures room { MayMakeRoom self.old.connections self.new.connections }
+    /// A connection that is begun, with a query for it. Where no descriptor is left for it, the oldest connection of a
+    /// client that has waited for nothing for a while is closed.
+    fn begin_with_room(
+        &mut self,
+        conn: u64,
+        server: Peer,
+        query: &[u8],
+        now: u64,
+    ) -> io::Result<ServerStream<A>>
+        ensures begun { IfOk result (λ stream. IsBegunWith server query.now stream) }
+        ensures room { MayMakeRoom now self.old.connections self.new.connections }
         ensures has { self.new.connections.has_room ≡ self.old.connections.has_room }
         ensures rest { self.new ≡ record self.old { connections = self.new.connections } }
     {
-        error.raw_os_error() == Some(libc::EMFILE) && self.connections.close_oldest()
+        match self.begin(conn, server, query) {
+            Err(error) if self.frees_descriptor(&error, now) => self.begin(conn, server, query),
+            begun => begun,
+        }
+    }
+
+    /// Begins to connect, with the query behind its length. `Err` where the system refuses, or memory ran out.
+    fn begin(&self, conn: u64, server: Peer, query: &[u8]) -> io::Result<ServerStream<A>>
+        ensures { IfOk result (λ stream. IsBegunWith server query.now stream) }
+    {
+        let unsent = unsent_query(self.alloc, query)?;
+        let mut stream = TcpStream::connect(self.rt, address_of(server))?;
+        self.readiness.watch(&mut stream, Origin::Server(conn))?;
+        Ok(ServerStream::new(stream, server, unsent))
     }
 
     /// Replies on a client's connection. `Err` where the reply is lost. A connection that is over is closed.

@@ -7,7 +7,6 @@ ghost use Rattle.socket_wire.specs.Taking.{IsPiece, TakesAsk, TakesClient, Takes
 
 use super::Sockets;
 use crate::address::peer_of;
-use crate::client_stream::Heard;
 use crate::origin::Origin;
 use mio::net::TcpStream;
 use plain_list::PlainList;
@@ -16,6 +15,7 @@ use std::io;
 use std::io::ErrorKind;
 use std::net::Net;
 use step_values::Path;
+use stream_connections::Heard;
 use wires::Arrival;
 
 /// What came of trying a socket.
@@ -72,7 +72,7 @@ impl<R: Net, A: Allocator + Copy> Sockets<'_, R, A> {
 
     /// Where no descriptor was left, closes the oldest connection of a client that has waited for nothing for a while.
     /// True where one was closed.
-    fn frees_descriptor(&mut self, error: &io::Error, now: u64) -> bool
+    pub(super) fn frees_descriptor(&mut self, error: &io::Error, now: u64) -> bool
         ensures { MayCloseResting now result self.old self.new }
     {
         error.raw_os_error() == Some(libc::EMFILE) && self.connections.close_resting(now)

@@ -3,11 +3,11 @@ use Rattle.std.specs.Prelude.{map}
 use Rattle.std.proofs.Math.Seq.{take-length}
 use Rattle.suffix_routes.specs.Values.{Config}
 use Rattle.step_values.specs.Values.{event_of, Handed, Step}
-use Rattle.step_rules.specs.State.{Running}
-use Rattle.step_rules.specs.Row.{Row}
-use Rattle.step_soundness.proofs.CallerLemmas.{handed_more}
-use Rattle.step_use.specs.Service.{ComesTo}
-use Rattle.step_use.proofs.CallerLemmas.{run_serves_truly, came_more}
+use Rattle.step_table.specs.State.{Running}
+use Rattle.step_table.specs.Row.{Row}
+use Rattle.theorem_sound.proofs.CallerLemmas.{handed_more}
+use Rattle.theorem_use.specs.Service.{ComesTo}
+use Rattle.theorem_use.proofs.CallerLemmas.{run_serves_truly, came_more}
 use Rattle.network_model.proofs.run.run_list.Goals as goal
 
 pub loop-entry-init : goal.loop-entry-init

@@ -1,26 +1,50 @@
 use Rattle.std.proofs.Common.{◌≡◌, ◌∙◌, ℕ, Some, ap, sym, subst}
+use Rattle.std.proofs.lemmas.Bool.{false≢true}
 use Rattle.std.proofs.lemmas.Result.{IfOk-weaker}
 use Rattle.step_values.specs.Values.{event_of}
-use Rattle.step_rules.specs.Row.{TakesNoMemory}
-use Rattle.step_rules.specs.State.{Running}
-use Rattle.step_changes.specs.declared.next.Next.{Next}
-use Rattle.step_changes.specs.Next.{IsDecided}
+use Rattle.step_table.specs.Row.{TakesNoMemory}
+use Rattle.step_table.specs.State.{Turn, turn}
+use Rattle.step_actions.specs.declared.decision.Decision.{Decision}
+use Rattle.step_actions.specs.Decision.{IsDecided}
 use Rattle.forwarder_core.proofs.CarryingOut.{quiet_at, row_is}
 use Rattle.forwarder_core.proofs.forwarder.Forwarder.act_on.Goals as goal
 
 pub returns-clause-row : goal.returns-clause-row
 returns-clause-row g c =
-    let own : Next g.row.A.Denot = record { actions = c.in-Some.field-0.actions; used = c.in_ok-used.used; change = c.in-Some.field-0.change; carried = c.in-Some.field-0.carried } in
-    let own_is : c.in-Some.field-0 ≡ own = λ i. record { actions = c.in-Some.field-0.actions; used = sym c.in_ok-used.ensures.slots i; change = c.in-Some.field-0.change; carried = c.in-Some.field-0.carried } in
-    let decided : IsDecided c.args.self.now.config c.effective-moment.result c.args.words c.args.self.now.state (event_of c.args.event.now) c.in_ok-actions.field-0 =
-    subst (λ (r : Running). IsDecided r.config c.effective-moment.result c.args.words r.state (event_of c.args.event.now) c.in_ok-actions.field-0) c.situation.ensures c.in_ok-actions.ensures.row in
+    let own : Decision g.row.A.Denot = record {
+      actions = c.in-Some.field-0.actions;
+      used = c.in_ok-used.used;
+      change = c.in-Some.field-0.change;
+      carried = c.in-Some.field-0.carried;
+    } in
+    let own_is : c.in-Some.field-0 ≡ own = λ i. record {
+      actions = c.in-Some.field-0.actions;
+      used = sym c.in_ok-used.ensures.slots i;
+      change = c.in-Some.field-0.change;
+      carried = c.in-Some.field-0.carried;
+    } in
+    let decided : IsDecided (turn c.args.self.now.config c.effective-moment.result c.args.words c.args.self.now.state)
+    (event_of c.args.event.now) c.in_ok-actions.field-0 =
+    subst (λ (t : Turn). IsDecided t (event_of c.args.event.now) c.in_ok-actions.field-0)
+    (c.turn.ensures ∙ ap (λ (m : ℕ). turn c.args.self.now.config m c.args.words c.args.self.now.state)
+    (sym c.effective-moment.ensures.value))
+    c.in_ok-actions.ensures.row in
     IfOk-weaker c.carry_out.result _ _
-    (λ o done. row_is c.args.self.now.config c.args.self.now.state _ c.args.now c.effective-moment.result c.args.words (event_of c.args.event.now) _ own o c.effective-moment.ensures.value c.requires decided (c.in-Some.is ∙ ap (λ (n : Next g.row.A.Denot). Some n) own_is) done)
+    (λ o done. row_is c.args.self.now.config c.args.self.now.state _ c.args.now c.effective-moment.result c.args.words
+    (event_of c.args.event.now) _ own o c.effective-moment.ensures.value c.requires decided
+    (c.in-Some.is ∙ ap (λ (n : Decision g.row.A.Denot). Some n) own_is) done)
     c.carry_out.ensures.ok
 
 pub returns-clause-no_memory : goal.returns-clause-no_memory
 returns-clause-no_memory g c = λ none.
     c.carry_out.ensures.quiet (quiet_at c.in_ok-actions.field-0 c.in-Some.field-0 c.in-Some.is
     (c.in_ok-actions.ensures.no_memory
-    (subst (λ (r : Running). TakesNoMemory r.config c.effective-moment.result r.state (event_of c.args.event.now)) (sym c.situation.ensures)
-    (subst (λ (m : ℕ). TakesNoMemory c.args.self.now.config m c.args.self.now.state (event_of c.args.event.now)) (sym c.effective-moment.ensures.value) none)))).1
+    (subst (λ (t : Turn). TakesNoMemory t.config t.moment t.state (event_of c.args.event.now))
+    (sym c.turn.ensures) none))).1
+
+pub returns-in_err-used-clause-no_memory : goal.returns-in_err-used-clause-no_memory
+returns-in_err-used-clause-no_memory g c = λ none.
+    absurd (false≢true (c.in_err-used.ensures.none (quiet_at c.in_ok-actions.field-0 c.in-Some.field-0 c.in-Some.is
+    (c.in_ok-actions.ensures.no_memory
+    (subst (λ (t : Turn). TakesNoMemory t.config t.moment t.state (event_of c.args.event.now))
+    (sym c.turn.ensures) none))).0))

@@ -2,9 +2,10 @@ use Rattle.std.proofs.lemmas.Bool.{false≢true}
 use Rattle.std.proofs.Common.{◌∙◌, ap, sym, subst}
 use Rattle.std.specs.List.{AllByRecursion}
 use Rattle.suffix_routes.specs.Values.{Config}
-use Rattle.step_rules.specs.Row.{is_due_at}
-use Rattle.step_rules.specs.State.{Running}
-use Rattle.step_changes.specs.Next.{pieces_of, IsRouted}
+use Rattle.step_table.specs.Row.{is_due_at}
+use Rattle.step_table.specs.State.{Running}
+use Rattle.step_actions.specs.Decision.{IsRouted}
+use Rattle.alias_chains.specs.Offering.{pieces_of}
 use Rattle.forwarder_core.proofs.CarryingOut.{carried_out}
 use Rattle.forwarder_core.proofs.forwarder.Forwarder.carry_out.Goals as goal
 

@@ -1,6 +1,6 @@
 use Rattle.std.proofs.Common.{subst}
-use Rattle.step_rules.specs.State.{Running}
-use Rattle.step_rules.specs.Progress.{IsInOrder}
+use Rattle.step_table.specs.State.{Running}
+use Rattle.step_table.specs.Progress.{IsInOrder}
 use Rattle.forwarder_core.proofs.KeptLaws.{kept_in_order}
 use Rattle.forwarder_core.proofs.forwarder.Forwarder.check_order.Goals as goal
 

@@ -1,8 +1,8 @@
 use Rattle.std.proofs.Common.{◌≤◌, ◌∙◌, sym, ap, subst, Some}
-use Rattle.step_rules.specs.State.{Running}
+use Rattle.step_table.specs.State.{Running}
 use Rattle.outstanding.specs.Lists.{on_path as ask_on}
-use Rattle.step_changes.specs.Next.{IsServed, with_preferred}
-use Rattle.step_decisions.proofs.CallerLemmas.{kept_without}
+use Rattle.step_actions.specs.Decision.{IsServed, with_preferred}
+use Rattle.step_actions.proofs.CallerLemmas.{kept_without}
 use Rattle.forwarder_core.proofs.KeptLaws.{kept_later, kept_left, kept_preferred, put_back, preferred_length}
 use Rattle.std.specs.Vec.{with_items}
 use Rattle.forwarder_core.proofs.forwarder.Forwarder.close.Goals as goal

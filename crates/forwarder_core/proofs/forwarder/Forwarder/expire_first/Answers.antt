@@ -1,6 +1,6 @@
 use Rattle.std.proofs.Common.{◌≤◌, sym, subst}
-use Rattle.step_rules.specs.State.{Running}
-use Rattle.step_decisions.proofs.CallerLemmas.{kept_without}
+use Rattle.step_table.specs.State.{Running}
+use Rattle.step_actions.proofs.CallerLemmas.{kept_without}
 use Rattle.forwarder_core.proofs.KeptLaws.{kept_later, kept_dropped}
 use Rattle.forwarder_core.proofs.forwarder.Forwarder.expire_first.Goals as goal
 

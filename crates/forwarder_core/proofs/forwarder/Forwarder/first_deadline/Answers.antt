@@ -1,10 +1,11 @@
 use Rattle.std.proofs.Common.{◌+◌, ◌∙◌, List, ap, sym, Some}
 use Rattle.std.specs.Prelude.{drop, map, slice_get}
-use Rattle.step_rules.specs.State.{Running, Waiting}
-use Rattle.step_rules.specs.Row.{deadline_of}
-use Rattle.step_rules.specs.Progress.{least}
+use Rattle.step_table.specs.State.{Running}
+use Rattle.waiting_questions.specs.Values.{Waiting}
+use Rattle.step_table.specs.Ticks.{deadline_of}
+use Rattle.step_table.specs.Progress.{least}
 use Rattle.forwarder_core.proofs.KeptLaws.{oldest_deadline}
-use Rattle.step_decisions.proofs.CallerLemmas.{rest_is}
+use Rattle.reply_decisions.proofs.CallerLemmas.{rest_is}
 use Rattle.forwarder_core.proofs.Ticks.{deadline_fits}
 use Rattle.forwarder_core.proofs.forwarder.Forwarder.first_deadline.Goals as goal
 

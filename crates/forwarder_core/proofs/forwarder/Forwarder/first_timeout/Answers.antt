@@ -2,9 +2,9 @@ use Rattle.std.proofs.Common.{ℕ, ◌∙◌, ap, sym}
 use Rattle.std.specs.Prelude.{map, option_map}
 use Rattle.outstanding.specs.declared.ask.Path.{Path}
 use Rattle.outstanding.specs.Due as due
-use Rattle.step_rules.specs.State.{Running}
-use Rattle.step_rules.specs.Row.{timeout_of}
-use Rattle.step_rules.specs.Progress.{least}
+use Rattle.step_table.specs.State.{Running}
+use Rattle.step_table.specs.Replies.{timeout_of}
+use Rattle.step_table.specs.Progress.{least}
 use Rattle.forwarder_core.proofs.KeptLaws.{timeouts_least}
 use Rattle.forwarder_core.proofs.forwarder.Forwarder.first_timeout.Goals as goal
 

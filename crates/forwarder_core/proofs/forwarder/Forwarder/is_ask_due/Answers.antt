@@ -2,8 +2,8 @@ use Rattle.std.proofs.Common.{◌∙◌, ap}
 use Rattle.std.specs.Prelude.{nat_le}
 use Rattle.std.specs.List.{list_any}
 use Rattle.outstanding.specs.Values.{Ask}
-use Rattle.step_rules.specs.State.{Running}
-use Rattle.step_rules.specs.Row.{timeout_of}
+use Rattle.step_table.specs.State.{Running}
+use Rattle.step_table.specs.Replies.{timeout_of}
 use Rattle.forwarder_core.proofs.KeptLaws.{oldest_late}
 use Rattle.forwarder_core.proofs.forwarder.Forwarder.is_ask_due.Goals as goal
 

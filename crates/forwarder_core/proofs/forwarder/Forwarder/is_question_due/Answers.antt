@@ -1,10 +1,11 @@
 use Rattle.std.proofs.Common.{◌∙◌, List, ap, sym}
 use Rattle.std.specs.Prelude.{drop, nat_le}
 use Rattle.std.specs.List.{list_any}
-use Rattle.step_rules.specs.State.{Running, Waiting}
-use Rattle.step_rules.specs.Row.{deadline_of}
+use Rattle.step_table.specs.State.{Running}
+use Rattle.waiting_questions.specs.Values.{Waiting}
+use Rattle.step_table.specs.Ticks.{deadline_of}
 use Rattle.forwarder_core.proofs.KeptLaws.{oldest_due}
-use Rattle.step_decisions.proofs.CallerLemmas.{rest_is}
+use Rattle.reply_decisions.proofs.CallerLemmas.{rest_is}
 use Rattle.forwarder_core.proofs.forwarder.Forwarder.is_question_due.Goals as goal
 
 pub returns-in-Some : goal.returns-in-Some

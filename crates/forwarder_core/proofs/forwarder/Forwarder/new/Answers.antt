@@ -2,12 +2,12 @@ use Rattle.std.proofs.Common.{◌∙◌, ℕ, List, [], refl, ap, subst, sym}
 use Rattle.std.specs.Prelude.{map}
 use Rattle.suffix_routes.specs.Values.{Config, Route}
 use Rattle.outstanding.specs.Values.{Inquiries}
-use Rattle.step_rules.specs.State.{State}
-use Rattle.step_soundness.specs.Explains.{Explains}
-use Rattle.step_soundness.proofs.CallerLemmas.{start_explained}
-use Rattle.step_use.specs.Mirrors.{FullyExplains}
-use Rattle.step_use.specs.Service.{ComesTo}
-use Rattle.step_use.proofs.CallerLemmas.{start_fully_explained}
+use Rattle.step_table.specs.State.{State}
+use Rattle.theorem_sound.specs.Explains.{Explains}
+use Rattle.theorem_sound.proofs.CallerLemmas.{start_explained}
+use Rattle.theorem_use.specs.Mirrors.{FullyExplains}
+use Rattle.theorem_use.specs.Service.{ComesTo}
+use Rattle.theorem_use.proofs.CallerLemmas.{start_fully_explained}
 use Rattle.forwarder_core.proofs.KeptLaws.{kept_first, room_is, cache_is}
 use Rattle.forwarder_core.proofs.forwarder.Forwarder.new.Goals as goal
 

@@ -1,5 +1,5 @@
 use Rattle.std.proofs.Common.{ℕ, ◌∙◌, ap, sym, Some}
-use Rattle.step_rules.proofs.CallerLemmas.{sooner, next_due_by_lists}
+use Rattle.step_table.proofs.CallerLemmas.{sooner, next_due_by_lists}
 use Rattle.forwarder_core.proofs.forwarder.Forwarder.next_due.Goals as goal
 
 pub returns-in-Some-Some : goal.returns-in-Some-Some

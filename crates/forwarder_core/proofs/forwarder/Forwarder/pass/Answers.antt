@@ -1,5 +1,5 @@
 use Rattle.std.proofs.Common.{◌≤◌, sym, subst}
-use Rattle.step_rules.specs.State.{Running}
+use Rattle.step_table.specs.State.{Running}
 use Rattle.forwarder_core.proofs.KeptLaws.{kept_later}
 use Rattle.forwarder_core.proofs.forwarder.Forwarder.pass.Goals as goal
 

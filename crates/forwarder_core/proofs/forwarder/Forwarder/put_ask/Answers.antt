@@ -1,9 +1,10 @@
 use Rattle.std.proofs.Common.{◌∙◌, ℕ, ◌+◌, ◌^◌, ◌≤◌, ◌<◌, ◌∷◌, [], ◌++◌, length, sym, ap, subst, List, arith}
 use Rattle.std.specs.List.{AllByRecursion}
 use Rattle.outstanding.specs.Values.{Ask}
-use Rattle.step_rules.specs.State.{Running, Waiting}
-use Rattle.step_changes.specs.Kept.{IsKeptAsk, IsKept}
-use Rattle.step_changes.specs.Next.{tcp_count_of}
+use Rattle.step_table.specs.State.{Running}
+use Rattle.waiting_questions.specs.Values.{Waiting}
+use Rattle.step_actions.specs.Kept.{IsKeptAsk, IsKeptForwarder}
+use Rattle.step_actions.specs.Decision.{tcp_count_of}
 use Rattle.forwarder_core.proofs.KeptLaws.{kept_joined, kept_asked, later_taken}
 use Rattle.forwarder_core.proofs.forwarder.Forwarder.put_ask.Goals as goal
 
@@ -21,7 +22,7 @@ invariant_of-self-2 g c =
     (subst (λ (r : Running). r.state.moment ≤ c.args.moment) (sym c.self.view_is) c.requires.later) c.requires.in_time
     (subst (λ (r : Running). length r.state.waiting < r.config.limits.questions) (sym c.self.view_is) c.requires.waits.room) c.requires.waits.taken c.requires.waits.aliases
     (c.push_reserved.ensures ∙ ap (λ (xs : List Waiting). xs ++ c.args.waiting ∷ []) c.in_ok-reserve_one.ensures.same) in
-    subst (λ (k : ℕ). IsKept c.self.inside.config c.self.inside.cache c.list_ask.new.inquiries c.push_reserved.new.self.items c.self.inside.preferred.items c.args.moment k) (sym c.count_tcp-count.ensures)
-    (subst (λ (a : Ask). IsKept c.self.inside.config c.self.inside.cache c.list_ask.new.inquiries c.push_reserved.new.self.items c.self.inside.preferred.items c.args.moment (c.self.inside.tcp_asks + tcp_count_of a.path)) (sym c.ask.view_is)
+    subst (λ (k : ℕ). IsKeptForwarder c.self.inside.config c.self.inside.cache c.list_ask.new.inquiries c.push_reserved.new.self.items c.self.inside.preferred.items c.args.moment k) (sym c.count_tcp-count.ensures)
+    (subst (λ (a : Ask). IsKeptForwarder c.self.inside.config c.self.inside.cache c.list_ask.new.inquiries c.push_reserved.new.self.items c.self.inside.preferred.items c.args.moment (c.self.inside.tcp_asks + tcp_count_of a.path)) (sym c.ask.view_is)
     (kept_asked c.self.inside.config c.self.inside.cache c.self.inside.inquiries c.list_ask.new.inquiries c.push_reserved.new.self.items c.self.inside.preferred.items c.args.moment c.args.moment c.self.inside.tcp_asks (tcp_count_of c.args.ask.path) c.self.inside.inquiries.asks c.args.ask joined
     (omega arith) c.requires.in_time joined.asks one (subst (λ (r : Running). r.state.tcp_asks + tcp_count_of c.args.ask.path < 2 ^ 64) (sym c.self.view_is) c.requires.follows.counted) c.in_ok-list_ask.ensures.ok))

@@ -1,5 +1,5 @@
 use Rattle.std.proofs.Common.{◌≤◌, ◌<◌, length, sym, subst, arith}
-use Rattle.step_rules.specs.State.{Running}
+use Rattle.step_table.specs.State.{Running}
 use Rattle.forwarder_core.proofs.KeptLaws.{kept_joined, later_taken}
 use Rattle.forwarder_core.proofs.forwarder.Forwarder.put_waiting.Goals as goal
 

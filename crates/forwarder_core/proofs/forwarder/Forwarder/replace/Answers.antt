@@ -1,10 +1,10 @@
 use Rattle.std.proofs.Common.{ℕ, ◌+◌, ◌^◌, ◌<◌, ◌≤◌, sym, subst}
-use Rattle.step_rules.specs.State.{Running}
+use Rattle.step_table.specs.State.{Running}
 use Rattle.outstanding.specs.Lists.{without_path}
 use Rattle.outstanding.specs.Values.{Ask}
-use Rattle.step_changes.specs.Kept.{IsKeptAsk, IsKept}
-use Rattle.step_changes.specs.Next.{tcp_count_of}
-use Rattle.step_decisions.proofs.CallerLemmas.{kept_rest}
+use Rattle.step_actions.specs.Kept.{IsKeptAsk, IsKeptForwarder}
+use Rattle.step_actions.specs.Decision.{tcp_count_of}
+use Rattle.step_actions.proofs.CallerLemmas.{kept_rest}
 use Rattle.forwarder_core.proofs.KeptLaws.{kept_asked}
 use Rattle.forwarder_core.proofs.forwarder.Forwarder.replace.Goals as goal
 
@@ -12,7 +12,7 @@ pub invariant_of-self : goal.invariant_of-self
 invariant_of-self g c =
     let one = subst (λ (r : Running). IsKeptAsk r.config c.args.moment (r.state.tcp_asks + tcp_count_of c.args.ask.path) c.args.ask) (sym c.self.view_is) c.requires.follows.kept in
     let later = subst (λ (r : Running). r.state.moment ≤ c.args.moment) (sym c.self.view_is) c.requires.later in
-    subst (λ (k : ℕ). IsKept c.self.inside.config c.self.inside.cache c.replace-ended.new.self c.self.inside.waiting.items c.self.inside.preferred.items c.args.moment k) (sym c.count_tcp-self-inside.ensures)
-    (subst (λ (a : Ask). IsKept c.self.inside.config c.self.inside.cache c.replace-ended.new.self c.self.inside.waiting.items c.self.inside.preferred.items c.args.moment (c.self.inside.tcp_asks + tcp_count_of a.path)) (sym c.ask.view_is)
+    subst (λ (k : ℕ). IsKeptForwarder c.self.inside.config c.self.inside.cache c.replace-ended.new.self c.self.inside.waiting.items c.self.inside.preferred.items c.args.moment k) (sym c.count_tcp-self-inside.ensures)
+    (subst (λ (a : Ask). IsKeptForwarder c.self.inside.config c.self.inside.cache c.replace-ended.new.self c.self.inside.waiting.items c.self.inside.preferred.items c.args.moment (c.self.inside.tcp_asks + tcp_count_of a.path)) (sym c.ask.view_is)
     (kept_asked c.self.inside.config c.self.inside.cache c.self.inside.inquiries c.replace-ended.new.self c.self.inside.waiting.items c.self.inside.preferred.items c.self.inside.moment c.args.moment c.self.inside.tcp_asks (tcp_count_of c.args.ask.path) (without_path c.args.path c.self.inside.inquiries.asks) c.args.ask c.self.invariant
     later c.requires.in_time (kept_rest c.self.inside.config c.self.inside.moment c.self.inside.tcp_asks c.args.path c.self.inside.inquiries.asks c.self.invariant.asks) one (subst (λ (r : Running). r.state.tcp_asks + tcp_count_of c.args.ask.path < 2 ^ 64) (sym c.self.view_is) c.requires.follows.counted) c.replace-ended.ensures.list))

@@ -3,8 +3,8 @@ use Rattle.std.specs.Prelude.{map}
 use Rattle.std.specs.Vec.{with_items}
 use Rattle.std.proofs.lemmas.List.{length-map}
 use Rattle.outstanding.specs.Values.{Inquiries}
-use Rattle.step_rules.specs.State.{Running}
-use Rattle.step_rules.specs.Steps.{start}
+use Rattle.step_table.specs.State.{Running}
+use Rattle.step_table.specs.Steps.{start}
 use Rattle.forwarder_core.proofs.KeptLaws.{kept_first, put_back, zeros_as, room_is, cache_is}
 use Rattle.forwarder_core.proofs.forwarder.Forwarder.restart.Goals as goal
 

@@ -1,10 +1,10 @@
 use Rattle.std.proofs.Common.{ℕ, ◌≡◌, ◌≤◌, ◌+◌, ◌++◌, ◌∙◌, sym, ap, subst, refl, Some, arith}
 use Rattle.std.specs.Vec.{with_items}
 use Rattle.outstanding.specs.Lists.{on_path as ask_on, without_path}
-use Rattle.step_rules.specs.State.{Running}
-use Rattle.step_rules.specs.Steps.{ask_list, tcp_count}
-use Rattle.step_changes.specs.Kept.{IsKept}
-use Rattle.step_changes.specs.Next.{with_preferred, left_or_sent, CanSendOn}
+use Rattle.step_table.specs.State.{Running}
+use Rattle.step_table.specs.Steps.{ask_list, tcp_count}
+use Rattle.step_actions.specs.Kept.{IsKeptForwarder}
+use Rattle.step_actions.specs.Decision.{with_preferred, left_or_sent, CanSendOn}
 use Rattle.forwarder_core.proofs.KeptLaws.{kept_later, kept_next, kept_sent, kept_preferred, next_counted, next_begins, put_back, preferred_length}
 use Rattle.forwarder_core.proofs.forwarder.Forwarder.send_all_on.Goals as goal
 
@@ -26,7 +26,7 @@ invariant_of-self g c =
     let waiting = kept_sent c.self.inside.config c.self.inside.cache c.self.inside.inquiries c.self.inside.waiting.items c.send_on.new.waiting.items c.self.inside.preferred.items c.args.moment c.self.inside.tcp_asks (ask_on c.args.sending.path c.self.inside.inquiries.asks) c.args.sending.onward.items moment fits.earlier c.send_on.ensures.waiting in
     let places = kept_preferred c.self.inside.config c.self.inside.cache c.self.inside.inquiries c.send_on.new.waiting.items c.self.inside.preferred.items (with_items c.self.inside.preferred c.prefer.new.places).items c.args.moment c.self.inside.tcp_asks (Some c.args.sending.preferred) waiting fits.served
     (put_back c.self.inside.preferred c.prefer.new.places (with_preferred (Some c.args.sending.preferred) c.self.inside.preferred.items) (c.prefer.ensures ∙ ap (with_preferred (Some c.args.sending.preferred)) c.deref_mut.ensures.value) (preferred_length (Some c.args.sending.preferred) c.self.inside.preferred.items)) in
-    subst (λ (k : ℕ). IsKept c.self.inside.config c.self.inside.cache c.send_on.new.inquiries c.send_on.new.waiting.items (with_items c.self.inside.preferred c.prefer.new.places).items c.args.moment k) (sym c.count_next-self-inside.ensures)
+    subst (λ (k : ℕ). IsKeptForwarder c.self.inside.config c.self.inside.cache c.send_on.new.inquiries c.send_on.new.waiting.items (with_items c.self.inside.preferred c.prefer.new.places).items c.args.moment k) (sym c.count_next-self-inside.ensures)
     (kept_next c.self.inside.config c.self.inside.cache c.self.inside.inquiries c.send_on.new.inquiries c.send_on.new.waiting.items (with_items c.self.inside.preferred c.prefer.new.places).items c.args.moment c.args.moment c.self.inside.tcp_asks c.args.sending.path _ _ c.args.sending.ask places (omega arith) c.requires.in_time refl fits.follows c.send_on.ensures.asks)
 
 pub returns : goal.returns

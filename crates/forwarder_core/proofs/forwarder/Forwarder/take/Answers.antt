@@ -1,6 +1,6 @@
 use Rattle.std.proofs.Common.{ap}
 use Rattle.step_values.specs.Values.{event_of}
-use Rattle.step_rules.specs.State.{Running}
+use Rattle.step_table.specs.State.{Running}
 use Rattle.forwarder_core.proofs.Ticks.{idle_row}
 use Rattle.forwarder_core.proofs.forwarder.Forwarder.take.Goals as goal
 

@@ -1,8 +1,8 @@
 use Rattle.std.proofs.Common.{◌∙◌, ap, subst, [], ◌∷◌, ◌++◌, List}
 use Rattle.step_values.specs.Values.{event_of, Handed, Step}
-use Rattle.step_rules.specs.State.{Running}
-use Rattle.step_rules.specs.Row.{Row}
-use Rattle.step_use.proofs.CallerLemmas.{came_more}
+use Rattle.step_table.specs.State.{Running}
+use Rattle.step_table.specs.Row.{Row}
+use Rattle.theorem_use.proofs.CallerLemmas.{came_more}
 use Rattle.network_model.specs.Recordings.{Recording}
 use Rattle.network_model.proofs.recorded.Recorded.step.Goals as goal
 

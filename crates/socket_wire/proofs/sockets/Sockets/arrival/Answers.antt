@@ -1,5 +1,5 @@
 use Rattle.std.proofs.Common.{ap}
-use Rattle.socket_wire.specs.Open.{Connections}
+use Rattle.stream_connections.specs.Open.{Connections}
 use Rattle.socket_wire.proofs.Looks.{no_end}
 use Rattle.socket_wire.proofs.sockets.Sockets.arrival.Goals as goal
 

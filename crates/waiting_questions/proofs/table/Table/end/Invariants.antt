@@ -1,6 +1,6 @@
 use Rattle.std.proofs.Common.{not}
 use Rattle.std.specs.Prelude.{filter}
-use Rattle.step_rules.specs.Steps.{waits_for}
+use Rattle.waiting_questions.specs.Values.{waits_for}
 use Rattle.waiting_questions.specs.Indexes.{items_of, keys_of, AreNumbered}
 use Rattle.waiting_questions.proofs.Indexed.{IsEnding}
 use Rattle.waiting_questions.proofs.table.Table.end.Given as goal

@@ -3,7 +3,7 @@ use Rattle.std.specs.List.{insert, AllByRecursion}
 use Rattle.outstanding.specs.declared.keyed.QuestionKey.{QuestionKey}
 use Rattle.outstanding.specs.declared.numbered.NumberedKey.{NumberedKey}
 use Rattle.outstanding.specs.Orders.{question_key}
-use Rattle.step_rules.specs.State.{Waiting}
+use Rattle.waiting_questions.specs.Values.{Waiting}
 use Rattle.waiting_questions.specs.Indexes.{waiting_under, items_of, keys_of, to_question, IsByTaken, AreIndexed, AreNumbered, IsRange}
 use Rattle.waiting_questions.proofs.Keys.{not_among}
 use Rattle.waiting_questions.proofs.Numbered.{keys_insert, numbers_put}

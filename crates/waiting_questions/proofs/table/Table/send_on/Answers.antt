@@ -6,14 +6,14 @@ use Rattle.slab.specs.Slab.{get, Updates}
 use Rattle.outstanding.specs.declared.keyed.QuestionKey.{QuestionKey}
 use Rattle.outstanding.specs.declared.numbered.NumberedKey.{NumberedKey}
 use Rattle.outstanding.specs.Orders.{question_key}
-use Rattle.step_rules.specs.State.{Waiting}
-use Rattle.step_replies.specs.Onward.{sent_on}
+use Rattle.waiting_questions.specs.Values.{Waiting}
+use Rattle.waiting_questions.specs.Onward.{sent_on}
 use Rattle.waiting_questions.specs.Indexes.{waiting_under, keys_of, to_question, IsByQuestion, AreKeys, AreIndexed, AreNumbered, IsRange}
 use Rattle.waiting_questions.specs.Settling.{earlier, with_at}
 use Rattle.waiting_questions.proofs.Keys.{at_under, is_some_of, value_of}
 use Rattle.waiting_questions.proofs.Ranges.{waits_at}
 use Rattle.waiting_questions.proofs.Numbered.{length_keys, key_at, keys_insert, keys_remove, numbers_left, numbers_put, numbers_without}
-use Rattle.waiting_questions.proofs.SentOn.{sent_indexed, sent_items, in_turns, all_listed, out_questions, at_low}
+use Rattle.waiting_questions.proofs.SendingOn.{sent_indexed, sent_items, in_turns, all_listed, out_questions, at_low}
 use Rattle.waiting_questions.proofs.table.Table.send_on.Goals as goal
 
 pub unreachable-requires : goal.unreachable-requires

@@ -2,7 +2,7 @@ use Rattle.std.proofs.Common.{◌≡◌, ◌+◌, ◌<◌, ◌++◌, ◌∷◌, 
 use Rattle.outstanding.specs.declared.keyed.QuestionKey.{QuestionKey}
 use Rattle.outstanding.specs.declared.numbered.NumberedKey.{NumberedKey}
 use Rattle.outstanding.specs.Orders.{question_key}
-use Rattle.step_replies.specs.Onward.{Onward}
+use Rattle.waiting_questions.specs.Onward.{Onward}
 use Rattle.waiting_questions.specs.Indexes.{items_of, keys_of, to_question, IsRange}
 use Rattle.waiting_questions.proofs.Numbered.{length_keys, key_at}
 use Rattle.waiting_questions.proofs.Fates.{none_left, within, its_key, next_settled, next_enough}

@@ -1,6 +1,6 @@
 use Rattle.std.proofs.Common.{◌≡◌, ◌≤◌, length}
 use Rattle.std.specs.Prelude.{filter}
-use Rattle.step_rules.specs.Steps.{waits_for}
+use Rattle.waiting_questions.specs.Values.{waits_for}
 use Rattle.waiting_questions.specs.Indexes.{items_of, IsIndexed}
 use Rattle.waiting_questions.specs.Settling.{settled}
 use Rattle.waiting_questions.proofs.table.Table.settle.Given as goal

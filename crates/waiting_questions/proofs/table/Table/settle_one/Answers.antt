@@ -1,5 +1,5 @@
 use Rattle.std.proofs.Common.{Option, sym, ap, ◌∙◌, rules}
-use Rattle.step_replies.specs.Onward.{Onward}
+use Rattle.waiting_questions.specs.Onward.{Onward}
 use Rattle.waiting_questions.specs.Indexes.{items_of}
 use Rattle.waiting_questions.specs.Settling.{left_by, with_at}
 use Rattle.waiting_questions.proofs.table.Table.settle_one.Goals as goal

@@ -1,8 +1,7 @@
 use Rattle.std.proofs.Common.{ap, ◌∙◌, arith}
 use Rattle.std.specs.Prelude.{filter}
-use Rattle.step_rules.specs.Steps.{waits_for}
+use Rattle.waiting_questions.specs.Values.{waits_for, WaitingList}
 use Rattle.waiting_questions.specs.Indexes.{keys_of}
-use Rattle.waiting_questions.specs.Values.{WaitingList}
 use Rattle.waiting_questions.proofs.Numbered.{length_keys}
 use Rattle.waiting_questions.proofs.Indexed.{those_at}
 use Rattle.waiting_questions.proofs.waiting_questions.WaitingQuestions.for_question.Goals as goal

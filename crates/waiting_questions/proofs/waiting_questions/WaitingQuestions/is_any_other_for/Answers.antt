@@ -1,9 +1,7 @@
 use Rattle.std.proofs.Common.{◌≡◌, ◌-◌, ℕ, cond, nat_lt, is_eq, Bool, slice_get, List, ap, sym, ◌∙◌, rules}
 use Rattle.outstanding.specs.declared.keyed.QuestionKey.{QuestionKey}
-use Rattle.step_rules.specs.State.{Waiting}
-use Rattle.step_rules.specs.Steps.{waits_for}
+use Rattle.waiting_questions.specs.Values.{Waiting, waits_for, WaitingList}
 use Rattle.waiting_questions.specs.Indexes.{keys_of, to_question}
-use Rattle.waiting_questions.specs.Values.{WaitingList}
 use Rattle.waiting_questions.proofs.Ranges.{waits_by_key}
 use Rattle.waiting_questions.proofs.Indexed.{any_other, byte_is}
 use Rattle.waiting_questions.proofs.waiting_questions.WaitingQuestions.is_any_other_for.Goals as goal

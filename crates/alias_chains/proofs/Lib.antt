@@ -1,0 +1,8 @@
+pub mod Seeing
+pub mod Targets
+pub mod Few
+pub mod PastEnds
+pub mod Behind
+pub mod CallerLemmas
+pub mod Offering
+pub mod Chains

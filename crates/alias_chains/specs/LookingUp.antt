@@ -1,0 +1,60 @@
+-- How a question is looked up among the entries, along the aliases that it meets: RFC 1034 3.6.2.
+use Rattle.std.specs.Prelude.{ℕ, zero, suc, List, [], ◌∷◌, ◌++◌, Option, Some, None}
+use Rattle.dns_message.specs.Values.{Question}
+use Rattle.suffix_routes.specs.Values.{Route}
+use Rattle.trust_rank.specs.declared.slot.Slot.{Slot}
+use Rattle.trust_rank.specs.Walks.{target_of}
+use Rattle.record_cache.specs.Values.{Held}
+use Rattle.record_cache.specs.Entries.{promoted}
+use Rattle.negative_cache.specs.Values.{Found, local, rows, alias, no_data, denied, miss}
+use Rattle.negative_cache.specs.Finding.{found}
+use Rattle.dns_message.specs.Questions.{asked_at}
+
+-- how a look-up ends: at a set or a denial, at one alias too many, or at a name of which nothing is known
+pub data LookUpEnd : Type 0 where
+  ends : Held → LookUpEnd
+  too_long : LookUpEnd
+  missed : LookUpEnd
+
+-- the aliases that are held at its end, what is wanted then, how it ended, and the slots that it used, in order
+pub record LookUp : Type 0 where
+  pub held : List Held
+  pub wanted : Question
+  pub met : LookUpEnd
+  pub used : List Slot
+
+abbrev pub ended : List Held → Question → Held → LookUp
+ended held q e = record { held = held; wanted = q; met = ends e; used = e.piece.slot ∷ [] }
+
+abbrev pub missing : List Held → Question → LookUp
+missing held q = record { held = held; wanted = q; met = missed; used = [] }
+
+-- it goes on at the name that an alias leads to
+abbrev pub look_up_behind : List Held → Question → (Held → List (List ℕ) → LookUp) → Held → Option (List (List ℕ)) → LookUp
+look_up_behind held q onward e None = missing held q
+look_up_behind held q onward e (Some target) = onward e target
+
+abbrev pub look_up_after : List Held → Question → (Held → List (List ℕ) → LookUp) → Found → LookUp
+look_up_after held q onward local = missing held q
+look_up_after held q onward (rows e) = ended held q e
+look_up_after held q onward (alias e) = look_up_behind held q onward e (target_of e.piece.body)
+look_up_after held q onward (no_data e) = ended held q e
+look_up_after held q onward (denied e) = ended held q e
+look_up_after held q onward miss = missing held q
+
+abbrev pub one_too_many : List Held → Question → Held → List (List ℕ) → LookUp
+one_too_many held q e target = record { held = held ++ e ∷ []; wanted = asked_at q target; met = too_long; used = e.piece.slot ∷ [] }
+
+abbrev pub through : Held → LookUp → LookUp
+through e l = record l { used = e.piece.slot ∷ l.used }
+
+-- the look-up of a question that holds these aliases, and may take so many more
+abbrev pub look_up : List Route → ℕ → List Held → ℕ → List Held → Question → LookUp
+look_up routes n entries zero held q = look_up_after held q (one_too_many held q) (found routes n entries q)
+look_up routes n entries (suc more) held q =
+    look_up_after held q (λ e target. through e (look_up routes n entries more (held ++ e ∷ []) (asked_at q target))) (found routes n entries q)
+
+-- what a look-up used is the most recently used now
+abbrev pub promoted_all : List Slot → List Held → List Held
+promoted_all [] entries = entries
+promoted_all (slot ∷ used) entries = promoted_all used (promoted slot entries)

@@ -1,0 +1,28 @@
+-- How a question is looked up among the entries past their ends, once no try is left: RFC 8767 5. It goes along aliases, uses
+-- no denial, and promotes nothing. Of a name that the configuration denies there is no entry, so there it finds nothing.
+use Rattle.std.specs.Prelude.{ℕ, zero, suc, List, [], ◌∷◌, option_map, Option, Some, None}
+use Rattle.dns_message.specs.Values.{Question}
+use Rattle.trust_rank.specs.Walks.{target_of}
+use Rattle.record_cache.specs.Values.{Held}
+use Rattle.negative_cache.specs.Values.{Found, local, rows, alias, no_data, denied, miss}
+use Rattle.negative_cache.specs.Stale.{stale}
+use Rattle.dns_message.specs.Questions.{asked_at}
+
+-- with an alias before it, where it goes on to a set
+abbrev pub past_led : (List (List ℕ) → Option (List Held)) → Held → Option (List (List ℕ)) → Option (List Held)
+past_led onward e None = None
+past_led onward e (Some target) = option_map (λ chain. e ∷ chain) (onward target)
+
+abbrev pub past_followed : (List (List ℕ) → Option (List Held)) → Found → Option (List Held)
+past_followed onward local = None
+past_followed onward (rows e) = Some (e ∷ [])
+past_followed onward (alias e) = past_led onward e (target_of e.piece.body)
+past_followed onward (no_data e) = None
+past_followed onward (denied e) = None
+past_followed onward miss = None
+
+-- the aliases and the set, within the window of so many seconds, that a question is led to with so many aliases at most
+abbrev pub look_up_past : ℕ → ℕ → List Held → ℕ → Question → Option (List Held)
+look_up_past window n entries zero q = past_followed (λ target. None) (stale window n entries q)
+look_up_past window n entries (suc more) q =
+    past_followed (λ target. look_up_past window n entries more (asked_at q target)) (stale window n entries q)

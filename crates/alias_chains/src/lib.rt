@@ -1,0 +1,23 @@
+//! Look-ups among what is kept of replies, along the aliases that are met (RFC 1034 3.6.2), the promotion of what they used,
+//! chains of aliases, and the offers of what a reply carries.
+#![tactic(auto)]
+
+mod chain;
+mod laws;
+mod looked;
+mod looking;
+mod offers;
+mod past_ends;
+mod slots;
+mod used;
+
+pub use chain::{chain_of, copies};
+pub use laws::{
+    look_ups_begin_with_held, look_ups_use_what_is_seen, missed_look_ups_want_the_target,
+    same_questions_are_looked_up_alike,
+};
+pub use looked::{LookUp, LookUpEnd};
+pub use looking::look_up;
+pub use offers::{held_from, offer_all};
+pub use past_ends::look_up_past;
+pub use slots::{Slots, SlotsRef, promote_all};

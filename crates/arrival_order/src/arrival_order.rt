@@ -1,0 +1,165 @@
+//! Keys in turn.
+
+ghost use Rattle.std.specs.Prelude.{◌≡◌, ◌≢◌, ◌<◌, ◌≤◌, ◌==◌, ◌∷◌, ◌++◌, [], true, drop, length, OnOk, position, slice_get, slice_index};
+ghost use Rattle.std.specs.List.{remove, All, Contains};
+ghost use Rattle.arrival_order.specs.Turns.{AreNumbered, IsBehindAll};
+
+use std::alloc::{AllocError, Allocator, Global};
+use std::collections::VecDeque;
+use std::marker::Model;
+
+/// Keys in the order in which they were put, none of them twice. Each has a number, which is not below those of the keys
+/// before it, so a key is found by halves. Keys are small numbers, such as a slab gives: the numbers of all keys up to the
+/// highest one that was put are kept.
+#[derive(Drop)]
+pub struct KeysInTurn<A: Allocator = Global> {
+    keys: VecDeque<usize, A>,
+    /// The number of each key, at the key.
+    numbers: Vec<u64, A>,
+}
+
+impl<A: Allocator> Model for KeysInTurn<A> {
+    ghost use Rattle.std.specs.Prelude.{length, nat_lt};
+    ghost use Rattle.std.specs.VecDeque.{deque_len, deque_capacity};
+    ghost use Rattle.arrival_order.specs.Turns.{AreNumbered, KeysInTurn};
+
+    ghost Value = { KeysInTurn };
+
+    ghost view = { λ k. record { keys = k.keys.items; has_room = nat_lt (deque_len k.keys) (deque_capacity k.keys); known = length k.numbers.items } };
+
+    ghost invariant = { λ k. AreNumbered k.numbers.items k.keys.items };
+}
+
+impl<A: Allocator> KeysInTurn<A> {
+    /// No keys. It takes no memory; what `reserve` takes later comes from `alloc`.
+    pub fn new(alloc: A) -> KeysInTurn<A>
+    where
+        A: Copy,
+        ensures { result.keys ≡ [] }
+    {
+        KeysInTurn {
+            keys: VecDeque::new(alloc),
+            numbers: Vec::new(alloc),
+        }
+    }
+
+    /// How many keys there are. It takes no memory.
+    pub fn len(&self) -> usize
+        ensures { result ≡ length self.now.keys }
+    {
+        self.keys.len()
+    }
+
+    /// The key that was put first. It takes no memory.
+    pub fn first(&self) -> Option<usize>
+        ensures { result ≡ slice_get self.now.keys 0 }
+    {
+        self.keys.front().copied()
+    }
+
+    /// Makes room for this key. `Err` where memory ran out; the keys are the same in either case.
+    pub fn reserve(&mut self, key: usize) -> Result<(), AllocError>
+        ensures same { self.new.keys ≡ self.old.keys }
+        ensures room { OnOk result (self.new.has_room ≡ true) }
+        ensures known { OnOk result (key < self.new.known) }
+    {
+        self.keys.reserve(1)?;
+        if key >= self.numbers.len() {
+            let count = key.checked_add(1).ok_or(AllocError)?;
+            self.numbers.resize(count, 0)?;
+        }
+        Ok(())
+    }
+
+    /// Puts a key last. It takes no memory. The caller sees to it that there is room for it (`reserve`), and that it is none
+    /// of the keys.
+    pub fn put(&mut self, key: usize)
+        requires room { self.old.has_room ≡ true }
+        requires known { key < self.old.known }
+        requires other { All (λ k. k ≢ key) self.old.keys }
+        ensures keys { self.new.keys ≡ self.old.keys ++ key ∷ [] }
+        ensures known { self.new.known ≡ self.old.known }
+    {
+        self.numbers[key] = next_number(&self.numbers, &self.keys);
+        self.keys.push_back_reserved(key);
+    }
+
+    /// Where a key stands, counted from 0. It takes no memory. The key that was put first is found at once.
+    pub fn place_of(&self, key: usize) -> usize
+        requires { Contains self.now.keys key }
+        ensures within { result < length self.now.keys }
+        ensures stands { slice_index self.now.keys result ≡ key }
+    {
+        if self.first() == Some(key) {
+            return 0;
+        }
+        place_in(&self.numbers, &self.keys, key)
+    }
+
+    /// Takes the key at a place out, which leaves room for another one, and for the same key. It takes no memory.
+    pub fn take(&mut self, place: usize)
+        requires { place < length self.old.keys }
+        ensures keys { self.new.keys ≡ remove self.old.keys place }
+        ensures room { self.new.has_room ≡ true }
+        ensures freed { slice_index self.old.keys place < self.new.known }
+        ensures known { self.new.known ≡ self.old.known }
+    {
+        let Some(_) = self.keys.remove(place) else {
+            unreachable!();
+        };
+    }
+
+    /// Takes all keys out. It takes no memory.
+    pub fn clear(&mut self)
+        ensures { self.new.keys ≡ [] }
+    {
+        self.keys.clear();
+        self.numbers.clear();
+    }
+}
+
+/// The number of a key; 0 for one that has none.
+fn number_of(numbers: &[u64], key: usize) -> u64
+    ensures { result ≡ slice_index numbers.now key }
+{
+    match numbers.get(key) {
+        Some(number) => *number,
+        None => 0,
+    }
+}
+
+/// The number of the next key: one more than that of the last, and where there is none 0. It stays at the highest number,
+/// which no keys come to.
+fn next_number<A: Allocator>(numbers: &[u64], keys: &VecDeque<usize, A>) -> u64
+    requires { AreNumbered numbers.now keys.now.items }
+    ensures { IsBehindAll numbers.now keys.now.items result }
+{
+    match keys.back() {
+        Some(key) => number_of(numbers, *key).saturating_add(1),
+        None => 0,
+    }
+}
+
+/// Where a key stands. Of the other keys, those alone are looked at that the search by halves meets, and those with an equal
+/// number: there is none below the highest number.
+fn place_in<A: Allocator>(numbers: &[u64], keys: &VecDeque<usize, A>, key: usize) -> usize
+    requires numbered { AreNumbered numbers.now keys.now.items }
+    requires listed { Contains keys.now.items key }
+    ensures within { result < length keys.now.items }
+    ensures stands { slice_index keys.now.items result ≡ key }
+{
+    let number = number_of(numbers, key);
+    let start = keys.partition_point(|other| number_of(numbers, *other) < number);
+    let Some(offset) = first_place(keys, start, key) else {
+        unreachable!();
+    };
+    start + offset
+}
+
+/// Where a key stands first, counted from a place on.
+fn first_place<A: Allocator>(keys: &VecDeque<usize, A>, start: usize, key: usize) -> Option<usize>
+    requires { start ≤ length keys.now.items }
+    ensures { result ≡ position (λ k. k == key) (drop start keys.now.items) }
+{
+    keys.range(start..).position(|other| *other == key)
+}

@@ -1,0 +1,121 @@
+-- What a client's message calls for where no entry answers it.
+use Rattle.std.proofs.Common.{◌≡◌, ◌≢◌, ℕ, ◌<◌, ◌≤◌, length, List, true, false, refl, sym, ap, ◌∙◌, arith, ◌+◌, [], ◌∷◌, ◌++◌, Option, Some, None}
+use Rattle.std.specs.Prelude.{nat_le, ◌==◌, Box}
+use Rattle.std.proofs.lemmas.Bool.{cond-true, cond-false, le-leb, lt-leb, ne_eqb}
+use Rattle.dns_message.specs.Values.{Question}
+use Rattle.suffix_routes.specs.Values.{Config}
+use Rattle.trust_rank.specs.declared.slot.Slot.{Slot}
+use Rattle.suffix_routes.specs.Serving.{route_of}
+use Rattle.step_values.specs.Requests.{is_taken}
+use Rattle.answer_builder.specs.Values.{asked_in}
+use Rattle.dns_message.specs.Header.{Header, header_in}
+use Rattle.outstanding.specs.declared.ask.Path.{Path}
+use Rattle.outstanding.specs.Draws.{udp_draw}
+use Rattle.outstanding.specs.Lists.{of_question}
+use Rattle.outstanding.specs.Values.{Ask}
+use Rattle.step_table.specs.State.{State, turn}
+use Rattle.waiting_questions.specs.Values.{Waiting}
+use Rattle.step_table.specs.Attempts.{preferred_on, peer_at, over_udp, ask_by, first_ask, first_ask_on}
+use Rattle.step_table.specs.Steps.{Done, with_promoted, idle_step, reply_step, failed, gives_up, taking_step, asks}
+use Rattle.waiting_questions.specs.Onward.{Onward, waits_on}
+use Rattle.step_table.specs.Clients.{row_of_request, row_of_opening, row_of_new_inquiry, row_of_inquiry, row_of_waiting}
+use Rattle.step_values.specs.Values.{Action}
+use Rattle.step_values.specs.declared.action.Why.{Why}
+use Rattle.step_values.specs.declared.action.Why.TheVariants.{BadOpcode, QuestionsFull}
+use Rattle.step_values.specs.declared.event.Client.{Client}
+use Rattle.step_actions.specs.declared.decision.Change.TheVariants.{Join}
+use Rattle.step_actions.specs.Decision.{changed}
+use Rattle.step_table.proofs.CallerLemmas.{append_nil}
+
+-- ---- what is decided
+
+-- ---- a message without a question that is served
+
+pub dropped_row : (c : Config) (n : ℕ) (words : List ℕ) (client : Client) (octets : List ℕ) (s : State) (d : Done)
+    → is_taken octets ≡ false → d ≡ idle_step n s → d ≡ row_of_request (turn c n words s) client octets
+dropped_row c n words client octets s d dropped d_is = d_is ∙ sym (cond-false (is_taken octets) _ _ dropped)
+
+pub opcode_row : (c : Config) (n : ℕ) (words : List ℕ) (client : Client) (octets : List ℕ) (s : State) (h : Header)
+    (d : Done) → is_taken octets ≡ true → h ≡ header_in octets → h.opcode ≢ 0
+    → d ≡ reply_step n (failed client (asked_in h None) BadOpcode) s
+    → d ≡ row_of_request (turn c n words s) client octets
+opcode_row c n words client octets s h d taken is other d_is =
+    d_is ∙ ap (λ (g : Header). reply_step n (failed client (asked_in g None) BadOpcode) s) is
+    ∙ sym (cond-false ((header_in octets).opcode == 0) _ _
+    (ne_eqb (header_in octets).opcode 0 (λ same. other (ap (λ (g : Header). g.opcode) is ∙ same))))
+    ∙ sym (cond-true (is_taken octets) _ _ taken)
+
+-- ---- a question that waits
+
+pub joined_row : (c : Config) (n : ℕ) (words : List ℕ) (x : Waiting) (s : State) (r : Option Ask) (a : Ask) (d : Done)
+    → r ≡ Some a → d ≡ taking_step n x None s → d ≡ row_of_inquiry (turn c n words s) x r
+joined_row c n words x s r a d is d_is = d_is ∙ sym (ap (row_of_inquiry (turn c n words s) x) is)
+
+pub new_row : (c : Config) (n : ℕ) (words : List ℕ) (x : Waiting) (s : State) (r : Option Ask) (d : Done) → r ≡ None
+    → d ≡ row_of_new_inquiry (turn c n words s) x → d ≡ row_of_inquiry (turn c n words s) x r
+new_row c n words x s r d is d_is = d_is ∙ sym (ap (row_of_inquiry (turn c n words s) x) is)
+
+-- there is room for it
+pub waiting_row : (c : Config) (n : ℕ) (words : List ℕ) (x : Waiting) (s : State) (d : Done)
+    → length s.waiting < c.limits.questions → d ≡ row_of_inquiry (turn c n words s) x (of_question x.wanted s.asks)
+    → d ≡ row_of_waiting (turn c n words s) x
+waiting_row c n words x s d room d_is = d_is ∙ sym
+    (cond-false (nat_le c.limits.questions (length s.waiting)) _ _
+    (lt-leb c.limits.questions (length s.waiting) room))
+
+-- a question that is sent on fails as it would by itself
+fails_alike : (why : Why) (o : Option Onward) (x : Waiting) → gives_up why x ≡ gives_up why (waits_on o x)
+fails_alike why None x = refl
+fails_alike why (Some s) x = refl
+
+-- without room among the questions
+pub full_row : (c : Config) (n : ℕ) (words : List ℕ) (o : Option Onward) (x : Waiting) (s : State) (d : Done)
+    → c.limits.questions ≤ length s.waiting → d ≡ reply_step n (gives_up QuestionsFull x) s
+    → d ≡ row_of_waiting (turn c n words s) (waits_on o x)
+full_row c n words o x s d full d_is =
+    d_is
+    ∙ ap (λ (a : Action). reply_step n a s) (fails_alike QuestionsFull o x)
+    ∙ sym (cond-true (nat_le c.limits.questions (length s.waiting)) _ _
+    (le-leb c.limits.questions (length s.waiting) full))
+
+-- the first ask goes to the server that its route prefers
+pub asked_first : (c : Config) (n : ℕ) (words : List ℕ) (q : Question) (route : ℕ) (s : State) (server : ℕ)
+    (draw : Option (ℕ × ℕ)) (drawn : Option (ℕ × Path)) (ask : Option Ask) → server ≡ preferred_on s route
+    → draw ≡ udp_draw words s.asks None
+    → drawn ≡ over_udp draw → ask ≡ ask_by n q route server 1 (peer_at c route server) drawn
+    → ask ≡ first_ask (turn c n words s) q route
+asked_first c n words q route s server draw drawn ask server_is draw_is drawn_is is =
+    is ∙ (λ i. ask_by n q route (server_is i) 1 (peer_at c route (server_is i)) (drawn_is i))
+    ∙ (λ i. ask_by n q route (preferred_on s route) 1 (peer_at c route (preferred_on s route)) (over_udp (draw_is i)))
+
+-- what comes of the first ask: it looks at no entry
+pub opened_row : (c : Config) (n : ℕ) (words : List ℕ) (x : Waiting) (s : State) (used : List Slot) (route : ℕ)
+    (q : Question) (a : Option Ask) (d : Done) → length s.asks < c.limits.inquiries
+    → route_of c x.wanted.name ≡ Some route → q ≡ x.wanted
+    → a ≡ first_ask (turn c n words s) q route → d ≡ row_of_opening n x (with_promoted used s) a
+    → d ≡ row_of_new_inquiry (turn c n words (with_promoted used s)) x
+opened_row c n words x s used route q a d room on q_is a_is d_is =
+    d_is
+    ∙ ap (row_of_opening n x (with_promoted used s)) (a_is
+    ∙ ap (λ (z : Question). first_ask (turn c n words s) z route) q_is
+    ∙ sym (ap (first_ask_on (turn c n words (with_promoted used s)) x.wanted) on))
+    ∙ sym (cond-false (nat_le c.limits.inquiries (length s.asks)) _ _ (lt-leb c.limits.inquiries (length s.asks) room))
+
+pub joined_is : (A : Type 0) (n : ℕ) (s : State) (x : Waiting) (boxed : Box Waiting A) (actions : List Action)
+    → boxed.value ≡ x → actions ≡ []
+    → record { actions = actions; unkept = 0; state = changed {A = A} n s (Join boxed) } ≡ taking_step n x None s
+joined_is A n s x boxed actions is none = λ i. record {
+  actions = none i;
+  unkept = 0;
+  state = record {
+    cache = s.cache;
+    asks = sym (append_nil s.asks) i;
+    waiting = s.waiting ++ is i ∷ [];
+    preferred = s.preferred;
+    moment = n;
+    tcp_asks = no_more s.tcp_asks i;
+  };
+}
+  where
+    no_more : (k : ℕ) → k ≡ k + 0
+    no_more k = omega arith

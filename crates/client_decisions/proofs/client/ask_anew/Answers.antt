@@ -1,0 +1,87 @@
+use Rattle.std.proofs.Common.{◌≡◌, ◌∙◌, ◌≤◌, length, sym, ap, subst, refl, Some, None, arith}
+use Rattle.std.specs.Prelude.{nat_le}
+use Rattle.std.proofs.lemmas.Bool.{cond-true, le-leb}
+use Rattle.outstanding.specs.Lists.{of_question}
+use Rattle.step_values.specs.declared.action.Why.TheVariants.{InquiriesFull, NoPort}
+use Rattle.suffix_routes.specs.Serving.{route_of}
+use Rattle.dns_message.specs.Values.{Question}
+use Rattle.step_table.specs.State.{Turn, turn}
+use Rattle.step_table.specs.Attempts.{first_ask}
+use Rattle.step_table.specs.Steps.{failed, reply_step, with_promoted}
+use Rattle.step_actions.specs.Decision.{CanFollow}
+use Rattle.client_decisions.proofs.Clients.{opened_row}
+use Rattle.step_actions.proofs.CallerLemmas.{first_follows, decides_by}
+use Rattle.client_decisions.proofs.client.ask_anew.Goals as goal
+
+pub returns : goal.returns
+returns g c = record {
+  decides =
+      decides_by c.refuse-in-None.result _ _ _ c.refuse-in-None.ensures.decides (λ rooms.
+      (λ i. reply_step c.args.turn.now.moment
+      (failed (c.request-in-None.ensures.client i) (c.request-in-None.ensures.asked i) NoPort)
+      (with_promoted c.args.used c.args.turn.now.state))
+      ∙ opened_row c.args.turn.now.config c.args.turn.now.moment c.args.turn.now.words c.args.waiting
+      c.args.turn.now.state c.args.used c.args.route c.wanted.result.now None _
+      (let count = c.asks_under_way.ensures.count in let limit : c.config.inside.limits.inquiries
+      ≡ c.args.turn.now.config.limits.inquiries = (λ i. (c.config.view_is i).limits.inquiries)
+      ∙ ap (λ (r : Turn). r.config.limits.inquiries) c.turn.view_is in let test =
+      c.if-asks_under_way-config.false in omega (arith, count, test, limit))
+      c.requires.on c.wanted.ensures (sym c.in-None.is ∙ c.in_ok-ask.ensures) refl);
+}
+
+pub returns-in-Some : goal.returns-in-Some
+returns-in-Some g c = record {
+  decides =
+      decides_by c.open.result _ _ _ c.open.ensures.decides (λ rooms.
+      opened_row c.args.turn.now.config c.args.turn.now.moment c.args.turn.now.words c.args.waiting
+      c.args.turn.now.state c.args.used c.args.route c.wanted.result.now (Some c.in-Some.ask) _
+      (let count = c.asks_under_way.ensures.count in let limit : c.config.inside.limits.inquiries
+      ≡ c.args.turn.now.config.limits.inquiries = (λ i. (c.config.view_is i).limits.inquiries)
+      ∙ ap (λ (r : Turn). r.config.limits.inquiries) c.turn.view_is in let test =
+      c.if-asks_under_way-config.false in omega (arith, count, test, limit))
+      c.requires.on c.wanted.ensures (sym c.in-Some.is ∙ c.in_ok-ask.ensures) refl);
+}
+
+pub open-requires-clause-follows : goal.open-requires-clause-follows
+open-requires-clause-follows g c =
+    subst (λ (r : Turn). CanFollow r.config r.moment r.state r.state.asks c.in-Some.ask) c.turn.view_is
+    (first_follows c.turn.inside.config.now c.turn.inside.moment c.turn.inside.words c.wanted.result.now c.args.route
+    (record {
+      cache = c.turn.inside.cache.now;
+      asks = c.turn.inside.inquiries.now.asks;
+      waiting = c.turn.inside.waiting.now.items;
+      preferred = c.turn.inside.preferred.now;
+      moment = c.turn.inside.before;
+      tcp_asks = c.turn.inside.tcp_asks;
+    }) c.turn.inside.inquiries.now c.turn.inside.preferred.now c.in-Some.ask
+    c.turn.invariant.0 refl
+    (subst (λ (q : Question). route_of c.turn.inside.config.now q.name ≡ Some c.args.route) (sym c.wanted.ensures)
+    (subst (λ (r : Turn). route_of r.config c.args.waiting.wanted.name ≡ Some c.args.route)
+    (sym c.turn.view_is) c.requires.on))
+    c.turn.invariant.1 c.turn.invariant.2
+    (subst (λ (q : Question). of_question q c.turn.inside.inquiries.now.asks ≡ None) (sym c.wanted.ensures)
+    (subst (λ (r : Turn). of_question c.args.waiting.wanted r.state.asks ≡ None) (sym c.turn.view_is) c.requires.new))
+    (let count = c.asks_under_way.ensures.count in let asks : length c.turn.inside.inquiries.now.asks
+    ≡ length c.args.turn.now.state.asks = ap (λ (r : Turn). length r.state.asks) c.turn.view_is in let limit :
+    c.config.inside.limits.inquiries ≡ c.turn.inside.config.now.limits.inquiries = λ i.
+    (c.config.view_is i).limits.inquiries in let test = c.if-asks_under_way-config.false in omega
+    (arith, count, asks, test, limit))
+    (sym c.in-Some.is ∙ c.in_ok-ask.ensures ∙ ap (λ (r : Turn). first_ask
+    (turn r.config r.moment r.words r.state) c.wanted.result.now c.args.route) (sym c.turn.view_is)))
+
+pub returns-then-asks_under_way-config : goal.returns-then-asks_under_way-config
+returns-then-asks_under_way-config g c = record {
+  decides =
+      let full : c.args.turn.now.config.limits.inquiries ≤ length c.args.turn.now.state.asks =
+      (let count = c.asks_under_way.ensures.count in let limit : c.config.inside.limits.inquiries
+      ≡ c.args.turn.now.config.limits.inquiries = (λ i. (c.config.view_is i).limits.inquiries)
+      ∙ ap (λ (r : Turn). r.config.limits.inquiries) c.turn.view_is in let test =
+      c.if-asks_under_way-config.true in omega (arith, count, test, limit)) in
+      decides_by c.refuse.result _ _ _ c.refuse.ensures.decides (λ rooms.
+      (λ i. reply_step c.args.turn.now.moment
+      (failed (c.request.ensures.client i) (c.request.ensures.asked i) InquiriesFull)
+      (with_promoted c.args.used c.args.turn.now.state))
+      ∙ sym (cond-true
+      (nat_le c.args.turn.now.config.limits.inquiries (length c.args.turn.now.state.asks)) _ _
+      (le-leb c.args.turn.now.config.limits.inquiries (length c.args.turn.now.state.asks) full)));
+}

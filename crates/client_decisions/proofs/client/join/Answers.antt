@@ -1,0 +1,33 @@
+use Rattle.std.proofs.Common.{ap, sym, subst, refl, ◌∙◌}
+use Rattle.std.specs.Prelude.{map}
+use Rattle.record_cache.specs.Values.{Held}
+use Rattle.waiting_questions.specs.Values.{Waiting}
+use Rattle.step_values.specs.Values.{actions_of}
+use Rattle.step_table.specs.Steps.{with_promoted}
+use Rattle.step_actions.specs.declared.decision.Change.TheVariants.{Join}
+use Rattle.step_actions.specs.Decision.{CanWait}
+use Rattle.step_actions.proofs.CallerLemmas.{carries_nothing, next_is}
+use Rattle.client_decisions.proofs.Clients.{joined_is}
+use Rattle.client_decisions.proofs.client.join.Goals as goal
+
+pub returns : goal.returns
+returns g c = record {
+  decides = record {
+    row = λ rooms.
+        next_is {A = g.row.A.Denot} c.args.turn.now.moment rooms c.args.turn.now.state (record {
+          actions = c.new-2.result;
+          used = c.args.used;
+          change = Join c.in_ok-joined.joined;
+          carried = c.new-3.result;
+        }) c.args.used (Join c.in_ok-joined.joined) refl refl
+        (ap (map (λ (h : Held). h.piece)) c.new-3.ensures.items)
+        ∙ joined_is g.row.A.Denot c.args.turn.now.moment (with_promoted c.args.used c.args.turn.now.state)
+        c.args.waiting c.in_ok-joined.joined _ c.in_ok-joined.ensures.ok
+        (ap (λ xs. actions_of {A = g.row.A.Denot} xs) c.new-2.ensures);
+    fits =
+        carries_nothing c.args.turn.now.config c.args.turn.now.moment c.args.turn.now.state _
+        (ap (map (λ (h : Held). h.piece)) c.new-3.ensures.items)
+        (subst (λ (x : Waiting). CanWait c.args.turn.now.config c.args.turn.now.moment c.args.turn.now.state x)
+        (sym c.in_ok-joined.ensures.ok) c.requires);
+  };
+}

@@ -1,0 +1,45 @@
+use Rattle.std.proofs.Common.{◌≡◌, ◌∙◌, ◌≤◌, [], ap, sym, subst}
+use Rattle.std.specs.List.{AllByRecursion}
+use Rattle.answer_builder.specs.Answers.{IsEarlier}
+use Rattle.dns_name.specs.Labels.{labels_of}
+use Rattle.dns_message.specs.Values.{Question}
+use Rattle.step_table.specs.State.{Turn}
+use Rattle.waiting_questions.specs.Values.{Waiting}
+use Rattle.step_table.specs.Progress.{IsOnRoute}
+use Rattle.alias_chains.specs.LookingUp.{look_up}
+use Rattle.trust_rank.specs.Walks.{most_aliases}
+use Rattle.alias_chains.specs.Seen.{Seen, seen_of}
+use Rattle.client_decisions.proofs.Hits.{earlier_used, looked_row}
+use Rattle.step_actions.proofs.CallerLemmas.{decides_by}
+use Rattle.client_decisions.proofs.client.look.Goals as goal
+
+pub decide_look_up-requires-clause-found : goal.decide_look_up-requires-clause-found
+decide_look_up-requires-clause-found g c =
+    (subst (λ (r : Turn). c.in_ok-looked.looked ≡ seen_of
+    (look_up r.config.routes r.moment r.state.cache.entries most_aliases [] c.args.request.now.wanted)) c.turn.view_is
+    (subst (λ (q : Question). c.in_ok-looked.looked ≡ seen_of
+    (look_up c.turn.inside.config.now.routes c.turn.inside.moment c.turn.inside.cache.now.entries most_aliases [] q))
+    ((λ i. record { name = c.name.ensures.labels i; kind = c.kind.ensures i; class = c.class.ensures i })
+    ∙ ap (λ (x : Waiting). x.wanted) c.request.view_is)
+    c.in_ok-looked.ensures.exact))
+
+pub decide_look_up-requires-clause-earlier : goal.decide_look_up-requires-clause-earlier
+decide_look_up-requires-clause-earlier g c =
+    subst (λ (r : Turn). AllByRecursion (IsEarlier r.moment) c.in_ok-looked.looked.used) c.turn.view_is
+    (subst (λ (v : Seen). AllByRecursion (IsEarlier c.turn.inside.moment) v.used) (sym c.in_ok-looked.ensures.exact)
+    (earlier_used c.turn.inside.config.now.routes c.turn.inside.before c.turn.inside.moment
+    c.turn.inside.cache.now.entries (record {
+      name = labels_of c.name.result.now;
+      kind = c.kind.result;
+      class = c.class.result;
+    }) c.turn.invariant.0.accepted c.turn.invariant.1))
+
+pub returns : goal.returns
+returns g c = record {
+  decides =
+      decides_by c.decide_look_up.result _ _ _ c.decide_look_up.ensures.decides (λ rooms.
+      looked_row c.args.turn.now.config c.args.turn.now.moment c.args.turn.now.words c.args.request.now
+      c.args.turn.now.state
+      (subst (λ (r : Turn). AllByRecursion (IsOnRoute r.config) r.state.cache.entries) c.turn.view_is
+      c.turn.invariant.0.cache.on_routes));
+}

@@ -1,0 +1,462 @@
+//! What a client's message calls for.
+
+ghost use Rattle.std.specs.Prelude.{◌≡◌, ◌^◌, ℕ, ◌<◌, ◌≤◌, [], false, true, length, map, Bool, List, IfOk, Some, None};
+ghost use Rattle.std.specs.List.{AllByRecursion};
+ghost use Rattle.answer_builder.specs.Answers.{IsEarlier};
+ghost use Rattle.dns_message.specs.Messages.{first_question};
+ghost use Rattle.dns_message.specs.Questions.{question_read, asked_at};
+ghost use Rattle.outstanding.specs.Lists.{of_question, AreListed};
+ghost use Rattle.suffix_routes.specs.Serving.{route_of};
+ghost use Rattle.step_values.specs.Requests.{is_taken};
+ghost use Rattle.alias_chains.specs.Seen.{seen_of, UsesFew};
+ghost use Rattle.alias_chains.specs.declared.looked.LookUpEnd.{LookUpEnd};
+ghost use Rattle.step_actions.specs.Kept.{HoldsEarlier};
+ghost use Rattle.waiting_questions.specs.Onward.{waits_on};
+ghost use Rattle.step_table.specs.Attempts.{first_ask};
+ghost use Rattle.alias_chains.specs.LookingUp.{look_up, missed};
+ghost use Rattle.answer_builder.specs.Values.{asked_in};
+ghost use Rattle.step_table.specs.Steps.{with_promoted, idle_step, reply_step, taking_step, gives_up, failed};
+ghost use Rattle.step_table.specs.Clients.{without_server, row_of_opening, row_of_new_inquiry, row_of_inquiry, row_of_waiting, row_of_look_up, row_of_route, row_of_service, row_of_question, row_of_request};
+ghost use Rattle.step_values.specs.Values.{action_of};
+ghost use Rattle.trust_rank.specs.Walks.{most_aliases};
+ghost use Rattle.step_actions.specs.Decision.{IsQuiet, CanWait, CanFollow, MeetsRow};
+ghost use Rattle.step_table.specs.State.{turn, from_state};
+
+use crate::request::{
+    is_denied, is_not_served, owned_question, route_for, taken_header, with_one_question,
+};
+use alias_chains::{LookUp, LookUpEnd, SlotsRef, copies, look_up};
+use dns_message::{Header, MessageRef, Question, QuestionRef};
+use dns_name::Name;
+use outstanding::{Ask, draw};
+use plain_list::PlainList;
+use std::alloc::{AllocError, Allocator};
+use std::hash::BuildHasher;
+use step_actions::{
+    Attempt, Change, Decision, Opening, TurnRef, answer, ask as ask_action, by_udp, failure,
+    new_ask, nothing, refusal, without_server,
+};
+use step_values::{Action, Client, Why};
+use suffix_routes::RouteId;
+use trust_rank::MOST_ALIASES;
+use waiting_questions::{Request, SentOn, Waiting};
+
+/// One reply, and the promotion of what a look-up used.
+fn reply<'a, H: BuildHasher + Drop, A: Allocator + Copy>(
+    turn: &TurnRef<'a, H, A>,
+    action: Action<A>,
+    used: SlotsRef<'a, A>,
+) -> Result<Decision<'a, A>, AllocError>
+    ensures decides { IfOk result (MeetsRow turn.now (λ _. reply_step turn.now.moment (action_of action)
+        (with_promoted used.entry turn.now.state))) }
+{
+    let mut actions = PlainList::new(turn.alloc);
+    actions.push(action)?;
+    Ok(Decision {
+        actions,
+        used,
+        change: Change::Nothing,
+        carried: Vec::new(turn.alloc),
+    })
+}
+
+/// The question fails at once.
+fn refuse<'a, H: BuildHasher + Drop, A: Allocator + Copy>(
+    turn: &TurnRef<'a, H, A>,
+    request: &Request<'_>,
+    why: Why,
+    used: SlotsRef<'a, A>,
+) -> Result<Decision<'a, A>, AllocError>
+    ensures decides { IfOk result (MeetsRow turn.now (λ _. reply_step turn.now.moment (gives_up why request.now)
+        (with_promoted used.entry turn.now.state))) }
+{
+    let action = failure(turn.alloc, request, why)?;
+    reply(turn, action, used)
+}
+
+/// The question waits, and its ask goes out.
+fn open<'a, H: BuildHasher + Drop, A: Allocator + Copy>(
+    turn: &TurnRef<'a, H, A>,
+    waiting: Waiting<A>,
+    ask: Ask<A>,
+    used: SlotsRef<'a, A>,
+) -> Result<Decision<'a, A>, AllocError>
+    requires waits { CanWait turn.now.config turn.now.moment turn.now.state waiting }
+    requires follows { CanFollow turn.now.config turn.now.moment turn.now.state turn.now.state.asks ask }
+    ensures decides { IfOk result (MeetsRow turn.now (λ _. row_of_opening turn.now.moment waiting
+        (with_promoted used.entry turn.now.state) (Some ask))) }
+{
+    let mut actions = PlainList::new(turn.alloc);
+    let action = ask_action(turn.alloc, &ask)?;
+    actions.push(action)?;
+    let opening = Box::new(turn.alloc, Opening { waiting, ask })?;
+    Ok(Decision {
+        actions,
+        used,
+        change: Change::Open(opening),
+        carried: Vec::new(turn.alloc),
+    })
+}
+
+/// The question waits for the ask that is listed already.
+fn join<'a, H: BuildHasher + Drop, A: Allocator + Copy>(
+    turn: &TurnRef<'a, H, A>,
+    waiting: Waiting<A>,
+    used: SlotsRef<'a, A>,
+) -> Result<Decision<'a, A>, AllocError>
+    requires { CanWait turn.now.config turn.now.moment turn.now.state waiting }
+    ensures decides { IfOk result (MeetsRow turn.now (λ _. taking_step turn.now.moment waiting None
+        (with_promoted used.entry turn.now.state))) }
+{
+    let joined = Box::new(turn.alloc, waiting)?;
+    Ok(Decision {
+        actions: PlainList::new(turn.alloc),
+        used,
+        change: Change::Join(joined),
+        carried: Vec::new(turn.alloc),
+    })
+}
+
+/// The first ask for a question: by UDP, to the server that its route prefers.
+fn first_ask<'a, H: BuildHasher + Drop, A: Allocator + Copy>(
+    turn: &TurnRef<'a, H, A>,
+    question: &Question<A>,
+    route: RouteId,
+) -> Result<Option<Ask<A>>, AllocError>
+    ensures { IfOk result (λ ask. ask ≡ first_ask turn.now question.now route) }
+{
+    let server = turn.preferred.get(route.place).copied().unwrap_or(0);
+    let attempt = Attempt {
+        route,
+        server,
+        used: 1,
+    };
+    let drawn = by_udp(draw(turn.words, turn.inquiries, None));
+    new_ask(
+        turn.alloc,
+        turn.config,
+        turn.moment,
+        question,
+        attempt,
+        drawn,
+    )
+}
+
+/// How many asks are under way. What holds of the list of them is said here.
+fn asks_under_way<'a, H: BuildHasher + Drop, A: Allocator + Copy>(turn: &TurnRef<'a, H, A>) -> usize
+    ensures count { result ≡ length turn.now.state.asks }
+    ensures listed { AreListed
+        (record { capacity = turn.now.config.limits.inquiries; asks = turn.now.state.asks }) }
+{
+    turn.inquiries.len()
+}
+
+/// A question of which no ask is listed.
+fn ask_anew<'a, H: BuildHasher + Drop, A: Allocator + Copy>(
+    turn: &TurnRef<'a, H, A>,
+    waiting: Waiting<A>,
+    route: RouteId,
+    used: SlotsRef<'a, A>,
+) -> Result<Decision<'a, A>, AllocError>
+    requires new { of_question waiting.wanted turn.now.state.asks ≡ None }
+    requires on { route_of turn.now.config waiting.wanted.name ≡ Some route }
+    requires taken { waiting.taken ≡ turn.now.moment }
+    requires aliases { HoldsEarlier turn.now.moment waiting }
+    requires room { length turn.now.state.waiting < turn.now.config.limits.questions }
+    ensures decides { IfOk result (MeetsRow turn.now (λ _. row_of_new_inquiry
+        (from_state (with_promoted used.entry turn.now.state) turn.now) waiting)) }
+{
+    let config = turn.config;
+    if asks_under_way(turn) >= config.limits.inquiries {
+        return refuse(turn, &waiting.request(), Why::InquiriesFull, used);
+    }
+    match first_ask(turn, waiting.wanted(), route)? {
+        Some(ask) => open(turn, waiting, ask, used),
+        None => refuse(turn, &waiting.request(), Why::NoPort, used),
+    }
+}
+
+/// A question for which there is room: where its ask is listed already, none goes out.
+fn admit<'a, H: BuildHasher + Drop, A: Allocator + Copy>(
+    turn: &TurnRef<'a, H, A>,
+    waiting: Waiting<A>,
+    route: RouteId,
+    used: SlotsRef<'a, A>,
+) -> Result<Decision<'a, A>, AllocError>
+    requires on { route_of turn.now.config waiting.wanted.name ≡ Some route }
+    requires taken { waiting.taken ≡ turn.now.moment }
+    requires aliases { HoldsEarlier turn.now.moment waiting }
+    requires room { length turn.now.state.waiting < turn.now.config.limits.questions }
+    ensures decides { IfOk result (MeetsRow turn.now (λ _. row_of_inquiry
+        (from_state (with_promoted used.entry turn.now.state) turn.now) waiting
+        (of_question waiting.wanted turn.now.state.asks))) }
+{
+    match turn.inquiries.by_question(waiting.wanted()) {
+        Some(_) => join(turn, waiting, used),
+        None => ask_anew(turn, waiting, route, used),
+    }
+}
+
+/// A question of which the cache has no answer, and which wants to know what has a route: its own, or what it is
+/// sent on to.
+fn wait<'a, H: BuildHasher + Drop, A: Allocator + Copy>(
+    turn: &TurnRef<'a, H, A>,
+    request: &Request<'_>,
+    sent_on: Option<SentOn<A>>,
+    route: RouteId,
+    used: SlotsRef<'a, A>,
+) -> Result<Decision<'a, A>, AllocError>
+    requires on { route_of turn.now.config (waits_on sent_on request.now).wanted.name ≡ Some route }
+    requires aliases { HoldsEarlier turn.now.moment (waits_on sent_on request.now) }
+    requires taken { request.now.taken ≡ turn.now.moment }
+    ensures decides { IfOk result (MeetsRow turn.now (λ _. row_of_waiting
+        (from_state (with_promoted used.entry turn.now.state) turn.now) (waits_on sent_on request.now))) }
+{
+    let config = turn.config;
+    if turn.waiting.len() >= config.limits.questions {
+        return refuse(turn, request, Why::QuestionsFull, used);
+    }
+    let waiting = request.to_waiting(turn.alloc, sent_on)?;
+    admit(turn, waiting, route, used)
+}
+
+/// A question to which the cache has the answer.
+fn hit<'a, H: BuildHasher + Drop, A: Allocator + Copy>(
+    turn: &TurnRef<'a, H, A>,
+    request: &Request<'_>,
+    looked: LookUp<'a, A>,
+) -> Result<Decision<'a, A>, AllocError>
+    requires ended { looked.met ≡ LookUpEnd.Ends }
+    requires earlier { AllByRecursion (IsEarlier turn.now.moment) looked.used }
+    requires found { looked ≡ seen_of (look_up turn.now.config.routes turn.now.moment turn.now.state.cache.entries
+        most_aliases [] request.now.wanted) }
+    ensures decides { IfOk result (MeetsRow turn.now (λ _. row_of_look_up turn.now request.now
+        (look_up turn.now.config.routes turn.now.moment turn.now.state.cache.entries most_aliases []
+        request.now.wanted))) }
+{
+    let action = answer(turn.alloc, request, looked.used(), turn.moment)?;
+    reply(turn, action, looked.into_slots())
+}
+
+/// What a question is sent on with whose look-up missed behind these aliases at this name.
+fn onward<'a, H: BuildHasher + Drop, A: Allocator + Copy>(
+    turn: &TurnRef<'a, H, A>,
+    request: &Request<'_>,
+    looked: &LookUp<'_, A>,
+    name: Name<A>,
+) -> Result<SentOn<A>, AllocError>
+    requires few { length looked.now.used ≤ 8 }
+    ensures { IfOk result (λ sent_on. sent_on
+        ≡ record { held = looked.now.used; wanted = asked_at request.now.wanted name }) }
+{
+    let aliases = copies(turn.alloc, looked.used())?;
+    let wanted = Question {
+        name,
+        kind: request.question.kind(),
+        class: request.question.class(),
+    };
+    Ok(SentOn { aliases, wanted })
+}
+
+/// A question whose look-up missed behind aliases, at this name, which no route serves.
+fn end_behind<'a, H: BuildHasher + Drop, A: Allocator + Copy>(
+    turn: &TurnRef<'a, H, A>,
+    request: &Request<'_>,
+    looked: LookUp<'a, A>,
+    name: &Name<A>,
+) -> Result<Decision<'a, A>, AllocError>
+    requires earlier { AllByRecursion (IsEarlier turn.now.moment) looked.used }
+    ensures decides { IfOk result (MeetsRow turn.now (λ _. reply_step turn.now.moment
+        (without_server turn.now.config turn.now.moment request.now looked.entry.used name.now)
+        (with_promoted (map (λ h. h.piece.slot) looked.entry.used) turn.now.state))) }
+{
+    let is_denied = turn.config.denies(name);
+    let action = without_server(turn.alloc, request, looked.used(), is_denied, turn.moment)?;
+    reply(turn, action, looked.into_slots())
+}
+
+/// A question of whose own name nothing is known, and which no route serves.
+fn end<'a, H: BuildHasher + Drop, A: Allocator + Copy>(
+    turn: &TurnRef<'a, H, A>,
+    request: &Request<'_>,
+    used: SlotsRef<'a, A>,
+) -> Result<Decision<'a, A>, AllocError>
+    ensures decides { IfOk result (MeetsRow turn.now (λ _. reply_step turn.now.moment
+        (without_server turn.now.config turn.now.moment request.now [] request.now.wanted.name)
+        (with_promoted used.entry turn.now.state))) }
+{
+    let is_denied = is_denied(turn.config, &request.question);
+    let action = without_server(turn.alloc, request, &[], is_denied, turn.moment)?;
+    reply(turn, action, used)
+}
+
+/// A question whose look-up missed behind aliases, at this name.
+fn miss_behind<'a, H: BuildHasher + Drop, A: Allocator + Copy>(
+    turn: &TurnRef<'a, H, A>,
+    request: &Request<'_>,
+    looked: LookUp<'a, A>,
+    name: Name<A>,
+) -> Result<Decision<'a, A>, AllocError>
+    requires few { length looked.used ≤ 8 }
+    requires earlier { AllByRecursion (IsEarlier turn.now.moment) looked.used }
+    requires taken { request.now.taken ≡ turn.now.moment }
+    ensures decides { IfOk result (MeetsRow turn.now (λ _. row_of_look_up turn.now request.now
+        (record {
+          held = looked.entry.used;
+          wanted = asked_at request.now.wanted name;
+          met = missed;
+          used = map (λ h. h.piece.slot) looked.entry.used;
+        }))) }
+{
+    let Some(route) = turn.config.serving_route_of(&name) else {
+        return end_behind(turn, request, looked, &name);
+    };
+    let sent_on = onward(turn, request, &looked, name)?;
+    wait(turn, request, Some(sent_on), route, looked.into_slots())
+}
+
+/// A question of whose own name nothing is known.
+fn miss<'a, H: BuildHasher + Drop, A: Allocator + Copy>(
+    turn: &TurnRef<'a, H, A>,
+    request: &Request<'_>,
+    used: SlotsRef<'a, A>,
+) -> Result<Decision<'a, A>, AllocError>
+    requires taken { request.now.taken ≡ turn.now.moment }
+    ensures decides { IfOk result (MeetsRow turn.now (λ _. row_of_look_up turn.now request.now
+        (record { held = []; wanted = request.now.wanted; met = missed; used = used.entry }))) }
+{
+    match route_for(turn.config, &request.question) {
+        Some(route) => wait(turn, request, None, route, used),
+        None => end(turn, request, used),
+    }
+}
+
+/// What becomes of a question by its look-up.
+fn decide_look_up<'a, H: BuildHasher + Drop, A: Allocator + Copy>(
+    turn: &TurnRef<'a, H, A>,
+    request: &Request<'_>,
+    looked: LookUp<'a, A>,
+) -> Result<Decision<'a, A>, AllocError>
+    requires found { looked ≡ seen_of (look_up turn.now.config.routes turn.now.moment turn.now.state.cache.entries
+        most_aliases [] request.now.wanted) }
+    requires few { UsesFew 8 looked }
+    requires earlier { AllByRecursion (IsEarlier turn.now.moment) looked.used }
+    requires taken { request.now.taken ≡ turn.now.moment }
+    ensures decides { IfOk result (MeetsRow turn.now (λ _. row_of_look_up turn.now request.now
+        (look_up turn.now.config.routes turn.now.moment turn.now.state.cache.entries most_aliases []
+        request.now.wanted))) }
+{
+    match looked.met() {
+        LookUpEnd::Ends => hit(turn, request, looked),
+        LookUpEnd::TooLong => refuse(turn, request, Why::ChainLong, looked.into_slots()),
+        LookUpEnd::Missed => match looked.target(turn.alloc)? {
+            Some(name) => miss_behind(turn, request, looked, name),
+            None => miss(turn, request, looked.into_slots()),
+        },
+    }
+}
+
+/// A question that is served. No route is looked up where the cache has an answer: its entries are on their routes.
+fn look<'a, H: BuildHasher + Drop, A: Allocator + Copy>(
+    turn: &TurnRef<'a, H, A>,
+    request: &Request<'_>,
+) -> Result<Decision<'a, A>, AllocError>
+    requires taken { request.now.taken ≡ turn.now.moment }
+    ensures decides { IfOk result (MeetsRow turn.now (λ _. row_of_route turn.now request.now
+        (route_of turn.now.config request.now.wanted.name))) }
+{
+    let question = &request.question;
+    let looked = look_up(
+        turn.alloc,
+        turn.cache,
+        question.name(),
+        question.class(),
+        question.kind(),
+        turn.moment,
+        turn.config,
+        MOST_ALIASES,
+    )?;
+    decide_look_up(turn, request, looked)
+}
+
+/// A question that was read.
+fn serve<'a, H: BuildHasher + Drop, A: Allocator + Copy>(
+    turn: &TurnRef<'a, H, A>,
+    request: &Request<'_>,
+) -> Result<Decision<'a, A>, AllocError>
+    requires taken { request.now.taken ≡ turn.now.moment }
+    ensures decides { IfOk result (MeetsRow turn.now (λ _. row_of_service turn.now request.now)) }
+{
+    if is_not_served(&request.question) {
+        return refuse(turn, request, Why::NotServed, SlotsRef::none(turn.alloc));
+    }
+    look(turn, request)
+}
+
+/// A message without a question that can be served.
+fn refuse_message<'a, H: BuildHasher + Drop, A: Allocator + Copy>(
+    turn: &TurnRef<'a, H, A>,
+    client: Client,
+    header: &Header,
+    why: Why,
+) -> Result<Decision<'a, A>, AllocError>
+    requires { header.now.opcode < 16 }
+    ensures decides { IfOk result (MeetsRow turn.now (λ _. reply_step turn.now.moment
+        (failed client (asked_in header.now None) why) turn.now.state)) }
+{
+    let action = refusal(turn.alloc, client, header, why)?;
+    reply(turn, action, SlotsRef::none(turn.alloc))
+}
+
+/// A message with one question. Its name is read into memory only where it has a pointer.
+fn serve_message<'a, H: BuildHasher + Drop, A: Allocator + Copy>(
+    turn: &TurnRef<'a, H, A>,
+    client: Client,
+    header: Header,
+    message: &MessageRef<'_>,
+) -> Result<Decision<'a, A>, AllocError>
+    requires opcode { header.opcode < 16 }
+    ensures decides { IfOk result (MeetsRow turn.now (λ _. row_of_question turn.now client header
+        (question_read (first_question message.now)))) }
+{
+    let taken = turn.moment;
+    if let Some(question) = message.question_ref() {
+        let request = Request {
+            client,
+            header,
+            question,
+            taken,
+        };
+        return serve(turn, &request);
+    }
+    let owned = owned_question(turn.alloc, message)?;
+    let question = QuestionRef::of(&owned);
+    let request = Request {
+        client,
+        header,
+        question,
+        taken,
+    };
+    serve(turn, &request)
+}
+
+/// A message of a client.
+pub fn on_client<'a, H: BuildHasher + Drop, A: Allocator + Copy>(
+    turn: &TurnRef<'a, H, A>,
+    client: Client,
+    bytes: &[u8],
+) -> Result<Decision<'a, A>, AllocError>
+    ensures decides { IfOk result (MeetsRow turn.now (λ _. row_of_request turn.now client bytes.now)) }
+    ensures dropped { is_taken bytes.now ≡ false → IsQuiet result }
+{
+    let Some(header) = taken_header(bytes) else {
+        return Ok(nothing(turn));
+    };
+    if header.opcode != 0 {
+        return refuse_message(turn, client, &header, Why::BadOpcode);
+    }
+    let Some(message) = with_one_question(bytes, &header) else {
+        return refuse_message(turn, client, &header, Why::BadFormat);
+    };
+    serve_message(turn, client, header, &message)
+}

@@ -1,0 +1,45 @@
+//! What an event calls for.
+
+ghost use Rattle.std.specs.Prelude.{IfOk, IfSome};
+ghost use Rattle.step_values.specs.Values.{event_of};
+ghost use Rattle.step_table.specs.Row.{TakesNoMemory};
+ghost use Rattle.step_actions.specs.Decision.{IsDecided, IsDecidedQuietly, CanChange};
+
+use client_decisions::on_client;
+use reply_decisions::{on_delivery, on_failed_path, on_tick};
+use std::alloc::{AllocError, Allocator};
+use std::hash::BuildHasher;
+use step_actions::{Decision, TurnRef};
+use step_values::Event;
+
+/// What an event calls for; nothing where it is a restart.
+pub(crate) fn decide<'a, H: BuildHasher + Drop, A: Allocator + Copy>(
+    turn: &TurnRef<'a, H, A>,
+    event: &Event<A>,
+) -> Result<Option<Decision<'a, A>>, AllocError>
+    ensures row { IfOk result (λ next. IsDecided turn.now (event_of event.now) next) }
+    ensures no_memory { TakesNoMemory turn.now.config turn.now.moment turn.now.state (event_of event.now)
+        → IsDecidedQuietly result }
+    ensures fits { IfOk result (λ next. IfSome next (λ some. CanChange turn.now.config turn.now.moment
+        turn.now.state some)) }
+{
+    match event {
+        Event::Client { client, bytes } => {
+            let next = on_client(turn, *client, bytes.as_slice())?;
+            Ok(Some(next))
+        }
+        Event::Delivery { path, from, bytes } => {
+            let next = on_delivery(turn, *path, *from, bytes.as_slice())?;
+            Ok(Some(next))
+        }
+        Event::PathFailed { path } => {
+            let next = on_failed_path(turn, *path)?;
+            Ok(Some(next))
+        }
+        Event::Tick => {
+            let next = on_tick(turn)?;
+            Ok(Some(next))
+        }
+        Event::Restart => Ok(None),
+    }
+}

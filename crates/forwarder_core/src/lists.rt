@@ -1,0 +1,112 @@
+//! What a forwarder keeps: the asks that are under way, the questions that wait, when their time ends, and the end of
+//! all.
+
+ghost use Rattle.std.specs.Prelude.{◌≡◌, ◌<◌, ◌+◌, ◌∷◌, ◌++◌, [], length, nat_lt, nat_le, IsSome, OnOk, OnErr};
+ghost use Rattle.std.specs.Option.{IfSome};
+ghost use Rattle.outstanding.specs.Lists.{MayBegin, on_path as ask_on, without_path};
+ghost use Rattle.step_table.specs.Ticks.{deadline_of};
+ghost use Rattle.step_table.specs.Replies.{timeout_of};
+ghost use Rattle.step_table.specs.Steps.{ask_list};
+ghost use Rattle.step_actions.specs.Decision.{left_or_sent, left_waiting, without_closed, AreForThose};
+
+use outstanding::{Ask, Inquiries, Path, Refusal};
+use record_cache::Cache;
+use std::alloc::{AllocError, Allocator};
+use std::hash::BuildHasher;
+use suffix_routes::Config;
+use waiting_questions::{SentOn, Waiting, WaitingQuestions};
+
+/// Lists an ask for which there is room. `Err` where memory ran out, and then nothing has changed.
+pub fn list_ask<A: Allocator>(inquiries: &mut Inquiries<A>, ask: Ask<A>) -> Result<(), AllocError>
+    requires begins { MayBegin ask inquiries.old.asks }
+    requires room { length inquiries.old.asks < inquiries.old.capacity }
+    ensures ok { OnOk result (inquiries.new ≡ record inquiries.old { asks = inquiries.old.asks ++ ask ∷ [] }) }
+    ensures err { OnErr result (inquiries.new ≡ inquiries.old) }
+{
+    match inquiries.begin(ask) {
+        Ok(()) => Ok(()),
+        Err((_, Refusal::Full)) => unreachable!(),
+        Err((_, Refusal::Memory)) => Err(AllocError),
+    }
+}
+
+/// The ask on the path is closed, and those that waited for it wait no more.
+pub fn close_inquiry<A: Allocator>(
+    inquiries: &mut Inquiries<A>,
+    waiting: &mut WaitingQuestions<A>,
+    path: Path,
+)
+    ensures asks { inquiries.new ≡ record inquiries.old { asks = without_path path inquiries.old.asks } }
+    ensures waiting { waiting.new.items ≡ left_waiting (ask_on path inquiries.old.asks) waiting.old.items }
+{
+    if let Some(ask) = inquiries.end(path) {
+        waiting.end(&ask.question);
+    }
+}
+
+/// Ends the ask on a path, and lists another one, where there is one; the ended ask is the answer.
+fn end_or_replace<A: Allocator>(
+    inquiries: &mut Inquiries<A>,
+    path: Path,
+    next: Option<Ask<A>>,
+) -> Option<Ask<A>>
+    requires listed { IsSome (ask_on path inquiries.old.asks) }
+    requires begins { IfSome next (λ ask. MayBegin ask (without_path path inquiries.old.asks)) }
+    ensures ended { result ≡ ask_on path inquiries.old.asks }
+    ensures asks { inquiries.new ≡ record inquiries.old {
+      asks = without_path path inquiries.old.asks
+          ++ ask_list next;
+    } }
+{
+    match next {
+        Some(ask) => Some(inquiries.replace(path, ask)),
+        None => inquiries.end(path),
+    }
+}
+
+/// The ask on the path is closed, and another one is listed, where there is one. Those that waited for it wait no
+/// more, or wait
+/// on with what they are sent on with.
+pub fn send_on<A: Allocator>(
+    inquiries: &mut Inquiries<A>,
+    waiting: &mut WaitingQuestions<A>,
+    path: Path,
+    next: Option<Ask<A>>,
+    onward: Vec<Option<SentOn<A>>, A>,
+)
+    requires those { AreForThose (ask_on path inquiries.old.asks) onward.items waiting.old.items }
+    requires begins { IfSome next (λ ask. MayBegin ask (without_path path inquiries.old.asks)) }
+    ensures asks { inquiries.new ≡ record inquiries.old {
+      asks = without_path path inquiries.old.asks
+          ++ ask_list next;
+    } }
+    ensures waiting { waiting.new.items ≡ left_or_sent (ask_on path inquiries.old.asks) onward.items waiting.old.items }
+{
+    if let Some(ended) = end_or_replace(inquiries, path, next) {
+        waiting.send_on(&ended.question, onward);
+    }
+}
+
+/// Ends the ask on a path, where there is one.
+pub fn end_closed<A: Allocator>(inquiries: &mut Inquiries<A>, closed: Option<Path>)
+    ensures { inquiries.new ≡ record inquiries.old { asks = without_closed closed inquiries.old.asks } }
+{
+    if let Some(path) = closed {
+        let _ended = inquiries.end(path);
+    }
+}
+
+/// All entries, asks and waiting questions are forgotten. It takes no memory.
+pub fn forget_all<H: BuildHasher + Drop, A: Allocator + Copy>(
+    cache: &mut Cache<H, A>,
+    inquiries: &mut Inquiries<A>,
+    waiting: &mut WaitingQuestions<A>,
+)
+    ensures entries { cache.new ≡ record cache.old { entries = [] } }
+    ensures asks { inquiries.new ≡ record inquiries.old { asks = [] } }
+    ensures waiting { waiting.new.items ≡ [] }
+{
+    cache.clear();
+    inquiries.clear();
+    waiting.clear();
+}

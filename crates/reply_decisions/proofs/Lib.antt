@@ -1,0 +1,10 @@
+pub mod Accepting
+pub mod Becoming
+pub mod Beside
+pub mod CallerLemmas
+pub mod Deciding
+pub mod Earlier
+pub mod Going
+pub mod Parts
+pub mod SendingOn
+pub mod Ticks

@@ -1,0 +1,34 @@
+use Rattle.std.proofs.Common.{◌∙◌, ap, sym, subst, [], ◌∷◌, ◌++◌}
+use Rattle.outstanding.specs.Lists.{without_path}
+use Rattle.step_actions.specs.Decision.{CanFollow}
+use Rattle.step_values.specs.Values.{actions_of}
+use Rattle.step_table.specs.Steps.{closes}
+use Rattle.outstanding.specs.Values.{Ask}
+use Rattle.step_actions.specs.declared.decision.Change.TheVariants.{AskAgain}
+use Rattle.reply_decisions.proofs.Deciding.{listed_some, again_row}
+use Rattle.step_actions.proofs.CallerLemmas.{plain_next, fits_plain}
+use Rattle.reply_decisions.proofs.attempt.ask_again.Goals as goal
+
+pub returns : goal.returns
+returns g c = record {
+  decides = record {
+    row = λ rooms.
+        plain_next c.args.turn.now.moment rooms c.args.turn.now.state c.without_cache.result
+        (AskAgain c.args.path c.in_ok-next.next) _ c.without_cache.ensures.used c.without_cache.ensures.change
+        c.without_cache.ensures.carried
+        (again_row g.row.A.Denot c.args.turn.now.moment c.args.path c.args.turn.now.state c.args.ask.now c.args.next
+        c.in_ok-next.next _ c.requires.on c.in_ok-next.ensures.ok
+        (c.without_cache.ensures.actions ∙ ap (λ xs. actions_of {A = g.row.A.Denot} xs)
+        (c.in_ok-push-2.ensures.ok ∙ ap (λ xs. xs ++ c.in_ok-action.action ∷ [])
+        (c.in_ok-push.ensures.ok ∙ ap (λ xs. xs ++ c.close_path.result ∷ []) c.new-actions.ensures))
+        ∙ (λ i. (c.close_path.ensures ∙ ap (λ (a : Ask). closes a.path) c.ask.view_is) i ∷ c.in_ok-action.ensures i
+        ∷ [])));
+    fits =
+        fits_plain c.args.turn.now.config c.args.turn.now.moment c.args.turn.now.state c.without_cache.result
+        (AskAgain c.args.path c.in_ok-next.next) c.without_cache.ensures.change (
+          listed_some c.args.path c.args.turn.now.state.asks c.args.ask.now c.requires.on,
+          subst (λ (a : Ask). CanFollow c.args.turn.now.config c.args.turn.now.moment c.args.turn.now.state
+              (without_path c.args.path c.args.turn.now.state.asks) a) (sym c.in_ok-next.ensures.ok) c.requires.follows,
+        ) c.without_cache.ensures.carried;
+  };
+}

@@ -1,0 +1,35 @@
+use Rattle.std.proofs.Common.{◌∙◌, ◌+◌, ap, sym}
+use Rattle.step_table.specs.Attempts.{ask_by, peer_at}
+use Rattle.step_table.specs.Failures.{row_of_attempt}
+use Rattle.step_actions.proofs.CallerLemmas.{decides_by}
+use Rattle.reply_decisions.proofs.attempt.retry.Goals as goal
+
+pub ask_again-requires-clause-follows : goal.ask_again-requires-clause-follows
+ask_again-requires-clause-follows g c =
+    c.requires.follows c.in-Some.next
+    (sym (λ i. ask_by (c.turn.view_is i).moment (c.ask.view_is i).question (c.ask.view_is i).route (c.from.ensures i)
+    ((c.ask.view_is i).used + 1) (peer_at (c.turn.view_is i).config (c.ask.view_is i).route (c.from.ensures i))
+    c.args.drawn)
+    ∙ sym c.in_ok-next.ensures ∙ c.in-Some.is)
+
+pub returns-in-Some : goal.returns-in-Some
+returns-in-Some g c = record {
+  decides =
+      decides_by c.ask_again.result _ _ _ c.ask_again.ensures.decides
+      (λ rooms. ap (row_of_attempt c.args.turn.now.moment c.args.ask.now c.args.turn.now.state)
+      (sym c.in-Some.is ∙ c.in_ok-next.ensures
+      ∙ (λ i. ask_by (c.turn.view_is i).moment (c.ask.view_is i).question (c.ask.view_is i).route (c.from.ensures i)
+      ((c.ask.view_is i).used + 1) (peer_at (c.turn.view_is i).config (c.ask.view_is i).route (c.from.ensures i))
+      c.args.drawn)));
+}
+
+pub returns-in-None : goal.returns-in-None
+returns-in-None g c = record {
+  decides =
+      decides_by c.give_up.result _ _ _ c.give_up.ensures.decides
+      (λ rooms. ap (row_of_attempt c.args.turn.now.moment c.args.ask.now c.args.turn.now.state)
+      (sym c.in-None.is ∙ c.in_ok-next.ensures
+      ∙ (λ i. ask_by (c.turn.view_is i).moment (c.ask.view_is i).question (c.ask.view_is i).route (c.from.ensures i)
+      ((c.ask.view_is i).used + 1) (peer_at (c.turn.view_is i).config (c.ask.view_is i).route (c.from.ensures i))
+      c.args.drawn)));
+}

@@ -1,0 +1,14 @@
+use Rattle.std.proofs.Common.{◌∙◌, refl, ap}
+use Rattle.std.specs.Prelude.{if◌then◌else◌}
+use Rattle.plain_list.specs.Borrowed.{lent}
+use Rattle.step_values.specs.declared.action.Why.TheVariants.{NoRoute}
+use Rattle.step_values.specs.Values.{Action}
+use Rattle.step_table.specs.Steps.{gets, failed}
+use Rattle.step_actions.proofs.CallerLemmas.{local_alike}
+use Rattle.reply_decisions.proofs.fate.ends_without_server.Goals as goal
+
+pub returns : goal.returns
+returns g c =
+    ap (λ (a : Action). gets a)
+    (c.in_ok-action.ensures
+    ∙ (λ i. if c.denies-is_denied.ensures i then local_alike c.request.result c.args.waiting.now (lent c.args.chain.now) (lent c.args.chain.now) c.args.moment c.request.ensures.client c.request.ensures.asked refl i else failed (c.request.ensures.client i) (c.request.ensures.asked i) NoRoute))

@@ -1,0 +1,81 @@
+use Rattle.std.proofs.Common.{◌≡◌, ◌∙◌, ◌<◌, List, [], ◌∷◌, ◌++◌, length, Option, Some, sym, ap, subst}
+use Rattle.std.specs.Prelude.{map}
+use Rattle.std.specs.List.{AllByRecursion, filter_map}
+use Rattle.std.proofs.lemmas.List.{length-map}
+use Rattle.trust_rank.specs.declared.slot.Slot.{Slot}
+use Rattle.outstanding.specs.Lists.{on_path as ask_on, without_path}
+use Rattle.outstanding.specs.Values.{Ask}
+use Rattle.step_values.specs.Values.{Action, actions_of}
+use Rattle.waiting_questions.specs.Onward.{Onward}
+use Rattle.step_table.specs.State.{Turn}
+use Rattle.step_table.specs.Attempts.{servers_in, group_of}
+use Rattle.step_table.specs.Steps.{ask_list, asks, closes, closing_step, offering_step, with_preferred_server, with_promoted}
+use Rattle.step_actions.specs.declared.decision.Sending.{Sending}
+use Rattle.step_actions.specs.Decision.{AreForThose, CanSendOn, IfFollows, IsSentEarlier}
+use Rattle.alias_chains.specs.Offering.{pieces_of}
+use Rattle.reply_decisions.specs.Fates.{onward_in, reply_of}
+use Rattle.reply_decisions.proofs.Deciding.{sending_row}
+use Rattle.step_actions.proofs.CallerLemmas.{server_within}
+use Rattle.reply_decisions.proofs.SendingOn.{sent_all}
+use Rattle.reply_decisions.proofs.sending.close_and_send_on.Goals as goal
+
+pub returns : goal.returns
+returns g c = record {
+  decides =
+      λ fate become.
+      let on : ask_on c.answered.inside.path c.args.turn.now.state.asks ≡ Some c.args.answered.now = ap
+      (λ (a : Ask). ask_on a.path c.args.turn.now.state.asks) c.answered.view_is ∙ c.requires.on in
+      let on_inside : ask_on c.args.answered.now.path c.turn.inside.inquiries.now.asks
+      ≡ Some c.args.answered.now = subst (λ (r : Turn). ask_on c.args.answered.now.path r.state.asks
+      ≡ Some c.args.answered.now) (sym c.turn.view_is) c.requires.on in
+      record {
+        row = λ rooms.
+            ap (offering_step c.args.turn.now.moment rooms (pieces_of c.args.carried.items))
+            (sending_row g.row.A.Denot c.args.turn.now.moment c.args.turn.now.state c.args.answered.now fate
+            c.args.fates.each c.args.next c.in_ok-onward.used c.in_ok-sending.sending _ c.requires.on become
+            (ap (λ (v : Sending g.row.A.Denot). v.path) c.in_ok-sending.ensures.ok
+            ∙ ap (λ (a : Ask). a.path) c.answered.view_is)
+            (ap (λ (v : Sending g.row.A.Denot). v.preferred.route) c.in_ok-sending.ensures.ok
+            ∙ ap (λ (a : Ask). a.route) c.answered.view_is)
+            (ap (λ (v : Sending g.row.A.Denot). v.preferred.server) c.in_ok-sending.ensures.ok
+            ∙ ap (λ (a : Ask). a.server) c.answered.view_is)
+            (ap (λ (v : Sending g.row.A.Denot). v.onward.items) c.in_ok-sending.ensures.ok
+            ∙ c.in_ok-onward.ensures.onward)
+            (ap (λ (v : Sending g.row.A.Denot). v.ask) c.in_ok-sending.ensures.ok)
+            (c.in_ok-put_next.ensures
+            ∙ ap (λ (ys : List Action). ys ++ map asks (ask_list c.args.next))
+            (c.in_ok-onward.ensures.replies
+            ∙ ap (λ (ys : List Action). ys ++ filter_map reply_of c.args.fates.each)
+            (ap (λ xs. actions_of {A = g.row.A.Denot} xs) (c.in_ok-push.ensures.ok
+            ∙ ap (λ xs. xs ++ c.close_path.result ∷ []) c.new-actions.ensures)
+            ∙ (λ i. (c.close_path.ensures ∙ ap (λ (a : Ask). closes a.path) c.answered.view_is) i ∷ []))))
+            ∙ ap (λ (slots : List Slot). closing_step c.args.turn.now.moment c.args.answered.now fate c.args.next
+            (with_promoted slots (with_preferred_server c.args.answered.now c.args.turn.now.state)))
+            c.in_ok-onward.ensures.used);
+        fits = record {
+          fits = subst (λ (v : Sending g.row.A.Denot). CanSendOn c.args.turn.now.config c.args.turn.now.moment
+              c.args.turn.now.state v.path v.preferred v.onward.items v.ask) (sym c.in_ok-sending.ensures.ok) (record {
+                those = subst (λ (r : Option Ask). AreForThose r c.in_ok-onward.onward.items
+                    c.args.turn.now.state.waiting)
+                    (sym on) (ap (λ (os : List (Option Onward)). length os) c.in_ok-onward.ensures.onward
+                    ∙ length-map c.args.fates.each onward_in ∙ c.requires.count);
+                earlier = subst (AllByRecursion (IsSentEarlier c.args.turn.now.moment))
+                    (sym c.in_ok-onward.ensures.onward)
+                    (sent_all c.args.turn.now.moment c.args.fates.each c.requires.earlier);
+                served = subst (λ (a : Ask). a.server < length (servers_in (group_of c.args.turn.now.config a.route)))
+                    (sym c.answered.view_is)
+                    (subst (λ (r : Turn). c.args.answered.now.server < length
+                    (servers_in (group_of r.config c.args.answered.now.route))) c.turn.view_is
+                    (server_within c.turn.inside.config.now c.turn.inside.before c.turn.inside.tcp_asks
+                    c.args.answered.now.path c.turn.inside.inquiries.now.asks c.args.answered.now on_inside
+                    c.turn.invariant.0.asks));
+                follows = subst (λ (a : Ask). IfFollows c.args.turn.now.config c.args.turn.now.moment
+                    c.args.turn.now.state
+                    (without_path a.path c.args.turn.now.state.asks) c.args.next)
+                    (sym c.answered.view_is) c.requires.follows;
+              });
+          few = c.requires.few;
+          routed = c.requires.routed;
+        };
+      };
+}

@@ -1,0 +1,32 @@
+use Rattle.std.proofs.Common.{◌≡◌, ◌∙◌, sym, ap, None, Some}
+use Rattle.std.proofs.lemmas.Result.{IfOk-weaker}
+use Rattle.outstanding.specs.Draws.{udp_draw}
+use Rattle.outstanding.specs.Lists.{without_path}
+use Rattle.outstanding.specs.Values.{Ask}
+use Rattle.suffix_routes.specs.Serving.{route_of}
+use Rattle.step_table.specs.Attempts.{ask_by, first_ask_on, freed_by, over_udp, peer_at}
+use Rattle.step_table.proofs.CallerLemmas.{draws_left}
+use Rattle.reply_decisions.specs.Sending.{closing_state}
+use Rattle.reply_decisions.proofs.sending.first_ask_then.Goals as goal
+use Rattle.step_table.specs.State.{from_state}
+
+pub returns : goal.returns
+returns g c =
+    let drawn : c.by_udp-drawn.result ≡ over_udp (udp_draw c.args.turn.now.words
+    (without_path c.args.answered.now.path c.args.turn.now.state.asks) None) =
+    c.by_udp-drawn.ensures
+    ∙ ap over_udp
+    (c.draw.ensures.drawn
+    ∙ (λ i. udp_draw (c.turn.view_is i).words (c.turn.view_is i).state.asks
+    ((c.freed_port.ensures ∙ ap (λ (a : Ask). freed_by a.path) c.answered.view_is) i))
+    ∙ sym (draws_left c.args.turn.now.words c.args.answered.now.path c.args.turn.now.state.asks)) in
+    let on : route_of c.args.turn.now.config c.args.question.now.name ≡ Some c.in-Some.route =
+    sym (c.serving_route_of.ensures ∙ (λ i. route_of (c.turn.view_is i).config (c.question.view_is i).name))
+    ∙ c.in-Some.is in
+    IfOk-weaker c.new_ask.result _ _ (λ ask is.
+    is
+    ∙ (λ i. ask_by (c.turn.view_is i).moment c.args.question.now c.in-Some.route (c.preferred_then.ensures i) 1
+    (peer_at (c.turn.view_is i).config c.in-Some.route (c.preferred_then.ensures i)) (drawn i))
+    ∙ sym (ap (first_ask_on (from_state (closing_state c.args.answered.now c.args.turn.now.state) c.args.turn.now)
+    c.args.question.now) on))
+    c.new_ask.ensures

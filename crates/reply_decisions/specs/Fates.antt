@@ -1,0 +1,108 @@
+-- What becomes of questions that waited for a reply which leads on to a name that it does not answer.
+use Rattle.std.specs.Prelude.{◌≡◌, ℕ, ◌+◌, ◌<◌, false, List, [], ◌∷◌, ◌++◌, filter, length, map, Option, Some, None}
+use Rattle.std.specs.List.{AllByRecursion}
+use Rattle.dns_message.specs.Values.{Question}
+use Rattle.suffix_routes.specs.Values.{Config}
+use Rattle.record_cache.specs.Values.{Held}
+use Rattle.record_cache.specs.Laws.{Among}
+use Rattle.step_values.specs.declared.action.Why.TheVariants.{NoPort}
+use Rattle.step_values.specs.Values.{Action, action_of}
+use Rattle.dns_message.specs.Questions.{asked_at}
+use Rattle.waiting_questions.specs.Values.{Waiting, waits_for}
+use Rattle.alias_chains.specs.LookingUp.{LookUp, look_up}
+use Rattle.step_table.specs.Steps as steps
+use Rattle.step_table.specs.Replies.{goes_on}
+use Rattle.step_table.specs.Clients.{fate_of}
+use Rattle.alias_chains.specs.Seen.{last_target, seen_of, Seen, UsesFew}
+use Rattle.waiting_questions.specs.Onward.{Onward, sent_on}
+use Rattle.reply_decisions.specs.declared.fate.Fate.{Fate}
+use Rattle.reply_decisions.specs.declared.fate.Fate.TheVariants.{Reply, SentOn}
+
+-- what becomes of one: its reply, or what it is sent on with
+pub data Becomes : Type 0 where
+  replied : Action → Becomes
+  sent : Onward → Becomes
+
+abbrev pub becomes : {A : Type 0} → Fate A → Becomes
+becomes (Reply action) = replied (action_of action)
+becomes (SentOn s) = sent s
+
+-- of all of them, in the order of taking, and the entries that their look-ups used
+pub record Fates : Type 0 where
+  pub each : List Becomes
+  pub used : List Held
+
+-- the fate of a question
+abbrev pub fate_in : Waiting → Becomes → steps.Fate
+fate_in x (replied action) = steps.gets action
+fate_in x (sent s) = steps.waits (sent_on s x)
+
+-- the fates of these questions
+abbrev pub fates_in : List Waiting → List Becomes → List steps.Fate
+fates_in [] each = []
+fates_in (x ∷ xs) [] = []
+fates_in (x ∷ xs) (b ∷ each) = fate_in x b ∷ fates_in xs each
+
+-- the aliases and the question that it is sent on with, where it is
+abbrev pub onward_in : Becomes → Option Onward
+onward_in (replied action) = None
+onward_in (sent s) = Some s
+
+-- its reply, if it gets one
+abbrev pub reply_of : Becomes → Option Action
+reply_of (replied action) = Some action
+reply_of (sent s) = None
+
+-- without a port, those that would wait on fail
+abbrev pub unless_sent : Waiting → Becomes → Becomes
+unless_sent x (replied action) = replied action
+unless_sent x (sent s) = replied (steps.gives_up NoPort x)
+
+-- of those that are sent on, what the first wants
+abbrev pub or_wanted : Option Onward → Option Question → Option Question
+or_wanted None q = q
+or_wanted (Some s) q = Some s.wanted
+
+abbrev pub first_wanted : List Becomes → Option Question
+first_wanted [] = None
+first_wanted (b ∷ each) = or_wanted (onward_in b) (first_wanted each)
+
+-- the name that these entries lead to, or this one where there are none
+abbrev pub or_name : Option (List (List ℕ)) → List (List ℕ) → List (List ℕ)
+or_name None name = name
+or_name (Some target) name = target
+
+abbrev pub name_behind : List Held → List (List ℕ) → List (List ℕ)
+name_behind used name = or_name (last_target used) name
+
+-- the look-up of what a question wants, once it holds the aliases of the reply too
+abbrev pub looked_behind : Config → ℕ → List Held → List Held → List (List ℕ) → Waiting → LookUp
+looked_behind c n entries aliases name x = goes_on c n entries (x.held ++ aliases) (asked_at x.wanted name)
+
+abbrev pub fate_behind : Config → ℕ → List Held → List Held → List (List ℕ) → Waiting → steps.Fate
+fate_behind c n entries aliases name x = fate_of c n x (looked_behind c n entries aliases name x)
+
+-- the look-up that goes on, with as many aliases as may still be taken
+pub record LooksOn (c : Config) (n : ℕ) (entries aliases : List Held) (name : List (List ℕ)) (x : Waiting) (l : Seen) : Type 0 where
+  pub more : ℕ
+  pub count : more + length (x.held ++ aliases) ≡ 8
+  pub is : l ≡ seen_of (look_up c.routes n entries more [] (asked_at x.wanted name))
+  pub few : UsesFew more l
+  pub from_cache : AllByRecursion (λ h. Among h entries) l.used
+
+-- it goes on, unless the aliases are too many already
+abbrev pub IfLooksOn : Config → ℕ → List Held → List Held → List (List ℕ) → Waiting → Option Seen → Type 0
+IfLooksOn c n entries aliases name x None = 8 < length (x.held ++ aliases)
+IfLooksOn c n entries aliases name x (Some l) = LooksOn c n entries aliases name x l
+
+-- what becomes of one question more, by this fate
+pub record OneMore (fate : Waiting → steps.Fate) (x : Waiting) (before after : List Becomes) : Type 0 where
+  pub one : Becomes
+  pub put : after ≡ before ++ one ∷ []
+  pub is : fate_in x one ≡ fate x
+
+-- these become of the questions that wait for one as a fate has it, and all others wait on
+pub record Become (q : Question) (fate : Waiting → steps.Fate) (xs : List Waiting) (each : List Becomes) : Type 0 where
+  pub count : length each ≡ length (filter (waits_for q) xs)
+  pub those : fates_in (filter (waits_for q) xs) each ≡ map fate (filter (waits_for q) xs)
+  pub others : (x : Waiting) → waits_for q x ≡ false → fate x ≡ steps.waits x

@@ -1,0 +1,155 @@
+//! What a failed attempt calls for: another ask, or an end.
+
+ghost use Rattle.std.specs.Prelude.{◌≡◌, Bool, List, ◌^◌, ◌<◌, ◌≤◌, ◌+◌, IfOk, IfSome, Some, None};
+ghost use Rattle.outstanding.specs.Values.{Ask as AskValue};
+ghost use Rattle.outstanding.specs.Lists.{on_path as ask_on, without_path};
+ghost use Rattle.step_table.specs.Attempts.{ask_by, peer_at};
+ghost use Rattle.step_table.specs.Steps.{closing_step, fails};
+ghost use Rattle.step_table.specs.Failures.{row_of_attempt, row_of_failure, row_of_failed_path, runs_out};
+ghost use Rattle.step_actions.specs.Decision.{IsQuiet, CanFollow, MeetsRow};
+ghost use Rattle.step_table.specs.State.{turn};
+
+use outstanding::{Ask, Path, draw};
+use plain_list::PlainList;
+use retry_failover::{Failure, Next, after};
+use std::alloc::{AllocError, Allocator};
+use std::hash::BuildHasher;
+use step_actions::{
+    Attempt, Change, Decision, TurnRef, ask as ask_action, by_tcp, by_udp, close_path,
+    draw_connection, failures, freed_port, last_replies, new_ask, nothing, plan,
+};
+use step_values::Why;
+
+/// The ask on a path is closed, and those that wait for it are told why.
+pub(crate) fn give_up<'a, H: BuildHasher + Drop, A: Allocator + Copy>(
+    turn: &TurnRef<'a, H, A>,
+    path: Path,
+    ask: &Ask<A>,
+    why: Why,
+) -> Result<Decision<'a, A>, AllocError>
+    requires { ask_on path turn.now.state.asks ≡ Some ask.now }
+    ensures decides { IfOk result (MeetsRow turn.now (λ _. closing_step turn.now.moment ask.now
+        (fails why ask.now.question) None turn.now.state)) }
+{
+    let actions = failures(turn.alloc, ask, turn.waiting, why)?;
+    Ok(Decision::without_cache(turn.alloc, actions, Change::Close(path, None)))
+}
+
+/// The ask on a path is closed, whose question has no try left: those that wait for it get the last that can be
+/// told.
+fn run_out<'a, H: BuildHasher + Drop, A: Allocator + Copy>(
+    turn: &TurnRef<'a, H, A>,
+    path: Path,
+    ask: &Ask<A>,
+) -> Result<Decision<'a, A>, AllocError>
+    requires on { ask_on path turn.now.state.asks ≡ Some ask.now }
+    ensures decides { IfOk result (MeetsRow turn.now (λ _. closing_step turn.now.moment ask.now
+        (runs_out turn.now.config turn.now.moment turn.now.state.cache.entries ask.now.question) None
+        turn.now.state)) }
+{
+    let actions = last_replies(
+        turn.alloc,
+        ask,
+        turn.cache,
+        turn.config,
+        turn.moment,
+        turn.waiting,
+    )?;
+    Ok(Decision::without_cache(turn.alloc, actions, Change::Close(path, None)))
+}
+
+/// The ask on a path is closed, and the next one goes out.
+fn ask_again<'a, H: BuildHasher + Drop, A: Allocator + Copy>(
+    turn: &TurnRef<'a, H, A>,
+    path: Path,
+    ask: &Ask<A>,
+    next: Ask<A>,
+) -> Result<Decision<'a, A>, AllocError>
+    requires on { ask_on path turn.now.state.asks ≡ Some ask.now }
+    requires follows { CanFollow turn.now.config turn.now.moment turn.now.state
+        (without_path path turn.now.state.asks) next }
+    ensures decides { IfOk result (MeetsRow turn.now (λ _. row_of_attempt turn.now.moment ask.now turn.now.state
+        (Some next))) }
+{
+    let mut actions = PlainList::new(turn.alloc);
+    actions.push(close_path(ask.path))?;
+    let action = ask_action(turn.alloc, &next)?;
+    actions.push(action)?;
+    let next = Box::new(turn.alloc, next)?;
+    Ok(Decision::without_cache(turn.alloc, actions, Change::AskAgain(path, next)))
+}
+
+/// The ask on a path is closed. Another server is asked over what was drawn; without a path those that wait fail.
+fn retry<'a, H: BuildHasher + Drop, A: Allocator + Copy>(
+    turn: &TurnRef<'a, H, A>,
+    path: Path,
+    ask: &Ask<A>,
+    server: u8,
+    drawn: Option<(u16, Path)>,
+) -> Result<Decision<'a, A>, AllocError>
+    requires on { ask_on path turn.now.state.asks ≡ Some ask.now }
+    requires tries { ask.now.used < 255 }
+    requires follows { (next : AskValue) → ask_by turn.now.moment ask.now.question ask.now.route server
+        (ask.now.used + 1) (peer_at turn.now.config ask.now.route server) drawn ≡ Some next
+        → CanFollow turn.now.config turn.now.moment turn.now.state (without_path path turn.now.state.asks) next }
+    ensures decides { IfOk result (MeetsRow turn.now (λ _. row_of_attempt turn.now.moment ask.now turn.now.state
+        (ask_by turn.now.moment ask.now.question ask.now.route server (ask.now.used + 1)
+        (peer_at turn.now.config ask.now.route server) drawn))) }
+{
+    let attempt = Attempt {
+        route: ask.route,
+        server: usize::from(server),
+        used: ask.used + 1,
+    };
+    match new_ask(
+        turn.alloc,
+        turn.config,
+        turn.moment,
+        &ask.question,
+        attempt,
+        drawn,
+    )? {
+        Some(next) => ask_again(turn, path, ask, next),
+        None => give_up(turn, path, ask, Why::NoPort),
+    }
+}
+
+/// An attempt failed: its ask is closed; then the next one goes out, or those that wait for it are told why not.
+pub(crate) fn fail<'a, H: BuildHasher + Drop, A: Allocator + Copy>(
+    turn: &TurnRef<'a, H, A>,
+    path: Path,
+    ask: &Ask<A>,
+    failure: Failure,
+) -> Result<Decision<'a, A>, AllocError>
+    requires on { ask_on path turn.now.state.asks ≡ Some ask.now }
+    ensures decides { IfOk result (MeetsRow turn.now (λ _. row_of_failure turn.now ask.now failure)) }
+{
+    let _listed = turn.inquiries.by_path(path);
+    let plan = plan(turn.config, ask);
+    match after(&plan, failure) {
+        Next::GiveUp => run_out(turn, path, ask),
+        Next::AskUdp(server) => {
+            let drawn = draw(turn.words, turn.inquiries, freed_port(ask.path));
+            retry(turn, path, ask, server, by_udp(drawn))
+        }
+        Next::AskTcp(server) => {
+            let drawn = draw_connection(turn.words, turn.tcp_asks);
+            retry(turn, path, ask, server, by_tcp(drawn))
+        }
+    }
+}
+
+/// A path can't be used any more.
+pub fn on_failed_path<'a, H: BuildHasher + Drop, A: Allocator + Copy>(
+    turn: &TurnRef<'a, H, A>,
+    path: Path,
+) -> Result<Decision<'a, A>, AllocError>
+    ensures decides { IfOk result (MeetsRow turn.now (λ _. row_of_failed_path turn.now
+        (ask_on path turn.now.state.asks))) }
+    ensures unlisted { ask_on path turn.now.state.asks ≡ None → IsQuiet result }
+{
+    match turn.inquiries.by_path(path) {
+        Some(ask) => fail(turn, path, ask, Failure::Broken),
+        None => Ok(nothing(turn)),
+    }
+}

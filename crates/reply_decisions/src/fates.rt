@@ -1,0 +1,190 @@
+//! What becomes of all questions that waited for one reply.
+
+ghost use Rattle.std.specs.Prelude.{◌≡◌, ◌++◌, ◌+◌, ◌≤◌, ◌∷◌, ℕ, List, [], length, map, IfOk, MatchOption, None, Some};
+ghost use Rattle.record_cache.specs.Values.{Held as HeldValue};
+ghost use Rattle.dns_message.specs.Questions.{asked_at};
+ghost use Rattle.alias_chains.specs.LookingUp.{look_up};
+ghost use Rattle.alias_chains.specs.Seen.{seen_of};
+ghost use Rattle.alias_chains.specs.declared.looked.LookUpEnd.{LookUpEnd};
+ghost use Rattle.std.specs.List.{AllByRecursion, filter_map, flat_map};
+ghost use Rattle.answer_builder.specs.Answers.{IsEarlier};
+ghost use Rattle.step_table.specs.Replies.{without_port};
+ghost use Rattle.step_table.specs.Steps.{replies};
+ghost use Rattle.step_values.specs.Values.{actions_of};
+ghost use Rattle.reply_decisions.specs.Fates.{becomes, fates_in, fate_behind, first_wanted, looked_behind, onward_in, reply_of, OneMore};
+
+use crate::fate::{AliasLead, Fate, fails, fate_of, unless_sent};
+use crate::looking_on::look_on;
+use alias_chains::{LookUp, SlotsRef};
+use dns_message::Question;
+use plain_list::PlainList;
+use record_cache::{Cache, Held};
+use std::alloc::{AllocError, Allocator, Global};
+use std::hash::BuildHasher;
+use std::marker::Model;
+use step_values::{Action, Why};
+use suffix_routes::Config;
+use waiting_questions::{SentOn, Waiting, WaitingFor};
+
+/// What becomes of questions, in the order in which they were taken, and the entries that their look-ups used.
+#[derive(Drop)]
+pub struct Fates<'a, A: Allocator = Global> {
+    each: Vec<Fate<A>, A>,
+    used: Vec<&'a Held<A>, A>,
+}
+
+impl<'a, A: Allocator> Model for Fates<'a, A> {
+    ghost use Rattle.std.specs.Prelude.{map};
+    ghost use Rattle.plain_list.specs.Borrowed.{lent};
+    ghost use Rattle.reply_decisions.specs.Fates.{Fates, becomes};
+
+    ghost Value = { Fates };
+
+    ghost view = { λ f. record { each = map becomes f.each.items; used = lent f.used.items } };
+}
+
+/// What becomes of the questions that waited for a reply which leads on: each looks on at the name that it leads to, in the
+/// cache as it is, question by question, at this moment in milliseconds. `Err` where memory ran out.
+pub fn fates_behind<'a, H: BuildHasher + Drop, A: Allocator + Copy>(
+    alloc: A,
+    cache: &'a Cache<H, A>,
+    config: &Config<A>,
+    moment: u64,
+    lead: &AliasLead<'_, A>,
+    those: &WaitingFor<'_, A>,
+) -> Result<Fates<'a, A>, AllocError>
+    requires entries { AllByRecursion (IsEarlier moment) cache.now.entries }
+    requires aliases { AllByRecursion (IsEarlier moment) lead.now.aliases.now }
+    requires own { AllByRecursion (λ x. AllByRecursion (IsEarlier moment) x.held) those.now }
+    ensures fates { IfOk result (λ f. fates_in those.now f.each ≡ map (fate_behind config.now moment cache.now.entries lead.now.aliases.now lead.now.name.now) those.now) }
+    ensures count { IfOk result (λ f. length f.each ≡ length those.now) }
+    ensures used { IfOk result (λ f. map (λ h. h.piece.slot) f.used ≡ flat_map (λ x. (looked_behind config.now moment cache.now.entries lead.now.aliases.now lead.now.name.now x).used) those.now) }
+{
+    let mut fates = Fates {
+        each: Vec::with_capacity(alloc, those.len())?,
+        used: Vec::new(alloc),
+    };
+    for place in 0..those.len() {
+        fates.add(alloc, cache, config, moment, lead, those.get(place))?;
+    }
+    Ok(fates)
+}
+
+impl<'a, A: Allocator + Copy> Fates<'a, A> {
+    /// Puts last what becomes of one question more by its look-up, and the entries that this used.
+    fn put_looked(
+        &mut self,
+        alloc: A,
+        config: &Config<A>,
+        moment: u64,
+        lead: &AliasLead<'_, A>,
+        waiting: &Waiting<A>,
+        looked: &LookUp<'a, A>,
+    ) -> Result<(), AllocError>
+        requires own { AllByRecursion (IsEarlier moment) waiting.now.held }
+        requires aliases { AllByRecursion (IsEarlier moment) lead.now.aliases.now }
+        requires used { AllByRecursion (IsEarlier moment) looked.now.used }
+        requires few { looked.now.met ≡ LookUpEnd.Missed → length ((waiting.now.held ++ lead.now.aliases.now) ++ looked.now.used) ≤ 8 }
+        ensures fate { (entries : List HeldValue) → (more : ℕ) → more + length (waiting.now.held ++ lead.now.aliases.now) ≡ 8
+            → looked.now ≡ seen_of (look_up config.now.routes moment entries more [] (asked_at waiting.now.wanted lead.now.name.now))
+            → IfOk result (λ _. OneMore (fate_behind config.now moment entries lead.now.aliases.now lead.now.name.now) waiting.now self.old.each self.new.each) }
+        ensures used { IfOk result (λ _. self.new.used ≡ self.old.used ++ looked.now.used) }
+    {
+        self.used.extend_from_slice(looked.used())?;
+        let fate = fate_of(alloc, config, moment, lead, waiting, looked)?;
+        self.put(fate)
+    }
+
+    /// Looks on for one question more, and puts last what becomes of it.
+    fn add<H: BuildHasher + Drop>(
+        &mut self,
+        alloc: A,
+        cache: &'a Cache<H, A>,
+        config: &Config<A>,
+        moment: u64,
+        lead: &AliasLead<'_, A>,
+        waiting: &Waiting<A>,
+    ) -> Result<(), AllocError>
+        requires entries { AllByRecursion (IsEarlier moment) cache.now.entries }
+        requires aliases { AllByRecursion (IsEarlier moment) lead.now.aliases.now }
+        requires own { AllByRecursion (IsEarlier moment) waiting.now.held }
+        ensures fate { IfOk result (λ _. OneMore (fate_behind config.now moment cache.now.entries lead.now.aliases.now lead.now.name.now) waiting.now self.old.each self.new.each) }
+        ensures used { IfOk result (λ _. map (λ h. h.piece.slot) self.new.used
+            ≡ map (λ h. h.piece.slot) self.old.used ++ (looked_behind config.now moment cache.now.entries lead.now.aliases.now lead.now.name.now waiting.now).used) }
+    {
+        match look_on(alloc, cache, config, moment, lead, waiting)? {
+            None => {
+                let fate = fails(alloc, waiting, Why::ChainLong)?;
+                self.put(fate)
+            }
+            Some(looked) => self.put_looked(alloc, config, moment, lead, waiting, &looked),
+        }
+    }
+
+    /// Puts last what becomes of one question more.
+    fn put(&mut self, fate: Fate<A>) -> Result<(), AllocError>
+        ensures each { IfOk result (λ _. self.new.each ≡ self.old.each ++ becomes fate ∷ []) }
+        ensures used { self.new.used ≡ self.old.used }
+    {
+        self.each.push(fate)?;
+        Ok(())
+    }
+
+    /// What the first of those that are sent on wants to know, which all of them want; `None` exactly where none is sent on. It
+    /// takes no memory.
+    pub fn wanted(&self) -> Option<&Question<A>>
+        ensures { MatchOption result (first_wanted self.now.each ≡ None) (λ q. first_wanted self.now.each ≡ Some q.now) }
+    {
+        for fate in &self.each {
+            if let Fate::SentOn(sent_on) = fate {
+                return Some(&sent_on.wanted);
+            }
+        }
+        None
+    }
+
+    /// The same, where those that would be sent on fail, since no port is free for an ask. `Err` where memory ran out.
+    pub fn without_port(
+        self,
+        alloc: A,
+        those: &WaitingFor<'_, A>,
+    ) -> Result<Fates<'a, A>, AllocError>
+        requires { length self.each ≡ length those.now }
+        ensures fates { IfOk result (λ f. fates_in those.now f.each ≡ map without_port (fates_in those.now self.entry.each)) }
+        ensures count { IfOk result (λ f. length f.each ≡ length those.now) }
+        ensures used { IfOk result (λ f. f.used ≡ self.entry.used) }
+    {
+        let Fates { each, used } = self;
+        let mut told = Vec::with_capacity(alloc, each.len())?;
+        for fate in each {
+            let waiting = those.get(told.len());
+            told.push(unless_sent(alloc, waiting, fate)?)?;
+        }
+        Ok(Fates { each: told, used })
+    }
+
+    /// Puts the replies last, and gives what each question is sent on with, if it is, and the slots that look-ups used, in
+    /// order. `Err` where memory ran out.
+    pub fn into_parts(
+        self,
+        alloc: A,
+        actions: &mut PlainList<Action<A>, A>,
+    ) -> Result<(Vec<Option<SentOn<A>>, A>, SlotsRef<'a, A>), AllocError>
+        ensures replies { IfOk result (λ parts. actions_of actions.new ≡ actions_of actions.old ++ filter_map reply_of self.entry.each) }
+        ensures onward { IfOk result (λ parts. parts.0.items ≡ map onward_in self.entry.each) }
+        ensures used { IfOk result (λ parts. parts.1 ≡ map (λ h. h.piece.slot) self.entry.used) }
+    {
+        let Fates { each, used } = self;
+        let mut onward = Vec::with_capacity(alloc, each.len())?;
+        for fate in each {
+            match fate {
+                Fate::Reply(action) => {
+                    actions.push(action)?;
+                    onward.push(None)?;
+                }
+                Fate::SentOn(sent_on) => onward.push(Some(sent_on))?,
+            }
+        }
+        Ok((onward, SlotsRef::of(used)))
+    }
+}

@@ -1,0 +1,15 @@
+//! What a message of a server, the failure of a path and the passing of time call for: answers, another ask, or an end. Nothing
+//! is changed.
+#![tactic(auto)]
+
+mod attempt;
+mod delivery;
+mod fate;
+mod fates;
+mod looking_on;
+mod sending;
+mod tick;
+
+pub use attempt::on_failed_path;
+pub use delivery::on_delivery;
+pub use tick::on_tick;

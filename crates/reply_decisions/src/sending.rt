@@ -1,0 +1,228 @@
+//! What a reply calls for whose aliases lead on to a name that it does not answer, or that is on another route.
+
+ghost use Rattle.std.specs.Prelude.{◌≡◌, ◌^◌, ◌<◌, ◌≤◌, ◌++◌, List, Bool, true, filter, is_some, length, map, IfOk};
+ghost use Rattle.std.specs.List.{AllByRecursion};
+ghost use Rattle.outstanding.specs.Lists.{on_path as ask_on, of_question, without_path};
+ghost use Rattle.waiting_questions.specs.Values.{Waiting, waits_for};
+ghost use Rattle.step_table.specs.Attempts.{first_ask_for, preferred_on};
+ghost use Rattle.step_table.specs.Steps.{Fate, ask_list, asks, closing_step, offering_step, with_preferred_server, with_promoted};
+ghost use Rattle.step_table.specs.Replies.{row_of_acceptance};
+ghost use Rattle.step_values.specs.Values.{actions_of};
+ghost use Rattle.step_actions.specs.Decision.{MeetsRow, IfFollows, IsRouted, IsSentEarlier};
+ghost use Rattle.alias_chains.specs.Offering.{pieces_of};
+ghost use Rattle.reply_decisions.specs.Fates.{fates_in, onward_in, Become};
+ghost use Rattle.reply_decisions.specs.Sending.{ask_for, asked_for, closing_state, fates_then};
+ghost use Rattle.reply_decisions.specs.Walked.{leads_on, IsWalkFor};
+ghost use Rattle.step_table.specs.State.{turn, from_state};
+
+use crate::fate::AliasLead;
+use crate::fates::{Fates, fates_behind};
+use alias_chains::held_from;
+use dns_message::Question;
+use outstanding::{Ask, Path, draw};
+use plain_list::PlainList;
+use record_cache::Held;
+use std::alloc::{AllocError, Allocator};
+use std::hash::BuildHasher;
+use step_actions::{
+    Attempt, Change, Decision, Preferred, Sending, TurnRef, ask as ask_action, by_udp, close_path,
+    freed_port, new_ask,
+};
+use step_values::Action;
+use suffix_routes::RouteId;
+use trust_rank::{End, Walk};
+use waiting_questions::WaitingFor;
+
+/// The ask goes out last, where there is one.
+fn put_next<A: Allocator + Copy>(
+    alloc: A,
+    actions: &mut PlainList<Action<A>, A>,
+    next: &Option<Ask<A>>,
+) -> Result<(), AllocError>
+    ensures { IfOk result (λ _. actions_of actions.new ≡ actions_of actions.old ++ map asks (ask_list next.now)) }
+{
+    if let Some(next) = next {
+        let action = ask_action(alloc, next)?;
+        actions.push(action)?;
+    }
+    Ok(())
+}
+
+/// The server of a route that is asked first once this ask is answered.
+fn preferred_then<'a, H: BuildHasher + Drop, A: Allocator + Copy>(
+    turn: &TurnRef<'a, H, A>,
+    route: RouteId,
+    answered: &Ask<A>,
+) -> usize
+    requires { ask_on answered.now.path turn.now.state.asks ≡ Some answered.now }
+    ensures { result ≡ preferred_on (with_preferred_server answered.now turn.now.state) route }
+{
+    let own = answered.route;
+    let before = turn.preferred.get(route.place).copied().unwrap_or(0);
+    if route.place == own.place {
+        answered.server
+    } else {
+        before
+    }
+}
+
+/// The first ask for a question once this ask is answered, whose port counts as free; `None` where its name has
+/// no route, or no port is free.
+fn first_ask_then<'a, H: BuildHasher + Drop, A: Allocator + Copy>(
+    turn: &TurnRef<'a, H, A>,
+    answered: &Ask<A>,
+    question: &Question<A>,
+) -> Result<Option<Ask<A>>, AllocError>
+    requires { ask_on answered.now.path turn.now.state.asks ≡ Some answered.now }
+    ensures { IfOk result (λ ask. ask ≡ first_ask_for (from_state
+        (closing_state answered.now turn.now.state) turn.now) question.now) }
+{
+    let Some(route) = turn.config.serving_route_of(&question.name) else {
+        return Ok(None);
+    };
+    let attempt = Attempt {
+        route,
+        server: preferred_then(turn, route, answered),
+        used: 1,
+    };
+    let drawn = by_udp(draw(turn.words, turn.inquiries, freed_port(answered.path)));
+    new_ask(
+        turn.alloc,
+        turn.config,
+        turn.moment,
+        question,
+        attempt,
+        drawn,
+    )
+}
+
+/// An ask of the question is listed beside the one that is answered.
+fn is_asked_beside<'a, H: BuildHasher + Drop, A: Allocator + Copy>(
+    turn: &TurnRef<'a, H, A>,
+    question: &Question<A>,
+    answered: &Ask<A>,
+) -> bool
+    requires { ask_on answered.now.path turn.now.state.asks ≡ Some answered.now }
+    ensures { result ≡ is_some (of_question question.now (without_path answered.now.path turn.now.state.asks)) }
+{
+    match turn.inquiries.by_question(question) {
+        Some(open) => !open.path.is_same(answered.path),
+        None => false,
+    }
+}
+
+/// The ask for what those that are sent on want to know, where none is listed. Where no port is free for it, they
+/// fail.
+fn ask_for_those<'a, H: BuildHasher + Drop, A: Allocator + Copy>(
+    turn: &TurnRef<'a, H, A>,
+    answered: &Ask<A>,
+    fates: Fates<'a, A>,
+    those: &WaitingFor<'_, A>,
+) -> Result<(Fates<'a, A>, Option<Ask<A>>), AllocError>
+    requires on { ask_on answered.now.path turn.now.state.asks ≡ Some answered.now }
+    requires count { length fates.each ≡ length those.now }
+    ensures ask { IfOk result (λ parts. parts.1 ≡ ask_for
+        (from_state (closing_state answered.now turn.now.state) turn.now)
+        (asked_for answered.now turn.now.state (fates_in those.now fates.entry.each))) }
+    ensures fates { IfOk result (λ parts. fates_in those.now parts.0.each ≡ fates_then
+        (asked_for answered.now turn.now.state (fates_in those.now fates.entry.each)) parts.1
+        (fates_in those.now fates.entry.each)) }
+    ensures count { IfOk result (λ parts. length parts.0.each ≡ length those.now) }
+    ensures used { IfOk result (λ parts. parts.0.used ≡ fates.entry.used) }
+{
+    let Some(wanted) = fates.wanted() else {
+        return Ok((fates, None));
+    };
+    if is_asked_beside(turn, wanted, answered) {
+        return Ok((fates, None));
+    }
+    match first_ask_then(turn, answered, wanted)? {
+        Some(next) => Ok((fates, Some(next))),
+        None => Ok((fates.without_port(turn.alloc, those)?, None)),
+    }
+}
+
+/// The ask is closed, replies are given, and the next ask goes out.
+fn close_and_send_on<'a, H: BuildHasher + Drop, A: Allocator + Copy>(
+    turn: &TurnRef<'a, H, A>,
+    answered: &Ask<A>,
+    fates: Fates<'a, A>,
+    next: Option<Ask<A>>,
+    carried: Vec<Held<A>, A>,
+) -> Result<Decision<'a, A>, AllocError>
+    requires on { ask_on answered.now.path turn.now.state.asks ≡ Some answered.now }
+    requires count { length fates.each ≡ length (filter (waits_for answered.now.question) turn.now.state.waiting) }
+    requires earlier { AllByRecursion (λ b. IsSentEarlier turn.now.moment (onward_in b)) fates.each }
+    requires follows { IfFollows turn.now.config turn.now.moment turn.now.state
+        (without_path answered.now.path turn.now.state.asks) next }
+    requires few { length (pieces_of carried.items) < 2 ^ 32 }
+    requires routed { AllByRecursion (IsRouted turn.now.config) (pieces_of carried.items) }
+    ensures decides { (fate : Waiting → Fate) → Become answered.now.question fate turn.now.state.waiting
+        fates.entry.each
+        → IfOk result (MeetsRow turn.now (λ rooms. offering_step turn.now.moment rooms (pieces_of carried.items)
+        (closing_step turn.now.moment answered.now fate next
+        (with_promoted (map (λ h. h.piece.slot) fates.entry.used)
+        (with_preferred_server answered.now turn.now.state))))) }
+{
+    let mut actions = PlainList::new(turn.alloc);
+    actions.push(close_path(answered.path))?;
+    let (onward, used) = fates.into_parts(turn.alloc, &mut actions)?;
+    put_next(turn.alloc, &mut actions, &next)?;
+    let preferred = Preferred {
+        route: answered.route,
+        server: answered.server,
+    };
+    let sending = Sending {
+        path: answered.path,
+        preferred,
+        onward,
+        ask: next,
+    };
+    let sending = Box::new(turn.alloc, sending)?;
+    Ok(Decision {
+        actions,
+        used,
+        change: Change::SendOn(sending),
+        carried,
+    })
+}
+
+/// A reply is accepted that leads on to a name: each question that waits for it looks on there, and gets its
+/// reply or waits on; what the reply carries is kept.
+pub(crate) fn send_on<'a, H: BuildHasher + Drop, A: Allocator + Copy>(
+    turn: &TurnRef<'a, H, A>,
+    answered: &Ask<A>,
+    walk: Walk<A>,
+) -> Result<Decision<'a, A>, AllocError>
+    requires on { ask_on answered.now.path turn.now.state.asks ≡ Some answered.now }
+    requires leads { leads_on walk.end ≡ true }
+    requires carried { IsWalkFor turn.now.config answered.now walk }
+    ensures decides { IfOk result (MeetsRow turn.now (λ rooms. row_of_acceptance turn.now rooms answered.now walk)) }
+{
+    let Walk {
+        pieces,
+        authority,
+        end,
+    } = walk;
+    let End::Elsewhere(name) = end else {
+        unreachable!();
+    };
+    let _listed = turn.inquiries.by_path(answered.path);
+    let walked = pieces.as_slice().len();
+    let held = held_from(turn.alloc, pieces, authority, turn.moment)?;
+    let those = turn.waiting.for_question(&answered.question);
+    let lead = AliasLead {
+        aliases: &held[..walked],
+        name: &name,
+    };
+    let fates = fates_behind(
+        turn.alloc,
+        turn.cache,
+        turn.config,
+        turn.moment,
+        &lead,
+        &those,
+    )?;
+    let (fates, next) = ask_for_those(turn, answered, fates, &those)?;
+    close_and_send_on(turn, answered, fates, next, held)
+}

@@ -1,0 +1,104 @@
+//! What the passing of time calls for: the oldest question or the oldest ask is served, where it is due.
+
+ghost use Rattle.std.specs.Prelude.{◌≡◌, Bool, List, ◌^◌, ◌≤◌, false, IfOk, Some, drop, slice_get};
+ghost use Rattle.step_table.specs.Row.{is_due_at};
+ghost use Rattle.step_table.specs.Ticks.{attempt, question, expiry_step, left_alone, row_of_item, row_of_tick};
+ghost use Rattle.step_actions.specs.Decision.{closed_path, IsQuiet, MeetsRow};
+ghost use Rattle.step_table.specs.State.{turn};
+
+use crate::attempt::fail;
+use outstanding::{Ask, Path};
+use retry_failover::Failure;
+use std::alloc::{AllocError, Allocator};
+use std::hash::BuildHasher;
+use step_actions::{
+    Change, Decision, TurnRef, close_paths, comes_first, failure, is_late, is_overdue, nothing,
+};
+use step_values::Why;
+use waiting_questions::Waiting;
+
+/// The path of the oldest question's ask, where no other question waits for it.
+fn left_alone<'a, H: BuildHasher + Drop, A: Allocator + Copy>(
+    turn: &TurnRef<'a, H, A>,
+    oldest: &Waiting<A>,
+) -> Option<Path>
+    ensures { result ≡ closed_path (left_alone oldest.now.wanted
+        (drop 1 turn.now.state.waiting) turn.now.state.asks) }
+{
+    if turn.waiting.is_any_other_for(oldest.wanted()) {
+        return None;
+    }
+    match turn.inquiries.by_question(oldest.wanted()) {
+        Some(ask) => Some(ask.path),
+        None => None,
+    }
+}
+
+/// The oldest question has waited as long as it may. With the last one that waits for it, an ask is closed.
+fn expire<'a, H: BuildHasher + Drop, A: Allocator + Copy>(
+    turn: &TurnRef<'a, H, A>,
+    oldest: &Waiting<A>,
+) -> Result<Decision<'a, A>, AllocError>
+    requires { slice_get turn.now.state.waiting 0 ≡ Some oldest.now }
+    ensures decides { IfOk result (MeetsRow turn.now (λ _. expiry_step turn.now.moment oldest.now
+        (drop 1 turn.now.state.waiting) (left_alone oldest.now.wanted
+        (drop 1 turn.now.state.waiting) turn.now.state.asks) turn.now.state)) }
+{
+    let closed = left_alone(turn, oldest);
+    let mut actions = close_paths(turn.alloc, closed)?;
+    let action = failure(turn.alloc, &oldest.request(), Why::Deadline)?;
+    actions.push(action)?;
+    Ok(Decision::without_cache(turn.alloc, actions, Change::Expire(closed)))
+}
+
+/// The oldest question comes first.
+fn on_question<'a, H: BuildHasher + Drop, A: Allocator + Copy>(
+    turn: &TurnRef<'a, H, A>,
+    oldest: &Waiting<A>,
+) -> Result<Decision<'a, A>, AllocError>
+    requires { slice_get turn.now.state.waiting 0 ≡ Some oldest.now }
+    ensures decides { IfOk result (MeetsRow turn.now (λ _. row_of_item turn.now
+        (question oldest.now (drop 1 turn.now.state.waiting)))) }
+    ensures early { is_due_at turn.now.config turn.now.moment turn.now.state ≡ false → IsQuiet result }
+{
+    if !is_overdue(turn.config, turn.moment, oldest) {
+        return Ok(nothing(turn));
+    }
+    expire(turn, oldest)
+}
+
+/// The oldest ask comes first.
+fn on_attempt<'a, H: BuildHasher + Drop, A: Allocator + Copy>(
+    turn: &TurnRef<'a, H, A>,
+    oldest: &Ask<A>,
+) -> Result<Decision<'a, A>, AllocError>
+    requires first { slice_get turn.now.state.asks 0 ≡ Some oldest.now }
+    ensures decides { IfOk result (MeetsRow turn.now (λ _. row_of_item turn.now (attempt oldest.now))) }
+    ensures early { is_due_at turn.now.config turn.now.moment turn.now.state ≡ false → IsQuiet result }
+{
+    if !is_late(turn.config, turn.moment, oldest) {
+        return Ok(nothing(turn));
+    }
+    fail(turn, oldest.path, oldest, Failure::TimedOut)
+}
+
+/// Time has passed.
+pub fn on_tick<'a, H: BuildHasher + Drop, A: Allocator + Copy>(
+    turn: &TurnRef<'a, H, A>,
+) -> Result<Decision<'a, A>, AllocError>
+    ensures decides { IfOk result (MeetsRow turn.now (λ _. row_of_tick turn.now)) }
+    ensures early { is_due_at turn.now.config turn.now.moment turn.now.state ≡ false → IsQuiet result }
+{
+    match (turn.waiting.first(), turn.inquiries.oldest()) {
+        (None, None) => Ok(nothing(turn)),
+        (None, Some(ask)) => on_attempt(turn, ask),
+        (Some(waiting), None) => on_question(turn, waiting),
+        (Some(waiting), Some(ask)) => {
+            if comes_first(turn.config, waiting, ask) {
+                on_question(turn, waiting)
+            } else {
+                on_attempt(turn, ask)
+            }
+        }
+    }
+}

@@ -1,7 +1,0 @@
-use Rattle.std.proofs.Common.{◌≡◌}
-use Rattle.socket_wire.specs.Listed.{first_idle}
-use Rattle.socket_wire.proofs.clients.Clients.oldest_idle.Given as goal
-
--- none of those before waits for nothing
-abbrev pub invariant-loop-conn : goal.invariant-loop-conn
-invariant-loop-conn g l = first_idle l.conn-iterator ≡ first_idle l.self

@@ -1,7 +1,0 @@
-use Rattle.std.proofs.Common.{◌≡◌}
-use Rattle.socket_wire.specs.Listed.{first_resting}
-use Rattle.socket_wire.proofs.clients.Clients.oldest_resting.Given as goal
-
--- none of those before has waited for nothing for a while
-abbrev pub invariant-loop-conn : goal.invariant-loop-conn
-invariant-loop-conn g l = first_resting l.now l.conn-iterator ≡ first_resting l.now l.self

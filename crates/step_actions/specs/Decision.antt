@@ -1,0 +1,176 @@
+-- What a step is about to do, before it is put in place.
+use Rattle.std.specs.Prelude.{◌≡◌, ℕ, suc, ◌+◌, ◌^◌, ◌<◌, ◌≤◌, Bool, if◌then◌else◌, not, nat_le, List, [], ◌∷◌, ◌++◌, length, drop, filter, slice_set, Option, Some, None, Result, Ok, Err}
+use Rattle.std.specs.declared.alloc.AllocError.{AllocError}
+use Rattle.suffix_routes.specs.Values.{Config}
+use Rattle.dns_message.specs.Values.{Question}
+use Rattle.outstanding.specs.declared.ask.Path.{Path}
+use Rattle.step_actions.specs.declared.decision.Preferred.{Preferred}
+use Rattle.step_actions.specs.declared.decision.Change.{Change}
+use Rattle.step_actions.specs.declared.decision.Change.TheVariants.{Nothing, Join, Open, Close, SendOn, AskAgain, Expire}
+use Rattle.step_actions.specs.declared.decision.Decision.{Decision}
+use Rattle.step_values.specs.Values.{Event, restart, Action, actions_of, Outcome}
+use Rattle.step_table.specs.State.{State, Turn}
+use Rattle.waiting_questions.specs.Values.{Waiting, waits_for}
+use Rattle.outstanding.specs.Lists.{on_path as ask_on, without_path, MayBegin, is_tcp}
+use Rattle.outstanding.specs.Values.{Ask}
+use Rattle.step_table.specs.Steps.{Done, Fate, gets, waits, gives_up, ask_list, tcp_count, closes, reply_in, with_promoted, offering_step, sends, transport_of}
+use Rattle.step_table.specs.Row.{is_due_at, Happens}
+use Rattle.answer_builder.specs.Transports.{answer_of}
+use Rattle.trust_rank.specs.Values.{Piece}
+use Rattle.step_actions.specs.Spelling.{Source}
+use Rattle.step_actions.specs.Kept.{IsKeptAsk, HoldsEarlier}
+use Rattle.answer_builder.specs.Answers.{IsEarlier}
+use Rattle.std.specs.List.{AllByRecursion}
+use Rattle.trust_rank.specs.Walks.{most_aliases}
+use Rattle.waiting_questions.specs.Onward.{Onward}
+use Rattle.step_values.specs.declared.action.Why.TheVariants.{Answered, ChainLong}
+use Rattle.waiting_questions.specs.Settling.{settled}
+use Rattle.alias_chains.specs.Offering.{pieces_of}
+
+-- one more ask by TCP, where the path is a connection
+abbrev pub tcp_count_of : Path → ℕ
+tcp_count_of p = if is_tcp p then 1 else 0
+
+-- those that did not wait for the ask
+abbrev pub left_waiting : Option Ask → List Waiting → List Waiting
+left_waiting None xs = xs
+left_waiting (Some a) xs = filter (λ x. not (waits_for a.question x)) xs
+
+-- those that waited for the ask, as their fates have it: each waits no more, or waits on with what it is sent on with
+abbrev pub left_or_sent : Option Ask → List (Option Onward) → List Waiting → List Waiting
+left_or_sent None onward xs = xs
+left_or_sent (Some a) onward xs = settled a.question onward xs
+
+abbrev pub with_preferred : Option Preferred → List ℕ → List ℕ
+with_preferred None places = places
+with_preferred (Some p) places = slice_set places p.route p.server
+
+abbrev pub without_closed : Option Path → List Ask → List Ask
+without_closed None listed = listed
+without_closed (Some path) listed = without_path path listed
+
+abbrev pub closed_path : Option Ask → Option Path
+closed_path None = None
+closed_path (Some a) = Some a.path
+
+-- a path that is given up, where there is one
+abbrev pub closing_path : Option Path → List Action
+closing_path None = []
+closing_path (Some path) = closes path ∷ []
+
+abbrev pub changed : {A : Type 0} → ℕ → State → Change A → State
+changed n s Nothing = record s { moment = n }
+changed n s (Join b) = record s { waiting = s.waiting ++ b.value ∷ []; moment = n }
+changed n s (Open b) = record s { asks = s.asks ++ b.value.ask ∷ []; waiting = s.waiting ++ b.value.waiting ∷ []; moment = n; tcp_asks = s.tcp_asks + tcp_count_of b.value.ask.path }
+changed n s (Close path preferred) = record s { asks = without_path path s.asks; waiting = left_waiting (ask_on path s.asks) s.waiting; preferred = with_preferred preferred s.preferred; moment = n }
+changed n s (SendOn b) = record s { asks = without_path b.value.path s.asks ++ ask_list b.value.ask; waiting = left_or_sent (ask_on b.value.path s.asks) b.value.onward.items s.waiting; preferred = with_preferred (Some b.value.preferred) s.preferred; moment = n; tcp_asks = s.tcp_asks + tcp_count b.value.ask }
+changed n s (AskAgain path b) = record s { asks = without_path path s.asks ++ b.value ∷ []; moment = n; tcp_asks = s.tcp_asks + tcp_count_of b.value.path }
+changed n s (Expire closed) = record s { asks = without_closed closed s.asks; waiting = drop 1 s.waiting; moment = n }
+
+-- an ask that may be listed behind these
+pub record CanFollow (c : Config) (n : ℕ) (s : State) (listed : List Ask) (a : Ask) : Type 0 where
+  pub begins : MayBegin a listed
+  pub room : length listed < c.limits.inquiries
+  pub kept : IsKeptAsk c n (s.tcp_asks + tcp_count_of a.path) a
+  pub counted : s.tcp_asks + tcp_count_of a.path < 2 ^ 64
+
+-- a question that may be taken now
+pub record CanWait (c : Config) (n : ℕ) (s : State) (x : Waiting) : Type 0 where
+  pub room : length s.waiting < c.limits.questions
+  pub taken : x.taken ≡ n
+  pub aliases : HoldsEarlier n x
+
+abbrev pub IsServed : Config → Option Preferred → Type 0
+IsServed c None = Unit {0}
+IsServed c (Some p) = p.server < length (Rattle.step_table.specs.Attempts.servers_in (Rattle.step_table.specs.Attempts.group_of c p.route))
+
+-- the aliases that it is sent on with were accepted by now
+abbrev pub IsSentEarlier : ℕ → Option Onward → Type 0
+IsSentEarlier n None = Unit {0}
+IsSentEarlier n (Some s) = AllByRecursion (IsEarlier n) s.held
+
+-- as many fates as questions wait for the ask
+abbrev pub AreForThose : Option Ask → List (Option Onward) → List Waiting → Type 0
+AreForThose None onward xs = ⊥
+AreForThose (Some a) onward xs = length onward ≡ length (filter (waits_for a.question) xs)
+
+abbrev pub IfFollows : Config → ℕ → State → List Ask → Option Ask → Type 0
+IfFollows c n s listed None = Unit {0}
+IfFollows c n s listed (Some a) = CanFollow c n s listed a
+
+-- those that wait for the ask on this path may be sent on now
+pub record CanSendOn (c : Config) (n : ℕ) (s : State) (path : Path) (preferred : Preferred) (onward : List (Option Onward)) (next : Option Ask) : Type 0 where
+  pub those : AreForThose (ask_on path s.asks) onward s.waiting
+  pub earlier : AllByRecursion (IsSentEarlier n) onward
+  pub served : IsServed c (Some preferred)
+  pub follows : IfFollows c n s (without_path path s.asks) next
+
+abbrev pub FitsChange : {A : Type 0} → Config → ℕ → State → Change A → Type 0
+FitsChange c n s Nothing = Unit {0}
+FitsChange c n s (Join b) = CanWait c n s b.value
+FitsChange c n s (Open b) = CanWait c n s b.value.waiting × CanFollow c n s s.asks b.value.ask
+FitsChange c n s (Close path preferred) = IsServed c preferred
+FitsChange c n s (SendOn b) = CanSendOn c n s b.value.path b.value.preferred b.value.onward.items b.value.ask
+FitsChange c n s (AskAgain path b) = Rattle.std.specs.Prelude.IsSome (ask_on path s.asks) × CanFollow c n s (without_path path s.asks) b.value
+FitsChange c n s (Expire closed) = Unit {0}
+
+-- a piece that the cache may keep: its name is on the route of the ask that brought it
+abbrev pub IsRouted : Config → Piece → Type 0
+IsRouted c p = Rattle.suffix_routes.specs.Serving.route_of c p.slot.key ≡ Some p.route
+
+-- what may be done now
+pub record CanChange {A : Type 0} (c : Config) (n : ℕ) (s : State) (d : Decision A) : Type 0 where
+  pub fits : FitsChange c n s d.change
+  pub few : length (pieces_of d.carried.items) < 2 ^ 32
+  pub routed : Rattle.std.specs.List.AllByRecursion (IsRouted c) (pieces_of d.carried.items)
+
+-- what is done, where rooms tells which of the new slots found memory
+abbrev pub next_of : {A : Type 0} → ℕ → List Bool → State → Decision A → Done
+next_of n rooms s d =
+    offering_step n rooms (pieces_of d.carried.items)
+    (record { actions = actions_of d.actions; unkept = 0; state = changed n (with_promoted d.used s) d.change })
+
+-- what was decided comes to this row, whichever of the new slots find memory, and may be put in place
+pub record MeetsRow {A : Type 0} (t : Turn) (made : List Bool → Done) (d : Decision A) : Type 0 where
+  pub row : (rooms : List Bool) → next_of t.moment rooms t.state d ≡ made rooms
+  pub fits : CanChange t.config t.moment t.state d
+
+-- the step takes no memory
+abbrev pub IsQuiet : {A : Type 0} → Result (Decision A) AllocError → Type 0
+IsQuiet (Ok next) = (next.used ≡ []) × (next.change ≡ Nothing)
+IsQuiet (Err refused) = ⊥
+
+-- what is decided of an event: a restart is told, all else happens as the row has it
+abbrev pub IsDecided : {A : Type 0} → Turn → Event → Option (Decision A) → Type 0
+IsDecided t e None = e ≡ restart
+IsDecided t e (Some next) = (rooms : List Bool) → Happens t e (next_of t.moment rooms t.state next)
+
+abbrev pub IsDecidedQuietly : {A : Type 0} → Result (Option (Decision A)) AllocError → Type 0
+IsDecidedQuietly (Ok None) = Unit {0}
+IsDecidedQuietly (Ok (Some next)) = (next.used ≡ []) × (next.change ≡ Nothing)
+IsDecidedQuietly (Err refused) = ⊥
+
+-- the outcome and the state after are these
+pub record IsOutcome (c : Config) (d : Done) (o : Outcome) (s' : State) : Type 0 where
+  pub done : record { actions = o.actions; unkept = o.unkept; state = s' } ≡ d
+  pub more : o.more ≡ is_due_at c s'.moment s'
+
+-- the answer from the aliases that a question holds and this chain, unless these are more aliases than it may hold
+abbrev pub told_from : Source → Waiting → Action
+told_from d x =
+    if nat_le (length x.held + length d.chain) (suc most_aliases)
+    then sends Answered x (answer_of x.asked (x.held ++ d.chain) d.moment (transport_of x.client))
+    else gives_up ChainLong x
+
+-- those that wait for this question get their answers from a chain of pieces, all others wait on
+abbrev pub gives_from : Source → Question → Waiting → Fate
+gives_from d q x = if waits_for q x then gets (told_from d x) else waits x
+
+-- replies put one behind another
+abbrev pub with_reply : List Action → Option Action → List Action
+with_reply actions None = actions
+with_reply actions (Some a) = actions ++ a ∷ []
+
+abbrev pub with_replies : (Waiting → Fate) → List Action → List Waiting → List Action
+with_replies fate actions [] = actions
+with_replies fate actions (x ∷ xs) = with_replies fate (with_reply actions (reply_in (fate x))) xs

@@ -1,0 +1,124 @@
+//! Which server is asked, over which path, and what the ask is.
+
+ghost use Rattle.std.specs.Prelude.{◌≡◌, ◌≤◌, ◌+◌, ◌<◌, length, IfOk};
+ghost use Rattle.suffix_routes.specs.Values.{IsConfig};
+ghost use Rattle.outstanding.specs.Draws.{drawn_by_tcp};
+ghost use Rattle.step_table.specs.Attempts.{group_of, servers_in, peer_at, over_udp, over_tcp, ask_by, freed_by, plan_of};
+
+use dns_message::Question;
+use outstanding::{Ask, Path};
+use retry_failover::Plan;
+use std::alloc::{AllocError, Allocator};
+use suffix_routes::{Config, Peer, RouteId};
+
+/// The servers of a route, in the order of the configuration.
+fn group<A: Allocator>(config: &Config<A>, route: RouteId) -> &[Peer]
+    ensures { result.now ≡ servers_in (group_of config.now route) }
+{
+    match config.routes.as_slice().get(route.place) {
+        Some(route) => route.servers.as_slice(),
+        None => &[],
+    }
+}
+
+/// The server at a place of a route's group.
+fn server_at<A: Allocator>(config: &Config<A>, route: RouteId, place: usize) -> Option<Peer>
+    ensures { result ≡ peer_at config.now route place }
+{
+    group(config, route).get(place).copied()
+}
+
+/// The identifier of the first word, and the number of the next connection: how many asks went by TCP before. The last
+/// number is never given.
+pub fn draw_connection(words: [u32; 8], count: u64) -> Option<(u16, u64)>
+    ensures { result ≡ drawn_by_tcp words count }
+{
+    if count == u64::MAX {
+        return None;
+    }
+    Some(((words[0] % 65536) as u16, count))
+}
+
+/// A drawn port as a path.
+pub fn by_udp(drawn: Option<(u16, u16)>) -> Option<(u16, Path)>
+    ensures { result ≡ over_udp drawn }
+{
+    match drawn {
+        Some((id, port)) => Some((id, Path::Udp(port))),
+        None => None,
+    }
+}
+
+/// A connection's number as a path.
+pub fn by_tcp(drawn: Option<(u16, u64)>) -> Option<(u16, Path)>
+    ensures { result ≡ over_tcp drawn }
+{
+    match drawn {
+        Some((id, conn)) => Some((id, Path::Tcp(conn))),
+        None => None,
+    }
+}
+
+/// The port that is given up with a path.
+pub fn freed_port(path: Path) -> Option<u16>
+    ensures { result ≡ freed_by path }
+{
+    match path {
+        Path::Udp(port) => Some(port),
+        Path::Tcp(_) => None,
+    }
+}
+
+/// One ask of an inquiry: which server of the route's group it goes to, and as which of the tries.
+#[derive(Clone, Copy)]
+pub struct Attempt {
+    pub route: RouteId,
+    pub server: usize,
+    pub used: u8,
+}
+
+/// The ask of a server with what was drawn, where there is such a server and something was drawn, at a moment in
+/// milliseconds. `Err` where memory ran out.
+pub fn new_ask<A: Allocator + Copy>(
+    alloc: A,
+    config: &Config<A>,
+    moment: u64,
+    question: &Question<A>,
+    attempt: Attempt,
+    drawn: Option<(u16, Path)>,
+) -> Result<Option<Ask<A>>, AllocError>
+    ensures { IfOk result (λ ask. ask ≡ ask_by moment question.now attempt.route attempt.server attempt.used (peer_at config.now attempt.route attempt.server) drawn) }
+{
+    let Some(peer) = server_at(config, attempt.route, attempt.server) else {
+        return Ok(None);
+    };
+    let Some((id, path)) = drawn else {
+        return Ok(None);
+    };
+    let question = question.copy(alloc)?;
+    Ok(Some(Ask {
+        question,
+        route: attempt.route,
+        server: attempt.server,
+        peer,
+        used: attempt.used,
+        path,
+        id,
+        asked: moment,
+    }))
+}
+
+/// What the table of attempts is asked with: the group's servers, at most 8 of them, and the tries.
+pub fn plan<A: Allocator>(config: &Config<A>, ask: &Ask<A>) -> Plan
+    requires accepted { IsConfig config.now }
+    requires server { ask.now.server < length (servers_in (group_of config.now ask.now.route)) }
+    ensures { result ≡ plan_of config.now ask.now }
+{
+    Plan {
+        servers: group(config, ask.route).len() as u8,
+        tries: config.limits.tries,
+        used: ask.used,
+        server: ask.server as u8,
+        tcp: matches!(ask.path, Path::Tcp(_)),
+    }
+}

@@ -1,0 +1,89 @@
+//! What a step is about to do, with all the memory that it takes.
+
+ghost use Rattle.std.specs.Prelude.{◌≡◌, []};
+ghost use Rattle.step_values.specs.Values.{actions_of};
+ghost use Rattle.alias_chains.specs.Offering.{pieces_of};
+
+use alias_chains::SlotsRef;
+use outstanding::{Ask, Path};
+use plain_list::PlainList;
+use record_cache::Held;
+use std::alloc::{Allocator, Global};
+use step_values::Action;
+use suffix_routes::RouteId;
+use waiting_questions::{SentOn, Waiting};
+
+/// A server that is asked first from now on: its route, and its place in the route's group.
+#[derive(Clone, Copy)]
+pub struct Preferred {
+    pub route: RouteId,
+    pub server: usize,
+}
+
+/// A question, and the first ask of its inquiry.
+#[derive(Drop)]
+pub struct Opening<A: Allocator = Global> {
+    pub waiting: Waiting<A>,
+    pub ask: Ask<A>,
+}
+
+/// Those that waited for the ask on a path wait no more, or wait on: each, in the order of taking, with the aliases and the
+/// question that it is sent on with, if it is. The ask is closed, and the first ask for that question is listed, where none is.
+#[derive(Drop)]
+pub struct Sending<A: Allocator = Global> {
+    pub path: Path,
+    pub preferred: Preferred,
+    pub onward: Vec<Option<SentOn<A>>, A>,
+    pub ask: Option<Ask<A>>,
+}
+
+/// What changes beside the moment and the cache. What it lists stands in a box: most steps list nothing, and hand a change
+/// on that is small.
+#[derive(Drop)]
+pub enum Change<A: Allocator = Global> {
+    Nothing,
+    /// A question waits for an ask that is listed already.
+    Join(Box<Waiting<A>, A>),
+    /// A question waits, and the first ask of its inquiry is listed.
+    Open(Box<Opening<A>, A>),
+    /// The ask on this path is closed, and those that waited for it wait no more.
+    Close(Path, Option<Preferred>),
+    /// The ask on a path is closed, and those that waited for it are sent on.
+    SendOn(Box<Sending<A>, A>),
+    /// The ask on this path is closed, and another one for its question is listed.
+    AskAgain(Path, Box<Ask<A>, A>),
+    /// The oldest question waits no more, and the ask on this path, where there is one, is closed.
+    Expire(Option<Path>),
+}
+
+/// The actions of a step, and what it changes: the entries of the slots that a look-up used are promoted, and the pieces
+/// that an accepted reply carries are offered to the cache, last.
+#[derive(Drop)]
+pub struct Decision<'a, A: Allocator = Global> {
+    pub actions: PlainList<Action<A>, A>,
+    pub used: SlotsRef<'a, A>,
+    pub change: Change<A>,
+    /// In the order in which they are offered.
+    pub carried: Vec<Held<A>, A>,
+}
+
+impl<'a, A: Allocator + Copy> Decision<'a, A> {
+    /// These actions and this change, with no look-up and no accepted reply. It takes no memory.
+    pub fn without_cache(
+        alloc: A,
+        actions: PlainList<Action<A>, A>,
+        change: Change<A>,
+    ) -> Decision<'a, A>
+        ensures actions { actions_of result.actions ≡ actions_of actions }
+        ensures used { result.used ≡ [] }
+        ensures change { result.change ≡ change }
+        ensures carried { pieces_of result.carried.items ≡ [] }
+    {
+        Decision {
+            actions,
+            used: SlotsRef::none(alloc),
+            change,
+            carried: Vec::new(alloc),
+        }
+    }
+}

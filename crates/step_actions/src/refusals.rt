@@ -1,0 +1,87 @@
+//! Replies that tell why there is no answer.
+
+ghost use Rattle.std.specs.Prelude.{◌≡◌, ◌<◌, IfOk, None};
+ghost use Rattle.step_values.specs.Values.{action_of};
+ghost use Rattle.step_values.specs.Requests.{rcode_of_why};
+ghost use Rattle.answer_builder.specs.Values.{asked_in};
+ghost use Rattle.step_table.specs.Steps.{failed, gives_up};
+
+use answer_builder::{AskedRef, put_failure};
+use dns_message::Header;
+use plain_list::Octets;
+use std::alloc::{AllocError, Allocator};
+use step_values::{Action, Client, Why};
+use waiting_questions::Request;
+
+/// A header and a question have 271 octets at most.
+pub(crate) const BARE_ROOM: usize = 271;
+
+/// The response code of a reply (RFC 1035 4.1.1).
+fn rcode_of(why: Why) -> u8
+    ensures code { result ≡ rcode_of_why why }
+    ensures small { result < 16 }
+{
+    match why {
+        Why::Answered | Why::Stale => 0,
+        Why::BadFormat => 1,
+        Why::BadOpcode | Why::NotServed => 4,
+        Why::LocalDenied => 3,
+        Why::NoRoute => 5,
+        Why::QuestionsFull
+        | Why::InquiriesFull
+        | Why::NoPort
+        | Why::Exhausted
+        | Why::Deadline
+        | Why::ChainLong
+        | Why::TooLarge => 2,
+    }
+}
+
+/// The reply that tells a client why what it asked fails.
+fn failed<A: Allocator + Copy>(
+    alloc: A,
+    client: Client,
+    asked: AskedRef<'_>,
+    why: Why,
+) -> Result<Action<A>, AllocError>
+    requires { asked.opcode < 16 }
+    ensures { IfOk result (λ action. action_of action ≡ failed client asked.entry why) }
+{
+    let mut octets = Vec::with_capacity(alloc, BARE_ROOM)?;
+    put_failure(alloc, &mut octets, asked, rcode_of(why))?;
+    Ok(Action::Reply {
+        client,
+        bytes: Octets::from_vec(octets),
+        why,
+    })
+}
+
+/// The reply to a question that fails, with the question as it came. `Err` where memory ran out.
+pub fn failure<A: Allocator + Copy>(
+    alloc: A,
+    request: &Request<'_>,
+    why: Why,
+) -> Result<Action<A>, AllocError>
+    ensures { IfOk result (λ action. action_of action ≡ gives_up why request.now) }
+{
+    failed(alloc, request.client, request.asked(), why)
+}
+
+/// The reply to a message whose question was not taken, without a question. `Err` where memory ran out.
+pub fn refusal<A: Allocator + Copy>(
+    alloc: A,
+    client: Client,
+    header: &Header,
+    why: Why,
+) -> Result<Action<A>, AllocError>
+    requires { header.now.opcode < 16 }
+    ensures { IfOk result (λ action. action_of action ≡ failed client (asked_in header.now None) why) }
+{
+    let asked = AskedRef {
+        id: header.id,
+        opcode: header.opcode,
+        rd: header.rd,
+        question: None,
+    };
+    failed(alloc, client, asked, why)
+}

@@ -1,0 +1,174 @@
+//! The actions that end a query: its path is closed, and those that wait for it get their replies.
+
+ghost use Rattle.std.specs.Prelude.{◌≡◌, ◌∷◌, ◌++◌, [], length, IfOk};
+ghost use Rattle.std.specs.List.{AllByRecursion};
+ghost use Rattle.answer_builder.specs.Answers.{IsEarlier};
+ghost use Rattle.plain_list.specs.Borrowed.{lent};
+ghost use Rattle.answer_builder.specs.Transports.{answer_of};
+ghost use Rattle.step_actions.specs.Spelling.{Source};
+ghost use Rattle.step_values.specs.Values.{action_of, actions_of};
+ghost use Rattle.step_table.specs.Steps.{closes, fails, gives_up, sends, transport_of};
+ghost use Rattle.step_actions.specs.Kept.{HoldsEarlier};
+ghost use Rattle.step_actions.specs.Decision.{closing_path, gives_from, told_from, with_replies};
+
+use crate::answers::Answers;
+use crate::refusals::failure;
+use dns_message::Question;
+use outstanding::{Ask, Path};
+use plain_list::PlainList;
+use record_cache::Held;
+use std::alloc::{AllocError, Allocator};
+use step_values::{Action, Why};
+use trust_rank::MOST_ALIASES;
+use waiting_questions::{Waiting, WaitingQuestions};
+
+/// The action that gives a path up.
+pub fn close_path<A: Allocator>(path: Path) -> Action<A>
+    ensures { action_of result ≡ closes path }
+{
+    match path {
+        Path::Udp(port) => Action::CloseUdp { port },
+        Path::Tcp(conn) => Action::CloseTcp { conn },
+    }
+}
+
+/// The actions that give a path up, where there is one. `Err` where memory ran out.
+pub fn close_paths<A: Allocator>(
+    alloc: A,
+    closed: Option<Path>,
+) -> Result<PlainList<Action<A>, A>, AllocError>
+    ensures { IfOk result (λ actions. actions_of actions ≡ closing_path closed) }
+{
+    let mut actions = PlainList::new(alloc);
+    if let Some(path) = closed {
+        actions.push(close_path(path))?;
+    }
+    Ok(actions)
+}
+
+/// Puts the failure of a question last.
+fn put_failure<A: Allocator + Copy>(
+    alloc: A,
+    actions: &mut PlainList<Action<A>, A>,
+    waiting: &Waiting<A>,
+    why: Why,
+) -> Result<(), AllocError>
+    ensures { IfOk result (λ _. actions_of actions.new ≡ actions_of actions.old ++ gives_up why waiting.now ∷ []) }
+{
+    let action = failure(alloc, &waiting.request(), why)?;
+    actions.push(action)
+}
+
+/// The ask is closed, and each question that waits for it fails. `Err` where memory ran out.
+pub fn failures<A: Allocator + Copy>(
+    alloc: A,
+    ask: &Ask<A>,
+    waiting: &WaitingQuestions<A>,
+    why: Why,
+) -> Result<PlainList<Action<A>, A>, AllocError>
+    ensures { IfOk result (λ actions. actions_of actions ≡ with_replies (fails why ask.now.question) (closes ask.now.path ∷ []) waiting.now.items) }
+{
+    let mut actions = PlainList::new(alloc);
+    actions.push(close_path(ask.path))?;
+    let those = waiting.for_question(&ask.question);
+    for place in 0..those.len() {
+        put_failure(alloc, &mut actions, those.get(place), why)?;
+    }
+    Ok(actions)
+}
+
+/// The answer of a question from the aliases that it holds and the chain of these answers, which has so many pieces, or
+/// that it would hold too many aliases.
+fn answer_or_fail<'a, A: Allocator + Copy>(
+    alloc: A,
+    answers: &mut Answers<'a, A>,
+    pieces: usize,
+    waiting: &'a Waiting<A>,
+) -> Result<Action<A>, AllocError>
+    requires pieces { pieces ≡ length answers.old.chain }
+    requires earlier { AllByRecursion (IsEarlier answers.old.moment) waiting.now.held }
+    ensures same { answers.new ≡ answers.old }
+    ensures told { IfOk result (λ action. action_of action ≡ told_from answers.old waiting.now) }
+{
+    if waiting.aliases().len().saturating_add(pieces) > MOST_ALIASES + 1 {
+        return failure(alloc, &waiting.request(), Why::ChainLong);
+    }
+    answers.reply(waiting)
+}
+
+/// Puts the answer of a question last.
+fn put_answer<'a, A: Allocator + Copy>(
+    alloc: A,
+    actions: &mut PlainList<Action<A>, A>,
+    answers: &mut Answers<'a, A>,
+    pieces: usize,
+    waiting: &'a Waiting<A>,
+) -> Result<(), AllocError>
+    requires pieces { pieces ≡ length answers.old.chain }
+    requires earlier { AllByRecursion (IsEarlier answers.old.moment) waiting.now.held }
+    ensures same { answers.new ≡ answers.old }
+    ensures put { IfOk result (λ _. actions_of actions.new ≡ actions_of actions.old ++ told_from answers.old waiting.now ∷ []) }
+{
+    let action = answer_or_fail(alloc, answers, pieces, waiting)?;
+    actions.push(action)
+}
+
+/// Puts the answers of those questions last that wait for this one, in their order.
+fn put_answers<'a, A: Allocator + Copy>(
+    alloc: A,
+    actions: &mut PlainList<Action<A>, A>,
+    question: &Question<A>,
+    answers: &mut Answers<'a, A>,
+    pieces: usize,
+    waiting: &'a WaitingQuestions<A>,
+) -> Result<(), AllocError>
+    requires pieces { pieces ≡ length answers.old.chain }
+    requires earlier { AllByRecursion (HoldsEarlier answers.old.moment) waiting.now.items }
+    ensures { IfOk result (λ _. actions_of actions.new ≡ with_replies (gives_from answers.old question.now) (actions_of actions.old) waiting.now.items) }
+{
+    let those = waiting.for_question(question);
+    for place in 0..those.len() {
+        put_answer(alloc, actions, answers, pieces, those.get(place))?;
+    }
+    Ok(())
+}
+
+/// Entries, borrowed. `Err` where memory ran out: `collect` would make do with less room where all of it is refused.
+fn borrowed<A: Allocator + Copy>(alloc: A, held: &[Held<A>]) -> Result<Vec<&Held<A>, A>, AllocError>
+    ensures { IfOk result (λ refs. lent refs.items ≡ held.now) }
+{
+    let mut refs = Vec::with_capacity(alloc, held.len())?;
+    for entry in held {
+        refs.push(entry)?;
+    }
+    Ok(refs)
+}
+
+/// The ask is closed, and each question that waits for it is answered from the aliases that it holds and these
+/// pieces, none accepted after the moment, in milliseconds, or fails where these are too many aliases. `Err` where
+/// memory ran out.
+pub fn answers_to<A: Allocator + Copy>(
+    alloc: A,
+    ask: &Ask<A>,
+    held: &[Held<A>],
+    moment: u64,
+    waiting: &WaitingQuestions<A>,
+) -> Result<PlainList<Action<A>, A>, AllocError>
+    requires pieces { AllByRecursion (IsEarlier moment) held.now }
+    requires aliases { AllByRecursion (HoldsEarlier moment) waiting.now.items }
+    ensures { IfOk result (λ actions. actions_of actions ≡ with_replies (gives_from (record { chain = held.now; moment = moment }) ask.now.question) (closes ask.now.path ∷ []) waiting.now.items) }
+{
+    let chain = borrowed(alloc, held)?;
+    let mut answers = Answers::new(alloc, &chain, moment);
+    let mut actions = PlainList::new(alloc);
+    actions.push(close_path(ask.path))?;
+    put_answers(
+        alloc,
+        &mut actions,
+        &ask.question,
+        &mut answers,
+        held.len(),
+        waiting,
+    )?;
+    Ok(actions)
+}

@@ -1,0 +1,71 @@
+//! One step's view of the forwarder.
+
+ghost use Rattle.std.specs.Prelude.{◌≡◌, List, Bool, []};
+ghost use Rattle.step_table.specs.Steps.{idle_step};
+ghost use Rattle.step_actions.specs.Decision.{next_of, MeetsRow, CanChange};
+
+use crate::decision::{Change, Decision};
+use outstanding::Inquiries;
+use plain_list::PlainList;
+use record_cache::Cache;
+use std::alloc::{Allocator, Global};
+use std::hash::BuildHasher;
+use std::marker::Model;
+use suffix_routes::Config;
+use waiting_questions::WaitingQuestions;
+
+/// A forwarder as a step finds it, lent, with the moment and the random words that the step is handed: what is
+/// decided rests on nothing else.
+#[derive(Drop)]
+pub struct TurnRef<'a, H: BuildHasher, A: Allocator = Global> {
+    pub alloc: A,
+    pub config: &'a Config<A>,
+    pub cache: &'a Cache<H, A>,
+    pub inquiries: &'a Inquiries<A>,
+    pub waiting: &'a WaitingQuestions<A>,
+    /// For each route the place of the server that is asked first.
+    pub preferred: &'a [usize],
+    /// How many asks went by TCP.
+    pub tcp_asks: u64,
+    /// The effective moment of the step before, in milliseconds.
+    pub before: u64,
+    /// The effective moment of this step, in milliseconds: no earlier, and at most 2^62.
+    pub moment: u64,
+    /// The random words of this step.
+    pub words: [u32; 8],
+}
+
+impl<'a, H: BuildHasher, A: Allocator> Model for TurnRef<'a, H, A> {
+    ghost use Rattle.std.specs.Prelude.{◌≤◌, ◌^◌};
+    ghost use Rattle.step_table.specs.State.{Turn};
+    ghost use Rattle.step_actions.specs.Kept.{IsKeptForwarder};
+
+    ghost Value = { Turn };
+
+    ghost view = { λ f. record {
+      config = f.config.now;
+      moment = f.moment;
+      words = f.words;
+      state = record {
+        cache = f.cache.now;
+        asks = f.inquiries.now.asks;
+        waiting = f.waiting.now.items;
+        preferred = f.preferred.now;
+        moment = f.before;
+        tcp_asks = f.tcp_asks;
+      };
+    } };
+
+    ghost invariant = { λ f. IsKeptForwarder f.config.now f.cache.now f.inquiries.now f.waiting.now.items
+        f.preferred.now f.before f.tcp_asks × (f.before ≤ f.moment) × (f.moment ≤ 2 ^ 62) };
+}
+
+/// Nothing is done.
+pub fn nothing<'a, H: BuildHasher + Drop, A: Allocator + Copy>(
+    turn: &TurnRef<'a, H, A>,
+) -> Decision<'a, A>
+    ensures decides { MeetsRow turn.now (λ _. idle_step turn.now.moment turn.now.state) result }
+    ensures quiet { (result.used ≡ []) × (result.change ≡ Change.Nothing) }
+{
+    Decision::without_cache(turn.alloc, PlainList::new(turn.alloc), Change::Nothing)
+}

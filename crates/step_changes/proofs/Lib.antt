@@ -1,3 +1,0 @@
-pub mod Offering
-pub mod CallerLemmas
-pub mod Folds

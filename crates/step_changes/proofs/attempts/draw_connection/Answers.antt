@@ -1,5 +1,0 @@
-use Rattle.std.proofs.Common.{rules}
-use Rattle.step_changes.proofs.attempts.draw_connection.Goals as goal
-
-pub returns : goal.returns
-returns c = search rules

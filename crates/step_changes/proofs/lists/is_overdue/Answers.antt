@@ -1,5 +1,0 @@
-use Rattle.std.proofs.Common.{rules}
-use Rattle.step_changes.proofs.lists.is_overdue.Goals as goal
-
-pub returns : goal.returns
-returns g c = search rules

@@ -1,5 +1,0 @@
-use Rattle.std.proofs.Common.{rules}
-use Rattle.step_changes.proofs.next.Next.without_cache.Goals as goal
-
-pub returns-clause-change : goal.returns-clause-change
-returns-clause-change g c = search rules

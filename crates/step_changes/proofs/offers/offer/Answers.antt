@@ -1,5 +1,0 @@
-use Rattle.std.proofs.Common.{rules}
-use Rattle.step_changes.proofs.offers.offer.Goals as goal
-
-pub returns-in-Unkept : goal.returns-in-Unkept
-returns-in-Unkept g c = search rules

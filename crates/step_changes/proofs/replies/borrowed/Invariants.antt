@@ -1,6 +1,0 @@
-use Rattle.std.proofs.Common.{◌≡◌, take}
-use Rattle.answer_builder.specs.Building.{lent}
-use Rattle.step_changes.proofs.replies.borrowed.Given as goal
-
-abbrev pub invariant-loop-entry : goal.invariant-loop-entry
-invariant-loop-entry g l = lent l.refs.items ≡ take l.entry-index l.held

@@ -1,8 +1,0 @@
-use Rattle.std.proofs.Common.{◌≡◌, [], ◌∷◌, drop}
-use Rattle.step_values.specs.Values.{actions_of}
-use Rattle.step_rules.specs.Steps.{closes, fails}
-use Rattle.step_changes.specs.Next.{with_replies}
-use Rattle.step_changes.proofs.replies.failures.Given as goal
-
-abbrev pub invariant-loop-place : goal.invariant-loop-place
-invariant-loop-place g l = with_replies (fails l.why l.query.question) (actions_of l.actions) (drop l.place l.those) ≡ with_replies (fails l.why l.query.question) (closes l.query.path ∷ []) l.those

@@ -1,5 +1,0 @@
-use Rattle.step_keeping.proofs.Justifying.{leads_stay_leads}
-use Rattle.step_keeping.proofs.laws.what_leads_still_leads.Goals as goal
-
-pub returns : goal.returns
-returns c = leads_stay_leads

@@ -1,6 +1,0 @@
-pub mod Seeing
-pub mod Targets
-pub mod Few
-pub mod PastEnds
-pub mod Behind
-pub mod CallerLemmas

@@ -1,5 +1,0 @@
-use Rattle.step_look_ups.proofs.Behind.{same_are_looked_up_alike}
-use Rattle.step_look_ups.proofs.laws.same_questions_are_looked_up_alike.Goals as goal
-
-pub returns : goal.returns
-returns c = same_are_looked_up_alike

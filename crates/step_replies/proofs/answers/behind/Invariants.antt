@@ -1,6 +1,0 @@
-use Rattle.std.proofs.Common.{◌≡◌, take}
-use Rattle.answer_builder.specs.Building.{lent}
-use Rattle.step_replies.proofs.answers.behind.Given as goal
-
-abbrev pub invariant-loop-held : goal.invariant-loop-held
-invariant-loop-held g l = lent l.whole.items ≡ take l.held-index l.aliases

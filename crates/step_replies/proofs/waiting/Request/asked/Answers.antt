@@ -1,5 +1,0 @@
-use Rattle.std.proofs.Common.{rules}
-use Rattle.step_replies.proofs.waiting.Request.asked.Goals as goal
-
-pub returns-clause-asked : goal.returns-clause-asked
-returns-clause-asked c = search rules

@@ -1,5 +1,0 @@
-use Rattle.step_rules.proofs.Progress.{next_due_tells}
-use Rattle.step_rules.proofs.laws.next_due_tells.Goals as goal
-
-pub returns : goal.returns
-returns c = next_due_tells

@@ -1,6 +1,0 @@
-use Rattle.std.proofs.Common.{◌≡◌, ◌++◌, take}
-use Rattle.answer_builder.specs.Building.{lent}
-use Rattle.step_sending.proofs.chain.put_all.Given as goal
-
-abbrev pub invariant-loop-held : goal.invariant-loop-held
-invariant-loop-held g l = lent l.chain.items ≡ lent l.fn.chain.items ++ take l.held-index l.pieces

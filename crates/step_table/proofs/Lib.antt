@@ -1,0 +1,15 @@
+pub mod Lists
+pub mod Listed
+pub mod Draws
+pub mod Attempts
+pub mod Headers
+pub mod Ending
+pub mod Rows
+pub mod Played
+mod CacheRows
+mod SentOnRows
+mod SecondVersionRows
+pub mod SentOn
+pub mod Times
+pub mod Progress
+pub mod CallerLemmas

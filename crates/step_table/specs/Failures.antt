@@ -1,0 +1,54 @@
+-- What comes of a failed attempt.
+use Rattle.std.specs.Prelude.{ℕ, ◌-◌, if◌then◌else◌, ◌==◌, List, length, Option, Some, None}
+use Rattle.dns_message.specs.Values.{Question}
+use Rattle.suffix_routes.specs.Values.{Config}
+use Rattle.outstanding.specs.Values.{Ask}
+use Rattle.retry_failover.specs.declared.Failure.{Failure}
+use Rattle.retry_failover.specs.declared.Failure.TheVariants as failure
+use Rattle.retry_failover.specs.declared.Next.{Next}
+use Rattle.retry_failover.specs.declared.Next.TheVariants.{AskUdp, AskTcp, GiveUp}
+use Rattle.retry_failover.specs.Table.{after_failure}
+use Rattle.trust_rank.specs.Walks.{most_aliases}
+use Rattle.record_cache.specs.Values.{Held}
+use Rattle.step_values.specs.declared.action.Why.TheVariants.{NoPort, Exhausted}
+use Rattle.step_values.specs.Values.{Action}
+use Rattle.step_table.specs.State.{State, Turn}
+use Rattle.waiting_questions.specs.Values.{Waiting, waits_for}
+use Rattle.step_table.specs.Attempts.{plan_of, next_ask}
+use Rattle.alias_chains.specs.PastEnds.{look_up_past}
+use Rattle.step_table.specs.Steps.{idle_step, Done, Fate, gets, waits, closing_step, gives_up, answered_past, fails}
+
+abbrev pub row_of_attempt : ℕ → Ask → State → Option Ask → Done
+row_of_attempt n a s None = closing_step n a (fails NoPort a.question) None s
+row_of_attempt n a s (Some next) = closing_step n a (λ x. waits x) (Some next) s
+
+-- no try is left: what was found past its end is told, else that all failed
+abbrev pub told_past : ℕ → Waiting → Option (List Held) → Action
+told_past n x None = gives_up Exhausted x
+told_past n x (Some chain) = answered_past n x chain
+
+-- what the cache has for a question within the window, with as many aliases as it may still take; it is looked up where there
+-- is a window
+abbrev pub found_past : Config → ℕ → List Held → Waiting → Option (List Held)
+found_past c n entries x =
+    if c.limits.stale_s == 0
+    then None
+    else look_up_past c.limits.stale_s n entries (most_aliases - length x.held) x.wanted
+
+-- those that wait for this question get the last that can be told; all others wait on
+abbrev pub runs_out : Config → ℕ → List Held → Question → Waiting → Fate
+runs_out c n entries q x = if waits_for q x then gets (told_past n x (found_past c n entries x)) else waits x
+
+abbrev pub row_of_next : Turn → Ask → Next → Done
+row_of_next t a (AskUdp server) = row_of_attempt t.moment a t.state (next_ask t a (AskUdp server))
+row_of_next t a (AskTcp server) = row_of_attempt t.moment a t.state (next_ask t a (AskTcp server))
+row_of_next t a GiveUp = closing_step t.moment a (runs_out t.config t.moment t.state.cache.entries a.question) None t.state
+
+-- the ask is closed; then the next one goes out, or those that wait for it are told why not
+abbrev pub row_of_failure : Turn → Ask → Failure → Done
+row_of_failure t a f = row_of_next t a (after_failure (plan_of t.config a) f)
+
+-- a path that can't be used any more
+abbrev pub row_of_failed_path : Turn → Option Ask → Done
+row_of_failed_path t None = idle_step t.moment t.state
+row_of_failed_path t (Some a) = row_of_failure t a failure.Broken

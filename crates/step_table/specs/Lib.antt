@@ -1,0 +1,10 @@
+pub mod State
+pub mod Attempts
+pub mod Steps
+pub mod Clients
+pub mod Failures
+pub mod Replies
+pub mod Ticks
+pub mod Row
+pub mod Progress
+pub mod Laws

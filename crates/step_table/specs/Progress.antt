@@ -1,0 +1,97 @@
+-- What a state has left to do, and when something is due.
+use Rattle.std.specs.Prelude.{◌≡◌, ℕ, suc, ◌+◌, ◌-◌, ◌≤◌, true, List, [], ◌∷◌, ◌++◌, length, map, min, Option, Some, None, IsSome, ◌<◌, false}
+use Rattle.std.specs.List.{AllByRecursion}
+use Rattle.suffix_routes.specs.Values.{Config, Route}
+use Rattle.outstanding.specs.Lists.{on_path as ask_on, AreInTurn}
+use Rattle.outstanding.specs.Values.{Ask}
+use Rattle.record_cache.specs.Values.{Held, Cache}
+use Rattle.suffix_routes.specs.Serving.{route_of}
+use Rattle.step_values.specs.Values.{Event, from_client, delivery, path_failed, tick, restart}
+use Rattle.step_table.specs.State.{State}
+use Rattle.waiting_questions.specs.Values.{Waiting}
+use Rattle.step_table.specs.Row.{is_due_at}
+use Rattle.step_table.specs.Ticks.{deadline_of}
+use Rattle.step_table.specs.Replies.{timeout_of}
+use Rattle.outstanding.specs.declared.ask.Path.{Path}
+use Rattle.outstanding.specs.declared.ask.Path.TheVariants.{Udp, Tcp}
+
+-- ---- what is left to do
+
+-- the tries that the inquiry of a listed ask has left, and one for the ask itself
+abbrev pub tries_left : Config → Ask → ℕ
+tries_left c a = suc (c.limits.tries - a.used)
+
+abbrev pub all_tries_left : Config → List Ask → ℕ
+all_tries_left c [] = 0
+all_tries_left c (a ∷ asks) = tries_left c a + all_tries_left c asks
+
+-- the questions that wait, and the tries of the inquiries
+abbrev pub left_to_do : Config → State → ℕ
+left_to_do c s = length s.waiting + all_tries_left c s.asks
+
+-- a tick with something due, or the failure of a path on which an ask is listed
+abbrev pub ServesSomething : Config → ℕ → State → Event → Type 0
+ServesSomething c n s (from_client client octets) = ⊥
+ServesSomething c n s (delivery path from octets) = ⊥
+ServesSomething c n s (path_failed path) = IsSome (ask_on path s.asks)
+ServesSomething c n s tick = is_due_at c n s ≡ true
+ServesSomething c n s restart = ⊥
+
+-- ---- when something is due
+
+-- the moments at which a question has waited as long as it may, or an ask is past its time
+abbrev pub due_moments : Config → State → List ℕ
+due_moments c s = map (deadline_of c) s.waiting ++ map (timeout_of c) s.asks
+
+abbrev pub lesser : ℕ → Option ℕ → ℕ
+lesser m None = m
+lesser m (Some k) = min m k
+
+abbrev pub least : List ℕ → Option ℕ
+least [] = None
+least (m ∷ moments) = Some (lesser m (least moments))
+
+-- the least moment at which something is due
+abbrev pub next_due : Config → State → Option ℕ
+next_due c s = least (due_moments c s)
+
+-- ---- what a state keeps to, whatever happened before
+
+-- the moments of taking don't fall along the list
+abbrev pub AreTakenInTurn : List Waiting → Type 0
+AreTakenInTurn [] = Unit {0}
+AreTakenInTurn (x ∷ xs) = AllByRecursion (λ y. x.taken ≤ y.taken) xs × AreTakenInTurn xs
+
+-- an ask is one of the tries that an inquiry has
+abbrev pub IsTry : Config → Ask → Type 0
+IsTry c a = (1 ≤ a.used) × (a.used ≤ c.limits.tries)
+
+-- the name that an entry tells of is on the route of the ask that brought it
+abbrev pub IsOnRoute : Config → Held → Type 0
+IsOnRoute c h = route_of c h.piece.slot.key ≡ Some h.piece.route
+
+-- the cache has the configured capacity, and its entries are on their routes
+pub record IsCacheOf (c : Config) (cache : Cache) : Type 0 where
+  pub capacity : cache.capacity ≡ c.limits.cache
+  pub on_routes : AllByRecursion (IsOnRoute c) cache.entries
+
+-- both lists are in the order of time and within their limits, and so is the cache
+pub record IsInOrder (c : Config) (s : State) : Type 0 where
+  pub cache : IsCacheOf c s.cache
+  pub asks : AreInTurn s.asks
+  pub tries : AllByRecursion (IsTry c) s.asks
+  pub few_asks : length s.asks ≤ c.limits.inquiries
+  pub waiting : AreTakenInTurn s.waiting
+  pub few_waiting : length s.waiting ≤ c.limits.questions
+
+-- a connection has the number of an ask by TCP that went before
+abbrev pub IsBelow : ℕ → Path → Type 0
+IsBelow count (Udp port) = Unit {0}
+IsBelow count (Tcp conn) = conn < count
+
+-- each route that serves names has the place of one of its servers
+abbrev pub ArePreferred : List Route → List ℕ → Type 0
+ArePreferred [] [] = Unit {0}
+ArePreferred [] (p ∷ places) = ⊥
+ArePreferred (r ∷ routes) [] = ⊥
+ArePreferred (r ∷ routes) (p ∷ places) = (r.deny ≡ false → p < length r.servers) × ArePreferred routes places

@@ -1,0 +1,148 @@
+-- What comes of a delivery, and of a reply that is accepted.
+use Rattle.std.specs.Prelude.{ℕ, suc, ◌+◌, ◌-◌, Bool, if◌then◌else◌, nat_lt, nat_le, List, [], ◌∷◌, ◌++◌, length, map, filter, take, Option, Some, None, Result, Ok, Err}
+use Rattle.std.specs.List.{flat_map}
+use Rattle.dns_message.specs.Fault.{Fault}
+use Rattle.dns_message.specs.Values.{Question, Message}
+use Rattle.dns_message.specs.Messages.{message_of}
+use Rattle.dns_message.specs.Questions.{asked_at}
+use Rattle.suffix_routes.specs.declared.peer.Peer.{Peer}
+use Rattle.suffix_routes.specs.Values.{Config}
+use Rattle.outstanding.specs.Lists.{of_question, without_path}
+use Rattle.outstanding.specs.Values.{Ask}
+use Rattle.reply_match.specs.declared.verdict.Verdict.{Verdict}
+use Rattle.reply_match.specs.declared.verdict.Verdict.TheVariants.{Stranger, Truncated, Failed, Malformed, Whole}
+use Rattle.reply_match.specs.Verdicts.{judge}
+use Rattle.retry_failover.specs.declared.Failure.TheVariants as failure
+use Rattle.trust_rank.specs.declared.slot.Slot.{Slot}
+use Rattle.trust_rank.specs.Values.{Piece, End, found, ends_no_data, ends_denied, elsewhere, lame, Walk}
+use Rattle.trust_rank.specs.Walks.{most_aliases, walk_of, is_lame}
+use Rattle.record_cache.specs.Values.{Held}
+use Rattle.step_values.specs.declared.action.Why.TheVariants.{NoPort}
+use Rattle.step_table.specs.State.{State, Turn, from_state}
+use Rattle.waiting_questions.specs.Values.{Waiting, waits_for}
+use Rattle.step_table.specs.Attempts.{first_ask_for}
+use Rattle.alias_chains.specs.LookingUp.{ends, too_long, missed, LookUp, look_up}
+use Rattle.step_table.specs.Steps.{Done, Fate, gets, waits, with_preferred_server, with_promoted, idle_step, still_waiting, closing_step, offering_step, gives_up}
+use Rattle.alias_chains.specs.Offering.{held_at}
+use Rattle.step_table.specs.Clients.{fate_of}
+use Rattle.step_table.specs.Failures.{row_of_failure}
+
+-- ---- an accepted reply
+
+-- the last piece of a walk, and the aliases before it
+abbrev pub last_of : Piece → List Piece → Piece
+last_of p [] = p
+last_of p (q ∷ ps) = last_of q ps
+
+abbrev pub before_last : Piece → List Piece → List Piece
+before_last p [] = []
+before_last p (q ∷ ps) = p ∷ before_last q ps
+
+-- it ends at the last piece, with the aliases before it held
+abbrev pub ends_at : ℕ → List Held → Question → List Piece → LookUp
+ends_at n held q [] = record { held = held; wanted = q; met = missed; used = [] }
+ends_at n held q (p ∷ ps) = record { held = held ++ map (held_at n) (before_last p ps); wanted = q; met = ends (held_at n (last_of p ps)); used = [] }
+
+-- more aliases than a question may hold: the first that is too many ends it
+abbrev pub too_many : List Held → Question → LookUp
+too_many held q = record { held = take (suc most_aliases) held; wanted = q; met = too_long; used = [] }
+
+abbrev pub unless_many : LookUp → LookUp
+unless_many l = if nat_le (length l.held) most_aliases then l else too_many l.held l.wanted
+
+-- with the aliases of the walk held, the look-up goes on at the name that they lead to, in the cache as it was
+abbrev pub goes_on : Config → ℕ → List Held → List Held → Question → LookUp
+goes_on c n entries held q =
+    if nat_le (length held) most_aliases
+    then look_up c.routes n entries (most_aliases - length held) held q
+    else too_many held q
+
+-- what the reply makes of a question that waits for it
+abbrev pub looked_by : Config → ℕ → List Held → Walk → Waiting → End → LookUp
+looked_by c n entries w x (elsewhere name) = goes_on c n entries (x.held ++ map (held_at n) w.pieces) (asked_at x.wanted name)
+looked_by c n entries w x found = unless_many (ends_at n x.held x.wanted w.pieces)
+looked_by c n entries w x ends_no_data = unless_many (ends_at n x.held x.wanted w.pieces)
+looked_by c n entries w x ends_denied = unless_many (ends_at n x.held x.wanted w.pieces)
+looked_by c n entries w x lame = unless_many (ends_at n x.held x.wanted w.pieces)
+
+-- all others wait on
+abbrev pub fate_by : Config → ℕ → List Held → Ask → Walk → Waiting → Fate
+fate_by c n entries a w x = if waits_for a.question x then fate_of c n x (looked_by c n entries w x w.end) else waits x
+
+-- the slots that the look-ups used, question by question
+abbrev pub used_by : Config → ℕ → List Held → Ask → Walk → List Waiting → List Slot
+used_by c n entries a w xs = flat_map (λ x. (looked_by c n entries w x w.end).used) (filter (waits_for a.question) xs)
+
+-- of those that wait on, which all want one question now, what is to be asked; nothing where its inquiry is open
+abbrev pub unless_open : Question → Option Ask → Option Question
+unless_open q None = Some q
+unless_open q (Some a) = None
+
+abbrev pub to_be_asked : List Ask → List Waiting → Option Question
+to_be_asked listed [] = None
+to_be_asked listed (y ∷ ys) = unless_open y.wanted (of_question y.wanted listed)
+
+-- without a port, those that would wait on for it fail
+abbrev pub without_port : Fate → Fate
+without_port (gets reply) = gets reply
+without_port (waits y) = gets (gives_up NoPort y)
+
+abbrev pub unless_no_port : (Waiting → Fate) → Question → Waiting → Fate
+unless_no_port fate q x = if waits_for q x then without_port (fate x) else waits x
+
+abbrev pub row_of_next_name : ℕ → Ask → (Waiting → Fate) → State → Option Ask → Done
+row_of_next_name n a fate s None = closing_step n a (unless_no_port fate a.question) None s
+row_of_next_name n a fate s (Some next) = closing_step n a fate (Some next) s
+
+abbrev pub row_of_sent_on : Turn → Ask → (Waiting → Fate) → Option Question → Done
+row_of_sent_on t a fate None = closing_step t.moment a fate None t.state
+row_of_sent_on t a fate (Some q) =
+    row_of_next_name t.moment a fate t.state
+    (first_ask_for (from_state (record t.state { asks = without_path a.path t.state.asks }) t) q)
+
+-- all that wait for it are answered, or are sent on to the name that the aliases lead to
+abbrev pub row_of_end : Turn → Ask → Walk → (Waiting → Fate) → End → Done
+row_of_end t a w fate (elsewhere name) =
+    row_of_sent_on (from_state (with_promoted (used_by t.config t.moment t.state.cache.entries a w t.state.waiting) t.state) t) a fate
+    (to_be_asked (without_path a.path t.state.asks) (still_waiting (map fate (filter (waits_for a.question) t.state.waiting))))
+row_of_end t a w fate found = closing_step t.moment a fate None t.state
+row_of_end t a w fate ends_no_data = closing_step t.moment a fate None t.state
+row_of_end t a w fate ends_denied = closing_step t.moment a fate None t.state
+row_of_end t a w fate lame = closing_step t.moment a fate None t.state
+
+abbrev pub row_of_acceptance : Turn → List Bool → Ask → Walk → Done
+row_of_acceptance t rooms a w =
+    offering_step t.moment rooms (w.pieces ++ w.authority)
+    (row_of_end (from_state (with_preferred_server a t.state) t) a w (fate_by t.config t.moment t.state.cache.entries a w) w.end)
+
+-- ---- a delivery
+
+abbrev pub row_of_walk : Turn → List Bool → Ask → Walk → Done
+row_of_walk t rooms a w = if is_lame w.end then row_of_failure t a failure.Lame else row_of_acceptance t rooms a w
+
+abbrev pub row_of_message : Turn → List Bool → Ask → Result Message Fault → Done
+row_of_message t rooms a (Ok m) = row_of_walk t rooms a (walk_of t.config m a.question a.route)
+row_of_message t rooms a (Err fault) = row_of_failure t a failure.Malformed
+
+abbrev pub row_of_verdict : Turn → List Bool → Ask → List ℕ → Verdict → Done
+row_of_verdict t rooms a octets Stranger = idle_step t.moment t.state
+row_of_verdict t rooms a octets Truncated = row_of_failure t a failure.Truncated
+row_of_verdict t rooms a octets (Failed rcode) = row_of_failure t a failure.Rcode
+row_of_verdict t rooms a octets Malformed = row_of_failure t a failure.Malformed
+row_of_verdict t rooms a octets Whole = row_of_message t rooms a (message_of octets)
+
+abbrev pub timeout_of : Config → Ask → ℕ
+timeout_of c a = a.asked + c.limits.ask_ms
+
+-- an ask that is past its time is no longer answered
+abbrev pub row_of_delivery : Turn → List Bool → Peer → List ℕ → Option Ask → Done
+row_of_delivery t rooms from octets None = idle_step t.moment t.state
+row_of_delivery t rooms from octets (Some a) =
+    if nat_lt t.moment (timeout_of t.config a)
+    then row_of_verdict t rooms a octets (judge a from octets)
+    else idle_step t.moment t.state
+
+-- what a delivery is to the ask on its path
+abbrev pub verdict_on : Config → ℕ → Peer → List ℕ → Option Ask → Verdict
+verdict_on c n from octets None = Stranger
+verdict_on c n from octets (Some a) = if nat_lt n (timeout_of c a) then judge a from octets else Stranger

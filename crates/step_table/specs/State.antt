@@ -1,0 +1,34 @@
+-- The forwarder's state as plain values.
+use Rattle.std.specs.Prelude.{ℕ, List}
+use Rattle.suffix_routes.specs.Values.{Config}
+use Rattle.outstanding.specs.Values.{Ask}
+use Rattle.record_cache.specs.Values.{Cache}
+use Rattle.waiting_questions.specs.Values.{Waiting}
+
+pub record State : Type 0 where
+  pub cache : Cache
+  pub asks : List Ask  -- in the order in which they were asked
+  pub waiting : List Waiting  -- in the order in which they were taken
+  pub preferred : List ℕ  -- for each route, the place of the server that is asked first
+  pub moment : ℕ  -- the effective moment, in milliseconds
+  pub tcp_asks : ℕ  -- how many asks went by TCP
+
+-- a forwarder: its configuration, and its state
+pub record Running : Type 0 where
+  pub config : Config
+  pub state : State
+
+-- a step as its rows see it: the effective moment, in milliseconds, the random words that it is handed, and the state in which
+-- it begins
+pub record Turn : Type 0 where
+  pub config : Config
+  pub moment : ℕ
+  pub words : List ℕ
+  pub state : State
+
+abbrev pub turn : Config → ℕ → List ℕ → State → Turn
+turn c n words s = record { config = c; moment = n; words = words; state = s }
+
+-- the same from another state
+abbrev pub from_state : State → Turn → Turn
+from_state s t = record t { state = s }

@@ -1,3 +1,0 @@
--- What the proofs of crates above cite: the theorem, and runs that go on.
-pub use Rattle.step_use.proofs.Theorem.{row_stays_fully_explained, start_fully_explained, run_serves_truly}
-pub use Rattle.step_use.proofs.Theorem.{run_serves_on, row_serves_on, came_more}

@@ -1,5 +1,0 @@
-use Rattle.step_use.proofs.Theorem.{run_serves_truly}
-use Rattle.step_use.proofs.laws.runs_serve_truly.Goals as goal
-
-pub returns : goal.returns
-returns c = run_serves_truly

@@ -1,0 +1,26 @@
+-- Which messages of clients are taken, and the response code that each reply has.
+use Rattle.std.specs.Prelude.{ℕ, Bool, ◌&&◌, not, nat_le, List, length}
+use Rattle.dns_message.specs.Header.{header_in}
+use Rattle.step_values.specs.declared.action.Why.{Why}
+use Rattle.step_values.specs.declared.action.Why.TheVariants.{Answered, BadFormat, BadOpcode, NotServed, NoRoute, QuestionsFull, InquiriesFull, NoPort, Exhausted, Deadline, ChainLong, TooLarge, Stale, LocalDenied}
+
+-- octets of a client are dropped if they are too few or too many, or are themselves a reply
+abbrev pub is_taken : List ℕ → Bool
+is_taken octets = nat_le 12 (length octets) && nat_le (length octets) 65535 && not (header_in octets).qr
+
+-- the response code of each reply (RFC 1035 4.1.1)
+abbrev pub rcode_of_why : Why → ℕ
+rcode_of_why Answered = 0
+rcode_of_why BadFormat = 1
+rcode_of_why BadOpcode = 4
+rcode_of_why NotServed = 4
+rcode_of_why NoRoute = 5
+rcode_of_why QuestionsFull = 2
+rcode_of_why InquiriesFull = 2
+rcode_of_why NoPort = 2
+rcode_of_why Exhausted = 2
+rcode_of_why Deadline = 2
+rcode_of_why ChainLong = 2
+rcode_of_why TooLarge = 2
+rcode_of_why Stale = 0
+rcode_of_why LocalDenied = 3

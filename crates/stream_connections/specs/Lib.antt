@@ -1,0 +1,5 @@
+pub mod Listed
+pub mod Open
+pub mod Queries
+pub mod Serving
+pub mod Waiting

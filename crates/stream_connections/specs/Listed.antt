@@ -1,0 +1,63 @@
+-- The connections of clients that are open, by their numbers.
+use Rattle.std.specs.Prelude.{◌≡◌, ℕ, Bool, List, [], ◌∷◌, Option, None, Some, Result, if◌then◌else◌, slice_get}
+use Rattle.std.specs.Option.{option_map}
+use Rattle.std.specs.Ordering.{nat_cmp}
+use Rattle.std.specs.declared.ops.Bound.TheVariants.{Included, Unbounded}
+use Rattle.std.specs.Map.{lookup, set_value}
+use Rattle.std.specs.BTreeMap.{insert_entry, is_at}
+use Rattle.std.specs.BTreeMap.Range.{entries_between}
+use Rattle.stream_connections.specs.declared.client_stream.ClientStream.{ClientStream}
+use Rattle.stream_connections.specs.declared.client_stream.Heard.{Heard}
+use Rattle.stream_connections.specs.declared.lost.Lost.{Lost}
+use Rattle.stream_connections.specs.Serving.{Replies, Serves}
+use Rattle.stream_connections.specs.Waiting.{IsNew, is_idle, is_late, is_resting}
+
+-- The connection with this number is open and changes so; no other changes.
+pub record ChangesAt {X : Type 0} (conn : ℕ) (Changes : X → X → Type 0) (before after : List (ℕ × X)) : Type 0 where
+  pub connection : X
+  pub changed : X
+  pub is_open : lookup (is_at (nat_cmp conn)) before ≡ Some connection
+  pub changes : Changes connection changed
+  pub listed : after ≡ set_value (is_at (nat_cmp conn)) before changed
+
+-- The connection with this number isn't open, and nothing has changed.
+pub record IsNotOpen {X : Type 0} (conn : ℕ) (before after : List (ℕ × X)) : Type 0 where
+  pub is_not_open : lookup (is_at (nat_cmp conn)) before ≡ None
+  pub same : after ≡ before
+
+-- Serving the connection with this number.
+abbrev pub ServesOn : {A : Type 0} → (conn : ℕ) → Option Heard → (now : ℕ) (buffer : List ℕ)
+    → (before after : List (ℕ × ClientStream A)) → Type 0
+ServesOn conn (Some heard) now buffer before after = ChangesAt conn (Serves heard now buffer) before after
+ServesOn conn None now buffer before after = IsNotOpen conn before after
+
+-- Replying on the connection with this number.
+abbrev pub RepliesOn : {A : Type 0} → (conn : ℕ) (reply : List ℕ) (now : ℕ) → Option (Result Bool Lost)
+    → (before after : List (ℕ × ClientStream A)) → Type 0
+RepliesOn conn reply now (Some answer) before after = ChangesAt conn (Replies reply now answer) before after
+RepliesOn conn reply now None before after = IsNotOpen conn before after
+
+-- A connection that is admitted is listed under its number, as one that has just come; the others stay.
+pub record Admits {A : Type 0} (conn now : ℕ) (before after : List (ℕ × ClientStream A)) : Type 0 where
+  pub client : ClientStream A
+  pub is_new : IsNew now client
+  pub listed : after ≡ insert_entry nat_cmp before conn client
+
+-- the number of the first that waits for nothing
+abbrev pub first_idle : {A : Type 0} → List (ℕ × ClientStream A) → Option ℕ
+first_idle [] = None
+first_idle (entry ∷ later) = if is_idle entry.1.unanswered entry.1.unsent.left then Some entry.0 else first_idle later
+
+-- the number of the first that has waited for nothing for a while
+abbrev pub first_resting : {A : Type 0} → (now : ℕ) → List (ℕ × ClientStream A) → Option ℕ
+first_resting now [] = None
+first_resting now (entry ∷ later) =
+    if is_resting entry.1.unanswered entry.1.unsent.left entry.1.active now then Some entry.0
+    else first_resting now later
+
+-- the first from this number on, and whether it has been silent for too long
+abbrev pub first_from : {A : Type 0} → (conn now deadline : ℕ) → List (ℕ × ClientStream A) → Option (ℕ × Bool)
+first_from conn now deadline clients =
+    option_map
+    (λ entry. (entry.0, is_late entry.1.unanswered entry.1.unsent.left entry.1.took entry.1.active now deadline))
+    (slice_get (entries_between nat_cmp (Included conn) Unbounded clients) 0)

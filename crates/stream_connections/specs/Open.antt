@@ -1,0 +1,89 @@
+-- The connections that are open, and the ends of others that are yet to be told.
+use Rattle.std.specs.Prelude.{◌≡◌, ℕ, ◌+◌, ◌≤◌, Bool, ◌||◌, List, [], ◌∷◌, ◌++◌, length, slice_get, nat_lt}
+use Rattle.std.specs.Prelude.{Option, Some, None, is_some, Result, IfOk, if◌then◌else◌}
+use Rattle.std.specs.Option.{option_map}
+use Rattle.std.specs.Ordering.{nat_cmp}
+use Rattle.std.specs.declared.ops.Bound.TheVariants.{Included, Unbounded}
+use Rattle.std.specs.Map.{lookup, remove_entry}
+use Rattle.std.specs.BTreeMap.{is_at}
+use Rattle.std.specs.BTreeMap.Range.{entries_between}
+use Rattle.suffix_routes.specs.declared.peer.Peer.{Peer}
+use Rattle.stream_connections.specs.declared.client_stream.ClientStream.{ClientStream}
+use Rattle.stream_connections.specs.declared.servers.ServerStream.{ServerStream}
+use Rattle.stream_connections.specs.declared.connections.Closed.{Closed}
+use Rattle.stream_connections.specs.declared.connections.Closed.TheVariants.{Client, Server}
+use Rattle.stream_connections.specs.Queries.{SendsQuery}
+use Rattle.stream_connections.specs.Listed.{ChangesAt, IsNotOpen, first_idle}
+
+-- The connections of clients and of asks, each in the order of their numbers; those that were closed and whose end is
+-- not told yet, in the order in which it is told; and whether there is room to tell the end of one connection more.
+pub record Connections (A : Type 0) : Type 0 where
+  pub clients : List (ℕ × ClientStream A)
+  pub servers : List (ℕ × ServerStream A)
+  pub closed : List Closed
+  pub has_room : Bool
+
+-- as they are seen where so many ends are to be told and there is room for so many
+abbrev pub seen_as : {A : Type 0} → List (ℕ × ClientStream A) → List (ℕ × ServerStream A) → List Closed
+    → (ends room : ℕ) → Connections A
+seen_as clients servers closed ends room = record {
+  clients = clients;
+  servers = servers;
+  closed = closed;
+  has_room = nat_lt (ends + length clients + length servers) room;
+}
+
+-- There is room to tell the end of each, besides so many ends.
+abbrev pub AllEndsFit : {A : Type 0} → List (ℕ × ClientStream A) → List (ℕ × ServerStream A) → (ends room : ℕ) → Type 0
+AllEndsFit clients servers ends room = ends + length clients + length servers ≤ room
+
+-- None is open, and no end is to be told.
+pub record AreNone {A : Type 0} (connections : Connections A) : Type 0 where
+  pub clients : connections.clients ≡ []
+  pub servers : connections.servers ≡ []
+  pub closed : connections.closed ≡ []
+
+-- with one end more to be told, where a connection was open
+abbrev pub with_end : Bool → Closed → List Closed → List Closed
+with_end was_open ended before = if was_open then before ++ ended ∷ [] else before
+
+-- without the client with this number, whose end is told where it was open
+abbrev pub without_client : {A : Type 0} → (conn : ℕ) → Connections A → Connections A
+without_client conn before = record before {
+  clients = remove_entry (is_at (nat_cmp conn)) before.clients;
+  closed = with_end (is_some (lookup (is_at (nat_cmp conn)) before.clients)) (Client conn) before.closed;
+}
+
+-- without the server with this number, whose end is told where it was open
+abbrev pub without_server : {A : Type 0} → (conn : ℕ) → Connections A → Connections A
+without_server conn before = record before {
+  servers = remove_entry (is_at (nat_cmp conn)) before.servers;
+  closed = with_end (is_some (lookup (is_at (nat_cmp conn)) before.servers)) (Server conn) before.closed;
+}
+
+-- without a client, if there is one to go
+abbrev pub without_first : {A : Type 0} → Option ℕ → Connections A → Connections A
+without_first (Some conn) before = without_client conn before
+without_first None before = before
+
+-- Making a place for one client more: where there are 1,024, the oldest that waits for nothing goes.
+pub record MakesPlace {A : Type 0} (made : Bool) (before after : Connections A) : Type 0 where
+  pub is_made : made ≡ (nat_lt (length before.clients) 1024 || is_some (first_idle before.clients))
+  pub emptied : after ≡
+      (if nat_lt (length before.clients) 1024 then before else without_first (first_idle before.clients) before)
+
+-- the first number from this one on
+abbrev pub first_number : {X : Type 0} → (from : ℕ) → List (ℕ × X) → Option ℕ
+first_number from entries =
+    option_map (λ entry. entry.0) (slice_get (entries_between nat_cmp (Included from) Unbounded entries) 0)
+
+-- A connection to a server is served.
+abbrev pub Serves : {A : Type 0} → Peer → ServerStream A → ServerStream A → Type 0
+Serves from before after = (from ≡ before.server) × SendsQuery before after
+
+-- Serving the server on the connection with this number.
+abbrev pub ServesServer : {A E : Type 0} → (conn : ℕ) → Option (Peer × Result ℕ E) → (buffer : List ℕ)
+    → (before after : List (ℕ × ServerStream A)) → Type 0
+ServesServer conn (Some (from, octets)) buffer before after =
+    ChangesAt conn (Serves from) before after × IfOk octets (λ count. count ≤ length buffer)
+ServesServer conn None buffer before after = IsNotOpen conn before after

@@ -1,0 +1,21 @@
+-- Queries on connections to servers.
+use Rattle.std.specs.Prelude.{◌≡◌, ℕ, ◌≤◌, ◌⊎◌, List, length}
+use Rattle.suffix_routes.specs.declared.peer.Peer.{Peer}
+use Rattle.tcp_frames.specs.Frames.{framed}
+use Rattle.tcp_frames.specs.Unsent.{sent}
+use Rattle.stream_connections.specs.declared.servers.ServerStream.{ServerStream}
+
+-- A connection to this server is begun, and the frame of the query is all that it is still to take.
+pub record IsBegunWith {A : Type 0} (server : Peer) (query : List ℕ) (stream : ServerStream A) : Type 0 where
+  pub to : stream.server ≡ server
+  pub unsent : stream.unsent ≡ record { left = framed query; taken = 0 }
+
+-- The server took some of the octets that were left for it.
+pub record TakesOfQuery {A : Type 0} (before after : ServerStream A) : Type 0 where
+  pub count : ℕ
+  pub within : count ≤ length before.unsent.left
+  pub taken : after ≡ record before { stream = after.stream; unsent = sent count before.unsent }
+
+-- Sending what is left of the query; nothing else changes but the stream itself.
+abbrev pub SendsQuery : {A : Type 0} → ServerStream A → ServerStream A → Type 0
+SendsQuery before after = (after ≡ record before { stream = after.stream }) ⊎ TakesOfQuery before after

@@ -1,0 +1,113 @@
+-- What a call does to the connection of a client.
+use Rattle.std.specs.Prelude.{◌≡◌, ℕ, ◌+◌, ◌-◌, ◌^◌, ◌<◌, ◌≤◌, ◌==◌, ◌++◌, ◌⊎◌, Bool, true, false, not, List, length}
+use Rattle.std.specs.Prelude.{take, Option, Some, None, Result, Ok, Err, if◌then◌else◌}
+use Rattle.tcp_frames.specs.declared.fault.FrameFault.{FrameFault}
+use Rattle.tcp_frames.specs.declared.fault.FrameFault.TheVariants as fault
+use Rattle.tcp_frames.specs.Frames.{framed, frames_of, unfinished_of}
+use Rattle.tcp_frames.specs.Counting.{Stands}
+use Rattle.tcp_frames.specs.Unsent.{pushed, sent}
+use Rattle.stream_connections.specs.declared.client_stream.ClientStream.{ClientStream}
+use Rattle.stream_connections.specs.declared.client_stream.Heard.{Heard}
+use Rattle.stream_connections.specs.declared.client_stream.Heard.TheVariants.{Octets, Nothing, Done, Failed}
+use Rattle.stream_connections.specs.declared.lost.Lost.{Lost}
+use Rattle.stream_connections.specs.declared.lost.Lost.TheVariants.{Memory, TooLong, TooMuch, Gone}
+use Rattle.stream_connections.specs.Waiting.{Hears, is_done}
+
+-- Nothing has changed but the stream itself.
+abbrev pub Keeps : {A : Type 0} → ClientStream A → ClientStream A → Type 0
+Keeps before after = after ≡ record before { stream = after.stream }
+
+-- At this moment the client took some of the octets that were left for it.
+pub record Takes {A : Type 0} (now : ℕ) (before after : ClientStream A) : Type 0 where
+  pub count : ℕ
+  pub some : 0 < count
+  pub within : count ≤ length before.unsent.left
+  pub taken : after ≡ record before { stream = after.stream; unsent = sent count before.unsent; took = now }
+
+-- Sending: a write that takes nothing changes nothing.
+abbrev pub Sends : {A : Type 0} → (now : ℕ) → ClientStream A → ClientStream A → Type 0
+Sends now before after = Keeps before after ⊎ Takes now before after
+
+-- A piece of the client's stream is heard at this moment: the messages that end in it have no reply yet.
+pub record HearsPiece {A : Type 0} (piece : List ℕ) (now : ℕ) (before after : ClientStream A) : Type 0 where
+  pub stands : (rest : List ℕ) → Stands before.within rest → Stands after.within (unfinished_of (rest ++ piece))
+  pub hears : (rest : List ℕ) → Stands before.within rest → Hears (length (frames_of (rest ++ piece))) now before after
+
+-- Nothing has changed, unless the client's stream has ended.
+pub record MayEnd {A : Type 0} (before after : ClientStream A) : Type 0 where
+  pub rest : after ≡ record before { ended = after.ended }
+  pub stays : before.ended ≡ true → after.ended ≡ true
+
+-- Some octets at the beginning of the buffer are a piece of the stream, which has not ended.
+pub record ReadsPiece {A : Type 0} (count now : ℕ) (buffer : List ℕ) (before after : ClientStream A) : Type 0 where
+  pub some : 0 < count
+  pub within : count ≤ length buffer
+  pub open_yet : before.ended ≡ false
+  pub heard : HearsPiece (take count buffer) now before after
+
+-- Reading into the buffer.
+abbrev pub Reads : {A : Type 0} → Option ℕ → (now : ℕ) (buffer : List ℕ) → ClientStream A → ClientStream A → Type 0
+Reads (Some count) now buffer before after = ReadsPiece count now buffer before after
+Reads None now buffer before after = MayEnd before after
+
+-- What is heard where the buffer is read into.
+abbrev pub HearsInto : {A : Type 0} → Heard → (now : ℕ) (buffer : List ℕ) → ClientStream A → ClientStream A → Type 0
+HearsInto (Octets count) now buffer before after = Reads (Some count) now buffer before after
+HearsInto Nothing now buffer before after = Reads None now buffer before after
+HearsInto Done now buffer before after = Reads None now buffer before after
+HearsInto Failed now buffer before after = after ≡ before
+
+-- Whether the client is done with is told where nothing is heard.
+abbrev pub TellsWhetherDone : {A : Type 0} → Heard → ClientStream A → Type 0
+TellsWhetherDone (Octets _) after = Unit {0}
+TellsWhetherDone Nothing after = is_done after ≡ false
+TellsWhetherDone Done after = is_done after ≡ true
+TellsWhetherDone Failed after = Unit {0}
+
+-- Sending what is left, and then reading into the buffer.
+pub record Serves {A : Type 0} (heard : Heard) (now : ℕ) (buffer : List ℕ) (before after : ClientStream A)
+    : Type 0 where
+  pub between : ClientStream A
+  pub sends : Sends now before between
+  pub hears : HearsInto heard now buffer between after
+  pub tells : TellsWhetherDone heard after
+
+-- with the frame of a reply put behind what is left
+abbrev pub with_frame : {A : Type 0} → (frame : List ℕ) (now : ℕ) → ClientStream A → ClientStream A
+with_frame frame now before = record before {
+  unsent = pushed frame before.unsent;
+  unanswered = before.unanswered - 1;
+  active = now;
+  took = if length before.unsent.left == 0 then now else before.took;
+}
+
+-- whether the connection on which a reply was lost so is to be closed
+abbrev pub is_over : Lost → Bool
+is_over Memory = false
+is_over TooLong = false
+is_over TooMuch = true
+is_over Gone = true
+
+-- why a reply is lost that has no frame
+abbrev pub lost_by : FrameFault → Lost
+lost_by fault.Memory = Memory
+lost_by fault.TooLong = TooLong
+
+-- What came of a reply: its frame goes behind what is left, and then the client takes what it takes. True where the
+-- connection goes on. A reply that is lost leaves all as it was, unless the stream takes nothing any more.
+abbrev pub Answers : {A : Type 0} → (reply : List ℕ) (now : ℕ) → Result Bool Lost → ClientStream A → ClientStream A
+    → Type 0
+Answers reply now (Ok goes_on) before after =
+    Sends now (with_frame (framed reply) now before) after
+    × (goes_on ≡ not (is_done after)) × (length after.unsent.left ≤ 2 ^ 20)
+Answers reply now (Err Memory) before after = after ≡ before
+Answers reply now (Err TooLong) before after = (after ≡ before) × (65535 < length reply)
+Answers reply now (Err TooMuch) before after =
+    (after ≡ before) × (2 ^ 20 < length before.unsent.left + length reply + 2)
+Answers reply now (Err Gone) before after = Keeps (with_frame (framed reply) now before) after
+
+-- Replying: never more than 2 ^ 20 octets are left, and one reply more closes the connection.
+pub record Replies {A : Type 0} (reply : List ℕ) (now : ℕ) (answer : Result Bool Lost)
+    (before after : ClientStream A) : Type 0 where
+  pub answers : Answers reply now answer before after
+  pub much : 2 ^ 20 < length before.unsent.left + length reply + 2 → answer ≡ Err TooMuch

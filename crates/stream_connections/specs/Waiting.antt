@@ -1,0 +1,43 @@
+-- Which clients wait, and which have been silent for too long (RFC 7766 6.2.3).
+use Rattle.std.specs.Prelude.{◌≡◌, ℕ, ◌+◌, ◌-◌, ◌^◌, ◌==◌, ◌&&◌, min, Bool, false, nat_le, List, [], length}
+use Rattle.std.specs.Prelude.{if◌then◌else◌}
+use Rattle.tcp_frames.specs.declared.framing.Within.TheVariants.{Nothing}
+use Rattle.stream_connections.specs.declared.client_stream.ClientStream.{ClientStream}
+
+-- A client that has just come has sent nothing.
+pub record IsNew {A : Type 0} (now : ℕ) (client : ClientStream A) : Type 0 where
+  pub unsent : client.unsent ≡ record { left = []; taken = 0 }
+  pub within : client.within ≡ Nothing
+  pub unanswered : client.unanswered ≡ 0
+  pub ended : client.ended ≡ false
+  pub active : client.active ≡ now
+  pub took : client.took ≡ now
+
+-- With so many whole messages at this moment.
+abbrev pub Hears : {A : Type 0} → (messages now : ℕ) → ClientStream A → ClientStream A → Type 0
+Hears messages now before after =
+    after ≡ record before {
+      within = after.within;
+      unanswered = min (before.unanswered + messages) (2 ^ 64 - 1);
+      active = if messages == 0 then before.active else now;
+    }
+
+-- whether a client with so many messages without a reply, and these octets that it didn't take yet, waits for nothing
+abbrev pub is_idle : ℕ → List ℕ → Bool
+is_idle unanswered unsent = (unanswered == 0) && (length unsent == 0)
+
+-- whether a client sends nothing more and waits for nothing
+abbrev pub is_done : {A : Type 0} → ClientStream A → Bool
+is_done client = client.ended && is_idle client.unanswered client.unsent.left
+
+-- whether it has been silent for too long: it took nothing for 10 s of what is left for it; or, where nothing is, sent
+-- no whole message and got no reply for 10 s, and where it waits for replies for so many milliseconds more as they may
+-- take
+abbrev pub is_late : (unanswered : ℕ) (unsent : List ℕ) (took active now deadline : ℕ) → Bool
+is_late unanswered unsent took active now deadline =
+    if length unsent == 0 then nat_le (10000 + (if unanswered == 0 then 0 else deadline)) (now - active)
+    else nat_le 10000 (now - took)
+
+-- whether it has waited for nothing for a second
+abbrev pub is_resting : (unanswered : ℕ) (unsent : List ℕ) (active now : ℕ) → Bool
+is_resting unanswered unsent active now = is_idle unanswered unsent && nat_le 1000 (now - active)

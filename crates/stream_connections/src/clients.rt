@@ -1,0 +1,143 @@
+//! The connections of clients.
+
+ghost use Rattle.std.specs.Prelude.{◌≡◌, ◌+◌, ◌<◌, ◌≤◌, if◌then◌else◌, [], length, nat_le, is_some, OnOk, OnErr};
+ghost use Rattle.std.specs.Ordering.{nat_cmp};
+ghost use Rattle.std.specs.Map.{lookup, remove_entry};
+ghost use Rattle.std.specs.BTreeMap.{is_at};
+ghost use Rattle.stream_connections.specs.Listed.{Admits, RepliesOn, ServesOn, first_from, first_idle, first_resting};
+
+use crate::client_stream::{ClientStream, Heard};
+use crate::lost::Lost;
+use mio::net::TcpStream;
+use std::alloc::{AllocError, Allocator};
+use std::collections::BTreeMap;
+use std::marker::Model;
+
+/// How many connections clients may have.
+const MOST: usize = 1024;
+
+/// The connections that clients opened and that are open yet, by their numbers: never more than may be. Contracts see
+/// them in the order of their numbers.
+#[derive(Drop)]
+pub(crate) struct Clients<A: Allocator> {
+    open: BTreeMap<u64, ClientStream<A>, A>,
+}
+
+impl<A: Allocator> Model for Clients<A> {
+    ghost use Rattle.std.specs.Prelude.{ℕ, ◌≤◌, List, length};
+    ghost use Rattle.stream_connections.specs.declared.client_stream.ClientStream.{ClientStream};
+
+    ghost Value = { List (ℕ × ClientStream A) };
+
+    ghost view = { λ c. c.open.entries };
+
+    ghost invariant = { λ c. length c.open.entries ≤ 1024 };
+}
+
+impl<A: Allocator + Copy> Clients<A> {
+    /// None; it takes no memory.
+    pub fn new(alloc: A) -> Clients<A>
+        ensures { result ≡ [] }
+    {
+        Clients {
+            open: BTreeMap::new(alloc),
+        }
+    }
+
+    /// No further one may be opened.
+    pub fn is_full(&self) -> bool
+        ensures full { result ≡ nat_le 1024 (length self.now) }
+        ensures most { length self.now ≤ 1024 }
+    {
+        self.open.len() >= MOST
+    }
+
+    pub fn len(&self) -> usize
+        ensures { result ≡ length self.now }
+    {
+        self.open.len()
+    }
+
+    /// Lists a connection under its number. `Err` where memory ran out, and then nothing has changed.
+    pub fn admit(
+        &mut self,
+        alloc: A,
+        conn: u64,
+        stream: TcpStream,
+        now: u64,
+    ) -> Result<(), AllocError>
+        requires { length self.old < 1024 }
+        ensures ok { OnOk result (Admits conn now self.old self.new) }
+        ensures err { OnErr result (self.new ≡ self.old) }
+        ensures number { length self.new ≤ length self.old + 1 }
+    {
+        self.open
+            .insert(conn, ClientStream::new(alloc, stream, now))?;
+        Ok(())
+    }
+
+    /// Sends what is left for the one with this number, and reads of it into the buffer; `None` where it isn't open.
+    pub fn serve(&mut self, conn: u64, buffer: &mut [u8], now: u64) -> Option<Heard>
+        ensures serves { ServesOn conn result now buffer.new self.old self.new }
+        ensures number { length self.new ≡ length self.old }
+    {
+        let client = self.open.get_mut(&conn)?;
+        Some(client.serve(buffer, now))
+    }
+
+    /// Replies to the one with this number, and tells whether its connection goes on; `None` where it isn't open.
+    pub fn reply(
+        &mut self,
+        alloc: A,
+        conn: u64,
+        reply: &[u8],
+        now: u64,
+    ) -> Option<Result<bool, Lost>>
+        ensures replies { RepliesOn conn reply.now now result self.old self.new }
+        ensures number { length self.new ≡ length self.old }
+    {
+        let client = self.open.get_mut(&conn)?;
+        Some(client.reply(alloc, reply, now))
+    }
+
+    /// Closes it; false where it isn't open.
+    pub fn close(&mut self, conn: u64) -> bool
+        ensures open { result ≡ is_some (lookup (is_at (nat_cmp conn)) self.old) }
+        ensures rest { self.new ≡ remove_entry (is_at (nat_cmp conn)) self.old }
+        ensures number { length self.new + (if result then 1 else 0) ≡ length self.old }
+    {
+        self.open.remove(&conn).is_some()
+    }
+
+    /// The oldest that waits for nothing.
+    pub fn oldest_idle(&self) -> Option<u64>
+        ensures { result ≡ first_idle self.now }
+    {
+        for (conn, client) in &self.open {
+            if client.is_idle() {
+                return Some(*conn);
+            }
+        }
+        None
+    }
+
+    /// The oldest that has waited for nothing for a while.
+    pub fn oldest_resting(&self, now: u64) -> Option<u64>
+        ensures { result ≡ first_resting now self.now }
+    {
+        for (conn, client) in &self.open {
+            if client.is_resting(now) {
+                return Some(*conn);
+            }
+        }
+        None
+    }
+
+    /// The first from this number on, and whether it has been silent for too long.
+    pub fn from(&self, conn: u64, now: u64, deadline: u64) -> Option<(u64, bool)>
+        ensures { result ≡ first_from conn now deadline self.now }
+    {
+        let (number, client) = self.open.range(conn..).next()?;
+        Some((*number, client.is_late(now, deadline)))
+    }
+}

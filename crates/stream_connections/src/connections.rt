@@ -1,0 +1,225 @@
+//! The connections that are open, and the ends of others that are yet to be told.
+
+ghost use Rattle.std.specs.Prelude.{◌≡◌, ◌<◌, length, drop, slice_get, nat_lt};
+ghost use Rattle.std.specs.Prelude.{true, is_some, IsTrue, OnOk, OnErr};
+ghost use Rattle.std.specs.Ordering.{nat_cmp};
+ghost use Rattle.std.specs.BTreeMap.{insert_entry};
+ghost use Rattle.stream_connections.specs.Listed.{Admits, RepliesOn, ServesOn, first_from, first_idle, first_resting};
+ghost use Rattle.stream_connections.specs.Open.{AreNone, MakesPlace, ServesServer, first_number};
+ghost use Rattle.stream_connections.specs.Open.{without_client, without_first, without_server};
+
+use crate::client_stream::Heard;
+use crate::clients::Clients;
+use crate::lost::Lost;
+use crate::servers::ServerStream;
+use mio::net::TcpStream;
+use std::alloc::{AllocError, Allocator, Global};
+use std::collections::{BTreeMap, VecDeque};
+use std::io;
+use std::marker::Model;
+use suffix_routes::Peer;
+
+/// A connection that the wire closed.
+#[derive(Clone, Copy, Drop)]
+pub enum Closed {
+    /// The connection of a client with this number.
+    Client(u64),
+    /// The connection of an ask with this number.
+    Server(u64),
+}
+
+/// The connections of clients and of asks that are open, by their numbers, and those that were closed and whose end is
+/// not told yet. There is always room to tell the end of each. A moment is in milliseconds, by one clock for all calls;
+/// the oldest of several clients has the least number.
+#[derive(Drop)]
+pub struct Connections<A: Allocator = Global> {
+    clients: Clients<A>,
+    servers: BTreeMap<u64, ServerStream<A>, A>,
+    ends: VecDeque<Closed, A>,
+}
+
+impl<A: Allocator> Model for Connections<A> {
+    ghost use Rattle.std.specs.VecDeque.{deque_len, deque_capacity};
+    ghost use Rattle.stream_connections.specs.Open.{AllEndsFit, Connections, seen_as};
+
+    ghost Value = { Connections A };
+
+    ghost view = { λ c. seen_as c.clients c.servers.entries c.ends.items (deque_len c.ends) (deque_capacity c.ends) };
+
+    ghost invariant = { λ c. AllEndsFit c.clients c.servers.entries (deque_len c.ends) (deque_capacity c.ends) };
+}
+
+impl<A: Allocator + Copy> Connections<A> {
+    /// None; it takes no memory.
+    pub fn new(alloc: A) -> Connections<A>
+        ensures { AreNone result }
+    {
+        Connections {
+            clients: Clients::new(alloc),
+            servers: BTreeMap::new(alloc),
+            ends: VecDeque::new(alloc),
+        }
+    }
+
+    /// Takes out the end that is told next.
+    pub fn next_end(&mut self) -> Option<Closed>
+        ensures first { result ≡ slice_get self.old.closed 0 }
+        ensures rest { self.new ≡ record self.old { closed = drop 1 self.old.closed; has_room = self.new.has_room } }
+    {
+        self.ends.pop_front()
+    }
+
+    /// Keeps room to tell the end of each connection that is open, and of one more.
+    pub fn keep_room(&mut self) -> Result<(), AllocError>
+        ensures ok { OnOk result (self.new.has_room ≡ true) }
+        ensures rest { self.new ≡ record self.old { has_room = self.new.has_room } }
+    {
+        let open = self.clients.len().saturating_add(self.servers.len());
+        self.ends.reserve(open.saturating_add(1))
+    }
+
+    /// Closes a client's connection where it is open; its end is told.
+    pub fn close_client(&mut self, conn: u64)
+        ensures { self.new ≡ without_client conn self.old }
+    {
+        if self.clients.close(conn) {
+            self.ends.push_back_reserved(Closed::Client(conn));
+        }
+    }
+
+    /// Closes a connection to a server where it is open; its end is told.
+    pub fn close_server(&mut self, conn: u64)
+        ensures { self.new ≡ without_server conn self.old }
+    {
+        if self.servers.remove(&conn).is_some() {
+            self.ends.push_back_reserved(Closed::Server(conn));
+        }
+    }
+
+    /// Closes the oldest connection of a client that waits for nothing; false where there is none.
+    #[tactic(auto, using(crate::proofs::Ends::fewer_without_idle))]
+    fn close_oldest(&mut self) -> bool
+        ensures closed { self.new ≡ without_first (first_idle self.old.clients) self.old }
+        ensures found { result ≡ is_some (first_idle self.old.clients) }
+        ensures fewer { IsTrue result → length self.new.clients < length self.old.clients }
+    {
+        match self.clients.oldest_idle() {
+            Some(conn) => {
+                self.close_client(conn);
+                true
+            }
+            None => false,
+        }
+    }
+
+    /// Closes the oldest connection of a client that has waited for nothing for a second; false where there is none.
+    pub fn close_resting(&mut self, now: u64) -> bool
+        ensures closed { self.new ≡ without_first (first_resting now self.old.clients) self.old }
+        ensures found { result ≡ is_some (first_resting now self.old.clients) }
+    {
+        match self.clients.oldest_resting(now) {
+            Some(conn) => {
+                self.close_client(conn);
+                true
+            }
+            None => false,
+        }
+    }
+
+    /// Makes a place for one client more: where there are as many as may be, the oldest that waits for nothing is
+    /// closed. False where all of them wait, and then nothing has changed.
+    pub fn make_place(&mut self) -> bool
+        ensures place { IsTrue result → length self.new.clients < 1024 }
+        ensures made { MakesPlace result self.old self.new }
+    {
+        !self.clients.is_full() || self.close_oldest()
+    }
+
+    /// Lists a client's connection under its number. `Err` where memory ran out, and then nothing has changed.
+    pub fn admit(
+        &mut self,
+        alloc: A,
+        conn: u64,
+        stream: TcpStream,
+        now: u64,
+    ) -> Result<(), AllocError>
+        requires place { length self.old.clients < 1024 }
+        requires room { self.old.has_room ≡ true }
+        ensures ok { OnOk result (Admits conn now self.old.clients self.new.clients) }
+        ensures err { OnErr result (self.new ≡ self.old) }
+        ensures rest { self.new ≡ record self.old { clients = self.new.clients; has_room = self.new.has_room } }
+    {
+        self.clients.admit(alloc, conn, stream, now)
+    }
+
+    /// Lists a connection to a server under its number. `Err` where memory ran out, and then nothing has changed.
+    pub fn list_server(&mut self, conn: u64, stream: ServerStream<A>) -> Result<(), AllocError>
+        requires { self.old.has_room ≡ true }
+        ensures ok { OnOk result (self.new.servers ≡ insert_entry nat_cmp self.old.servers conn stream) }
+        ensures err { OnErr result (self.new ≡ self.old) }
+        ensures rest { self.new ≡ record self.old { servers = self.new.servers; has_room = self.new.has_room } }
+    {
+        self.servers.insert(conn, stream)?;
+        Ok(())
+    }
+
+    /// Sends what is left for the client with this number, and reads of it into the buffer; `None` where it isn't open.
+    pub fn serve_client(&mut self, conn: u64, buffer: &mut [u8], now: u64) -> Option<Heard>
+        ensures serves { ServesOn conn result now buffer.new self.old.clients self.new.clients }
+        ensures rest { self.new ≡ record self.old { clients = self.new.clients } }
+    {
+        self.clients.serve(conn, buffer, now)
+    }
+
+    /// Sends what is left for the server on the connection with this number, and reads of it into the buffer; `None`
+    /// where it isn't open.
+    pub fn serve_server(
+        &mut self,
+        conn: u64,
+        buffer: &mut [u8],
+    ) -> Option<(Peer, io::Result<usize>)>
+        ensures serves { ServesServer conn result buffer.new self.old.servers self.new.servers }
+        ensures rest { self.new ≡ record self.old { servers = self.new.servers } }
+    {
+        let server = self.servers.get_mut(&conn)?;
+        Some((server.server, server.serve(buffer)))
+    }
+
+    /// Replies to the client with this number, behind what it is still to take, and tells whether its connection goes
+    /// on; `None` where it isn't open. At most 1 MiB is left for a client.
+    pub fn reply(
+        &mut self,
+        alloc: A,
+        conn: u64,
+        reply: &[u8],
+        now: u64,
+    ) -> Option<Result<bool, Lost>>
+        ensures replies { RepliesOn conn reply.now now result self.old.clients self.new.clients }
+        ensures rest { self.new ≡ record self.old { clients = self.new.clients } }
+    {
+        self.clients.reply(alloc, conn, reply, now)
+    }
+
+    /// The first client from this number on, and whether it has been silent for too long: for 10 s, and where it waits
+    /// for a reply for `deadline` milliseconds more (RFC 7766 6.2.3).
+    pub fn client_from(&self, conn: u64, now: u64, deadline: u64) -> Option<(u64, bool)>
+        ensures { result ≡ first_from conn now deadline self.now.clients }
+    {
+        self.clients.from(conn, now, deadline)
+    }
+
+    /// The first connection to a server from this number on.
+    pub fn server_from(&self, conn: u64) -> Option<u64>
+        ensures { result ≡ first_number conn self.now.servers }
+    {
+        let (number, _) = self.servers.range(conn..).next()?;
+        Some(*number)
+    }
+
+    /// A connection to a server is open.
+    pub fn has_server(&self) -> bool
+        ensures { result ≡ nat_lt 0 (length self.now.servers) }
+    {
+        !self.servers.is_empty()
+    }
+}

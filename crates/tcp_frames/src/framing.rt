@@ -1,0 +1,79 @@
+//! How many whole messages a client has sent.
+
+ghost use Rattle.std.specs.Prelude.{◌≡◌, ℕ, ◌<◌, ◌≤◌, List, length, take};
+ghost use Rattle.tcp_frames.specs.Counting.{Counts, Leaves, Stands, ended};
+
+use crate::laws::pieces_continue;
+use std::num::NonZeroU16;
+
+/// Where a stream stands in its frames: each is a length in two octets, the high one first, and as many octets
+/// (RFC 1035 4.2.2).
+#[derive(Clone, Copy)]
+pub enum Within {
+    /// Between two frames.
+    Nothing,
+    /// Behind the high octet of a length.
+    Length(u8),
+    /// Before so many octets of a message.
+    Message(NonZeroU16),
+}
+
+/// Where the stream stands behind a message, or before the rest of it.
+fn before(left: u16) -> Within
+    ensures { Leaves left result }
+{
+    match NonZeroU16::new(left) {
+        Some(left) => Within::Message(left),
+        None => Within::Nothing,
+    }
+}
+
+impl Within {
+    /// How many frames end where a part of one leads here.
+    fn ended(self) -> usize
+        ensures { result ≡ ended self }
+    {
+        match self {
+            Within::Nothing => 1,
+            Within::Length(_) | Within::Message(_) => 0,
+        }
+    }
+
+    /// Goes on by the beginning of a piece, at most to the end of a frame, and tells how many octets that was.
+    fn advance(&mut self, piece: &[u8]) -> usize
+        requires { 0 < length piece.now }
+        ensures taken { (0 < result) × (result ≤ length piece.now) }
+        ensures counts { (rest : List ℕ) → Stands self.old rest → Counts rest (take result piece.now) (ended self.new) self.new }
+    {
+        match *self {
+            Within::Nothing => {
+                *self = Within::Length(piece[0]);
+                1
+            }
+            Within::Length(high) => {
+                *self = before(u16::from_be_bytes([high, piece[0]]));
+                1
+            }
+            Within::Message(left) => {
+                let count = usize::from(left.get()).min(piece.len());
+                *self = before(left.get() - count as u16);
+                count
+            }
+        }
+    }
+
+    /// Goes on by a piece of the stream, and tells how many frames ended in it.
+    pub fn count(&mut self, piece: &[u8]) -> usize
+        ensures { (rest : List ℕ) → Stands self.old rest → Counts rest piece.now result self.new }
+    {
+        pieces_continue();
+        let mut ended = 0;
+        let mut rest = piece;
+        while !rest.is_empty() {
+            let count = self.advance(rest);
+            rest = &rest[count..];
+            ended += self.ended();
+        }
+        ended
+    }
+}

@@ -1,0 +1,109 @@
+//! Octets that a stream is still to take.
+
+ghost use Rattle.std.specs.Prelude.{◌≡◌, ◌==◌, ◌≤◌, ◌++◌, [], length, IfOk, OnOk, OnErr};
+ghost use Rattle.std.specs.Io.{WritesAtMost};
+ghost use Rattle.std.specs.Io.KnownBytes.{WriteAppends};
+ghost use Rattle.tcp_frames.specs.Unsent.{pushed, sent};
+
+use plain_list::Octets;
+use std::alloc::{AllocError, Allocator};
+use std::io;
+use std::io::Write;
+use std::marker::Model;
+
+/// Octets that a stream is still to take, in order. Contracts see these, and how many that it took are kept yet.
+#[derive(Drop)]
+pub struct Unsent<A: Allocator> {
+    alloc: A,
+    octets: Vec<u8, A>,
+    /// How many of them it took.
+    taken: usize,
+}
+
+impl<A: Allocator> Model for Unsent<A> {
+    ghost use Rattle.std.specs.Prelude.{◌≤◌, drop, length};
+    ghost use Rattle.tcp_frames.specs.Unsent.{Keeping};
+
+    ghost Value = { Keeping };
+
+    ghost view = { λ u. record { left = drop u.taken u.octets.items; taken = u.taken } };
+
+    ghost invariant = { λ u. u.taken ≤ length u.octets.items };
+}
+
+impl<A: Allocator + Copy> Unsent<A> {
+    /// None; it takes no memory.
+    pub fn new(alloc: A) -> Unsent<A>
+        ensures { result ≡ record { left = []; taken = 0 } }
+    {
+        Unsent {
+            alloc,
+            octets: Vec::new(alloc),
+            taken: 0,
+        }
+    }
+
+    /// There are none.
+    pub fn is_empty(&self) -> bool
+        ensures { result ≡ (length self.now.left == 0) }
+    {
+        self.len() == 0
+    }
+
+    /// How many they are.
+    pub fn len(&self) -> usize
+        ensures { result ≡ length self.now.left }
+    {
+        self.octets.len() - self.taken
+    }
+
+    /// Puts octets last. Of those that the stream took no more are kept then than are left, so that one which is slow
+    /// for ever keeps little; and no more of those that are left are copied for it than it took. `Err` where memory ran
+    /// out, and then nothing has changed.
+    pub fn push(&mut self, more: Octets<A>) -> Result<(), AllocError>
+        ensures ok { OnOk result (self.new ≡ pushed more self.old) }
+        ensures few { OnOk result (self.new.taken ≤ length self.new.left) }
+        ensures err { OnErr result (self.new ≡ self.old) }
+    {
+        if self.taken >= self.octets.len() {
+            self.octets = more.into_vec();
+            self.taken = 0;
+            return Ok(());
+        }
+        if self.taken > self.len() {
+            return self.push_anew(more.as_slice());
+        }
+        self.octets.extend_from_slice(more.as_slice())?;
+        Ok(())
+    }
+
+    /// Puts octets last, behind a copy of those that are left. `Err` where memory ran out, and then nothing has changed.
+    fn push_anew(&mut self, more: &[u8]) -> Result<(), AllocError>
+        ensures ok { OnOk result (self.new ≡ record { left = self.old.left ++ more.now; taken = 0 }) }
+        ensures err { OnErr result (self.new ≡ self.old) }
+    {
+        let mut octets = Vec::with_capacity(self.alloc, self.len() + more.len())?;
+        octets.extend_from_slice(&self.octets[self.taken..])?;
+        octets.extend_from_slice(more)?;
+        self.octets = octets;
+        self.taken = 0;
+        Ok(())
+    }
+
+    /// Has the stream take what it takes at once, and tells how many octets that were; none where it takes nothing any
+    /// more. `Err` as the stream tells it, where it took none.
+    pub fn send<W: Write>(&mut self, stream: &mut W) -> io::Result<usize>
+        ensures taken { IfOk result (λ count. self.new ≡ sent count self.old) }
+        ensures bound { WritesAtMost result self.old.left }
+        ensures written { WriteAppends (W.contents stream.old) (W.contents stream.new) result self.old.left }
+        ensures err { OnErr result (self.new ≡ self.old) }
+    {
+        let count = stream.write(&self.octets[self.taken..])?;
+        self.taken += count;
+        if self.taken >= self.octets.len() {
+            self.octets = Vec::new(self.alloc);
+            self.taken = 0;
+        }
+        Ok(count)
+    }
+}

@@ -1,0 +1,14 @@
+pub mod Slots
+pub mod Short
+pub mod Justifying
+pub mod Walking
+pub mod Carrying
+pub mod LookingUp
+pub mod Offers
+pub mod Keeping
+pub mod Texts
+pub mod Caching
+pub mod Hits
+pub mod PastEnds
+mod Worked
+pub mod CallerLemmas

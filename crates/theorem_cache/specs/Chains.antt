@@ -1,0 +1,80 @@
+-- Chains that a history justifies: those of a look-up, and those of an accepted reply.
+use Rattle.std.specs.Prelude.{◌≡◌, ℕ, ◌≤◌, Bool, true, false, List, [], ◌∷◌, ◌++◌, length, map, Some, ◌⊎◌}
+use Rattle.std.specs.List.{AllByRecursion}
+use Rattle.dns_message.specs.Values.{Question}
+use Rattle.suffix_routes.specs.Values.{Config}
+use Rattle.trust_rank.specs.Values.{Piece, End, found, ends_no_data, ends_denied, elsewhere, lame}
+use Rattle.record_cache.specs.Values.{Held}
+use Rattle.step_values.specs.Values.{Step}
+use Rattle.step_history.specs.History.{is_restart, Look, Carries, NothingAccepted}
+use Rattle.step_history.specs.Carried.{Justified}
+use Rattle.step_history.specs.Answers.{has_slot, FollowsAliases, EndsChain}
+use Rattle.dns_message.specs.Questions.{asked_at}
+use Rattle.step_history.specs.Stale.{JustifiedPastItsEnd, FollowsPastEnds}
+use Rattle.alias_chains.specs.LookingUp.{LookUpEnd, ends, too_long, missed, LookUp}
+use Rattle.alias_chains.specs.Offering.{held_at}
+use Rattle.theorem_cache.specs.Kept.{CanBeTold}
+
+-- a step, and what came before it, seen from now
+abbrev pub look_from : Config → Step → List Step → List Step → Look
+look_from c asked before now = record { config = c; asked = asked; before = before; now = now }
+
+-- a step that is no restart: it accepts nothing, or carries these pieces
+abbrev pub GoesOn : Config → Step → List Step → Type 0
+GoesOn c s past = (is_restart s ≡ false) × (NothingAccepted c s past ⊎ ((ps : List Piece) × Carries c s past ps))
+
+-- ---- of a look-up
+
+-- it can be told at the moment, is justified, and ends the look-up of the question
+abbrev pub IsRightEnd : Look → ℕ → Question → Held → Type 0
+IsRightEnd l t q h = CanBeTold t h × Justified l q.name h × EndsChain q h.piece h.piece.body
+
+abbrev pub EndsRight : Look → ℕ → Question → LookUpEnd → Type 0
+EndsRight l t q (ends h) = IsRightEnd l t q h
+EndsRight l t q too_long = Unit {0}
+EndsRight l t q missed = Unit {0}
+
+-- a look-up that fails by its aliases holds nine, any other at most eight
+abbrev pub IsSized : LookUpEnd → ℕ → Type 0
+IsSized (ends h) k = k ≤ 8
+IsSized too_long k = k ≡ 9
+IsSized missed k = k ≤ 8
+
+-- its aliases lead from the question to what is wanted at the end, and the end is right for that
+pub record IsRight (l : Look) (t : ℕ) (q : Question) (v : LookUp) : Type 0 where
+  pub told : AllByRecursion (CanBeTold t) v.held
+  pub follows : FollowsAliases l q v.held v.wanted
+  pub right_end : EndsRight l t v.wanted v.met
+  pub sized : IsSized v.met (length v.held)
+
+-- ---- of a look-up past the ends of entries
+
+-- aliases, at most so many, that may have ended lead from the question to what a set answers that may have ended too
+pub record IsRightPast (l : Look) (t : ℕ) (q : Question) (most : ℕ) (chain : List Held) : Type 0 where
+  pub aliases : List Held
+  pub end : Held
+  pub whole : chain ≡ aliases ++ end ∷ []
+  pub last : Question
+  pub follows : FollowsPastEnds l q aliases last
+  pub justified : JustifiedPastItsEnd l last.name end
+  pub slot : has_slot end.piece last.name last.class (Some last.kind) ≡ true
+  pub few : length aliases ≤ most
+  pub told : AllByRecursion (CanBeTold t) chain
+
+-- ---- of an accepted reply
+
+-- pieces that came at the moment t: aliases that lead on from the question, and the one that ends its look-up
+pub record LeadToEnd (l : Look) (t : ℕ) (q : Question) (ps : List Piece) : Type 0 where
+  pub aliases : List Piece
+  pub last : Piece
+  pub whole : ps ≡ aliases ++ last ∷ []
+  pub to : Question
+  pub follows : FollowsAliases l q (map (held_at t) aliases) to
+  pub justified : Justified l to.name (held_at t last)
+  pub right_end : EndsChain to last last.body
+
+-- pieces that came at the moment t: one to eight aliases that lead on from the question to the same at this name
+pub record LeadOn (l : Look) (t : ℕ) (q : Question) (ps : List Piece) (name : List (List ℕ)) : Type 0 where
+  pub some : 1 ≤ length ps
+  pub few : length ps ≤ 8
+  pub follows : FollowsAliases l q (map (held_at t) ps) (asked_at q name)

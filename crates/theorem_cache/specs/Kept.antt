@@ -1,0 +1,95 @@
+-- How a history explains what is kept of replies, and what was answered from it.
+use Rattle.std.specs.Prelude.{◌≡◌, ℕ, ◌<◌, ◌≤◌, false, List, [], ◌∷◌, ◌++◌, Some, ◌⊎◌}
+use Rattle.std.specs.List.{AllByRecursion}
+use Rattle.dns_message.specs.Header.{Header}
+use Rattle.dns_message.specs.Values.{Question}
+use Rattle.dns_message.specs.Messages.{Spells}
+use Rattle.dns_message.specs.Written.{IsQuestion}
+use Rattle.suffix_routes.specs.Values.{Config}
+use Rattle.trust_rank.specs.Values.{Piece}
+use Rattle.trust_rank.specs.Formed.{IsPiece}
+use Rattle.trust_rank.specs.Writable.{IsWritable}
+use Rattle.trust_rank.specs.Walks.{most_aliases}
+use Rattle.record_cache.specs.Values.{Held, Cache}
+use Rattle.record_cache.specs.Entries.{AreHeld}
+use Rattle.answer_builder.specs.Values.{Asked, Sections, asked_in}
+use Rattle.answer_builder.specs.Answers.{sections_of, full_answer, cut_answer}
+use Rattle.step_values.specs.declared.event.Client.{Client}
+use Rattle.step_values.specs.Values.{Step}
+use Rattle.suffix_routes.specs.Serving.{route_of}
+use Rattle.step_history.specs.History.{is_restart, moment_at, NothingAccepted}
+use Rattle.step_history.specs.Carried.{CarriedInEra, NotReplaced}
+use Rattle.step_history.specs.Replies.{answer_text, cut_text, sized_for}
+use Rattle.step_history.specs.Sound.{FromCache}
+use Rattle.alias_chains.specs.LookingUp.{LookUp, ends, look_up}
+use Rattle.step_table.specs.Progress.{IsOnRoute}
+
+-- ---- entries
+
+-- an entry: on its route, accepted not after the present moment, carried by a reply of the era with a lifetime, and not
+-- replaced since
+pub record IsKept (c : Config) (carried : List Held) (moment : ℕ) (h : Held) : Type 0 where
+  pub on_route : IsOnRoute c h
+  pub earlier : h.accepted ≤ moment
+  pub has_lifetime : 1 ≤ h.piece.lifetime
+  pub not_replaced : NotReplaced h carried
+  pub writable : IsWritable h.piece
+
+-- what an answer tells of an entry at the moment can be written
+pub record CanBeTold (t : ℕ) (h : Held) : Type 0 where
+  pub formed : IsPiece h.piece
+  pub writable : IsWritable h.piece
+  pub earlier : h.accepted ≤ t
+
+-- a piece that can be kept: of its name's route, and it can be written
+pub record CanBeKept (c : Config) (p : Piece) : Type 0 where
+  pub formed : IsPiece p
+  pub on_route : route_of c p.slot.key ≡ Some p.route
+  pub writable : IsWritable p
+
+-- ---- answers
+
+-- what was asked can be repeated
+pub record CanBeRepeated (a : Asked) (q : Question) : Type 0 where
+  pub question : a.question ≡ Some q
+  pub is_question : IsQuestion q
+  pub id : a.id < 65536
+  pub opcode : a.opcode < 16
+
+-- octets that are read as the answer with these sections, or as the same cut to the question
+abbrev pub SpellsSections : List ℕ → Asked → Sections → Type 0
+SpellsSections octets a s = Spells octets (full_answer a s) ⊎ Spells octets (cut_answer a s)
+
+-- octets that are read as the answer from this chain, or as the same cut to the question
+abbrev pub SpellsAnswer : List ℕ → Asked → List Held → ℕ → Type 0
+SpellsAnswer octets a chain t = SpellsSections octets a (sections_of t chain)
+
+-- the look-up of a question in these entries
+abbrev pub looked : Config → ℕ → List Held → Question → LookUp
+looked c t entries q = look_up c.routes t entries most_aliases [] q
+
+-- the octets answer the question with what its look-up finds now
+pub record IsStillFound (c : Config) (t : ℕ) (entries : List Held) (q : Question) (octets : List ℕ) : Type 0 where
+  pub end : Held
+  pub ends_so : (looked c t entries q).met ≡ ends end
+  pub header : Header
+  pub client : Client
+  pub text : octets ≡ sized_for client (answer_text (asked_in header (Some q)) (looked c t entries q).held end t)
+      (cut_text (asked_in header (Some q)) (looked c t entries q).held end t)
+  pub spells : SpellsAnswer octets (asked_in header (Some q)) ((looked c t entries q).held ++ end ∷ []) t
+
+-- each answer from cache of this moment, as far back as nothing was accepted, is still found
+abbrev pub AreStillFound : Config → ℕ → List Held → List Step → Type 0
+AreStillFound c t entries [] = Unit {0}
+AreStillFound c t entries (s ∷ past) =
+    is_restart s ≡ false → moment_at (s ∷ past) ≡ t → NothingAccepted c s past
+    → ((q : Question) (octets : List ℕ) → FromCache s q octets → IsStillFound c t entries q octets) × AreStillFound c t entries past
+
+-- what is kept of the replies, and what was answered from it, is explained by what was carried
+pub record IsCached (c : Config) (past : List Step) (moment : ℕ) (cache : Cache) : Type 0 where
+  pub carried : List Held
+  pub carried_is : CarriedInEra c past carried
+  pub capacity : cache.capacity ≡ c.limits.cache
+  pub held : AreHeld cache
+  pub kept : AllByRecursion (IsKept c carried moment) cache.entries
+  pub found : AreStillFound c moment cache.entries past

@@ -1,0 +1,74 @@
+-- What is claimed of whom asks serve: each waiting question wants what a listed ask asks, and nothing else is asked.
+use Rattle.std.specs.Prelude.{◌≡◌, ℕ, true, List, [], ◌∷◌, length, ◌⊎◌}
+use Rattle.std.specs.List.{concat, AllByRecursion}
+use Rattle.dns_message.specs.Questions.{same_question}
+use Rattle.dns_message.specs.Values.{Question}
+use Rattle.suffix_routes.specs.Values.{Config}
+use Rattle.outstanding.specs.Values.{Ask}
+use Rattle.record_cache.specs.Values.{Held}
+use Rattle.step_values.specs.declared.event.Client.{Client}
+use Rattle.step_values.specs.Values.{Step}
+use Rattle.step_history.specs.History.{InEra, ShownAsk, listed, Reads, Sends}
+use Rattle.step_history.specs.Answers.{Leads}
+use Rattle.step_history.specs.Sound.{unanswered}
+use Rattle.waiting_questions.specs.Values.{Waiting, waits_for}
+
+-- it holds of one of them
+abbrev pub AnyByRecursion : {X : Type 0} → (X → Type 0) → List X → Type 0
+AnyByRecursion P [] = ⊥
+AnyByRecursion P (x ∷ xs) = P x ⊎ AnyByRecursion P xs
+
+-- The step with this number was a client's message with a question, from which at most eight justified aliases lead to
+-- what it wants now (RFC 1034 3.6.2): to itself, without any.
+pub record Wants (c : Config) (now : List Step) (i : ℕ) (wanted : Question) : Type 0 where
+  pub asked : Step
+  pub before : List Step
+  pub in_era : InEra (asked ∷ before) now
+  pub number : i ≡ length before
+  pub client : Client
+  pub request : List ℕ
+  pub sent : Sends asked.handed.event client request
+  pub question : Question
+  pub reads : Reads request question
+  pub aliases : List Held
+  pub leads : Leads (record { config = c; asked = asked; before = before; now = now }) question aliases wanted
+
+-- each question that waits wants this, in their order
+abbrev pub EachWants : Config → List Step → List ℕ → List Question → Type 0
+EachWants c now [] [] = Unit {0}
+EachWants c now [] (q ∷ wanted) = ⊥
+EachWants c now (i ∷ is) [] = ⊥
+EachWants c now (i ∷ is) (q ∷ wanted) = Wants c now i q × EachWants c now is wanted
+
+-- the ask asks this, letter case aside
+pub record Asks (a : ShownAsk) (wanted : Question) : Type 0 where
+  pub question : Question
+  pub reads : Reads a.octets question
+  pub same : same_question wanted question ≡ true
+
+-- what the ask asks is, in its spelling, what an ask that was listed before asked, or what a question wants
+pub record IsSpelled (before : List ShownAsk) (wanted : List Question) (a : ShownAsk) : Type 0 where
+  pub question : Question
+  pub reads : Reads a.octets question
+  pub from : AnyByRecursion (λ b. Reads b.octets question) before ⊎ AnyByRecursion (λ q. q ≡ question) wanted
+
+-- After the newest step each question that waits wants what a listed ask asks, and each listed ask is wanted by one; an
+-- ask that the step opened has the spelling of what one wants, one that follows another ask the spelling of that.
+pub record AsksForWaiting (c : Config) (past : List Step) (now : List Step) (owners : List ℕ) : Type 0 where
+  pub wanted : List Question
+  pub each : EachWants c now (unanswered now owners) wanted
+  pub asked : AllByRecursion (λ q. AnyByRecursion (λ a. Asks a q) (listed now)) wanted
+  pub wanting : AllByRecursion (λ a. AnyByRecursion (Asks a) wanted) (listed now)
+  pub spelled : AllByRecursion (IsSpelled (listed past) wanted) (listed now)
+
+-- So it is after every step. w has for each step, the newest first, the owners of its replies.
+abbrev pub AsksForThoseWhoWait : Config → List Step → List (List ℕ) → Type 0
+AsksForThoseWhoWait c [] w = Unit {0}
+AsksForThoseWhoWait c (s ∷ past) [] = ⊥
+AsksForThoseWhoWait c (s ∷ past) (is ∷ w) =
+    AsksForThoseWhoWait c past w × AsksForWaiting c past (s ∷ past) (concat (is ∷ w))
+
+-- each of these waits for one of those asks, and one of them for each ask
+pub record AreServed (asks : List Ask) (waiting : List Waiting) : Type 0 where
+  pub asked : AllByRecursion (λ x. AnyByRecursion (λ a. waits_for a.question x ≡ true) asks) waiting
+  pub wanting : AllByRecursion (λ a. AnyByRecursion (λ x. waits_for a.question x ≡ true) waiting) asks

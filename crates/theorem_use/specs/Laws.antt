@@ -1,0 +1,22 @@
+-- What is claimed of use, and of service, as statements over plain values.
+use Rattle.std.specs.Prelude.{List, []}
+use Rattle.suffix_routes.specs.Values.{Config, IsConfig}
+use Rattle.step_values.specs.Values.{Handed, Outcome, Step}
+use Rattle.step_table.specs.State.{State}
+use Rattle.step_table.specs.Steps.{start}
+use Rattle.step_table.specs.Row.{Row}
+use Rattle.theorem_use.specs.Mirrors.{FullyExplains, StaysFullyExplained}
+use Rattle.theorem_use.specs.Service.{ServesTruly, ComesTo}
+
+-- A row keeps what fully explains.
+abbrev pub RowsKeepWhatFullyExplains : Type 0
+RowsKeepWhatFullyExplains = (c : Config) (s : State) (h : Handed) (o : Outcome) (s' : State) → Row c s h o s'
+    → StaysFullyExplained c s h o s'
+
+-- The empty history fully explains a new forwarder.
+abbrev pub NothingFullyExplainsAStart : Type 0
+NothingFullyExplainsAStart = (c : Config) → IsConfig c → FullyExplains c [] [] (start c)
+
+-- The steps of a run from a new forwarder, the oldest first, serve truly.
+abbrev pub RunsServeTruly : Type 0
+RunsServeTruly = (c : Config) (steps : List Step) (s : State) → ComesTo c steps s → ServesTruly c steps
