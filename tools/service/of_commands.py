@@ -135,14 +135,15 @@ def what_the_page_for_administrators_shows(program):
 
 @case
 def why_a_text_is_no_configuration(program):
-    """Where the reader of TOML stopped it says why; where `version` is missing it is told below which key there is one."""
+    """Where the reader of TOML stopped it says why; a missing `version` is told with the key below which there is one."""
     missing = "`version` is missing, and has to be the integer 1 or 2"
     rows = [
         ("version = 1\nversion = 1\n", "the text is no TOML: see line 2, column 1: duplicate key", 1),
         ('version = 1\nlisten = "127.0.0.1:53\n', "the text is no TOML: see line 2, column 23: invalid string", 1),
         ("colour = 1\n", missing, 3),
         ("limits = { version = 1 }\n", f'{missing}: the one below "limits" is a key of that table', 3),
-        ('[[route]]\nsuffix = "."\n[[route]]\nversion = 1\n', f'{missing}: the one below "route" is a key of that table', 3),
+        ('[[route]]\nsuffix = "."\n[[route]]\nversion = 1\n',
+         f'{missing}: the one below "route" is a key of that table', 3),
         ("[colour]\nversion = 1\n", f'{missing}: the one below "colour" is a key of that table', 3),
     ]
     for text, said, number in rows:
