@@ -27,14 +27,16 @@ wanted_behind q held = led_to q (last_target held)
 
 -- A look-up that misses wants the name that the last alias leads to which it took.
 abbrev pub MissedWants : Type 0
-MissedWants = (routes : List Route) (n : ℕ) (entries : List Held) (more : ℕ) (q : Question) → (look_up routes n entries more [] q).met ≡ missed
+MissedWants = (routes : List Route) (n : ℕ) (entries : List Held) (more : ℕ) (q : Question)
+    → (look_up routes n entries more [] q).met ≡ missed
     → (look_up routes n entries more [] q).wanted ≡ wanted_behind q (look_up routes n entries more [] q).held
 
--- The slots that a look-up used are those of the entries that are seen of it: of the aliases that it took, and behind them
--- of the end, where it came to one.
+-- The slots that a look-up used are those of the entries that are seen of it: of the aliases that it took, and behind
+-- them of the end, where it came to one.
 abbrev pub UsesWhatIsSeen : Type 0
 UsesWhatIsSeen = (routes : List Route) (n : ℕ) (entries : List Held) (more : ℕ) (q : Question)
-    → (look_up routes n entries more [] q).used ≡ map (λ h. h.piece.slot) (seen_of (look_up routes n entries more [] q)).used
+    → (look_up routes n entries more [] q).used ≡ map (λ h. h.piece.slot)
+    (seen_of (look_up routes n entries more [] q)).used
 
 -- two look-ups that began with these aliases take the same ones, end alike and use the same; what they want is the same
 -- question, and spelled alike behind an alias that they took
@@ -47,5 +49,6 @@ pub record AreAlike (held : List Held) (l other : LookUp) : Type 0 where
 
 -- Questions that differ by letter case alone are looked up alike.
 abbrev pub SameAreLookedUpAlike : Type 0
-SameAreLookedUpAlike = (routes : List Route) (n : ℕ) (entries : List Held) (more : ℕ) (held : List Held) (q other : Question) → IsSameQuestion q other
+SameAreLookedUpAlike = (routes : List Route) (n : ℕ) (entries : List Held) (more : ℕ) (held : List Held)
+    (q other : Question) → IsSameQuestion q other
     → AreAlike held (look_up routes n entries more held q) (look_up routes n entries more held other)

@@ -30,7 +30,8 @@ abbrev pub missing : List Held → Question → LookUp
 missing held q = record { held = held; wanted = q; met = missed; used = [] }
 
 -- it goes on at the name that an alias leads to
-abbrev pub look_up_behind : List Held → Question → (Held → List (List ℕ) → LookUp) → Held → Option (List (List ℕ)) → LookUp
+abbrev pub look_up_behind : List Held → Question → (Held → List (List ℕ) → LookUp) → Held → Option (List (List ℕ))
+    → LookUp
 look_up_behind held q onward e None = missing held q
 look_up_behind held q onward e (Some target) = onward e target
 
@@ -43,7 +44,12 @@ look_up_after held q onward (denied e) = ended held q e
 look_up_after held q onward miss = missing held q
 
 abbrev pub one_too_many : List Held → Question → Held → List (List ℕ) → LookUp
-one_too_many held q e target = record { held = held ++ e ∷ []; wanted = asked_at q target; met = too_long; used = e.piece.slot ∷ [] }
+one_too_many held q e target = record {
+  held = held ++ e ∷ [];
+  wanted = asked_at q target;
+  met = too_long;
+  used = e.piece.slot ∷ [];
+}
 
 abbrev pub through : Held → LookUp → LookUp
 through e l = record l { used = e.piece.slot ∷ l.used }
@@ -52,7 +58,8 @@ through e l = record l { used = e.piece.slot ∷ l.used }
 abbrev pub look_up : List Route → ℕ → List Held → ℕ → List Held → Question → LookUp
 look_up routes n entries zero held q = look_up_after held q (one_too_many held q) (found routes n entries q)
 look_up routes n entries (suc more) held q =
-    look_up_after held q (λ e target. through e (look_up routes n entries more (held ++ e ∷ []) (asked_at q target))) (found routes n entries q)
+    look_up_after held q (λ e target. through e (look_up routes n entries more (held ++ e ∷ []) (asked_at q target)))
+    (found routes n entries q)
 
 -- what a look-up used is the most recently used now
 abbrev pub promoted_all : List Slot → List Held → List Held

@@ -35,7 +35,8 @@ put_all capacity n (room ∷ rooms) (p ∷ ps) entries = put_all capacity n room
 -- how many of them found no memory
 abbrev pub unkept_of : ℕ → ℕ → List Bool → List Piece → List Held → ℕ
 unkept_of capacity n rooms [] entries = 0
-unkept_of capacity n [] (p ∷ ps) entries = count_of (ended_so n true p entries) + unkept_of capacity n [] ps (put capacity n true p entries)
+unkept_of capacity n [] (p ∷ ps) entries =
+    count_of (ended_so n true p entries) + unkept_of capacity n [] ps (put capacity n true p entries)
 unkept_of capacity n (room ∷ rooms) (p ∷ ps) entries =
     count_of (ended_so n room p entries) + unkept_of capacity n rooms ps (put capacity n room p entries)
 

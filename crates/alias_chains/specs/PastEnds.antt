@@ -1,5 +1,6 @@
--- How a question is looked up among the entries past their ends, once no try is left: RFC 8767 5. It goes along aliases, uses
--- no denial, and promotes nothing. Of a name that the configuration denies there is no entry, so there it finds nothing.
+-- How a question is looked up among the entries past their ends, once no try is left: RFC 8767 5. It goes along
+-- aliases, uses no denial, and promotes nothing. Of a name that the configuration denies there is no entry, so there it
+-- finds nothing.
 use Rattle.std.specs.Prelude.{ℕ, zero, suc, List, [], ◌∷◌, option_map, Option, Some, None}
 use Rattle.dns_message.specs.Values.{Question}
 use Rattle.trust_rank.specs.Walks.{target_of}

@@ -79,6 +79,8 @@ goes_on onward held miss = record { used = held; met = Missed }
 
 -- the same where so many aliases more may be taken
 unfoldable pub seen_from : List Route → ℕ → List Held → ℕ → ℕ → ℕ → List Held → Found → Seen
-seen_from routes n entries class kind zero held f = goes_on (λ used target. record { used = used; met = TooLong }) held f
+seen_from routes n entries class kind zero held f =
+    goes_on (λ used target. record { used = used; met = TooLong }) held f
 seen_from routes n entries class kind (suc more) held f =
-    goes_on (λ used target. seen_from routes n entries class kind more used (found routes n entries (record { name = target; kind = kind; class = class }))) held f
+    goes_on (λ used target. seen_from routes n entries class kind more used
+    (found routes n entries (record { name = target; kind = kind; class = class }))) held f

@@ -23,8 +23,8 @@ pub enum LookUpEnd {
     Missed,
 }
 
-/// The entries that a look-up used, in order, and how it ended: where it came to an end the last of them is that end, and
-/// all others are aliases.
+/// The entries that a look-up used, in order, and how it ended: where it came to an end the last of them is that end,
+/// and all others are aliases.
 #[derive(Drop)]
 pub struct LookUp<'a, A: Allocator = Global> {
     pub(crate) used: UsedEntries<'a, A>,
@@ -54,8 +54,9 @@ impl<'a, A: Allocator + Copy> LookUp<'a, A> {
         self.used.as_slice()
     }
 
-    /// The name that the last entry that it used leads to: what is wanted where it missed behind aliases. `None` where it
-    /// used no entry, or where the last one has not one record alone whose data is a name. `Err` where memory ran out.
+    /// The name that the last entry that it used leads to: what is wanted where it missed behind aliases. `None` where
+    /// it used no entry, or where the last one has not one record alone whose data is a name. `Err` where memory ran
+    /// out.
     pub fn target(&self, alloc: A) -> Result<Option<Name<A>>, AllocError>
         ensures { IfOk result (λ name. name ≡ last_target self.now.used) }
     {

@@ -33,10 +33,11 @@ pub(crate) fn slot_for_look_ups() -> Slot {
     }
 }
 
-/// The look-up of the question for the name that these octets are, as `Name::octets` gives them, at a moment in milliseconds:
-/// what is found at the name, and where that is an alias, what is found at the name that it leads to, and so on, until a set
-/// or a denial, one alias more than may be taken, or a name of which nothing is known. A question that holds aliases already
-/// may take fewer. Only aliases take memory; `Err` where it ran out. All that is used lies in the cache.
+/// The look-up of the question for the name that these octets are, as `Name::octets` gives them, at a moment in
+/// milliseconds: what is found at the name, and where that is an alias, what is found at the name that it leads to, and
+/// so on, until a set or a denial, one alias more than may be taken, or a name of which nothing is known. A question
+/// that holds aliases already may take fewer. Only aliases take memory; `Err` where it ran out. All that is used lies
+/// in the cache.
 pub fn look_up<'a, H: BuildHasher + Drop, A: Allocator + Copy>(
     alloc: A,
     cache: &'a Cache<H, A>,
@@ -49,11 +50,13 @@ pub fn look_up<'a, H: BuildHasher + Drop, A: Allocator + Copy>(
 ) -> Result<LookUp<'a, A>, AllocError>
     requires { IsLaidOut octets.now }
     ensures exact { IfOk result (λ looked. looked
-        ≡ seen_of (look_up config.now.routes moment cache.now.entries most [] (record { name = labels_of octets.now; kind = kind; class = class }))) }
+        ≡ seen_of (look_up config.now.routes moment cache.now.entries most []
+        (record { name = labels_of octets.now; kind = kind; class = class }))) }
     ensures few { IfOk result (λ looked. UsesFew most looked) }
     ensures from_cache { IfOk result (λ looked. AllByRecursion (λ h. Among h cache.now.entries) looked.used) }
     ensures no_alias { OnErr result
-        (IsAlias (found config.now.routes moment cache.now.entries (record { name = labels_of octets.now; kind = kind; class = class }))) }
+        (IsAlias (found config.now.routes moment cache.now.entries
+        (record { name = labels_of octets.now; kind = kind; class = class }))) }
 {
     let mut slot = slot_for_look_ups();
     match find_by_octets(cache, &mut slot, octets, class, kind, moment, config) {

@@ -4,7 +4,8 @@ ghost use Rattle.std.specs.Prelude.{◌≡◌, ◌<◌, ◌^◌, ◌++◌, if◌
 ghost use Rattle.std.specs.List.{AllByRecursion};
 ghost use Rattle.answer_builder.specs.Answers.{IsEarlier};
 ghost use Rattle.trust_rank.specs.Replacing.{is_name_error};
-ghost use Rattle.alias_chains.specs.Offering.{shown_by, ended_so, put, put_all, unkept_of, count_of, held_at, pieces_of};
+ghost use Rattle.alias_chains.specs.Offering.{shown_by, ended_so, put, put_all, unkept_of, count_of, held_at};
+ghost use Rattle.alias_chains.specs.Offering.{pieces_of};
 
 use negative_cache::shown;
 use plain_list::PlainList;
@@ -31,8 +32,8 @@ fn push_held<A: Allocator + Copy>(
     Ok(())
 }
 
-/// What a reply carries, as it is held from this moment on, in milliseconds: the pieces of its walk, then the name servers of
-/// its authority section. `Err` where memory ran out.
+/// What a reply carries, as it is held from this moment on, in milliseconds: the pieces of its walk, then the name
+/// servers of its authority section. `Err` where memory ran out.
 pub fn held_from<A: Allocator + Copy>(
     alloc: A,
     pieces: PlainList<Piece<A>, A>,
@@ -63,7 +64,8 @@ fn offer<H: BuildHasher + Drop, A: Allocator + Copy>(
     piece: Piece<A>,
     moment: u64,
 ) -> bool
-    ensures { (room : Bool) × (cache.new ≡ record cache.old { entries = put cache.old.capacity moment room piece cache.old.entries })
+    ensures { (room : Bool) × (cache.new
+        ≡ record cache.old { entries = put cache.old.capacity moment room piece cache.old.entries })
         × ((if result then 1 else 0) ≡ count_of (ended_so moment room piece cache.old.entries)) }
 {
     show(cache, &piece);
@@ -78,7 +80,10 @@ pub fn offer_all<H: BuildHasher + Drop, A: Allocator + Copy>(
 ) -> u32
     requires few { length held.items < 2 ^ 32 }
     ensures { (rooms : List Bool) × (length rooms ≡ length held.items)
-        × (cache.new ≡ record cache.old { entries = put_all cache.old.capacity moment rooms (pieces_of held.items) cache.old.entries })
+        × (cache.new ≡ record cache.old {
+          entries = put_all cache.old.capacity moment rooms
+              (pieces_of held.items) cache.old.entries;
+        })
         × (result ≡ unkept_of cache.old.capacity moment rooms (pieces_of held.items) cache.old.entries) }
 {
     let mut unkept = 0;

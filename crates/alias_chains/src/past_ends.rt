@@ -16,8 +16,8 @@ use std::hash::BuildHasher;
 
 /// The entries that lead the question for the name that these octets are, as `Name::octets` gives them, to a set at a
 /// moment in milliseconds, although they may have ended fewer than so many seconds ago, which are a day at most: the
-/// aliases, of which so many may be taken, and the set. `None` where no set is come to. No denial is used, and nothing is
-/// promoted. `Err` where memory ran out. All that is found lies in the cache.
+/// aliases, of which so many may be taken, and the set. `None` where no set is come to. No denial is used, and nothing
+/// is promoted. `Err` where memory ran out. All that is found lies in the cache.
 pub fn look_up_past<'a, H: BuildHasher + Drop, A: Allocator + Copy>(
     alloc: A,
     cache: &'a Cache<H, A>,
@@ -31,8 +31,13 @@ pub fn look_up_past<'a, H: BuildHasher + Drop, A: Allocator + Copy>(
     requires laid { IsLaidOut octets.now }
     requires window { window ≤ 86400 }
     ensures exact { IfOk result (λ found. option_map (λ f. lent f.items) found
-        ≡ look_up_past window moment cache.now.entries most (record { name = labels_of octets.now; kind = kind; class = class })) }
-    ensures from_cache { IfOk result (λ found. IfSome found (λ f. AllByRecursion (λ h. Among h cache.now.entries) (lent f.items))) }
+        ≡ look_up_past window moment cache.now.entries most (record {
+          name = labels_of octets.now;
+          kind = kind;
+          class = class;
+        })) }
+    ensures from_cache { IfOk result
+        (λ found. IfSome found (λ f. AllByRecursion (λ h. Among h cache.now.entries) (lent f.items))) }
 {
     let mut slot = slot_for_look_ups();
     let mut found = Vec::new(alloc);

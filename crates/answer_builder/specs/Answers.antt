@@ -1,5 +1,6 @@
 -- The messages that clients get: RFC 1035 4.1, RFC 2308 2 and 3.
-use Rattle.std.specs.Prelude.{◌≤◌, ℕ, Bool, true, false, if◌then◌else◌, List, [], ◌∷◌, ◌++◌, length, map, take, drop, Option, Some, None}
+use Rattle.std.specs.Prelude.{◌≤◌, ℕ, Bool, true, false, if◌then◌else◌, List, [], ◌∷◌, ◌++◌, length, map, take, drop}
+use Rattle.std.specs.Prelude.{Option, Some, None}
 use Rattle.std.specs.List.{flat_map}
 use Rattle.dns_message.specs.Header.{Header}
 use Rattle.dns_message.specs.Values.{Record, Message}
@@ -27,7 +28,8 @@ set_records ttl p = records_in ttl p p.slot.kind p.body
 
 abbrev pub aged : ℕ → Option Record → List Record
 aged ttl None = []
-aged ttl (Some soa) = record { owner = soa.owner; kind = soa.kind; class = soa.class; ttl = ttl; rdata = soa.rdata } ∷ []
+aged ttl (Some soa) = record { owner = soa.owner; kind = soa.kind; class = soa.class; ttl = ttl; rdata = soa.rdata }
+    ∷ []
 
 -- the SOA of a denial, if it has one; a set has none: RFC 2308 3
 abbrev pub soa_records : ℕ → Body → List Record
@@ -93,12 +95,24 @@ IsEarlier moment h = h.accepted ≤ moment
 
 -- identifier, opcode and RD as they came; QR and RA set, AA and Z clear: RFC 1035 4.1.1
 abbrev pub answer_header : Asked → Bool → ℕ → List ℕ → Header
-answer_header a cut rcode counts = record { id = a.id; qr = true; opcode = a.opcode; aa = false; tc = cut; rd = a.rd; ra = true; z = 0; rcode = rcode; counts = counts }
+answer_header a cut rcode counts = record {
+  id = a.id;
+  qr = true;
+  opcode = a.opcode;
+  aa = false;
+  tc = cut;
+  rd = a.rd;
+  ra = true;
+  z = 0;
+  rcode = rcode;
+  counts = counts;
+}
 
 -- the question as it came, then the sections; the counts are those of the lists
 abbrev pub answer_message : Asked → Bool → Sections → Message
 answer_message a cut s = record {
-  header = answer_header a cut s.rcode (length (questions_of a.question) ∷ length s.answers ∷ length s.authority ∷ 0 ∷ []);
+  header = answer_header a cut s.rcode (length (questions_of a.question) ∷ length s.answers ∷ length s.authority ∷ 0
+      ∷ []);
   questions = questions_of a.question;
   answers = s.answers;
   authority = s.authority;

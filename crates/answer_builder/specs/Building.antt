@@ -11,7 +11,13 @@ listed (Some records) = records
 
 -- the same with TC, and without records
 abbrev pub cut_down : Message → Message
-cut_down m = record { header = record m.header { tc = true }; questions = m.questions; answers = []; authority = []; additional = [] }
+cut_down m = record {
+  header = record m.header { tc = true };
+  questions = m.questions;
+  answers = [];
+  authority = [];
+  additional = [];
+}
 
 -- a text of at most so many octets
 abbrev pub fitting : ℕ → List ℕ → Option (List ℕ)

@@ -7,7 +7,8 @@ use Rattle.answer_builder.specs.declared.asked.Transport.TheVariants.{Udp, Tcp}
 use Rattle.answer_builder.specs.declared.fault.Fault.{Fault}
 use Rattle.answer_builder.specs.declared.fault.Fault.TheVariants.{TooLarge}
 use Rattle.answer_builder.specs.Values.{Asked, Sections}
-use Rattle.answer_builder.specs.Answers.{told_at, told_stale, sections_told, sections_of, local_sections, full_answer, cut_answer}
+use Rattle.answer_builder.specs.Answers.{told_at, told_stale, sections_told, sections_of, local_sections, full_answer}
+use Rattle.answer_builder.specs.Answers.{cut_answer}
 
 -- what passes 512 octets is cut: RFC 1035 4.2.1
 abbrev pub over_udp : List ℕ → List ℕ → List ℕ

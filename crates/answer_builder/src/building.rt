@@ -66,11 +66,12 @@ fn put_one<A: Allocator + Copy>(
     put_sections(alloc, octets, asked, sections, transport)
 }
 
-/// Writes the answer from pieces with the seconds that are told to be left of them, in the place of the octets: aliases in
-/// order, then a set or a denial. Faults are those of `build`.
+/// Writes the answer from pieces with the seconds that are told to be left of them, in the place of the octets: aliases
+/// in order, then a set or a denial. Faults are those of `build`.
 ///
 /// A vector with room for it is not made larger. Memory is taken beside it only where there is more than one piece, or
-/// where more than a few names begin in the octets. Where it fails, nothing is said of the octets, which keep their room.
+/// where more than a few names begin in the octets. Where it fails, nothing is said of the octets, which keep their
+/// room.
 pub fn put_told<A: Allocator + Copy>(
     alloc: A,
     octets: &mut Vec<u8, A>,
@@ -115,8 +116,8 @@ pub fn put_local<A: Allocator + Copy>(
     put_sections(alloc, octets, asked, sections, transport)
 }
 
-/// Writes the answer that `build` gives, from borrowed pieces, in the place of the octets. Of memory holds what `put_told`
-/// says.
+/// Writes the answer that `build` gives, from borrowed pieces, in the place of the octets. Of memory holds what
+/// `put_told` says.
 pub fn put_answer<A: Allocator + Copy>(
     alloc: A,
     octets: &mut Vec<u8, A>,
@@ -143,14 +144,14 @@ pub fn put_answer<A: Allocator + Copy>(
     put_sections(alloc, octets, asked, sections, transport)
 }
 
-/// The octets of the answer to a question whose opcode has 4 bits, from the pieces that answer it: aliases in order, then
-/// a set or a denial, none accepted after the moment, in milliseconds.
+/// The octets of the answer to a question whose opcode has 4 bits, from the pieces that answer it: aliases in order,
+/// then a set or a denial, none accepted after the moment, in milliseconds.
 ///
 /// Identifier, opcode, RD and question are as they came, QR and RA are set, AA and Z clear. The answer section has the
-/// records of all sets, in order, the authority section the SOA of a denial at the end, if it has one, each with the whole
-/// seconds that are left of its piece; the response code is 3 where the end is a name error, else 0 (RFC 2308 2 and 3).
-/// Over UDP, where these are more than 512 octets, the same header with TC and the question alone (RFC 1035 4.2.1). Over
-/// TCP, `TooLarge` where they are more than 65,535 (RFC 1035 4.2.2). `Memory` where a growth was refused.
+/// records of all sets, in order, the authority section the SOA of a denial at the end, if it has one, each with the
+/// whole seconds that are left of its piece; the response code is 3 where the end is a name error, else 0 (RFC 2308 2
+/// and 3). Over UDP, where these are more than 512 octets, the same header with TC and the question alone (RFC 1035
+/// 4.2.1). Over TCP, `TooLarge` where they are more than 65,535 (RFC 1035 4.2.2). `Memory` where a growth was refused.
 pub fn build<A: Allocator + Copy>(
     alloc: A,
     asked: &Asked<A>,
@@ -165,9 +166,9 @@ pub fn build<A: Allocator + Copy>(
     build_stale(alloc, asked, chain, chain.len(), moment, transport)
 }
 
-/// The octets of the answer that `build` gives, but where pieces have ended: each of those from index `past` on, which is
-/// at most their number, that has ended at the moment has 30 seconds left (RFC 8767 4); all others have what is left of
-/// them, 0 where they have ended. Faults are those of `build`.
+/// The octets of the answer that `build` gives, but where pieces have ended: each of those from index `past` on, which
+/// is at most their number, that has ended at the moment has 30 seconds left (RFC 8767 4); all others have what is left
+/// of them, 0 where they have ended. Faults are those of `build`.
 pub fn build_stale<A: Allocator + Copy>(
     alloc: A,
     asked: &Asked<A>,
@@ -187,13 +188,13 @@ pub fn build_stale<A: Allocator + Copy>(
     Ok(Octets::from_vec(octets))
 }
 
-/// The octets of the answer to a question whose opcode has 4 bits, from the aliases that lead from its name to one whose
-/// route denies, none to 8, none accepted after the moment, in milliseconds.
+/// The octets of the answer to a question whose opcode has 4 bits, from the aliases that lead from its name to one
+/// whose route denies, none to 8, none accepted after the moment, in milliseconds.
 ///
 /// The header is that of `build` with response code 3, a name error. The answer section has the aliases in order, each
-/// with the whole seconds that are left of it; the authority section is empty (RFC 2308 2.1). Over UDP, where this is more
-/// than 512 octets, the same header with TC and the question alone (RFC 1035 4.2.1). Over TCP, `TooLarge` where it is more
-/// than 65,535 (RFC 1035 4.2.2). `Memory` where a growth was refused.
+/// with the whole seconds that are left of it; the authority section is empty (RFC 2308 2.1). Over UDP, where this is
+/// more than 512 octets, the same header with TC and the question alone (RFC 1035 4.2.1). Over TCP, `TooLarge` where it
+/// is more than 65,535 (RFC 1035 4.2.2). `Memory` where a growth was refused.
 pub fn build_local<A: Allocator + Copy>(
     alloc: A,
     asked: &Asked<A>,
@@ -211,8 +212,8 @@ pub fn build_local<A: Allocator + Copy>(
     Ok(Octets::from_vec(octets))
 }
 
-/// Writes the octets that `failure` gives in the place of the octets. A vector with room for 271 is not made larger. Where
-/// memory runs out, nothing is said of the octets, which keep their room.
+/// Writes the octets that `failure` gives in the place of the octets. A vector with room for 271 is not made larger.
+/// Where memory runs out, nothing is said of the octets, which keep their room.
 pub fn put_failure<A: Allocator + Copy>(
     alloc: A,
     octets: &mut Vec<u8, A>,

@@ -80,7 +80,8 @@ pub(crate) fn sets_at<'a, A: Allocator + Copy>(
     moment: u64,
 ) -> Result<Vec<RowsRef<'a, A>, A>, AllocError>
     requires { AllByRecursion (IsEarlier moment) (lent chain.now) }
-    ensures { IfOk result (λ sets. records_in sets.items ≡ flat_map answers_of (map (told_at moment) (lent chain.now))) }
+    ensures { IfOk result (λ sets. records_in sets.items ≡ flat_map answers_of
+        (map (told_at moment) (lent chain.now))) }
 {
     let mut sets = Vec::with_capacity(alloc, chain.len())?;
     for held in chain {

@@ -19,5 +19,9 @@ impl<'a, A: Allocator> Model for SectionsRef<'a, A> {
 
     ghost Value = { Sections };
 
-    ghost view = { λ s. record { answers = records_in s.answers.now; authority = records_in s.authority.now; rcode = s.rcode } };
+    ghost view = { λ s. record {
+      answers = records_in s.answers.now;
+      authority = records_in s.authority.now;
+      rcode = s.rcode;
+    } };
 }

@@ -21,7 +21,8 @@ const UDP_LIMIT: usize = 512;
 /// The most octets that TCP carries (RFC 1035 4.2.2).
 const TCP_LIMIT: usize = 65_535;
 
-/// The header of an answer. Its counts are those of what is written under it. `named` says again what holds of each name.
+/// The header of an answer. Its counts are those of what is written under it. `named` says again what holds of each
+/// name.
 pub(crate) fn header_of(asked: &AskedRef<'_>, rcode: u8) -> Header
     ensures header { result ≡ answer_header asked.now false rcode (0 ∷ 0 ∷ 0 ∷ 0 ∷ []) }
     ensures named { IfSome asked.now.question (λ q. IsName q.name) }
@@ -52,7 +53,8 @@ fn put_whole<A: Allocator + Copy>(
 ) -> Result<bool, AllocError>
     requires limit { limit ≤ 65535 }
     requires bits { FitsBits message.now.header }
-    ensures { IfOk result (λ whole. (if whole then Some octets.new.items else None) ≡ fitting limit (written message.now)) }
+    ensures { IfOk result (λ whole. (if whole then Some octets.new.items else None)
+        ≡ fitting limit (written message.now)) }
 {
     match write_parts(alloc, octets, message, limit) {
         Ok(()) => Ok(true),
@@ -132,7 +134,8 @@ pub(crate) fn put_text<A: Allocator + Copy>(
 ) -> Result<(), Fault>
     requires bits { FitsBits message.header }
     requires short { length (written (cut_down message)) ≤ 65535 }
-    ensures { Gives (λ _. octets.new.items) result (sent_over transport (written message.entry) (written (cut_down message.entry))) }
+    ensures { Gives (λ _. octets.new.items) result (sent_over transport (written message.entry)
+        (written (cut_down message.entry))) }
 {
     match transport {
         Transport::Udp => Ok(put_udp(alloc, octets, message)?),

@@ -179,8 +179,8 @@ fn put<A: Allocator + Copy>(
     }
 }
 
-/// How many growths are refused one after another, until the answer is written into the vector; `None` where another fault is
-/// told, or no end is met.
+/// How many growths are refused one after another, until the answer is written into the vector; `None` where another
+/// fault is told, or no end is met.
 fn growths_of<'h>(
     heap: &'h Refusing<Global>,
     octets: &mut Vec<u8, &'h Refusing<Global>>,

@@ -10,7 +10,8 @@ pub record KeysInTurn : Type 0 where
 -- each of the keys has a number, and the numbers don't fall along the keys
 pub record AreNumbered (numbers keys : List ℕ) : Type 0 where
   pub known : (i : ℕ) → i < length keys → slice_index keys i < length numbers
-  pub rise : (i j : ℕ) → i < j → j < length keys → slice_index numbers (slice_index keys i) ≤ slice_index numbers (slice_index keys j)
+  pub rise : (i j : ℕ) → i < j → j < length keys → slice_index numbers (slice_index keys i)
+      ≤ slice_index numbers (slice_index keys j)
 
 -- none of the keys has a higher number
 abbrev pub IsBehindAll : List ℕ → List ℕ → ℕ → Type 0

@@ -1,6 +1,7 @@
 //! Keys in turn.
 
-ghost use Rattle.std.specs.Prelude.{◌≡◌, ◌≢◌, ◌<◌, ◌≤◌, ◌==◌, ◌∷◌, ◌++◌, [], true, drop, length, OnOk, position, slice_get, slice_index};
+ghost use Rattle.std.specs.Prelude.{◌≡◌, ◌≢◌, ◌<◌, ◌≤◌, ◌==◌, ◌∷◌, ◌++◌, [], true, drop, length, OnOk, position};
+ghost use Rattle.std.specs.Prelude.{slice_get, slice_index};
 ghost use Rattle.std.specs.List.{remove, All, Contains};
 ghost use Rattle.arrival_order.specs.Turns.{AreNumbered, IsBehindAll};
 
@@ -8,9 +9,9 @@ use std::alloc::{AllocError, Allocator, Global};
 use std::collections::VecDeque;
 use std::marker::Model;
 
-/// Keys in the order in which they were put, none of them twice. Each has a number, which is not below those of the keys
-/// before it, so a key is found by halves. Keys are small numbers, such as a slab gives: the numbers of all keys up to the
-/// highest one that was put are kept.
+/// Keys in the order in which they were put, none of them twice. Each has a number, which is not below those of the
+/// keys before it, so a key is found by halves. Keys are small numbers, such as a slab gives: the numbers of all keys
+/// up to the highest one that was put are kept.
 #[derive(Drop)]
 pub struct KeysInTurn<A: Allocator = Global> {
     keys: VecDeque<usize, A>,
@@ -25,7 +26,11 @@ impl<A: Allocator> Model for KeysInTurn<A> {
 
     ghost Value = { KeysInTurn };
 
-    ghost view = { λ k. record { keys = k.keys.items; has_room = nat_lt (deque_len k.keys) (deque_capacity k.keys); known = length k.numbers.items } };
+    ghost view = { λ k. record {
+      keys = k.keys.items;
+      has_room = nat_lt (deque_len k.keys) (deque_capacity k.keys);
+      known = length k.numbers.items;
+    } };
 
     ghost invariant = { λ k. AreNumbered k.numbers.items k.keys.items };
 }
@@ -71,8 +76,8 @@ impl<A: Allocator> KeysInTurn<A> {
         Ok(())
     }
 
-    /// Puts a key last. It takes no memory. The caller sees to it that there is room for it (`reserve`), and that it is none
-    /// of the keys.
+    /// Puts a key last. It takes no memory. The caller sees to it that there is room for it (`reserve`), and that it is
+    /// none of the keys.
     pub fn put(&mut self, key: usize)
         requires room { self.old.has_room ≡ true }
         requires known { key < self.old.known }
@@ -128,8 +133,8 @@ fn number_of(numbers: &[u64], key: usize) -> u64
     }
 }
 
-/// The number of the next key: one more than that of the last, and where there is none 0. It stays at the highest number,
-/// which no keys come to.
+/// The number of the next key: one more than that of the last, and where there is none 0. It stays at the highest
+/// number, which no keys come to.
 fn next_number<A: Allocator>(numbers: &[u64], keys: &VecDeque<usize, A>) -> u64
     requires { AreNumbered numbers.now keys.now.items }
     ensures { IsBehindAll numbers.now keys.now.items result }
@@ -140,8 +145,8 @@ fn next_number<A: Allocator>(numbers: &[u64], keys: &VecDeque<usize, A>) -> u64
     }
 }
 
-/// Where a key stands. Of the other keys, those alone are looked at that the search by halves meets, and those with an equal
-/// number: there is none below the highest number.
+/// Where a key stands. Of the other keys, those alone are looked at that the search by halves meets, and those with an
+/// equal number: there is none below the highest number.
 fn place_in<A: Allocator>(numbers: &[u64], keys: &VecDeque<usize, A>, key: usize) -> usize
     requires numbered { AreNumbered numbers.now keys.now.items }
     requires listed { Contains keys.now.items key }

@@ -4,7 +4,7 @@ ghost use Rattle.std.specs.Prelude.{◌≡◌, IfOk};
 
 use dns_message::Question;
 use dns_name::{Name, NameFault};
-use outstanding::{Ask, Inquiries, Path, Refusal, draw};
+use outstanding::{Ask, Inquiries, KeyedAsk, Path, QuestionKey, Refusal, draw};
 use refusing_allocator::Refusing;
 use std::alloc::Global;
 use std::test::Fail;
@@ -61,7 +61,7 @@ fn a_listed_ask_is_found(rt: HostRuntime) -> Result<(), Fail> {
     let heap = Refusing::new(rt.alloc());
     let ask = ask_for(&heap, "a.example", Path::Udp(1032), 1000)?;
     let mut inquiries = Inquiries::new(&heap, 1);
-    let is_begun = inquiries.begin(ask).is_ok();
+    let is_begun = inquiries.begin(KeyedAsk::of(ask)).is_ok();
     let is_found = inquiries.by_path(Path::Udp(1032)).is_some_and(is_worked);
     let is_elsewhere = inquiries.by_path(Path::Udp(1033)).is_some();
     assert!(rt; is_begun && is_found && !is_elsewhere);
@@ -81,7 +81,7 @@ fn is_begun(heap: &Refusing<Global>, growths: u64, is_alone: bool) -> Result<boo
     } else {
         heap.allow(growths);
     }
-    let begun = inquiries.begin(ask);
+    let begun = inquiries.begin(KeyedAsk::of(ask));
     heap.allow(u64::MAX);
     match begun {
         Ok(()) => Ok(true),
@@ -126,7 +126,7 @@ fn are_found<'a>(
         && draw([0; 8], inquiries, Some(1024)) == Some((0, 1024))
         && draw([u32::MAX; 8], inquiries, None) == Some((65535, 2047))
         && inquiries.next_due(1500) == Some((2500, Path::Udp(1024)))
-        && inquiries.by_question(question).is_some()
+        && inquiries.by_question(&QuestionKey::of(question)).is_some()
         && inquiries.by_path(Path::Udp(1024)).is_some()
 }
 
@@ -137,12 +137,12 @@ fn only_begin_takes_memory(rt: HostRuntime) -> Result<(), Fail> {
     let first = ask_for(&heap, "a.example", Path::Udp(1024), 1000)?;
     let second = ask_for(&heap, "A.EXAMPLE", Path::Tcp(0), 2500)?;
     let mut inquiries = Inquiries::new(&heap, 1);
-    assert!(rt; inquiries.begin(first).is_ok());
+    assert!(rt; inquiries.begin(KeyedAsk::of(first)).is_ok());
     heap.allow(1);
     let are_found = are_found(&inquiries, &second.question);
     let _ended = inquiries.replace(Path::Udp(1024), second);
     let is_begun_again = match inquiries.end(Path::Tcp(0)) {
-        Some(ended) => inquiries.begin(ended).is_ok(),
+        Some(ended) => inquiries.begin(KeyedAsk::of(ended)).is_ok(),
         None => false,
     };
     inquiries.clear();

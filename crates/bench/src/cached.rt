@@ -43,8 +43,8 @@ const ROOM: usize = 64;
 /// What fills the room of a question.
 const ZEROS: [u8; ROOM] = [0; ROOM];
 
-/// Puts a question for the addresses of a name last, with zeros behind it. Questions lie one behind another in the order in
-/// which they are asked, so that their octets are at hand as those are that a service has just received.
+/// Puts a question for the addresses of a name last, with zeros behind it. Questions lie one behind another in the
+/// order in which they are asked, so that their octets are at hand as those are that a service has just received.
 fn put_question(octets: &mut Vec<u8>, name: &Name) -> Result<()> {
     octets.extend_from_slice(b"\x12\x34\x01\x00\x00\x01\x00\x00\x00\x00\x00\x00")?;
     octets.extend_from_slice(name.octets())?;
@@ -356,7 +356,8 @@ fn question_numbered(alloc: Global, number: usize) -> Result<Vec<u8>> {
     Ok(octets)
 }
 
-/// How many answers are given that no look-up precedes, and what one costs: the question's octets, its key, the answer's octets.
+/// How many answers are given that no look-up precedes, and what one costs: the question's octets, its key, the
+/// answer's octets.
 fn time_without_look_up(rt: &HostRuntime) -> Result<(usize, u128)> {
     let octets = question_numbered(rt.alloc(), 1)?;
     let held = held_of(rt.alloc(), 1)?;

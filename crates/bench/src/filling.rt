@@ -24,7 +24,8 @@ pub const CLASS: u16 = 1;
 /// The type A.
 pub const ADDRESS: u16 = 1;
 
-/// The name with this number; below 90,000 each has as many octets, so that many names cost no more than few for their length.
+/// The name with this number; below 90,000 each has as many octets, so that many names cost no more than few for their
+/// length.
 pub fn numbered(alloc: Global, number: usize) -> Result<Name> {
     let digits = number.saturating_add(10_000);
     let text = format!(in alloc; "host{digits}.some-example.com")?;

@@ -89,8 +89,8 @@ fn copies_of(table_heap: Global, digits: &str) -> Result<Vec<u64>, Fail> {
     Ok(counts)
 }
 
-/// Names and data of at most 30 octets take none. A growth goes to the list of a set of more than one record; those of a
-/// denial to the data of its SOA and to the box that it stands in.
+/// Names and data of at most 30 octets take none. A growth goes to the list of a set of more than one record; those of
+/// a denial to the data of its SOA and to the box that it stands in.
 #[test]
 fn each_growth_of_a_copy_is_refused(rt: HostRuntime) -> Result<(), Fail> {
     let alias = copies_of(rt.alloc(), ALIAS)?;

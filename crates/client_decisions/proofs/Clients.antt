@@ -2,6 +2,7 @@
 use Rattle.std.proofs.Common.{◌≡◌, ◌≢◌, ℕ, ◌<◌, ◌≤◌, length, List, true, false, refl, sym, ap, ◌∙◌, arith, ◌+◌, [], ◌∷◌, ◌++◌, Option, Some, None}
 use Rattle.std.specs.Prelude.{nat_le, ◌==◌, Box}
 use Rattle.std.proofs.lemmas.Bool.{cond-true, cond-false, le-leb, lt-leb, ne_eqb}
+use Rattle.std.proofs.lemmas.List.{append-nil}
 use Rattle.dns_message.specs.Values.{Question}
 use Rattle.suffix_routes.specs.Values.{Config}
 use Rattle.trust_rank.specs.declared.slot.Slot.{Slot}
@@ -16,16 +17,16 @@ use Rattle.outstanding.specs.Values.{Ask}
 use Rattle.step_table.specs.State.{State, turn}
 use Rattle.waiting_questions.specs.Values.{Waiting}
 use Rattle.step_table.specs.Attempts.{preferred_on, peer_at, over_udp, ask_by, first_ask, first_ask_on}
-use Rattle.step_table.specs.Steps.{Done, with_promoted, idle_step, reply_step, failed, gives_up, taking_step, asks}
+use Rattle.step_table.specs.Steps.{Done, with_promoted, idle_step, reply_step, failed, gives_up, taking_step, asks, tcp_count}
 use Rattle.waiting_questions.specs.Onward.{Onward, waits_on}
 use Rattle.step_table.specs.Clients.{row_of_request, row_of_opening, row_of_new_inquiry, row_of_inquiry, row_of_waiting}
 use Rattle.step_values.specs.Values.{Action}
 use Rattle.step_values.specs.declared.action.Why.{Why}
 use Rattle.step_values.specs.declared.action.Why.TheVariants.{BadOpcode, QuestionsFull}
 use Rattle.step_values.specs.declared.event.Client.{Client}
-use Rattle.step_actions.specs.declared.decision.Change.TheVariants.{Join}
+use Rattle.step_actions.specs.declared.decision.Change.TheVariants.{Join, Open}
+use Rattle.step_actions.specs.declared.decision.Opening.{Opening}
 use Rattle.step_actions.specs.Decision.{changed}
-use Rattle.step_table.proofs.CallerLemmas.{append_nil}
 
 -- ---- what is decided
 
@@ -101,6 +102,23 @@ opened_row c n words x s used route q a d room on q_is a_is d_is =
     ∙ sym (ap (first_ask_on (turn c n words (with_promoted used s)) x.wanted) on))
     ∙ sym (cond-false (nat_le c.limits.inquiries (length s.asks)) _ _ (lt-leb c.limits.inquiries (length s.asks) room))
 
+-- a question that waits, and its ask
+pub opened_is : (A : Type 0) (n : ℕ) (s : State) (x : Waiting) (a : Ask) (boxed : Box (Opening A) A)
+    (actions : List Action) → boxed.value.waiting ≡ x → boxed.value.ask ≡ a → actions ≡ asks a ∷ []
+    → record { actions = actions; unkept = 0; state = changed {A = A} n s (Open boxed) } ≡ row_of_opening n x s (Some a)
+opened_is A n s x a boxed actions x_is a_is told = λ i. record {
+  actions = told i;
+  unkept = 0;
+  state = record {
+    cache = s.cache;
+    asks = s.asks ++ a_is i ∷ [];
+    waiting = s.waiting ++ x_is i ∷ [];
+    preferred = s.preferred;
+    moment = n;
+    tcp_asks = s.tcp_asks + tcp_count (Some (a_is i));
+  };
+}
+
 pub joined_is : (A : Type 0) (n : ℕ) (s : State) (x : Waiting) (boxed : Box Waiting A) (actions : List Action)
     → boxed.value ≡ x → actions ≡ []
     → record { actions = actions; unkept = 0; state = changed {A = A} n s (Join boxed) } ≡ taking_step n x None s
@@ -109,7 +127,7 @@ joined_is A n s x boxed actions is none = λ i. record {
   unkept = 0;
   state = record {
     cache = s.cache;
-    asks = sym (append_nil s.asks) i;
+    asks = sym (append-nil s.asks) i;
     waiting = s.waiting ++ is i ∷ [];
     preferred = s.preferred;
     moment = n;

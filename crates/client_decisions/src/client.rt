@@ -5,7 +5,8 @@ ghost use Rattle.std.specs.List.{AllByRecursion};
 ghost use Rattle.answer_builder.specs.Answers.{IsEarlier};
 ghost use Rattle.dns_message.specs.Messages.{first_question};
 ghost use Rattle.dns_message.specs.Questions.{question_read, asked_at};
-ghost use Rattle.outstanding.specs.Lists.{of_question, AreListed};
+ghost use Rattle.outstanding.specs.Lists.{of_question};
+ghost use Rattle.outstanding.specs.Orders.{question_key};
 ghost use Rattle.suffix_routes.specs.Serving.{route_of};
 ghost use Rattle.step_values.specs.Requests.{is_taken};
 ghost use Rattle.alias_chains.specs.Seen.{seen_of, UsesFew};
@@ -16,19 +17,21 @@ ghost use Rattle.step_table.specs.Attempts.{first_ask};
 ghost use Rattle.alias_chains.specs.LookingUp.{look_up, missed};
 ghost use Rattle.answer_builder.specs.Values.{asked_in};
 ghost use Rattle.step_table.specs.Steps.{with_promoted, idle_step, reply_step, taking_step, gives_up, failed};
-ghost use Rattle.step_table.specs.Clients.{without_server, row_of_opening, row_of_new_inquiry, row_of_inquiry, row_of_waiting, row_of_look_up, row_of_route, row_of_service, row_of_question, row_of_request};
+ghost use Rattle.step_table.specs.Clients.{without_server, row_of_opening, row_of_new_inquiry, row_of_inquiry};
+ghost use Rattle.step_table.specs.Clients.{row_of_waiting, row_of_look_up, row_of_route, row_of_service};
+ghost use Rattle.step_table.specs.Clients.{row_of_question, row_of_request};
 ghost use Rattle.step_values.specs.Values.{action_of};
 ghost use Rattle.trust_rank.specs.Walks.{most_aliases};
 ghost use Rattle.step_actions.specs.Decision.{IsQuiet, CanWait, CanFollow, MeetsRow};
 ghost use Rattle.step_table.specs.State.{turn, from_state};
 
 use crate::request::{
-    is_denied, is_not_served, owned_question, route_for, taken_header, with_one_question,
+    Wanted, is_denied, is_not_served, owned_question, taken_header, wanted_by, with_one_question,
 };
 use alias_chains::{LookUp, LookUpEnd, SlotsRef, copies, look_up};
 use dns_message::{Header, MessageRef, Question, QuestionRef};
 use dns_name::Name;
-use outstanding::{Ask, draw};
+use outstanding::{Ask, KeyedAsk, QuestionKey, draw};
 use plain_list::PlainList;
 use std::alloc::{AllocError, Allocator};
 use std::hash::BuildHasher;
@@ -39,7 +42,7 @@ use step_actions::{
 use step_values::{Action, Client, Why};
 use suffix_routes::RouteId;
 use trust_rank::MOST_ALIASES;
-use waiting_questions::{Request, SentOn, Waiting};
+use waiting_questions::{KeyedWaiting, Request, SentOn, Waiting};
 
 /// One reply, and the promotion of what a look-up used.
 fn reply<'a, H: BuildHasher + Drop, A: Allocator + Copy>(
@@ -74,13 +77,16 @@ fn refuse<'a, H: BuildHasher + Drop, A: Allocator + Copy>(
     reply(turn, action, used)
 }
 
-/// The question waits, and its ask goes out.
+/// The question waits, and its ask goes out. Both have this key.
 fn open<'a, H: BuildHasher + Drop, A: Allocator + Copy>(
     turn: &TurnRef<'a, H, A>,
     waiting: Waiting<A>,
     ask: Ask<A>,
+    key: &QuestionKey,
     used: SlotsRef<'a, A>,
 ) -> Result<Decision<'a, A>, AllocError>
+    requires keyed { key.now ≡ question_key waiting.wanted }
+    requires same { ask.question ≡ waiting.wanted }
     requires waits { CanWait turn.now.config turn.now.moment turn.now.state waiting }
     requires follows { CanFollow turn.now.config turn.now.moment turn.now.state turn.now.state.asks ask }
     ensures decides { IfOk result (MeetsRow turn.now (λ _. row_of_opening turn.now.moment waiting
@@ -89,7 +95,11 @@ fn open<'a, H: BuildHasher + Drop, A: Allocator + Copy>(
     let mut actions = PlainList::new(turn.alloc);
     let action = ask_action(turn.alloc, &ask)?;
     actions.push(action)?;
-    let opening = Box::new(turn.alloc, Opening { waiting, ask })?;
+    let opening = Opening {
+        waiting: KeyedWaiting::new(waiting, *key),
+        ask: KeyedAsk::new(ask, *key),
+    };
+    let opening = Box::new(turn.alloc, opening)?;
     Ok(Decision {
         actions,
         used,
@@ -98,17 +108,19 @@ fn open<'a, H: BuildHasher + Drop, A: Allocator + Copy>(
     })
 }
 
-/// The question waits for the ask that is listed already.
+/// The question waits for the ask that is listed already. Both have this key.
 fn join<'a, H: BuildHasher + Drop, A: Allocator + Copy>(
     turn: &TurnRef<'a, H, A>,
     waiting: Waiting<A>,
+    key: &QuestionKey,
     used: SlotsRef<'a, A>,
 ) -> Result<Decision<'a, A>, AllocError>
-    requires { CanWait turn.now.config turn.now.moment turn.now.state waiting }
+    requires keyed { key.now ≡ question_key waiting.wanted }
+    requires waits { CanWait turn.now.config turn.now.moment turn.now.state waiting }
     ensures decides { IfOk result (MeetsRow turn.now (λ _. taking_step turn.now.moment waiting None
         (with_promoted used.entry turn.now.state))) }
 {
-    let joined = Box::new(turn.alloc, waiting)?;
+    let joined = Box::new(turn.alloc, KeyedWaiting::new(waiting, *key))?;
     Ok(Decision {
         actions: PlainList::new(turn.alloc),
         used,
@@ -142,11 +154,9 @@ fn first_ask<'a, H: BuildHasher + Drop, A: Allocator + Copy>(
     )
 }
 
-/// How many asks are under way. What holds of the list of them is said here.
+/// How many asks are under way.
 fn asks_under_way<'a, H: BuildHasher + Drop, A: Allocator + Copy>(turn: &TurnRef<'a, H, A>) -> usize
     ensures count { result ≡ length turn.now.state.asks }
-    ensures listed { AreListed
-        (record { capacity = turn.now.config.limits.inquiries; asks = turn.now.state.asks }) }
 {
     turn.inquiries.len()
 }
@@ -155,11 +165,12 @@ fn asks_under_way<'a, H: BuildHasher + Drop, A: Allocator + Copy>(turn: &TurnRef
 fn ask_anew<'a, H: BuildHasher + Drop, A: Allocator + Copy>(
     turn: &TurnRef<'a, H, A>,
     waiting: Waiting<A>,
-    route: RouteId,
+    wanted: &Wanted,
     used: SlotsRef<'a, A>,
 ) -> Result<Decision<'a, A>, AllocError>
     requires new { of_question waiting.wanted turn.now.state.asks ≡ None }
-    requires on { route_of turn.now.config waiting.wanted.name ≡ Some route }
+    requires on { route_of turn.now.config waiting.wanted.name ≡ Some wanted.now.route }
+    requires keyed { wanted.now.key ≡ question_key waiting.wanted }
     requires taken { waiting.taken ≡ turn.now.moment }
     requires aliases { HoldsEarlier turn.now.moment waiting }
     requires room { length turn.now.state.waiting < turn.now.config.limits.questions }
@@ -170,8 +181,8 @@ fn ask_anew<'a, H: BuildHasher + Drop, A: Allocator + Copy>(
     if asks_under_way(turn) >= config.limits.inquiries {
         return refuse(turn, &waiting.request(), Why::InquiriesFull, used);
     }
-    match first_ask(turn, waiting.wanted(), route)? {
-        Some(ask) => open(turn, waiting, ask, used),
+    match first_ask(turn, waiting.wanted(), wanted.route)? {
+        Some(ask) => open(turn, waiting, ask, &wanted.key, used),
         None => refuse(turn, &waiting.request(), Why::NoPort, used),
     }
 }
@@ -180,10 +191,11 @@ fn ask_anew<'a, H: BuildHasher + Drop, A: Allocator + Copy>(
 fn admit<'a, H: BuildHasher + Drop, A: Allocator + Copy>(
     turn: &TurnRef<'a, H, A>,
     waiting: Waiting<A>,
-    route: RouteId,
+    wanted: &Wanted,
     used: SlotsRef<'a, A>,
 ) -> Result<Decision<'a, A>, AllocError>
-    requires on { route_of turn.now.config waiting.wanted.name ≡ Some route }
+    requires on { route_of turn.now.config waiting.wanted.name ≡ Some wanted.now.route }
+    requires keyed { wanted.now.key ≡ question_key waiting.wanted }
     requires taken { waiting.taken ≡ turn.now.moment }
     requires aliases { HoldsEarlier turn.now.moment waiting }
     requires room { length turn.now.state.waiting < turn.now.config.limits.questions }
@@ -191,9 +203,9 @@ fn admit<'a, H: BuildHasher + Drop, A: Allocator + Copy>(
         (from_state (with_promoted used.entry turn.now.state) turn.now) waiting
         (of_question waiting.wanted turn.now.state.asks))) }
 {
-    match turn.inquiries.by_question(waiting.wanted()) {
-        Some(_) => join(turn, waiting, used),
-        None => ask_anew(turn, waiting, route, used),
+    match turn.inquiries.by_question(&wanted.key) {
+        Some(_) => join(turn, waiting, &wanted.key, used),
+        None => ask_anew(turn, waiting, wanted, used),
     }
 }
 
@@ -203,10 +215,11 @@ fn wait<'a, H: BuildHasher + Drop, A: Allocator + Copy>(
     turn: &TurnRef<'a, H, A>,
     request: &Request<'_>,
     sent_on: Option<SentOn<A>>,
-    route: RouteId,
+    wanted: &Wanted,
     used: SlotsRef<'a, A>,
 ) -> Result<Decision<'a, A>, AllocError>
-    requires on { route_of turn.now.config (waits_on sent_on request.now).wanted.name ≡ Some route }
+    requires on { route_of turn.now.config (waits_on sent_on request.now).wanted.name ≡ Some wanted.now.route }
+    requires keyed { wanted.now.key ≡ question_key (waits_on sent_on request.now).wanted }
     requires aliases { HoldsEarlier turn.now.moment (waits_on sent_on request.now) }
     requires taken { request.now.taken ≡ turn.now.moment }
     ensures decides { IfOk result (MeetsRow turn.now (λ _. row_of_waiting
@@ -217,7 +230,7 @@ fn wait<'a, H: BuildHasher + Drop, A: Allocator + Copy>(
         return refuse(turn, request, Why::QuestionsFull, used);
     }
     let waiting = request.to_waiting(turn.alloc, sent_on)?;
-    admit(turn, waiting, route, used)
+    admit(turn, waiting, wanted, used)
 }
 
 /// A question to which the cache has the answer.
@@ -238,23 +251,27 @@ fn hit<'a, H: BuildHasher + Drop, A: Allocator + Copy>(
     reply(turn, action, looked.into_slots())
 }
 
-/// What a question is sent on with whose look-up missed behind these aliases at this name.
-fn onward<'a, H: BuildHasher + Drop, A: Allocator + Copy>(
-    turn: &TurnRef<'a, H, A>,
-    request: &Request<'_>,
-    looked: &LookUp<'_, A>,
-    name: Name<A>,
-) -> Result<SentOn<A>, AllocError>
-    requires few { length looked.now.used ≤ 8 }
-    ensures { IfOk result (λ sent_on. sent_on
-        ≡ record { held = looked.now.used; wanted = asked_at request.now.wanted name }) }
+/// The question of a client at another name.
+fn asked_at<A: Allocator>(request: &Request<'_>, name: Name<A>) -> Question<A>
+    ensures { result ≡ asked_at request.now.wanted name }
 {
-    let aliases = copies(turn.alloc, looked.used())?;
-    let wanted = Question {
+    Question {
         name,
         kind: request.question.kind(),
         class: request.question.class(),
-    };
+    }
+}
+
+/// What a question is sent on with whose look-up missed behind these aliases.
+fn onward<'a, H: BuildHasher + Drop, A: Allocator + Copy>(
+    turn: &TurnRef<'a, H, A>,
+    looked: &LookUp<'_, A>,
+    wanted: Question<A>,
+) -> Result<SentOn<A>, AllocError>
+    requires few { length looked.now.used ≤ 8 }
+    ensures { IfOk result (λ sent_on. sent_on ≡ record { held = looked.now.used; wanted = wanted }) }
+{
+    let aliases = copies(turn.alloc, looked.used())?;
     Ok(SentOn { aliases, wanted })
 }
 
@@ -308,11 +325,12 @@ fn miss_behind<'a, H: BuildHasher + Drop, A: Allocator + Copy>(
           used = map (λ h. h.piece.slot) looked.entry.used;
         }))) }
 {
-    let Some(route) = turn.config.serving_route_of(&name) else {
-        return end_behind(turn, request, looked, &name);
+    let question = asked_at(request, name);
+    let Some(wanted) = wanted_by(turn.config, &QuestionRef::of(&question)) else {
+        return end_behind(turn, request, looked, &question.name);
     };
-    let sent_on = onward(turn, request, &looked, name)?;
-    wait(turn, request, Some(sent_on), route, looked.into_slots())
+    let sent_on = onward(turn, &looked, question)?;
+    wait(turn, request, Some(sent_on), &wanted, looked.into_slots())
 }
 
 /// A question of whose own name nothing is known.
@@ -325,8 +343,8 @@ fn miss<'a, H: BuildHasher + Drop, A: Allocator + Copy>(
     ensures decides { IfOk result (MeetsRow turn.now (λ _. row_of_look_up turn.now request.now
         (record { held = []; wanted = request.now.wanted; met = missed; used = used.entry }))) }
 {
-    match route_for(turn.config, &request.question) {
-        Some(route) => wait(turn, request, None, route, used),
+    match wanted_by(turn.config, &request.question) {
+        Some(wanted) => wait(turn, request, None, &wanted, used),
         None => end(turn, request, used),
     }
 }

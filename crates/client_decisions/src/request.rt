@@ -1,13 +1,15 @@
 //! A client's message, as far as it is read: its header and its first question.
 
-ghost use Rattle.std.specs.Prelude.{◌≡◌, true, false, MatchOption, IfOk, None, Ok};
+ghost use Rattle.std.specs.Prelude.{◌≡◌, true, false, MatchOption, IfOk, None, Some, Ok};
 ghost use Rattle.dns_message.specs.Header.{header_in};
 ghost use Rattle.dns_message.specs.Messages.{first_question};
 ghost use Rattle.dns_message.specs.Questions.{one_question, question_read, is_unserved};
 ghost use Rattle.step_values.specs.Requests.{is_taken};
+ghost use Rattle.outstanding.specs.Orders.{question_key};
 ghost use Rattle.suffix_routes.specs.Serving.{is_local, route_of};
 
 use dns_message::{Header, MessageRef, Question, QuestionRef};
+use outstanding::QuestionKey;
 use std::alloc::{AllocError, Allocator};
 use suffix_routes::{Config, RouteId};
 
@@ -15,7 +17,8 @@ use suffix_routes::{Config, RouteId};
 /// or one that is itself a reply.
 #[tactic(auto, unfolding(dns_message::specs::Header::header_of))]
 pub(crate) fn taken_header(bytes: &[u8]) -> Option<Header>
-    ensures { MatchOption result (is_taken bytes.now ≡ false) (λ header. (is_taken bytes.now ≡ true) × (header ≡ header_in bytes.now)) }
+    ensures { MatchOption result (is_taken bytes.now ≡ false) (λ header. (is_taken bytes.now ≡ true)
+        × (header ≡ header_in bytes.now)) }
 {
     if bytes.len() > 65535 {
         return None;
@@ -30,7 +33,8 @@ pub(crate) fn taken_header(bytes: &[u8]) -> Option<Header>
 /// The view of a message that has just one question, which can be read. It takes no memory.
 pub(crate) fn with_one_question<'a>(bytes: &'a [u8], header: &Header) -> Option<MessageRef<'a>>
     requires { header.now ≡ header_in bytes.now }
-    ensures { MatchOption result (one_question bytes.now ≡ None) (λ message. question_read (first_question message) ≡ one_question bytes.now) }
+    ensures { MatchOption result (one_question bytes.now ≡ None) (λ message. question_read (first_question message)
+        ≡ one_question bytes.now) }
 {
     if header.counts[0] != 1 {
         return None;
@@ -59,15 +63,26 @@ pub(crate) fn is_not_served(question: &QuestionRef<'_>) -> bool
     kind == 0 || kind == 41 || (kind >= 128 && kind <= 255) || question.class() == 255
 }
 
-/// The route that serves a question's name. It takes no memory.
+/// What a question wants to know, by its key, and the route that serves its name.
+#[derive(Clone, Copy)]
+pub(crate) struct Wanted {
+    pub(crate) key: QuestionKey,
+    pub(crate) route: RouteId,
+}
+
+/// What a question wants to know; `None` exactly where no route serves its name. It takes no memory.
 #[tactic(auto, using(suffix_routes::proofs::CallerLemmas::serving_respects_same, dns_name::proofs::CallerLemmas::lowered_is_same))]
-pub(crate) fn route_for<A: Allocator>(
+pub(crate) fn wanted_by<A: Allocator>(
     config: &Config<A>,
     question: &QuestionRef<'_>,
-) -> Option<RouteId>
-    ensures { result ≡ route_of config.now question.now.name }
+) -> Option<Wanted>
+    ensures { MatchOption result (route_of config.now question.now.name ≡ None)
+        (λ wanted. (route_of config.now question.now.name ≡ Some wanted.route)
+        × (wanted.key ≡ question_key question.now)) }
 {
-    config.serving_route_of_key(&question.key())
+    let key = QuestionKey::of_ref(question);
+    let route = config.serving_route_of_key(key.name())?;
+    Some(Wanted { key, route })
 }
 
 /// Whether the route of a question's name denies it. It takes no memory.

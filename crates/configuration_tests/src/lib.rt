@@ -1,5 +1,5 @@
-//! Tests of configurations from outside: what holds where a text says nothing, what a fault says to a person, and memory: that
-//! it is found where there is some.
+//! Tests of configurations from outside: what holds where a text says nothing, what a fault says to a person, and
+//! memory: that it is found where there is some.
 #![tactic(auto)]
 
 #[cfg(test)]

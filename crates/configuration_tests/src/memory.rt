@@ -1,5 +1,5 @@
-//! Each growth of a configuration and of its copy, and of a name that is made of labels, is refused once; then all of them
-//! are granted.
+//! Each growth of a configuration and of its copy, and of a name that is made of labels, is refused once; then all of
+//! them are granted.
 
 use dns_name::{Name, NameFault};
 use refusing_allocator::Refusing;

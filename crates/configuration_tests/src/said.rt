@@ -22,8 +22,8 @@ servers = ["192.0.2.1:53"]
 
 /// What is said: the beginning of a text, its rest, and what its first fault says.
 const SAID: [(&str, &str, &str); 43] = [
-    // Where the reader of TOML stopped: behind the end where more is wanted, else at what can't stand there, and at a key
-    // that is there already. A column counts characters.
+    // Where the reader of TOML stopped: behind the end where more is wanted, else at what can't stand there, and at a
+    // key that is there already. A column counts characters.
     (
         "version =",
         "",

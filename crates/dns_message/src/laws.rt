@@ -10,7 +10,10 @@ ghost use Rattle.message_writing.specs.Written.{IsMessage, IsCounted};
 /// its records is of their shapes, and the octets are no more than a message can have. So no two such messages are
 /// written alike.
 pub fn what_is_written_is_read_back()
-    ensures back { (message : values.Message) → IsMessage message → IsCounted message → HasShapes message → length (written message) ≤ 65535 → message_of (written message) ≡ Ok message }
-    ensures one { (first second : values.Message) → IsMessage first → IsCounted first → HasShapes first → length (written first) ≤ 65535
-        → IsMessage second → IsCounted second → HasShapes second → length (written second) ≤ 65535 → written first ≡ written second → first ≡ second }
+    ensures back { (message : values.Message) → IsMessage message → IsCounted message → HasShapes message
+        → length (written message) ≤ 65535 → message_of (written message) ≡ Ok message }
+    ensures one { (first second : values.Message) → IsMessage first → IsCounted first → HasShapes first
+        → length (written first) ≤ 65535
+        → IsMessage second → IsCounted second → HasShapes second → length (written second) ≤ 65535
+        → written first ≡ written second → first ≡ second }
 {}

@@ -1,5 +1,6 @@
 -- A name in text: its labels with dots between them (RFC 1035 5.1).
-use Rattle.std.specs.Prelude.{ℕ, ◌-◌, Bool, not, ◌==◌, ◌&&◌, ◌||◌, nat_lt, if◌then◌else◌, List, [], length, take, slice_index, Option, Some, None, Result}
+use Rattle.std.specs.Prelude.{ℕ, ◌-◌, Bool, not, ◌==◌, ◌&&◌, ◌||◌, nat_lt, if◌then◌else◌, List, [], length, take}
+use Rattle.std.specs.Prelude.{slice_index, Option, Some, None, Result}
 use Rattle.std.specs.List.{slice_split, list_all}
 use Rattle.std.specs.Char.{is_ascii_alphanumeric}
 use Rattle.dns_name.specs.declared.fault.NameFault.{NameFault}

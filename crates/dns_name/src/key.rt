@@ -59,8 +59,8 @@ impl PartialEq for NameKey {
     }
 }
 
-// The octets of the name alone are hashed, up to the end of the eight in which it ends: a hasher takes whole words at once,
-// and single octets one by one.
+// The octets of the name alone are hashed, up to the end of the eight in which it ends: a hasher takes whole words at
+// once, and single octets one by one.
 impl Hash for NameKey {
     ghost use Rattle.std.specs.Prelude.{take, ◌∷◌, []};
     ghost use Rattle.std.specs.Cmp.Rules.{hashing};
@@ -98,8 +98,8 @@ impl NameKey {
         key_of(octets)
     }
 
-    /// Makes this the key of the name that these octets are, as `Name::octets` gives them: of what it was before nothing
-    /// stays. Less is written than for a new key, and nothing is moved. It takes no memory.
+    /// Makes this the key of the name that these octets are, as `Name::octets` gives them: of what it was before
+    /// nothing stays. Less is written than for a new key, and nothing is moved. It takes no memory.
     #[tactic(auto, using(crate::proofs::LabelLaws::laid_short))]
     pub fn set_octets(&mut self, octets: &[u8])
         requires { IsLaidOut octets.now }
@@ -168,8 +168,8 @@ fn lower_with_zeros(octets: &[u8]) -> [u8; 255]
 /// So many octets are compared one by one, up to the first that differs.
 const FEW: usize = 32;
 
-/// Octets, at most 255, that are equal in lower case. More than a few are turned to lower case before any are compared: with
-/// no branch at each octet, many are taken at once.
+/// Octets, at most 255, that are equal in lower case. More than a few are turned to lower case before any are compared:
+/// with no branch at each octet, many are taken at once.
 #[tactic(auto, using(crate::proofs::KeyOf::padded_same))]
 fn is_same_in_lower_case(a: &[u8], b: &[u8]) -> bool
     requires { length a.now ≤ 255 }
@@ -181,8 +181,8 @@ fn is_same_in_lower_case(a: &[u8], b: &[u8]) -> bool
     a.len() == b.len() && lower_with_zeros(a) == lower_with_zeros(b)
 }
 
-/// Equal octets, at most 255, ASCII letter case aside (RFC 1035 2.3.3). Most that are equal are spelled alike, so they are
-/// compared as they are first.
+/// Equal octets, at most 255, ASCII letter case aside (RFC 1035 2.3.3). Most that are equal are spelled alike, so they
+/// are compared as they are first.
 pub(crate) fn is_same_text(a: &[u8], b: &[u8]) -> bool
     requires { length a.now ≤ 255 }
     ensures { IsTrue result ↔ (map to_ascii_lowercase a.now ≡ map to_ascii_lowercase b.now) }

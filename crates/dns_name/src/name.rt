@@ -1,7 +1,9 @@
 //! Names: what they are made of, and how they compare.
 
-ghost use Rattle.std.specs.Prelude.{◌≡◌, ◌≤◌, ◌+◌, ◌∷◌, ◌++◌, [], length, map, OnOk, OnErr, IsTrue, ◌↔◌, IfOk, IsOk, MatchResult, Some, None};
-ghost use Rattle.dns_name.specs.Labels.{IsLabel, IsName, IsSame, IsUnder, size_of, label_octets, labels_of, IsLaidOut, lowered, parent_of};
+ghost use Rattle.std.specs.Prelude.{◌≡◌, ◌≤◌, ◌+◌, ◌∷◌, ◌++◌, [], length, map, OnOk, OnErr, IsTrue, ◌↔◌, IfOk, IsOk};
+ghost use Rattle.std.specs.Prelude.{MatchResult, Some, None};
+ghost use Rattle.dns_name.specs.Labels.{IsLabel, IsName, IsSame, IsUnder, size_of, label_octets, labels_of, IsLaidOut};
+ghost use Rattle.dns_name.specs.Labels.{lowered, parent_of};
 ghost use Rattle.dns_name.specs.Faults.{Gives, first_fault, label_fault, named, pushed};
 
 use crate::builder::NameBuilder;
@@ -13,8 +15,8 @@ use std::alloc::{AllocError, Allocator, Global};
 use std::marker::Model;
 
 /// A domain name (RFC 1035 2.3.4, 3.1): labels of 1 to 63 octets, at most 255 octets in all where each label is counted
-/// with its length octet, and the zero octet at the end too. Up to 30 octets, the zero octet left out, lie in place. Contracts
-/// see it as the list of its labels.
+/// with its length octet, and the zero octet at the end too. Up to 30 octets, the zero octet left out, lie in place.
+/// Contracts see it as the list of its labels.
 #[derive(Drop)]
 pub struct Name<A: Allocator = Global> {
     octets: ShortOctets<A>,
@@ -41,8 +43,8 @@ impl<A: Allocator> Name<A> {
         }
     }
 
-    /// The name that these octets are, as `octets` gives them: each label behind its length, and no zero octet at the end.
-    /// They are copied once. Up to 30 take no memory; of more, `Err` where memory ran out.
+    /// The name that these octets are, as `octets` gives them: each label behind its length, and no zero octet at the
+    /// end. They are copied once. Up to 30 take no memory; of more, `Err` where memory ran out.
     pub fn from_octets(alloc: A, octets: &[u8]) -> Result<Name<A>, AllocError>
         requires { IsLaidOut octets.now }
         ensures name { IfOk result (λ name. name ≡ labels_of octets.now) }
@@ -62,8 +64,8 @@ impl<A: Allocator> Name<A> {
         labels_in(self.octets())
     }
 
-    /// The name as it stands in a message (RFC 1035 3.1), without the zero octet at its end: each label behind its length.
-    /// `split_label` takes the first label off. It takes no memory.
+    /// The name as it stands in a message (RFC 1035 3.1), without the zero octet at its end: each label behind its
+    /// length. `split_label` takes the first label off. It takes no memory.
     pub fn octets(&self) -> &[u8]
         ensures laid { IsLaidOut result.now }
         ensures labels { labels_of result.now ≡ self.now }
@@ -83,7 +85,8 @@ impl<A: Allocator> Name<A> {
 
 /// The first fault of a label, from the left.
 fn check_labels<A: Allocator>(labels: &[Vec<u8, A>]) -> Result<(), NameFault>
-    ensures { MatchResult result (λ _. first_fault label_fault (map (λ v. v.items) labels.now) ≡ None) (λ e. first_fault label_fault (map (λ v. v.items) labels.now) ≡ Some e) }
+    ensures { MatchResult result (λ _. first_fault label_fault (map (λ v. v.items) labels.now) ≡ None)
+        (λ e. first_fault label_fault (map (λ v. v.items) labels.now) ≡ Some e) }
 {
     for label in labels {
         if label.is_empty() {
@@ -99,8 +102,8 @@ fn check_labels<A: Allocator>(labels: &[Vec<u8, A>]) -> Result<(), NameFault>
 impl<A: Allocator> Name<A> {
     /// The name of these labels, from left to right.
     ///
-    /// The fault is the first `EmptyLabel` or `LabelLong` from the left, else `NameLong`. `Memory` comes where a growth was
-    /// refused.
+    /// The fault is the first `EmptyLabel` or `LabelLong` from the left, else `NameLong`. `Memory` comes where a growth
+    /// was refused.
     pub fn from_labels(alloc: A, labels: &[Vec<u8, A>]) -> Result<Name<A>, NameFault>
         ensures { Gives (λ n. n) result (named (map (λ v. v.items) labels.now)) }
     {
@@ -113,8 +116,8 @@ impl<A: Allocator> Name<A> {
     }
 }
 
-/// Whether the name that the first octets are is under the one that the others are, both as `Name::octets` gives them: what
-/// `Name::is_under` tells of names that are not at hand as such. It takes no memory.
+/// Whether the name that the first octets are is under the one that the others are, both as `Name::octets` gives them:
+/// what `Name::is_under` tells of names that are not at hand as such. It takes no memory.
 pub fn ends_in(octets: &[u8], suffix: &[u8]) -> bool
     requires whole { IsLaidOut octets.now }
     requires suffix_whole { IsLaidOut suffix.now }
@@ -131,8 +134,8 @@ pub fn ends_in(octets: &[u8], suffix: &[u8]) -> bool
 }
 
 impl<A: Allocator> Name<A> {
-    /// Whether the last labels of this name are those of `suffix`, ASCII letter case aside; so each name is under itself
-    /// and under the root. The octets are compared once. It takes no memory.
+    /// Whether the last labels of this name are those of `suffix`, ASCII letter case aside; so each name is under
+    /// itself and under the root. The octets are compared once. It takes no memory.
     pub fn is_under(&self, suffix: &Name<A>) -> bool
         ensures { IsTrue result ↔ IsUnder self.now suffix.now }
     {
@@ -157,8 +160,8 @@ impl<A: Allocator> Name<A> {
         }
     }
 
-    /// The same labels, letter case included. Up to 31 octets, the zero octet counted, take no memory; of more, `Err` where
-    /// memory ran out.
+    /// The same labels, letter case included. Up to 31 octets, the zero octet counted, take no memory; of more, `Err`
+    /// where memory ran out.
     pub fn copy(&self, alloc: A) -> Result<Name<A>, AllocError>
         ensures name { IfOk result (λ n. n ≡ self.now) }
         ensures few { size_of self.now ≤ 31 → IsOk result }

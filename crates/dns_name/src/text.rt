@@ -30,7 +30,8 @@ fn has_label_characters(label: &[u8]) -> bool
 
 /// The first fault of one label in text.
 fn check_label(label: &[u8]) -> Result<(), NameFault>
-    ensures first { MatchResult result (λ _. written_label_fault label.now ≡ None) (λ e. written_label_fault label.now ≡ Some e) }
+    ensures first { MatchResult result (λ _. written_label_fault label.now ≡ None) (λ e. written_label_fault label.now
+        ≡ Some e) }
     ensures memory { result ≢ Err Memory }
 {
     if label.is_empty() {
@@ -100,7 +101,8 @@ fn parts_of(text: &[u8]) -> Parts<'_>
 
 /// The first fault of the labels between the dots, from the left.
 fn check_parts(text: &[u8]) -> Result<(), NameFault>
-    ensures first { MatchResult result (λ _. first_fault written_label_fault (parts_of text.now) ≡ None) (λ e. first_fault written_label_fault (parts_of text.now) ≡ Some e) }
+    ensures first { MatchResult result (λ _. first_fault written_label_fault (parts_of text.now) ≡ None)
+        (λ e. first_fault written_label_fault (parts_of text.now) ≡ Some e) }
     ensures memory { result ≢ Err Memory }
 {
     for label in parts_of(text) {
@@ -127,8 +129,8 @@ impl<A: Allocator> Name<A> {
     /// them. One dot may end the text; a dot alone is the root (RFC 1035 5.1).
     ///
     /// The fault is the first from the left: `EmptyLabel` (of the empty text too), `BadCharacter`, or `LabelLong`,
-    /// which is told at the end of the label; after all labels `NameLong`. `Memory` comes where a growth was refused, and
-    /// only where the text is a name.
+    /// which is told at the end of the label; after all labels `NameLong`. `Memory` comes where a growth was refused,
+    /// and only where the text is a name.
     pub fn from_text(alloc: A, text: &str) -> Result<Name<A>, NameFault>
         ensures given { Gives (λ n. n) result (name_in text.now) }
         ensures memory { result ≡ Err Memory → IsOk (name_in text.now) }

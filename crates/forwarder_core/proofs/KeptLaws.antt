@@ -3,7 +3,7 @@ use Rattle.std.proofs.Common.{Vec, ◌≡◌, ℕ, zero, suc, ◌+◌, ◌^◌, 
 use Rattle.std.specs.Prelude.{filter, not, option_map, min, take, drop, map, slice_set, slice_get, nat_le}
 use Rattle.std.specs.List.{cons_option, AllByRecursion, list_any}
 use Rattle.std.specs.Option.{IfSome}
-use Rattle.std.proofs.lemmas.List.{length-append, with_items_is}
+use Rattle.std.proofs.lemmas.List.{length-append, length-set, with_items_is, append-nil}
 use Rattle.std.specs.Vec.{with_items}
 use Rattle.std.proofs.lemmas.Bool.{cond_both, leb-true, leb-false, cond-true, cond-false}
 use Rattle.suffix_routes.specs.Values.{Config, Route, IsConfig}
@@ -21,7 +21,7 @@ use Rattle.step_table.specs.Replies.{timeout_of}
 use Rattle.record_cache.specs.Values.{Held, Cache}
 use Rattle.answer_builder.specs.Answers.{IsEarlier}
 use Rattle.step_table.specs.Progress.{AreTakenInTurn, IsTry, IsOnRoute, lesser, least, IsInOrder, IsBelow, ArePreferred}
-use Rattle.step_table.proofs.CallerLemmas.{first_due, first_late, first_deadline, All-append, All-filter, All-weaker, append_nil, preferred_first, preferred_put}
+use Rattle.step_table.proofs.CallerLemmas.{first_due, first_late, first_deadline, All-append, All-filter, All-weaker, preferred_first, preferred_put}
 use Rattle.step_actions.specs.declared.decision.Preferred.{Preferred}
 use Rattle.step_actions.specs.Kept.{IsKeptAsk, HoldsEarlier, IsKeptForwarder}
 use Rattle.step_actions.specs.Decision.{left_waiting, left_or_sent, with_preferred, IfFollows, IsSentEarlier, IsServed}
@@ -71,6 +71,7 @@ kept_later c e i ws ps m n k kept le small = record {
   cache = kept.cache;
   accepted = later_entries m n e.entries le kept.accepted;
   capacity = kept.capacity;
+  listed = kept.listed;
   asks = later_same c m n k i.asks le kept.asks;
   few = kept.few;
   in_turn = kept.in_turn;
@@ -88,6 +89,7 @@ kept_joined c e i ws ws' ps m n k x kept le small room at earlier is = subst (λ
   cache = kept.cache;
   accepted = later_entries m n e.entries le kept.accepted;
   capacity = kept.capacity;
+  listed = kept.listed;
   asks = later_same c m n k i.asks le kept.asks;
   few = let longer = length-append ws (x ∷ []) in omega (arith, longer, room);
   in_turn = in_turn_put m ws x kept.in_turn kept.taken (omega (arith, at, le));
@@ -100,12 +102,13 @@ kept_joined c e i ws ws' ps m n k x kept le small room at earlier is = subst (λ
 
 -- one ask more
 pub kept_asked : (c : Config) (e : Cache) (i i' : Inquiries) (ws : List Waiting) (ps : List ℕ) (m n k j : ℕ) (listed : List Ask) (a : Ask) → IsKeptForwarder c e i ws ps m k → m ≤ n → n ≤ 2 ^ 62 → AllByRecursion (IsKeptAsk c m k) listed → IsKeptAsk c n (k + j) a → k + j < 2 ^ 64
-    → i' ≡ record i { asks = listed ++ a ∷ [] } → IsKeptForwarder c e i' ws ps n (k + j)
-kept_asked c e i i' ws ps m n k j listed a kept le small all one fits is = subst (λ (q : Inquiries). IsKeptForwarder c e q ws ps n (k + j)) (sym is) (record {
+    → i' ≡ record i { asks = listed ++ a ∷ [] } → AreListed i' → IsKeptForwarder c e i' ws ps n (k + j)
+kept_asked c e i i' ws ps m n k j listed a kept le small all one fits is are = subst (λ (q : Inquiries). IsKeptForwarder c e q ws ps n (k + j)) (sym is) (record {
   config = kept.config;
   cache = kept.cache;
   accepted = later_entries m n e.entries le kept.accepted;
   capacity = kept.capacity;
+  listed = subst AreListed is are;
   asks = All-append (IsKeptAsk c n (k + j)) listed (a ∷ []) (later_asks c m n k j listed le all) (one, tt);
   few = kept.few;
   in_turn = kept.in_turn;
@@ -127,6 +130,7 @@ kept_left c e i ws ws' ps m k r kept is = subst (λ (xs : List Waiting). IsKeptF
       cache = kept.cache;
       accepted = kept.accepted;
       capacity = kept.capacity;
+      listed = kept.listed;
       asks = kept.asks;
       few = let less = fewer (λ (x : Waiting). not (waits_for a.question x)) ws in let few = kept.few in omega (arith, less, few);
       in_turn = in_turn_left (λ x. not (waits_for a.question x)) ws kept.in_turn;
@@ -196,6 +200,7 @@ kept_sent c e i ws ws' ps m k r onward kept earlier is = subst (λ (xs : List Wa
       cache = kept.cache;
       accepted = kept.accepted;
       capacity = kept.capacity;
+      listed = kept.listed;
       asks = kept.asks;
       few = let less = no_more_settled a.question onward ws in let few = kept.few in omega (arith, less, few);
       in_turn = in_turn_settled a.question onward ws kept.in_turn;
@@ -208,17 +213,17 @@ kept_sent c e i ws ws' ps m k r onward kept earlier is = subst (λ (xs : List Wa
 
 -- the ask on a path is closed, and another is listed, where there is one
 pub kept_next : (c : Config) (e : Cache) (i i' : Inquiries) (ws : List Waiting) (ps : List ℕ) (m n k : ℕ) (path : Path) (s : State) (listed : List Ask) (next : Option Ask) → IsKeptForwarder c e i ws ps m k → m ≤ n → n ≤ 2 ^ 62 → s.tcp_asks ≡ k → IfFollows c n s listed next
-    → i' ≡ record i { asks = without_path path i.asks ++ ask_list next } → IsKeptForwarder c e i' ws ps n (k + tcp_count next)
-kept_next c e i i' ws ps m n k path s listed None kept le small same follows is =
+    → i' ≡ record i { asks = without_path path i.asks ++ ask_list next } → AreListed i' → IsKeptForwarder c e i' ws ps n (k + tcp_count next)
+kept_next c e i i' ws ps m n k path s listed None kept le small same follows is are =
     let later = kept_later c e i ws ps m n k kept le small in
-    let fewer = kept_without c e i i' ws ps n k (Some path) later (is ∙ (λ j. record i { asks = append_nil (without_path path i.asks) j })) in
+    let fewer = kept_without c e i i' ws ps n k (Some path) later (is ∙ (λ j. record i { asks = append-nil (without_path path i.asks) j })) in
     let count : k ≡ k + 0 = omega arith in
     subst (λ (j : ℕ). IsKeptForwarder c e i' ws ps n j) count fewer
-kept_next c e i i' ws ps m n k path s listed (Some a) kept le small same follows is =
+kept_next c e i i' ws ps m n k path s listed (Some a) kept le small same follows is are =
     kept_asked c e i i' ws ps m n k (tcp_count (Some a)) (without_path path i.asks) a kept le small (kept_rest c m k path i.asks kept.asks)
     (subst (λ (j : ℕ). IsKeptAsk c n (j + tcp_count (Some a)) a) same follows.kept)
     (subst (λ (j : ℕ). j + tcp_count (Some a) < 2 ^ 64) same follows.counted)
-    is
+    is are
 
 -- the next ask, where there is one, may be counted and may begin
 pub next_counted : (c : Config) (n : ℕ) (s : State) (listed : List Ask) (next : Option Ask) → s.tcp_asks < 2 ^ 64 → IfFollows c n s listed next → s.tcp_asks + tcp_count next < 2 ^ 64
@@ -236,6 +241,7 @@ kept_dropped c e i (x ∷ ws) ws' ps m k kept is = subst (λ (xs : List Waiting)
   cache = kept.cache;
   accepted = kept.accepted;
   capacity = kept.capacity;
+  listed = kept.listed;
   asks = kept.asks;
   few = let few = kept.few in omega (arith, few);
   in_turn = kept.in_turn.1;
@@ -257,6 +263,7 @@ kept_preferred c e i ws ps ps' m k preferred kept served is = subst (λ (qs : Li
       cache = kept.cache;
       accepted = kept.accepted;
       capacity = kept.capacity;
+      listed = kept.listed;
       asks = kept.asks;
       few = kept.few;
       in_turn = kept.in_turn;
@@ -275,6 +282,7 @@ kept_entries c e e' entries i ws ps m k kept on earlier is = subst (λ (q : Cach
   cache = record { capacity = kept.cache.capacity; on_routes = on };
   accepted = earlier;
   capacity = kept.capacity;
+  listed = kept.listed;
   asks = kept.asks;
   few = kept.few;
   in_turn = kept.in_turn;
@@ -295,6 +303,7 @@ kept_first c e i ws ps config empty is none places =
       cache = record { capacity = refl; on_routes = tt };
       accepted = tt;
       capacity = refl;
+      listed = record { few = omega arith; in_turn = tt; in_time = tt };
       asks = tt;
       few = omega arith;
       in_turn = tt;
@@ -332,12 +341,12 @@ timeouts_least c [] = refl
 timeouts_least c (a ∷ asks) = sooner_one (due.due_of c.limits.ask_ms a) (due.next_due c.limits.ask_ms asks) ∙ ap (λ (o : Option ℕ). Some (lesser (timeout_of c a) o)) (timeouts_least c asks)
 
 -- both lists are in order
-pub kept_in_order : (c : Config) (e : Cache) (i : Inquiries) (ws : List Waiting) (ps : List ℕ) (m k : ℕ) → IsKeptForwarder c e i ws ps m k → AreListed i → IsInOrder c (record { cache = e; asks = i.asks; waiting = ws; preferred = ps; moment = m; tcp_asks = k })
-kept_in_order c e i ws ps m k kept are = record {
+pub kept_in_order : (c : Config) (e : Cache) (i : Inquiries) (ws : List Waiting) (ps : List ℕ) (m k : ℕ) → IsKeptForwarder c e i ws ps m k → IsInOrder c (record { cache = e; asks = i.asks; waiting = ws; preferred = ps; moment = m; tcp_asks = k })
+kept_in_order c e i ws ps m k kept = record {
   cache = kept.cache;
-  asks = are.in_turn;
+  asks = kept.listed.in_turn;
   tries = All-weaker (IsKeptAsk c m k) (IsTry c) (λ a h. h.tries) i.asks kept.asks;
-  few_asks = let few = are.few in let room = kept.capacity in omega (arith, few, room);
+  few_asks = let few = kept.listed.few in let room = kept.capacity in omega (arith, few, room);
   waiting = kept.in_turn;
   few_waiting = kept.few;
 }
@@ -358,14 +367,9 @@ zeros_more (x ∷ xs) (suc i) lt = ap (λ ys. 0 ∷ ys) (zeros_more xs i (omega 
 pub zeros_step : (xs ys : List ℕ) (i : ℕ) → ys ≡ map {B = ℕ} (λ (p : ℕ). 0) (take i xs) ++ drop i xs → i < length xs → slice_set ys i 0 ≡ map {B = ℕ} (λ (p : ℕ). 0) (take (i + 1) xs) ++ drop (i + 1) xs
 zeros_step xs ys i is lt = ap (λ (zs : List ℕ). slice_set zs i 0) is ∙ zeros_more xs i lt ∙ ap (λ (n : ℕ). map {B = ℕ} (λ (p : ℕ). 0) (take n xs) ++ drop n xs) (let next : suc i ≡ i + 1 = omega arith in next)
 
-set_length : (xs : List ℕ) (i v : ℕ) → length (slice_set xs i v) ≡ length xs
-set_length [] i v = refl
-set_length (x ∷ xs) zero v = refl
-set_length (x ∷ xs) (suc i) v = let rest = set_length xs i v in omega (arith, rest)
-
 pub preferred_length : (o : Option Preferred) (ps : List ℕ) → length (with_preferred o ps) ≡ length ps
 preferred_length None ps = refl
-preferred_length (Some p) ps = set_length ps p.route p.server
+preferred_length (Some p) ps = length-set ps p.route p.server
 
 -- as many elements, put back into their vector
 pub put_back : {Z : Type 0} (v : Vec ℕ Z) (ws ws' : List ℕ) → ws ≡ ws' → length ws' ≡ length v.items → (with_items v ws).items ≡ ws'

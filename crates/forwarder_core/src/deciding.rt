@@ -2,7 +2,7 @@
 
 ghost use Rattle.std.specs.Prelude.{IfOk, IfSome};
 ghost use Rattle.step_values.specs.Values.{event_of};
-ghost use Rattle.step_table.specs.Row.{TakesNoMemory};
+ghost use Rattle.step_table.specs.Row.{HandsOctets, TakesNoMemory};
 ghost use Rattle.step_actions.specs.Decision.{IsDecided, IsDecidedQuietly, CanChange};
 
 use client_decisions::on_client;
@@ -22,14 +22,17 @@ pub(crate) fn decide<'a, H: BuildHasher + Drop, A: Allocator + Copy>(
         → IsDecidedQuietly result }
     ensures fits { IfOk result (λ next. IfSome next (λ some. CanChange turn.now.config turn.now.moment
         turn.now.state some)) }
+    ensures octets { IfOk result (λ _. HandsOctets (event_of event.now)) }
 {
     match event {
         Event::Client { client, bytes } => {
-            let next = on_client(turn, *client, bytes.as_slice())?;
+            let octets = bytes.as_slice();
+            let next = on_client(turn, *client, octets)?;
             Ok(Some(next))
         }
         Event::Delivery { path, from, bytes } => {
-            let next = on_delivery(turn, *path, *from, bytes.as_slice())?;
+            let octets = bytes.as_slice();
+            let next = on_delivery(turn, *path, *from, octets)?;
             Ok(Some(next))
         }
         Event::PathFailed { path } => {

@@ -1,27 +1,28 @@
-//! What a forwarder keeps: the asks that are under way, the questions that wait, when their time ends, and the end of
+//! What a forwarder keeps: the asks that are under way and the questions that wait, how they change, and the end of
 //! all.
 
-ghost use Rattle.std.specs.Prelude.{◌≡◌, ◌<◌, ◌+◌, ◌∷◌, ◌++◌, [], length, nat_lt, nat_le, IsSome, OnOk, OnErr};
+ghost use Rattle.std.specs.Prelude.{◌≡◌, ◌<◌, ◌∷◌, ◌++◌, [], length, IsSome, OnOk, OnErr};
 ghost use Rattle.std.specs.Option.{IfSome};
-ghost use Rattle.outstanding.specs.Lists.{MayBegin, on_path as ask_on, without_path};
-ghost use Rattle.step_table.specs.Ticks.{deadline_of};
-ghost use Rattle.step_table.specs.Replies.{timeout_of};
+ghost use Rattle.outstanding.specs.Lists.{AreListed, MayBegin, on_path as ask_on, without_path};
 ghost use Rattle.step_table.specs.Steps.{ask_list};
 ghost use Rattle.step_actions.specs.Decision.{left_or_sent, left_waiting, without_closed, AreForThose};
 
-use outstanding::{Ask, Inquiries, Path, Refusal};
+use outstanding::{Ask, Inquiries, KeyedAsk, Path, Refusal};
 use record_cache::Cache;
 use std::alloc::{AllocError, Allocator};
 use std::hash::BuildHasher;
-use suffix_routes::Config;
-use waiting_questions::{SentOn, Waiting, WaitingQuestions};
+use waiting_questions::{SentOn, WaitingQuestions};
 
 /// Lists an ask for which there is room. `Err` where memory ran out, and then nothing has changed.
-pub fn list_ask<A: Allocator>(inquiries: &mut Inquiries<A>, ask: Ask<A>) -> Result<(), AllocError>
+pub fn list_ask<A: Allocator>(
+    inquiries: &mut Inquiries<A>,
+    ask: KeyedAsk<A>,
+) -> Result<(), AllocError>
     requires begins { MayBegin ask inquiries.old.asks }
     requires room { length inquiries.old.asks < inquiries.old.capacity }
     ensures ok { OnOk result (inquiries.new ≡ record inquiries.old { asks = inquiries.old.asks ++ ask ∷ [] }) }
     ensures err { OnErr result (inquiries.new ≡ inquiries.old) }
+    ensures listed { AreListed inquiries.new }
 {
     match inquiries.begin(ask) {
         Ok(()) => Ok(()),
@@ -57,6 +58,7 @@ fn end_or_replace<A: Allocator>(
       asks = without_path path inquiries.old.asks
           ++ ask_list next;
     } }
+    ensures listed { AreListed inquiries.new }
 {
     match next {
         Some(ask) => Some(inquiries.replace(path, ask)),
@@ -65,8 +67,7 @@ fn end_or_replace<A: Allocator>(
 }
 
 /// The ask on the path is closed, and another one is listed, where there is one. Those that waited for it wait no
-/// more, or wait
-/// on with what they are sent on with.
+/// more, or wait on with what they are sent on with.
 pub fn send_on<A: Allocator>(
     inquiries: &mut Inquiries<A>,
     waiting: &mut WaitingQuestions<A>,
@@ -80,6 +81,7 @@ pub fn send_on<A: Allocator>(
       asks = without_path path inquiries.old.asks
           ++ ask_list next;
     } }
+    ensures listed { AreListed inquiries.new }
     ensures waiting { waiting.new.items ≡ left_or_sent (ask_on path inquiries.old.asks) onward.items waiting.old.items }
 {
     if let Some(ended) = end_or_replace(inquiries, path, next) {

@@ -1,5 +1,5 @@
-//! The forwarder's program: `forwarder check FILE` tells whether a configuration is accepted, `forwarder replay` runs the
-//! events of a script and prints each action, and `forwarder serve FILE TURNS` serves clients over sockets.
+//! The forwarder's program: `forwarder check FILE` tells whether a configuration is accepted, `forwarder replay` runs
+//! the events of a script and prints each action, and `forwarder serve FILE TURNS` serves clients over sockets.
 #![tactic(auto)]
 
 mod arguments;

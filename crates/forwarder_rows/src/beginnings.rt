@@ -13,8 +13,8 @@ use std::io::Write;
 const LEAST: usize = 12;
 
 /// Hands each beginning of a line's message, from no octets on, to a forwarder that has run the lines before, and tells
-/// which of those that are too short for a header call for something. After each one that calls for something the forwarder
-/// runs those lines again. With ample memory none is refused.
+/// which of those that are too short for a header call for something. After each one that calls for something the
+/// forwarder runs those lines again. With ample memory none is refused.
 pub(crate) fn tell_beginnings<W: Write>(
     alloc: Global,
     heap: Heap<'_>,

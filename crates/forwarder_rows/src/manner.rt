@@ -21,8 +21,8 @@ pub(crate) enum Manner {
     /// It is a script that is probed while it runs: each growth of each step is refused in turn, and if it is short, a
     /// restart is tried behind each line, and the beginnings of each message are handed in.
     Probed,
-    /// It is a script whose lines have the words of the first one, which is probed, too, and it is told after which lines
-    /// more is due.
+    /// It is a script whose lines have the words of the first one, which is probed, too, and it is told after which
+    /// lines more is due.
     SameWords,
     /// It is a configuration, which is checked.
     Check,

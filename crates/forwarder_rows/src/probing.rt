@@ -16,9 +16,9 @@ const MOST_RESTARTED: u32 = 64;
 const MOST_CUT: u32 = 16;
 
 /// Runs a script and prints its actions, as it does with ample memory, but each growth of each step is refused in turn.
-/// With words of its own each line has these, and it is told after which lines more is due. A line more is printed for each
-/// thing that is not as it has to be: of the growths, and in a short script of a restart behind each line and of the
-/// beginnings of each message.
+/// With words of its own each line has these, and it is told after which lines more is due. A line more is printed for
+/// each thing that is not as it has to be: of the growths, and in a short script of a restart behind each line and of
+/// the beginnings of each message.
 pub(crate) fn run_probed<W: Write>(
     alloc: Global,
     text: &[u8],

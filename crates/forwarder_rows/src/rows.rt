@@ -192,8 +192,8 @@ fn is_told(
     Ok(false)
 }
 
-/// The line of a text at a place counted from 0, with its line feed; empty where there is none, and `no text` where its octets
-/// are no UTF-8.
+/// The line of a text at a place counted from 0, with its line feed; empty where there is none, and `no text` where its
+/// octets are no UTF-8.
 fn line_at(text: &[u8], place: usize) -> &str {
     let mut lines = text.split_inclusive(|octet| *octet == b'\n');
     lines

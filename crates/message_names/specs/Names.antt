@@ -1,5 +1,6 @@
 -- A name in a message: RFC 1035 4.1.4, with pointers that lead back to before the run that they end.
-use Rattle.std.specs.Prelude.{◌≡◌, ℕ, zero, suc, ◌+◌, ◌-◌, ◌*◌, ◌<◌, ◌≤◌, List, [], ◌∷◌, length, take, drop, Option, Some, None, Result, Ok, Err, nat_lt, nat_le, ◌==◌, if◌then◌else◌, slice_index}
+use Rattle.std.specs.Prelude.{◌≡◌, ℕ, zero, suc, ◌+◌, ◌-◌, ◌*◌, ◌<◌, ◌≤◌, List, [], ◌∷◌, length, take, drop, Option}
+use Rattle.std.specs.Prelude.{Some, None, Result, Ok, Err, nat_lt, nat_le, ◌==◌, if◌then◌else◌, slice_index}
 use Rattle.dns_name.specs.Labels.{IsLabel, IsSame, label_octets, lowered}
 use Rattle.message_names.specs.declared.fault.Fault.{Fault}
 use Rattle.message_names.specs.declared.fault.Fault.TheVariants.{Short, LabelForm, Pointer, NameLong, Rdata}
@@ -20,9 +21,12 @@ target bytes o = (slice_index bytes o - 192) * 256 + slice_index bytes (o + 1)
 -- The run of labels began at f, and from o on the name goes on with these labels, and ends before e.
 pub data NameAt (bytes : List ℕ) : ℕ → ℕ → List (List ℕ) → ℕ → Type 0 where
   at_root : {o f e : ℕ} → o < length bytes → slice_index bytes o ≡ 0 → e ≡ o + 1 → NameAt bytes o f [] e
-  at_label : {o f e : ℕ} {l : List ℕ} {ls : List (List ℕ)} → 0 < slice_index bytes o → slice_index bytes o < 64 → o + 1 + slice_index bytes o ≤ length bytes
-      → l ≡ take (slice_index bytes o) (drop (o + 1) bytes) → NameAt bytes (o + 1 + slice_index bytes o) f ls e → NameAt bytes o f (l ∷ ls) e
-  at_pointer : {o f e : ℕ} {e' : ℕ} {ls : List (List ℕ)} → 192 ≤ slice_index bytes o → o + 1 < length bytes → target bytes o < f
+  at_label : {o f e : ℕ} {l : List ℕ} {ls : List (List ℕ)} → 0 < slice_index bytes o → slice_index bytes o < 64
+      → o + 1 + slice_index bytes o ≤ length bytes
+      → l ≡ take (slice_index bytes o) (drop (o + 1) bytes) → NameAt bytes (o + 1 + slice_index bytes o) f ls e
+      → NameAt bytes o f (l ∷ ls) e
+  at_pointer : {o f e : ℕ} {e' : ℕ} {ls : List (List ℕ)} → 192 ≤ slice_index bytes o → o + 1 < length bytes
+      → target bytes o < f
       → NameAt bytes (target bytes o) (target bytes o) ls e' → e ≡ o + 2 → NameAt bytes o f ls e
 
 -- ---- how it is read, with the first fault
@@ -62,15 +66,18 @@ abbrev pub ending : ℕ → Result (List (List ℕ) × ℕ) Fault → Result (Li
 ending e (Ok n) = Ok (n.0, e)
 ending e (Err fault) = Err fault
 
-abbrev pub go_on : (Bound → ℕ → ℕ → ℕ → Result (List (List ℕ) × ℕ) Fault) → List ℕ → Bound → ℕ → ℕ → ℕ → NameOctet → Result (List (List ℕ) × ℕ) Fault
+abbrev pub go_on : (Bound → ℕ → ℕ → ℕ → Result (List (List ℕ) × ℕ) Fault) → List ℕ → Bound → ℕ → ℕ → ℕ → NameOctet
+    → Result (List (List ℕ) × ℕ) Fault
 go_on rest bytes b o f used steps.End = Ok ([], o + 1)
-go_on rest bytes b o f used (steps.Label len) = with_label (take len (drop (o + 1) bytes)) (rest b (o + 1 + len) f (used + len + 1))
+go_on rest bytes b o f used (steps.Label len) =
+    with_label (take len (drop (o + 1) bytes)) (rest b (o + 1 + len) f (used + len + 1))
 go_on rest bytes b o f used (steps.Pointer p) = ending (o + 2) (rest (whole bytes) p p used)
 
 -- the name from o on, in at most so many labels and pointers
 unfoldable pub walk_in : ℕ → List ℕ → Bound → ℕ → ℕ → ℕ → Result (List (List ℕ) × ℕ) Fault
 walk_in zero bytes b o f used = Err Short
-walk_in (suc k) bytes b o f used = step bytes b o f used >>= go_on (λ b' o' f' used'. walk_in k bytes b' o' f' used') bytes b o f used
+walk_in (suc k) bytes b o f used = step bytes b o f used >>= go_on
+    (λ b' o' f' used'. walk_in k bytes b' o' f' used') bytes b o f used
 
 -- Each label takes of the 255 octets and each pointer leads back, so this number is never passed.
 abbrev pub steps_left : ℕ → ℕ → ℕ

@@ -4,7 +4,8 @@ use Rattle.message_names.specs.Names.{target, ending, walk_in, steps_left, whole
 
 -- behind a pointer, a run that begins at o reads as one that begins at e
 abbrev pub SameRun : List ℕ → ℕ → ℕ → Type 0
-SameRun bytes o e = (used end : ℕ) → used ≤ 254 → ending end (walk_in (steps_left o used) bytes (whole bytes) o o used) ≡ ending end (walk_in (steps_left e used) bytes (whole bytes) e e used)
+SameRun bytes o e = (used end : ℕ) → used ≤ 254 → ending end (walk_in (steps_left o used) bytes (whole bytes) o o used)
+    ≡ ending end (walk_in (steps_left e used) bytes (whole bytes) e e used)
 
 pub record IsShortcut (bytes : List ℕ) (o e : ℕ) : Type 0 where
   pub back : e < o

@@ -11,8 +11,8 @@ use crate::shortcuts::resolve;
 use crate::walk::{Bound, NameCursor, NameOctet, part, step_at};
 
 /// Puts the labels of the name at a place, whose run must end before a bound, to the front of `octets`, each behind its
-/// length and without the zero octet at their end. Gives how many octets they take, at most 254, and the place behind the
-/// name. Where pointers lead is remembered in `ends`, which may be empty. It takes no memory.
+/// length and without the zero octet at their end. Gives how many octets they take, at most 254, and the place behind
+/// the name. Where pointers lead is remembered in `ends`, which may be empty. It takes no memory.
 ///
 /// `Err` is the first fault of the name from its front.
 pub fn put_labels(

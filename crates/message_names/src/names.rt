@@ -17,8 +17,8 @@ use std::alloc::Allocator;
 
 /// The name at a place, and the place behind it. Where pointers lead is remembered in `ends`, which may be empty.
 ///
-/// `Err` is the first fault of the name from its front: `Short`, `LabelForm`, `Pointer` or `NameLong`; where it has none,
-/// `Memory`, if a growth was refused.
+/// `Err` is the first fault of the name from its front: `Short`, `LabelForm`, `Pointer` or `NameLong`; where it has
+/// none, `Memory`, if a growth was refused.
 pub fn read_name<A: Allocator>(
     alloc: A,
     bytes: &[u8],
@@ -99,7 +99,8 @@ fn is_same_label(a: &[u8], b: &[u8]) -> bool
 /// The place behind the name at a place, where it is this one, letter case aside (RFC 1035 2.3.3); `None` where it is
 /// another, or cannot be read. It takes no memory.
 pub fn skip_same_name<A: Allocator>(bytes: &[u8], offset: usize, name: &Name<A>) -> Option<usize>
-    ensures { MatchOption result (NameIs (name_at bytes.now offset) name.now → ⊥) (λ end. NameIs (name_at bytes.now offset) name.now × (behind (name_at bytes.now offset) ≡ Ok end)) }
+    ensures { MatchOption result (NameIs (name_at bytes.now offset) name.now
+        → ⊥) (λ end. NameIs (name_at bytes.now offset) name.now × (behind (name_at bytes.now offset) ≡ Ok end)) }
 {
     let mut walk = NameCursor::new(bytes, Bound::whole(bytes), offset);
     let mut labels = name.labels();

@@ -1,5 +1,6 @@
 -- The data of a record, by the shape of its type: RFC 1035 3.3, RFC 3597.
-use Rattle.std.specs.Prelude.{◌≡◌, ℕ, ◌+◌, ◌≤◌, List, [], ◌∷◌, ◌++◌, length, take, drop, Option, Some, None, Result, Ok, Err, nat_lt, nat_le, ◌==◌, if◌then◌else◌, slice_index}
+use Rattle.std.specs.Prelude.{◌≡◌, ℕ, ◌+◌, ◌≤◌, List, [], ◌∷◌, ◌++◌, length, take, drop, Option, Some, None, Result, Ok}
+use Rattle.std.specs.Prelude.{Err, nat_lt, nat_le, ◌==◌, if◌then◌else◌, slice_index}
 use Rattle.dns_name.specs.Labels.{IsName, label_octets, octets_of, size_of}
 use Rattle.message_names.specs.declared.fault.Fault.{Fault}
 use Rattle.message_names.specs.declared.fault.Fault.TheVariants.{Short, Rdata}
@@ -25,7 +26,8 @@ IsPart Text octets = (text : List ℕ) × (octets ≡ label_octets text)
 -- these octets are the parts, one behind another
 pub data HasParts : List Part → List ℕ → Type 0 where
   no_parts : HasParts [] []
-  more_parts : {part : Part} {parts : List Part} {octets : List ℕ} (first rest : List ℕ) → IsPart part first → HasParts parts rest → octets ≡ first ++ rest → HasParts (part ∷ parts) octets
+  more_parts : {part : Part} {parts : List Part} {octets : List ℕ} (first rest : List ℕ) → IsPart part first
+      → HasParts parts rest → octets ≡ first ++ rest → HasParts (part ∷ parts) octets
 
 abbrev pub IsOfShape : Option Shape → List ℕ → Type 0
 IsOfShape None octets = Unit {0}
@@ -39,15 +41,19 @@ IsShaped kind octets = IsOfShape (shape_of kind) octets
 
 -- from o to e there is a part of data that ends before stop, and written out in full it is these octets
 abbrev pub PartAt : Part → List ℕ → ℕ → ℕ → List ℕ → ℕ → Type 0
-PartAt Name bytes stop o octets e = (labels : List (List ℕ)) × NameAt bytes o o labels e × (size_of labels ≤ 255) × (e ≤ stop) × (octets ≡ name_octets labels)
+PartAt Name bytes stop o octets e = (labels : List (List ℕ)) × NameAt bytes o o labels e × (size_of labels ≤ 255)
+    × (e ≤ stop) × (octets ≡ name_octets labels)
 PartAt Number16 bytes stop o octets e = (o + 2 ≤ stop) × (octets ≡ take 2 (drop o bytes)) × (e ≡ o + 2)
 PartAt SoaNumbers bytes stop o octets e = (o + 20 ≤ stop) × (octets ≡ take 20 (drop o bytes)) × (e ≡ o + 20)
-PartAt Text bytes stop o octets e = (o + (slice_index bytes o + 1) ≤ stop) × (octets ≡ take (slice_index bytes o + 1) (drop o bytes)) × (e ≡ o + (slice_index bytes o + 1))
+PartAt Text bytes stop o octets e = (o + (slice_index bytes o + 1) ≤ stop)
+    × (octets ≡ take (slice_index bytes o + 1) (drop o bytes)) × (e ≡ o + (slice_index bytes o + 1))
 
 -- the parts fill the data from o to stop
 pub data PartsAt (bytes : List ℕ) (stop : ℕ) : List Part → ℕ → List ℕ → Type 0 where
   parts_end : {o : ℕ} → o ≡ stop → PartsAt bytes stop [] o []
-  parts_go_on : {part : Part} {parts : List Part} {o : ℕ} {octets : List ℕ} (e : ℕ) (first rest : List ℕ) → PartAt part bytes stop o first e → PartsAt bytes stop parts e rest → octets ≡ first ++ rest → PartsAt bytes stop (part ∷ parts) o octets
+  parts_go_on : {part : Part} {parts : List Part} {o : ℕ} {octets : List ℕ} (e : ℕ) (first rest : List ℕ)
+      → PartAt part bytes stop o first e → PartsAt bytes stop parts e rest → octets ≡ first ++ rest
+      → PartsAt bytes stop (part ∷ parts) o octets
 
 abbrev pub ShapedAt : Option Shape → List ℕ → ℕ → ℕ → List ℕ → Type 0
 ShapedAt None bytes o len octets = octets ≡ take len (drop o bytes)
@@ -60,7 +66,8 @@ DataAt kind bytes o len octets = (o + len ≤ length bytes) × ShapedAt (shape_o
 -- ---- how it is read, with the first fault: what was read, written out in full, and the place behind it
 
 unfoldable pub octets_within : List ℕ → ℕ → ℕ → ℕ → Result (List ℕ × ℕ) Fault
-octets_within bytes stop o count = if nat_lt stop (o + count) then Err Rdata else Ok (take count (drop o bytes), o + count)
+octets_within bytes stop o count = if nat_lt stop (o + count) then Err Rdata
+    else Ok (take count (drop o bytes), o + count)
 
 abbrev pub written_out : Result (List (List ℕ) × ℕ) Fault → Result (List ℕ × ℕ) Fault
 written_out (Ok name) = Ok (name_octets name.0, name.1)
@@ -83,7 +90,8 @@ part_at Text bytes stop o = text_within bytes stop o
 -- the parts, which must end at stop
 unfoldable pub parts_at : List Part → List ℕ → ℕ → ℕ → Result (List ℕ × ℕ) Fault
 parts_at [] bytes stop o = if o == stop then Ok ([], o) else Err Rdata
-parts_at (part ∷ parts) bytes stop o = part_at part bytes stop o >>= λ first. prefixed first.0 (parts_at parts bytes stop first.1)
+parts_at (part ∷ parts) bytes stop o = part_at part bytes stop o
+    >>= λ first. prefixed first.0 (parts_at parts bytes stop first.1)
 
 abbrev pub shaped_at : Option Shape → List ℕ → ℕ → ℕ → Result (List ℕ × ℕ) Fault
 shaped_at None bytes o len = Ok (take len (drop o bytes), o + len)

@@ -1,5 +1,6 @@
 -- The header: RFC 1035 4.1.1.
-use Rattle.std.specs.Prelude.{ℕ, ◌<◌, ◌/◌, ◌%◌, List, [], ◌∷◌, length, Option, Some, None, Bool, nat_lt, nat_le, if◌then◌else◌, slice_index}
+use Rattle.std.specs.Prelude.{ℕ, ◌<◌, ◌/◌, ◌%◌, List, [], ◌∷◌, length, Option, Some, None, Bool, nat_lt, nat_le}
+use Rattle.std.specs.Prelude.{if◌then◌else◌, slice_index}
 use Rattle.message_reading.specs.declared.header.Header.{Header}
 use Rattle.message_names.specs.Numbers.{number16}
 

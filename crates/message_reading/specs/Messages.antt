@@ -1,5 +1,6 @@
 -- Whole messages: RFC 1035 4.1.
-use Rattle.std.specs.Prelude.{◌≡◌, ℕ, ◌<◌, ◌≤◌, List, [], ◌∷◌, ◌++◌, length, take, drop, Option, Some, None, Result, Ok, Err, nat_lt, ◌==◌, if◌then◌else◌, slice_index}
+use Rattle.std.specs.Prelude.{◌≡◌, ℕ, ◌<◌, ◌≤◌, List, [], ◌∷◌, ◌++◌, length, take, drop, Option, Some, None, Result, Ok}
+use Rattle.std.specs.Prelude.{Err, nat_lt, ◌==◌, if◌then◌else◌, slice_index}
 use Rattle.std.specs.List.{AllByRecursion}
 use Rattle.dns_name.specs.Labels.{IsSame, octets_of, size_of}
 use Rattle.message_names.specs.declared.fault.Fault.{Fault}
@@ -16,7 +17,8 @@ use Rattle.message_reading.specs.Records.{QuestionAt, RecordAt, InRow, question_
 -- The octets begin with the header, then come as many questions and records as it counts. What follows them is free.
 pub record Spells (bytes : List ℕ) (message : Message) : Type 0 where
   pub header : header_of bytes ≡ Some message.header
-  pub counts : message.header.counts ≡ length message.questions ∷ length message.answers ∷ length message.authority ∷ length message.additional ∷ []
+  pub counts : message.header.counts ≡ length message.questions ∷ length message.answers ∷ length message.authority
+      ∷ length message.additional ∷ []
   pub questions_end : ℕ
   pub answers_end : ℕ
   pub authority_end : ℕ
@@ -60,7 +62,16 @@ message_at bytes = do
   answers ← counted (record_at bytes) (slice_index header.counts 1) questions.1
   authority ← counted (record_at bytes) (slice_index header.counts 2) answers.1
   additional ← counted (record_at bytes) (slice_index header.counts 3) authority.1
-  Ok (record { header = header; questions = questions.0; answers = answers.0; authority = authority.0; additional = additional.0 }, additional.1)
+  Ok (
+    record {
+      header = header;
+      questions = questions.0;
+      answers = answers.0;
+      authority = authority.0;
+      additional = additional.0;
+    },
+    additional.1,
+  )
 
 abbrev pub read_of : {X : Type 0} → Result (X × ℕ) Fault → Result X Fault
 read_of (Ok x) = Ok x.0
@@ -73,7 +84,8 @@ message_of bytes = read_of (message_at bytes)
 -- the first question, or the first fault of header and first question from the front
 unfoldable pub first_question : List ℕ → Result Question Fault
 first_question bytes =
-    if nat_lt (length bytes) 12 then Err Short else (if number16 bytes 4 == 0 then Err NoQuestion else read_of (question_at bytes 12))
+    if nat_lt (length bytes) 12 then Err Short else (if number16 bytes 4 == 0 then Err NoQuestion
+    else read_of (question_at bytes 12))
 
 -- equal name, letter case aside, equal type and class
 pub record IsSameQuestion (a b : Question) : Type 0 where
@@ -81,8 +93,8 @@ pub record IsSameQuestion (a b : Question) : Type 0 where
   pub kind : a.kind ≡ b.kind
   pub class : a.class ≡ b.class
 
--- The name stands whole at o, each label behind its length and the zero octet at its end: no pointer stands for a part of
--- it (RFC 1035 3.1 and 4.1.4).
+-- The name stands whole at o, each label behind its length and the zero octet at its end: no pointer stands for a part
+-- of it (RFC 1035 3.1 and 4.1.4).
 abbrev pub IsUncompressed : List ℕ → ℕ → List (List ℕ) → Type 0
 IsUncompressed bytes o name = take (size_of name) (drop o bytes) ≡ octets_of name ++ 0 ∷ []
 

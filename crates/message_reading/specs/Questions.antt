@@ -1,5 +1,6 @@
 -- When two questions are one, and the one question of a message.
-use Rattle.std.specs.Prelude.{ℕ, Bool, if◌then◌else◌, ◌==◌, ◌&&◌, List, Option, Some, None, Result, Ok, Err, slice_index, ◌||◌, nat_le}
+use Rattle.std.specs.Prelude.{ℕ, Bool, if◌then◌else◌, ◌==◌, ◌&&◌, List, Option, Some, None, Result, Ok, Err}
+use Rattle.std.specs.Prelude.{slice_index, ◌||◌, nat_le}
 use Rattle.dns_name.specs.Labels.{same}
 use Rattle.message_names.specs.declared.fault.Fault.{Fault}
 use Rattle.message_reading.specs.Values.{Question}
@@ -16,7 +17,8 @@ question_read (Err fault) = None
 
 -- the question of octets that count just one, where it can be read
 abbrev pub one_question : List ℕ → Option Question
-one_question octets = if slice_index (header_in octets).counts 0 == 1 then question_read (first_question octets) else None
+one_question octets = if slice_index (header_in octets).counts 0 == 1 then question_read (first_question octets)
+    else None
 
 -- the same question at another name
 abbrev pub asked_at : Question → List (List ℕ) → Question

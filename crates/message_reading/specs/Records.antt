@@ -1,5 +1,6 @@
 -- Questions and records at a place of a message: RFC 1035 4.1.2 and 4.1.3.
-use Rattle.std.specs.Prelude.{◌≡◌, ℕ, zero, suc, ◌+◌, ◌≤◌, List, [], ◌∷◌, length, Result, Ok, Err, nat_lt, if◌then◌else◌}
+use Rattle.std.specs.Prelude.{◌≡◌, ℕ, zero, suc, ◌+◌, ◌≤◌, List, [], ◌∷◌, length, Result, Ok, Err, nat_lt}
+use Rattle.std.specs.Prelude.{if◌then◌else◌}
 use Rattle.dns_name.specs.Labels.{size_of}
 use Rattle.message_names.specs.declared.fault.Fault.{Fault}
 use Rattle.message_names.specs.declared.fault.Fault.TheVariants.{Short}
@@ -55,7 +56,16 @@ record_at bytes o = do
   owner ← name_at bytes o
   fixed ← octets_end bytes owner.1 10
   rdata ← data_at (number16 bytes owner.1) bytes fixed (number16 bytes (owner.1 + 8))
-  Ok (record { owner = owner.0; kind = number16 bytes owner.1; class = number16 bytes (owner.1 + 2); ttl = number32 bytes (owner.1 + 4); rdata = rdata.0 }, rdata.1)
+  Ok (
+    record {
+      owner = owner.0;
+      kind = number16 bytes owner.1;
+      class = number16 bytes (owner.1 + 2);
+      ttl = number32 bytes (owner.1 + 4);
+      rdata = rdata.0;
+    },
+    rdata.1,
+  )
 
 abbrev pub with_first : {X : Type 0} → X → Result (List X × ℕ) Fault → Result (List X × ℕ) Fault
 with_first first (Ok others) = Ok (first ∷ others.0, others.1)

@@ -12,11 +12,14 @@ use Rattle.message_reading.specs.Records.{RecordAt, question_at, record_at, coun
 abbrev pub sections_of : Left → List ℕ
 sections_of left = replicate left.answers 0 ++ (replicate left.authority 1 ++ replicate left.additional 2)
 
--- From o on these are the spans of the records that can be read, in order, where records of so many sections are counted.
+-- From o on these are the spans of the records that can be read, in order, where records of so many sections are
+-- counted.
 pub data SpansAt (bytes : List ℕ) : List ℕ → ℕ → List Span → Type 0 where
   all_read : {o : ℕ} → SpansAt bytes [] o []
-  none_here : {o section : ℕ} {sections : List ℕ} → ((entry : Record) (e : ℕ) → RecordAt bytes o entry e → ⊥) → SpansAt bytes (section ∷ sections) o []
-  one_here : {o section : ℕ} {sections : List ℕ} {spans : List Span} (entry : Record) (e : ℕ) → RecordAt bytes o entry e → SpansAt bytes sections e spans
+  none_here : {o section : ℕ} {sections : List ℕ} → ((entry : Record) (e : ℕ) → RecordAt bytes o entry e → ⊥)
+      → SpansAt bytes (section ∷ sections) o []
+  one_here : {o section : ℕ} {sections : List ℕ} {spans : List Span} (entry : Record) (e : ℕ) → RecordAt bytes o entry e
+      → SpansAt bytes sections e spans
       → SpansAt bytes (section ∷ sections) o (record { start = o; end = e; section = section } ∷ spans)
 
 abbrev pub span_and_rest : ℕ → ℕ → (ℕ → List Span) → Result ℕ Fault → List Span
@@ -29,7 +32,8 @@ spans_at bytes [] o = []
 spans_at bytes (section ∷ sections) o = span_and_rest o section (spans_at bytes sections) (behind (record_at bytes o))
 
 abbrev pub counted_sections : List ℕ → List ℕ
-counted_sections bytes = replicate (number16 bytes 6) 0 ++ (replicate (number16 bytes 8) 1 ++ replicate (number16 bytes 10) 2)
+counted_sections bytes = replicate (number16 bytes 6) 0 ++ (replicate (number16 bytes 8) 1
+    ++ replicate (number16 bytes 10) 2)
 
 abbrev pub spans_from : List ℕ → Result ℕ Fault → List Span
 spans_from bytes (Ok o) = spans_at bytes (counted_sections bytes) o

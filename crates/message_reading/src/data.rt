@@ -5,7 +5,8 @@ ghost use Rattle.message_names.specs.Reading.{Gives, behind};
 ghost use Rattle.message_names.specs.Shortcuts.{AreShortcuts};
 ghost use Rattle.message_names.specs.Sizes.{AreSizes};
 ghost use Rattle.message_names.specs.Names.{name_within, inside};
-ghost use Rattle.message_reading.specs.Data.{octets_within, written_out, prefixed, part_at, parts_at, data_at, name_of_rdata};
+ghost use Rattle.message_reading.specs.Data.{octets_within, written_out, prefixed, part_at, parts_at, data_at};
+ghost use Rattle.message_reading.specs.Data.{name_of_rdata};
 
 use crate::shape::{Part, shape_of};
 use dns_name::Name;
@@ -36,7 +37,8 @@ fn expand_name<A: Allocator>(
 ) -> Result<usize, Fault>
     requires inside { stop ≤ length bytes.now }
     requires known { AreShortcuts bytes.now ends.old }
-    ensures exact { Gives (λ e. (octets.new.items, e)) result (prefixed octets.old.items (written_out (name_within bytes.now (inside stop) offset))) }
+    ensures exact { Gives (λ e. (octets.new.items, e)) result
+        (prefixed octets.old.items (written_out (name_within bytes.now (inside stop) offset))) }
     ensures known { AreShortcuts bytes.now ends.new }
 {
     let mut name = [0u8; 255];
@@ -56,7 +58,8 @@ fn read_octets<A: Allocator>(
     count: usize,
 ) -> Result<usize, Fault>
     requires { stop ≤ length bytes.now }
-    ensures { Gives (λ e. (octets.new.items, e)) result (prefixed octets.old.items (octets_within bytes.now stop offset count)) }
+    ensures { Gives (λ e. (octets.new.items, e)) result (prefixed octets.old.items
+        (octets_within bytes.now stop offset count)) }
 {
     let end = skip_octets(bytes, stop, offset, count)?;
     octets.extend_from_slice(part(bytes, offset, count))?;
@@ -75,7 +78,8 @@ fn read_part<A: Allocator>(
 ) -> Result<usize, Fault>
     requires inside { stop ≤ length bytes.now }
     requires known { AreShortcuts bytes.now ends.old }
-    ensures exact { Gives (λ e. (octets.new.items, e)) result (prefixed octets.old.items (part_at part bytes.now stop offset)) }
+    ensures exact { Gives (λ e. (octets.new.items, e)) result
+        (prefixed octets.old.items (part_at part bytes.now stop offset)) }
     ensures known { AreShortcuts bytes.now ends.new }
 {
     match part {
@@ -221,8 +225,8 @@ pub(crate) fn skip_data(
     }
 }
 
-/// The name that is all of these octets, its zero octet at their end. In octets of its own no pointer leads back, so none
-/// is followed. `Err` where memory ran out, which only a name takes.
+/// The name that is all of these octets, its zero octet at their end. In octets of its own no pointer leads back, so
+/// none is followed. `Err` where memory ran out, which only a name takes.
 #[tactic(auto, using(crate::proofs::ShapeLaws::only_name, crate::proofs::ShapeLaws::no_name))]
 pub fn read_only_name<A: Allocator>(alloc: A, octets: &[u8]) -> Result<Option<Name<A>>, AllocError>
     ensures name { IfOk result (λ name. name ≡ name_of_rdata octets.now) }

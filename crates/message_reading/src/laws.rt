@@ -13,30 +13,39 @@ ghost use Rattle.message_reading.specs.declared.spans.Span as span;
 
 /// A name, a record's data, a question and a record are read exactly where they stand.
 pub fn what_stands_is_read()
-    ensures name { (bytes : List ℕ) (o e : ℕ) (labels : List (List ℕ)) → name_at bytes o ≡ Ok (labels, e) ↔ (NameAt bytes o o labels e × (size_of labels ≤ 255)) }
-    ensures rdata { (kind : ℕ) (bytes : List ℕ) (o len : ℕ) (octets : List ℕ) → data_at kind bytes o len ≡ Ok (octets, o + len) ↔ DataAt kind bytes o len octets }
-    ensures question { (bytes : List ℕ) (o e : ℕ) (question : values.Question) → question_at bytes o ≡ Ok (question, e) ↔ QuestionAt bytes o question e }
-    ensures entry { (bytes : List ℕ) (o e : ℕ) (entry : values.Record) → record_at bytes o ≡ Ok (entry, e) ↔ RecordAt bytes o entry e }
+    ensures name { (bytes : List ℕ) (o e : ℕ) (labels : List (List ℕ)) → name_at bytes o ≡ Ok (labels, e)
+        ↔ (NameAt bytes o o labels e × (size_of labels ≤ 255)) }
+    ensures rdata { (kind : ℕ) (bytes : List ℕ) (o len : ℕ) (octets : List ℕ)
+        → data_at kind bytes o len ≡ Ok (octets, o + len) ↔ DataAt kind bytes o len octets }
+    ensures question { (bytes : List ℕ) (o e : ℕ) (question : values.Question) → question_at bytes o ≡ Ok (question, e)
+        ↔ QuestionAt bytes o question e }
+    ensures entry { (bytes : List ℕ) (o e : ℕ) (entry : values.Record) → record_at bytes o ≡ Ok (entry, e)
+        ↔ RecordAt bytes o entry e }
 {}
 
 /// A message and its first question are read exactly where the octets spell them, and no octets spell two messages. The
 /// data of a message's records is of their shapes.
 pub fn messages_are_spelled()
     ensures read { (bytes : List ℕ) (message : values.Message) → message_of bytes ≡ Ok message ↔ Spells bytes message }
-    ensures first { (bytes : List ℕ) (question : values.Question) → first_question bytes ≡ Ok question ↔ FirstQuestion bytes question }
-    ensures one { (bytes : List ℕ) (first second : values.Message) → Spells bytes first → Spells bytes second → first ≡ second }
+    ensures first { (bytes : List ℕ) (question : values.Question) → first_question bytes ≡ Ok question
+        ↔ FirstQuestion bytes question }
+    ensures one { (bytes : List ℕ) (first second : values.Message) → Spells bytes first → Spells bytes second
+        → first ≡ second }
     ensures shaped { (bytes : List ℕ) (message : values.Message) → Spells bytes message → HasShapes message }
 {}
 
 /// The data that is one name is that name, written out in full.
 pub fn names_are_written_out()
-    ensures { (octets : List ℕ) (labels : List (List ℕ)) → name_of_rdata octets ≡ Some labels ↔ (IsName labels × (octets ≡ name_octets labels)) }
+    ensures { (octets : List ℕ) (labels : List (List ℕ)) → name_of_rdata octets ≡ Some labels
+        ↔ (IsName labels × (octets ≡ name_octets labels)) }
 {}
 
 /// The spans of a message are those of the records that can be read, in order, and no others. There are none where a
 /// counted question can't be read.
 pub fn spans_are_records()
-    ensures spans { (bytes : List ℕ) (questions : List values.Question) (o : ℕ) (spans : List span.Span) → InRow (QuestionAt bytes) 12 questions o → length questions ≡ number16 bytes 4
+    ensures spans { (bytes : List ℕ) (questions : List values.Question) (o : ℕ) (spans : List span.Span)
+        → InRow (QuestionAt bytes) 12 questions o → length questions ≡ number16 bytes 4
         → spans ≡ spans_of bytes ↔ SpansAt bytes (counted_sections bytes) o spans }
-    ensures none { (bytes : List ℕ) → ((questions : List values.Question) (o : ℕ) → InRow (QuestionAt bytes) 12 questions o → length questions ≡ number16 bytes 4 → ⊥) → spans_of bytes ≡ [] }
+    ensures none { (bytes : List ℕ) → ((questions : List values.Question) (o : ℕ)
+        → InRow (QuestionAt bytes) 12 questions o → length questions ≡ number16 bytes 4 → ⊥) → spans_of bytes ≡ [] }
 {}

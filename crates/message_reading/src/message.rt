@@ -96,8 +96,8 @@ impl<A: Allocator> Rdata<A> {
         self.octets.as_slice()
     }
 
-    /// The name that the data is, written out in full; `None` where it is none, which takes no memory. `Err` where memory
-    /// ran out.
+    /// The name that the data is, written out in full; `None` where it is none, which takes no memory. `Err` where
+    /// memory ran out.
     pub fn name(&self, alloc: A) -> Result<Option<Name<A>>, AllocError>
         ensures name { IfOk result (λ name. name ≡ name_of_rdata self.now) }
         ensures some { OnErr result (name_of_rdata self.now ≡ None → ⊥) }
@@ -168,5 +168,11 @@ impl<A: Allocator> Model for Message<A> {
 
     ghost Value = { Message };
 
-    ghost view = { λ m. record { header = m.header; questions = m.questions; answers = m.answers; authority = m.authority; additional = m.additional } };
+    ghost view = { λ m. record {
+      header = m.header;
+      questions = m.questions;
+      answers = m.answers;
+      authority = m.authority;
+      additional = m.additional;
+    } };
 }

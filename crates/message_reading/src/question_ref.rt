@@ -17,7 +17,8 @@ use std::marker::Model;
 fn uncompressed_name(bytes: &[u8], offset: usize) -> Option<&[u8]>
     requires { IsOk (name_at bytes.now offset) }
     ensures { MatchOption result (IfOk (name_at bytes.now offset) (λ n. IsUncompressed bytes.now offset n.0 → ⊥))
-        (λ octets. IsLaidOut octets.now × IfOk (name_at bytes.now offset) (λ n. (n.0 ≡ labels_of octets.now) × IsUncompressed bytes.now offset n.0)) }
+        (λ octets. IsLaidOut octets.now × IfOk (name_at bytes.now offset) (λ n. (n.0 ≡ labels_of octets.now)
+        × IsUncompressed bytes.now offset n.0)) }
 {
     let mut at = offset;
     loop {
@@ -73,7 +74,8 @@ impl<'a> QuestionRef<'a> {
     ) -> Option<QuestionRef<'a>>
         requires { IsOk (name_at bytes.now offset) }
         ensures { MatchOption result (IfOk (name_at bytes.now offset) (λ n. IsUncompressed bytes.now offset n.0 → ⊥))
-            (λ question. IfOk (name_at bytes.now offset) (λ n. (question ≡ record { name = n.0; kind = kind; class = class }) × IsUncompressed bytes.now offset n.0)) }
+            (λ question. IfOk (name_at bytes.now offset) (λ n. (question
+            ≡ record { name = n.0; kind = kind; class = class }) × IsUncompressed bytes.now offset n.0)) }
     {
         let name = uncompressed_name(bytes, offset)?;
         Some(QuestionRef { name, kind, class })

@@ -90,8 +90,8 @@ fn readable_records(bytes: &[u8], sizes: &mut [u8], offset: usize, left: Left) -
     count
 }
 
-/// The spans of the records that can be read, in order. It takes no memory, and each step takes as long as the octets of
-/// the owner's own name: how many can be read was counted when it was made, so no pointer is followed.
+/// The spans of the records that can be read, in order. It takes no memory, and each step takes as long as the octets
+/// of the owner's own name: how many can be read was counted when it was made, so no pointer is followed.
 #[derive(Drop)]
 pub struct Records<'a> {
     bytes: &'a [u8],

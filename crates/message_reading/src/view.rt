@@ -7,7 +7,8 @@ ghost use Rattle.message_reading.specs.Header.{FitsBits, header_of};
 ghost use Rattle.message_reading.specs.Records.{question_at};
 ghost use Rattle.message_names.specs.Shortcuts.{AreShortcuts};
 ghost use Rattle.message_names.specs.Sizes.{AreSizes};
-ghost use Rattle.message_reading.specs.Messages.{IsWhole, HasShapes, first_question, message_at, message_of, QuestionIs, IsUncompressed, IsViewed};
+ghost use Rattle.message_reading.specs.Messages.{IsWhole, HasShapes, first_question, message_at, message_of};
+ghost use Rattle.message_reading.specs.Messages.{QuestionIs, IsUncompressed, IsViewed};
 ghost use Rattle.message_reading.specs.Spans.{spans_of};
 ghost use Rattle.message_names.specs.declared.fault.Fault.TheVariants.{Memory};
 
@@ -27,7 +28,8 @@ use std::marker::Model;
 /// The place behind the first question, where header and first question can be read.
 #[tactic(auto, unfolding(crate::specs::Messages::first_question), using(crate::proofs::MessageLaws::question_read, crate::proofs::MessageLaws::question_fault))]
 fn first_question_end(bytes: &[u8]) -> Result<usize, Fault>
-    ensures first { MatchResult result (λ _. IsOk (first_question bytes.now)) (λ fault. first_question bytes.now ≡ Err fault) }
+    ensures first { MatchResult result (λ _. IsOk (first_question bytes.now)) (λ fault. first_question bytes.now
+        ≡ Err fault) }
     ensures end { IfOk result (λ end. behind (question_at bytes.now 12) ≡ Ok end) }
 {
     if bytes.len() < 12 {
@@ -160,7 +162,8 @@ impl<'a> MessageRef<'a> {
     /// octets, `NoQuestion` where QDCOUNT is 0, else the fault of the first question. It takes no memory.
     pub fn view(bytes: &'a [u8]) -> Result<MessageRef<'a>, Fault>
         ensures same { IfOk result (λ message. message ≡ bytes.now) }
-        ensures exact { MatchResult result (λ _. IsOk (first_question bytes.now)) (λ fault. first_question bytes.now ≡ Err fault) }
+        ensures exact { MatchResult result (λ _. IsOk (first_question bytes.now)) (λ fault. first_question bytes.now
+            ≡ Err fault) }
     {
         let question_end = first_question_end(bytes)?;
         Ok(MessageRef {
@@ -224,7 +227,8 @@ impl<'a> MessageRef<'a> {
     /// The first question where it lies, if its name stands without a pointer (RFC 1035 4.1.4); `None` exactly where a
     /// pointer stands for a part of the name. It takes no memory.
     pub fn question_ref(&self) -> Option<QuestionRef<'a>>
-        ensures { MatchOption result (IfOk (first_question self.now) (λ question. IsUncompressed self.now 12 question.name → ⊥))
+        ensures { MatchOption result (IfOk (first_question self.now)
+            (λ question. IsUncompressed self.now 12 question.name → ⊥))
             (λ question. (first_question self.now ≡ Ok question) × IsUncompressed self.now 12 question.name) }
     {
         QuestionRef::at(self.bytes, 12, self.kind(), self.class())

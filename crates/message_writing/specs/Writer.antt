@@ -1,5 +1,6 @@
 -- What a writer holds.
-use Rattle.std.specs.Prelude.{◌≡◌, ◌≤◌, ◌<◌, ℕ, List, [], ◌∷◌, length, Option, Some, None, Result, Ok, Err, nat_le, ◌&&◌, if◌then◌else◌}
+use Rattle.std.specs.Prelude.{◌≡◌, ◌≤◌, ◌<◌, ℕ, List, [], ◌∷◌, length, Option, Some, None, Result, Ok, Err, nat_le}
+use Rattle.std.specs.Prelude.{◌&&◌, if◌then◌else◌}
 use Rattle.std.specs.Borrow.{Bor}
 use Rattle.std.specs.Option.{option_map, option_or}
 use Rattle.std.specs.Str.{bytes_eq}
@@ -22,22 +23,26 @@ KnownName = Bor (List ℕ) × ℕ
 -- the pointer that stands beside these octets
 unfoldable pub pointer_among : List KnownName → List ℕ → Option ℕ
 pointer_among [] octets = None
-pointer_among (entry ∷ entries) octets = if bytes_eq entry.0.now octets then Some entry.1 else pointer_among entries octets
+pointer_among (entry ∷ entries) octets = if bytes_eq entry.0.now octets then Some entry.1
+    else pointer_among entries octets
 
 -- the pointer to a name with these octets
 abbrev pub pointer_known : {A : Type 0} → Pointers A → List ℕ → Option ℕ
-pointer_known ps octets = option_or (pointer_among ps.few.items octets) (get_by (λ k. slice_cmp nat_cmp octets k.now) ps.many)
+pointer_known ps octets = option_or (pointer_among ps.few.items octets)
+    (get_by (λ k. slice_cmp nat_cmp octets k.now) ps.many)
 
 abbrev pub pointer_in : {A : Type 0} → Writer A → List ℕ → Option ℕ
 pointer_in w octets = pointer_known w.pointers octets
 
 -- what was known is known, and so is this name
 abbrev pub IsPointed : {A : Type 0} → Pointers A → Pointers A → List ℕ → ℕ → Type 0
-IsPointed old new octets pointer = (other : List ℕ) → pointer_known new other ≡ (if bytes_eq octets other then Some pointer else pointer_known old other)
+IsPointed old new octets pointer = (other : List ℕ) → pointer_known new other
+    ≡ (if bytes_eq octets other then Some pointer else pointer_known old other)
 
 -- what was known is known, and so is this name where a pointer reaches its offset
 abbrev pub IsPutIn : {A : Type 0} → Pointers A → Pointers A → List ℕ → ℕ → Type 0
-IsPutIn old new octets offset = (other : List ℕ) → pointer_known new other ≡ (if nat_le offset 16383 && bytes_eq octets other then Some (pointer_to offset) else pointer_known old other)
+IsPutIn old new octets offset = (other : List ℕ) → pointer_known new other
+    ≡ (if nat_le offset 16383 && bytes_eq octets other then Some (pointer_to offset) else pointer_known old other)
 
 -- this is the pointer to a name that is not the root
 pub record IsKnown {A : Type 0} (w : Writer A) (octets : List ℕ) (pointer : ℕ) : Type 0 where

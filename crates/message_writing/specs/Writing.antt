@@ -1,5 +1,7 @@
--- The one text of a message: RFC 1035 4.1. A name's longest end that was written before is a pointer to where it was first: RFC 1035 4.1.4.
-use Rattle.std.specs.Prelude.{ℕ, ◌+◌, ◌*◌, ◌/◌, ◌%◌, ◌≤◌, List, [], ◌∷◌, ◌++◌, length, Option, Some, None, Result, Ok, Err, Bool, true, false, nat_le, nat_lt, slice_index, if◌then◌else◌}
+-- The one text of a message: RFC 1035 4.1. A name's longest end that was written before is a pointer to where it was
+-- first: RFC 1035 4.1.4.
+use Rattle.std.specs.Prelude.{ℕ, ◌+◌, ◌*◌, ◌/◌, ◌%◌, ◌≤◌, List, [], ◌∷◌, ◌++◌, length, Option, Some, None, Result, Ok}
+use Rattle.std.specs.Prelude.{Err, Bool, true, false, nat_le, nat_lt, slice_index, if◌then◌else◌}
 use Rattle.std.specs.Str.{bytes_eq}
 use Rattle.std.specs.Cmp.Lexicographic.{pointwise}
 use Rattle.dns_name.specs.Labels.{label_octets}
@@ -84,7 +86,8 @@ pointer_or None written = written
 -- The root is its zero octet.
 unfoldable pub name_text : List (List ℕ) → Writing
 name_text [] places o = as_is (0 ∷ []) places o
-name_text (label ∷ rest) places o = pointer_or (place_of places (label ∷ rest)) (label_text label rest ▹ name_text rest) places o
+name_text (label ∷ rest) places o =
+    pointer_or (place_of places (label ∷ rest)) (label_text label rest ▹ name_text rest) places o
 
 -- ---- questions and records
 
@@ -107,7 +110,9 @@ data_text kind rdata = by_fields (fields_of_kind kind rdata) rdata
 
 -- RDLENGTH, and so many octets
 unfoldable pub with_length : Writing → Writing
-with_length w places o = let text = w places (o + 2) in record { octets = octets16 (length text.octets) ++ text.octets; places = text.places }
+with_length w places o =
+    let text = w places (o + 2) in
+    record { octets = octets16 (length text.octets) ++ text.octets; places = text.places }
 
 -- what stands before the data of a record and its length
 abbrev pub head_text : Record → Writing
@@ -126,12 +131,14 @@ bit false weight = 0
 
 -- QR, Opcode, AA, TC, RD, RA, Z, RCODE, from the high bit down: RFC 1035 4.1.1
 abbrev pub flags_of : Header → ℕ
-flags_of h = bit h.qr 32768 + h.opcode * 2048 + bit h.aa 1024 + bit h.tc 512 + bit h.rd 256 + bit h.ra 128 + h.z * 16 + h.rcode
+flags_of h = bit h.qr 32768 + h.opcode * 2048 + bit h.aa 1024 + bit h.tc 512 + bit h.rd 256 + bit h.ra 128 + h.z * 16
+    + h.rcode
 
 -- the header, with these counts: RFC 1035 4.1.1
 abbrev pub counted_header : Header → List ℕ → Writing
 counted_header h counts =
-    as_is (octets16 h.id) ▹ as_is (octets16 (flags_of h)) ▹ as_is (octets16 (slice_index counts 0)) ▹ as_is (octets16 (slice_index counts 1))
+    as_is (octets16 h.id) ▹ as_is (octets16 (flags_of h)) ▹ as_is (octets16 (slice_index counts 0))
+    ▹ as_is (octets16 (slice_index counts 1))
     ▹ as_is (octets16 (slice_index counts 2)) ▹ as_is (octets16 (slice_index counts 3))
 
 abbrev pub list_counts : Message → List ℕ
@@ -143,7 +150,8 @@ header_text m = counted_header m.header (list_counts m)
 
 abbrev pub message_text : Message → Writing
 message_text m =
-    header_text m ▹ each question_text m.questions ▹ each record_text m.answers ▹ each record_text m.authority ▹ each record_text m.additional
+    header_text m ▹ each question_text m.questions ▹ each record_text m.answers ▹ each record_text m.authority
+    ▹ each record_text m.additional
 
 -- the octets of a message
 unfoldable pub written : Message → List ℕ

@@ -29,8 +29,8 @@ impl<'a, A: Allocator> DataRef<'a, A> {
     }
 }
 
-/// Records of one owner, type, class and TTL, whose data is borrowed and of the shape of its type, so that it is written
-/// without being looked through before. Contracts see the list of these records.
+/// Records of one owner, type, class and TTL, whose data is borrowed and of the shape of its type, so that it is
+/// written without being looked through before. Contracts see the list of these records.
 #[derive(Drop)]
 pub struct RowsRef<'a, A: Allocator = Global> {
     pub owner: &'a Name<A>,

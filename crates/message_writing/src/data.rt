@@ -1,6 +1,7 @@
 //! The data of records, written with pointers where its type allows them.
 
-ghost use Rattle.std.specs.Prelude.{◌≡◌, ◌≤◌, ◌<◌, ◌+◌, ◌++◌, ◌∷◌, [], length, OnOk, take, drop, IsTrue, is_some, MatchOption, None, Ok, Err};
+ghost use Rattle.std.specs.Prelude.{◌≡◌, ◌≤◌, ◌<◌, ◌+◌, ◌++◌, ◌∷◌, [], length, OnOk, take, drop, IsTrue, is_some};
+ghost use Rattle.std.specs.Prelude.{MatchOption, None, Ok, Err};
 ghost use Rattle.message_names.specs.declared.fault.Fault.TheVariants.{Memory};
 ghost use Rattle.dns_name.specs.Labels.{IsLaidOut};
 ghost use Rattle.message_names.specs.Names.{name_within, inside};
@@ -25,7 +26,8 @@ const LABEL_MOST: usize = 63;
 /// The place behind the name in front of octets, in which no pointer can be. It ends behind its zero octet.
 #[tactic(auto, unfolding(crate::specs::Fields::first_field))]
 fn name_end(octets: &[u8]) -> Option<usize>
-    ensures { MatchOption result (first_field Part.Name octets.now ≡ None) (λ end. Ok end ≡ behind (name_within octets.now (inside (length octets.now)) 0)) }
+    ensures { MatchOption result (first_field Part.Name octets.now ≡ None) (λ end. Ok end
+        ≡ behind (name_within octets.now (inside (length octets.now)) 0)) }
 {
     let most = octets.len().min(NAME_MOST);
     let mut at = 0;
@@ -69,7 +71,8 @@ fn split_part(part: Part, octets: &[u8]) -> Option<(&[u8], &[u8])>
 
 /// So many octets, and what stands behind them.
 fn split_octets(octets: &[u8], count: usize) -> Option<(&[u8], &[u8])>
-    ensures { MatchOption result (length octets.now < count) (λ x. (x.0.now ≡ take count octets.now) × (x.1.now ≡ drop count octets.now) × (count ≤ length octets.now)) }
+    ensures { MatchOption result (length octets.now < count) (λ x. (x.0.now ≡ take count octets.now)
+        × (x.1.now ≡ drop count octets.now) × (count ≤ length octets.now)) }
 {
     if octets.len() < count {
         return None;
@@ -89,7 +92,8 @@ fn size_of_parts(parts: &[Part]) -> Option<usize>
     }
 }
 
-/// `split_part` of octets that are this part and these others. The last name ends where they begin, so it is not walked along.
+/// `split_part` of octets that are this part and these others. The last name ends where they begin, so it is not walked
+/// along.
 fn split_before<'a>(part: Part, others: &[Part], octets: &'a [u8]) -> Option<(&'a [u8], &'a [u8])>
     requires { IsTrue (is_some (fields_of (part ∷ others.now) octets.now)) }
     ensures { MatchOption result (first_field part octets.now ≡ None) (λ x. IsFirst part octets.now x.0.now x.1.now) }
@@ -186,7 +190,8 @@ fn put_parts_with_length<'a, A: Allocator + Copy>(
     requires parts { IsTrue (is_some (fields_of parts.now octets.now)) }
     requires holds { HoldsText writer.old }
     requires limit { limit ≤ 65535 }
-    ensures { Puts limit result writer.old writer.new (with_length (by_fields (fields_of parts.now octets.now) octets.now)) (Unit {0}) }
+    ensures { Puts limit result writer.old writer.new (with_length
+        (by_fields (fields_of parts.now octets.now) octets.now)) (Unit {0}) }
 {
     let start = writer.octets.len();
     writer.put_u16(0)?;
@@ -236,7 +241,8 @@ pub(crate) fn put_with_length<'a, A: Allocator + Copy>(
     }
 }
 
-/// Writes data of the shape of its type behind its length, as far as the limit lets it. It is not looked through before.
+/// Writes data of the shape of its type behind its length, as far as the limit lets it. It is not looked through
+/// before.
 #[tactic(auto, unfolding(crate::specs::Writing::data_text))]
 pub(crate) fn put_shaped_with_length<'a, A: Allocator + Copy>(
     writer: &mut Writer<'a, A>,

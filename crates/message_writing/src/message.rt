@@ -1,12 +1,14 @@
 //! Writing messages as octets: RFC 1035 4.1.
 
-ghost use Rattle.std.specs.Prelude.{◌≡◌, ◌↔◌, ◌≤◌, ◌<◌, ◌++◌, length, Ok, OnOk, IfOk, IfErr, IsTrue, MatchOption, MatchResult};
+ghost use Rattle.std.specs.Prelude.{◌≡◌, ◌↔◌, ◌≤◌, ◌<◌, ◌++◌, length, Ok, OnOk, IfOk, IfErr, IsTrue, MatchOption};
+ghost use Rattle.std.specs.Prelude.{MatchResult};
 ghost use Rattle.std.specs.List.{flat_map};
 ghost use Rattle.message_names.specs.Reading.{Gives, Fails};
 ghost use Rattle.message_names.specs.declared.fault.Fault.TheVariants.{Memory};
 ghost use Rattle.message_reading.specs.Header.{FitsBits};
 ghost use Rattle.message_reading.specs.Messages.{Spells, HasShapes};
-ghost use Rattle.message_writing.specs.Writing.{octets16, bit, flags_of, counted_header, list_counts, CanBeCounted, message_text, written_within};
+ghost use Rattle.message_writing.specs.Writing.{octets16, bit, flags_of, counted_header, list_counts, CanBeCounted};
+ghost use Rattle.message_writing.specs.Writing.{message_text, written_within};
 ghost use Rattle.message_writing.specs.Borrowed.{records_in};
 ghost use Rattle.message_writing.specs.Written.{IsMessage, IsCounted};
 ghost use Rattle.message_writing.specs.Writer.{Writes, Puts, HoldsText};
@@ -62,7 +64,8 @@ fn can_be_counted<A: Allocator>(message: &Message<A>) -> bool
 
 /// How many records the sets have; `None` where a header cannot count them.
 fn count_of<A: Allocator>(sets: &[RowsRef<A>]) -> Option<u16>
-    ensures { MatchOption result (65535 < length (records_in sets.now)) (λ count. count ≡ length (records_in sets.now)) }
+    ensures { MatchOption result (65535 < length (records_in sets.now)) (λ count. count
+        ≡ length (records_in sets.now)) }
 {
     let mut count = 0;
     for set in sets {
@@ -77,7 +80,8 @@ fn count_of<A: Allocator>(sets: &[RowsRef<A>]) -> Option<u16>
 
 /// The counts of the lists; `None` where a header has no room for them.
 fn counts_of<A: Allocator>(message: &MessageParts<A>) -> Option<[u16; 4]>
-    ensures { MatchOption result (CanBeCounted message.now → ⊥) (λ counts. CanBeCounted message.now × (counts ≡ list_counts message.now)) }
+    ensures { MatchOption result (CanBeCounted message.now → ⊥) (λ counts. CanBeCounted message.now
+        × (counts ≡ list_counts message.now)) }
 {
     let questions = message.question.is_some() as u16;
     let answers = count_of(message.answers)?;
@@ -177,7 +181,8 @@ pub fn write<A: Allocator + Copy>(
     requires bits { FitsBits message.now.header }
     ensures given { Gives (λ octets. octets) result (written_within limit message.now) }
     ensures counted { IfErr result (λ fault. fault ≡ Memory → CanBeCounted message.now) }
-    ensures spelled { IfOk result (λ octets. IsCounted message.now → HasShapes message.now → Spells octets message.now) }
+    ensures spelled { IfOk result (λ octets. IsCounted message.now → HasShapes message.now
+        → Spells octets message.now) }
 {
     if !can_be_counted(message) {
         return Err(Fault::TooLarge);
@@ -203,9 +208,11 @@ pub fn write_parts<A: Allocator + Copy>(
 ) -> Result<(), Fault>
     requires limit { limit ≤ 65535 }
     requires bits { FitsBits message.now.header }
-    ensures given { MatchResult result (λ _. written_within limit message.now ≡ Ok octets.new.items) (λ fault. Fails fault (written_within limit message.now)) }
+    ensures given { MatchResult result (λ _. written_within limit message.now ≡ Ok octets.new.items)
+        (λ fault. Fails fault (written_within limit message.now)) }
     ensures counted { IfErr result (λ fault. fault ≡ Memory → CanBeCounted message.now) }
-    ensures spelled { OnOk result (IsCounted message.now → HasShapes message.now → Spells octets.new.items message.now) }
+    ensures spelled { OnOk result (IsCounted message.now → HasShapes message.now
+        → Spells octets.new.items message.now) }
 {
     let Some(counts) = counts_of(message) else {
         return Err(Fault::TooLarge);

@@ -49,7 +49,8 @@ pub(crate) fn put_questions<'a, A: Allocator + Copy>(
     limit: usize,
 ) -> Result<(), Fault>
     requires { length writer.old.octets.items ≤ limit }
-    ensures { Puts limit result writer.old writer.new (each question_text questions.now) (AllByRecursion IsQuestion questions.now) }
+    ensures { Puts limit result writer.old writer.new (each question_text questions.now)
+        (AllByRecursion IsQuestion questions.now) }
 {
     for question in questions {
         put_question(writer, &QuestionRef::of(question), limit)?;
@@ -64,7 +65,8 @@ pub(crate) fn put_only_question<'a, A: Allocator + Copy>(
     limit: usize,
 ) -> Result<(), Fault>
     requires { length writer.old.octets.items ≤ limit }
-    ensures { Puts limit result writer.old writer.new (each question_text (questions_of question.now)) (AllByRecursion IsQuestion (questions_of question.now)) }
+    ensures { Puts limit result writer.old writer.new (each question_text (questions_of question.now))
+        (AllByRecursion IsQuestion (questions_of question.now)) }
 {
     match question {
         None => Ok(()),
@@ -113,7 +115,8 @@ fn put_head<'a, A: Allocator + Copy>(
 ) -> Result<(), AllocError>
     requires laid { IsLaidOut head.now.owner.now }
     requires known { IfSome known (λ pointer. IsKnown writer.old head.now.owner.now pointer) }
-    ensures { (rdata : List ℕ) → OnOk result (Writes writer.old writer.new (head_text (record_of (labels_of head.now.owner.now) head.now.kind head.now.class head.now.ttl rdata))) }
+    ensures { (rdata : List ℕ) → OnOk result (Writes writer.old writer.new
+        (head_text (record_of (labels_of head.now.owner.now) head.now.kind head.now.class head.now.ttl rdata))) }
 {
     let numbers = numbers_of(head);
     match known {
@@ -139,7 +142,8 @@ fn put_any_row<'a, A: Allocator + Copy>(
     requires known { IfSome known (λ pointer. IsKnown writer.old head.now.owner.now pointer) }
     requires holds { HoldsText writer.old }
     requires limit { limit ≤ 65535 }
-    ensures { let entry = record_of (labels_of head.now.owner.now) head.now.kind head.now.class head.now.ttl rdata.now in Puts limit result writer.old writer.new (record_text entry) (IsRecord entry) }
+    ensures { let entry = record_of (labels_of head.now.owner.now) head.now.kind head.now.class head.now.ttl
+        rdata.now in Puts limit result writer.old writer.new (record_text entry) (IsRecord entry) }
 {
     put_head(writer, head, known)?;
     put_with_length(writer, head.kind, rdata, limit)?;
@@ -155,7 +159,8 @@ pub(crate) fn put_records<'a, A: Allocator + Copy>(
     requires holds { HoldsText writer.old }
     requires limit { limit ≤ 65535 }
     requires within { length writer.old.octets.items ≤ limit }
-    ensures { Puts limit result writer.old writer.new (each record_text records.now) (AllByRecursion IsRecord records.now) }
+    ensures { Puts limit result writer.old writer.new (each record_text records.now)
+        (AllByRecursion IsRecord records.now) }
 {
     for entry in records {
         put_record(writer, entry, limit)?;
@@ -183,8 +188,8 @@ fn put_record<'a, A: Allocator + Copy>(
     Ok(())
 }
 
-/// Writes a record with this data, which is of its type's shape, as far as the limit lets it. This is the pointer to its
-/// owner, if any.
+/// Writes a record with this data, which is of its type's shape, as far as the limit lets it. This is the pointer to
+/// its owner, if any.
 fn put_row<'a, A: Allocator + Copy>(
     writer: &mut Writer<'a, A>,
     head: &Head<'a>,
@@ -197,7 +202,8 @@ fn put_row<'a, A: Allocator + Copy>(
     requires known { IfSome known (λ pointer. IsKnown writer.old head.now.owner.now pointer) }
     requires holds { HoldsText writer.old }
     requires limit { limit ≤ 65535 }
-    ensures { let entry = record_of (labels_of head.now.owner.now) head.now.kind head.now.class head.now.ttl rdata.now in Puts limit result writer.old writer.new (record_text entry) (IsRecord entry) }
+    ensures { let entry = record_of (labels_of head.now.owner.now) head.now.kind head.now.class head.now.ttl
+        rdata.now in Puts limit result writer.old writer.new (record_text entry) (IsRecord entry) }
 {
     put_head(writer, head, known)?;
     put_shaped_with_length(writer, head.kind, rdata, limit)?;
@@ -216,7 +222,9 @@ fn put_rows<'a, A: Allocator + Copy>(
     requires holds { HoldsText writer.old }
     requires limit { limit ≤ 65535 }
     requires within { length writer.old.octets.items ≤ limit }
-    ensures { let records = records_of (labels_of head.now.owner.now) head.now.kind head.now.class head.now.ttl rows.now in Puts limit result writer.old writer.new (each record_text records) (AllByRecursion IsRecord records) }
+    ensures { let records = records_of (labels_of head.now.owner.now) head.now.kind head.now.class head.now.ttl
+        rows.now in Puts limit result writer.old writer.new (each record_text records)
+        (AllByRecursion IsRecord records) }
 {
     let mut known = None;
     for rdata in rows {
@@ -261,7 +269,8 @@ pub(crate) fn put_sets<'a, A: Allocator + Copy>(
     requires holds { HoldsText writer.old }
     requires limit { limit ≤ 65535 }
     requires within { length writer.old.octets.items ≤ limit }
-    ensures { Puts limit result writer.old writer.new (each record_text (records_in sets.now)) (AllByRecursion IsRecord (records_in sets.now)) }
+    ensures { Puts limit result writer.old writer.new (each record_text (records_in sets.now))
+        (AllByRecursion IsRecord (records_in sets.now)) }
 {
     for set in sets {
         put_set(writer, set, limit)?;

@@ -129,7 +129,8 @@ impl<'a, A: Allocator + Copy> Writer<'a, A> {
 
     /// `TooLarge` where more octets were written than the limit.
     pub fn check(&self, limit: usize) -> Result<(), Fault>
-        ensures { MatchResult result (λ _. length self.now.octets.items ≤ limit) (λ fault. (fault ≡ Fault.TooLarge) × (limit < length self.now.octets.items)) }
+        ensures { MatchResult result (λ _. length self.now.octets.items ≤ limit) (λ fault. (fault ≡ Fault.TooLarge)
+            × (limit < length self.now.octets.items)) }
     {
         if self.octets.len() > limit {
             return Err(Fault::TooLarge);

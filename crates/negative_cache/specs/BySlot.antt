@@ -30,7 +30,8 @@ living_entry moment slots slot = only (is_alive moment) (slots slot)
 
 -- the entry of a name, class and type, where it is alive
 abbrev pub typed_entry : ℕ → Slots → List (List ℕ) → ℕ → ℕ → Option Held
-typed_entry moment slots key class kind = living_entry moment slots (record { key = key; class = class; kind = Some kind })
+typed_entry moment slots key class kind =
+    living_entry moment slots (record { key = key; class = class; kind = Some kind })
 
 -- the alias at a name
 abbrev pub alias_at : ℕ → Slots → List (List ℕ) → ℕ → ℕ → Option Held
@@ -60,7 +61,8 @@ above there (label ∷ key) = climbed there key
 
 -- the nearest name error for a name
 abbrev pub nearest_error : List Route → ℕ → Slots → ℕ → List (List ℕ) → Option Held
-nearest_error routes moment slots class key = climbed (name_error_on routes (route_of routes key) moment slots class) key
+nearest_error routes moment slots class key =
+    climbed (name_error_on routes (route_of routes key) moment slots class) key
 
 -- what a look-up finds
 abbrev pub found_by_slot : List Route → ℕ → Slots → List (List ℕ) → ℕ → ℕ → Found

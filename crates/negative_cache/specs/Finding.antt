@@ -1,5 +1,6 @@
 -- What a look-up finds among the entries: RFC 1034 3.6.2, RFC 2308 2, RFC 8020 2. No two entries are of one slot.
-use Rattle.std.specs.Prelude.{ℕ, Bool, nat_eq, nat_lt, if◌then◌else◌, ◌==◌, ◌&&◌, List, [], ◌∷◌, length, filter, Option, Some, None}
+use Rattle.std.specs.Prelude.{ℕ, Bool, nat_eq, nat_lt, if◌then◌else◌, ◌==◌, ◌&&◌, List, [], ◌∷◌, length, filter, Option}
+use Rattle.std.specs.Prelude.{Some, None}
 use Rattle.std.specs.List.{find}
 use Rattle.std.specs.Option.{option_eq}
 use Rattle.dns_message.specs.Values.{Question}

@@ -68,8 +68,8 @@ NearestIsFound = (routes : List Route) (moment : ℕ) (entries : List Held) (q :
 abbrev pub NoneIsDenied : List Route → List Held → Type 0
 NoneIsDenied routes entries = AllByRecursion (λ h. is_denied routes h.piece.slot.key ≡ false) entries
 
--- Where no entry is of a denied name, nothing is found for such a name, alive or past its end: so what is found needs no
--- look at routes before.
+-- Where no entry is of a denied name, nothing is found for such a name, alive or past its end: so what is found needs
+-- no look at routes before.
 abbrev pub NothingIsFoundOfDenied : Type 0
 NothingIsFoundOfDenied = (routes : List Route) (window moment : ℕ) (entries : List Held) (q : Question)
     → NoneIsDenied routes entries → is_denied routes q.name ≡ true

@@ -31,7 +31,8 @@ pub fn find<'a, H: BuildHasher + Drop, A: Allocator + Copy>(
     config: &Config<A>,
 ) -> Found<'a, A>
     ensures { found_of result
-        ≡ found_or_local config.now.routes moment cache.now.entries (record { name = name.now; kind = kind; class = class }) }
+        ≡ found_or_local config.now.routes moment cache.now.entries
+        (record { name = name.now; kind = kind; class = class }) }
 {
     if config.denies(name) {
         return Found::Local;
@@ -60,7 +61,11 @@ pub fn find_by_octets<'a, H: BuildHasher + Drop, A: Allocator + Copy>(
 ) -> Found<'a, A>
     requires { IsLaidOut octets.now }
     ensures found { found_of result
-        ≡ found config.now.routes moment cache.now.entries (record { name = labels_of octets.now; kind = kind; class = class }) }
+        ≡ found config.now.routes moment cache.now.entries (record {
+          name = labels_of octets.now;
+          kind = kind;
+          class = class;
+        }) }
     ensures slot { IsSlotOf slot.new (found_of result) }
 {
     look_up(cache, slot, octets, class, kind, moment, config)
@@ -78,7 +83,8 @@ fn look_up<'a, H: BuildHasher + Drop, A: Allocator + Copy>(
 ) -> Found<'a, A>
     requires { IsLaidOut octets.now }
     ensures found { found_of result
-        ≡ found_by_slot config.now.routes moment (slots_of cache.now.entries) (lowered (labels_of octets.now)) class kind }
+        ≡ found_by_slot config.now.routes moment (slots_of cache.now.entries)
+        (lowered (labels_of octets.now)) class kind }
     ensures slot { IsSlotOf slot.new (found_of result) }
     ensures held { AreHeld cache.now }
 {
@@ -113,7 +119,8 @@ fn alias_beside<'a, H: BuildHasher + Drop, A: Allocator + Copy>(
     moment: u64,
 ) -> Option<&'a Held<A>>
     requires { end ≡ ending slot.old.key }
-    ensures alias { option_copied result ≡ alias_at moment (slots_of cache.now.entries) slot.old.key slot.old.class kind }
+    ensures alias { option_copied result
+        ≡ alias_at moment (slots_of cache.now.entries) slot.old.key slot.old.class kind }
     ensures slot { IfSome (option_copied result) (λ h. slot.new ≡ h.piece.slot) }
     ensures name { (slot.new.key ≡ slot.old.key) × (slot.new.class ≡ slot.old.class) }
 {

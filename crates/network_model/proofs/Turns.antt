@@ -1,6 +1,6 @@
 -- Turns, one after another.
 use Rattle.std.proofs.Common.{◌≡◌, ◌∙◌, refl, sym, ap, subst, ℕ, ◌+◌, ◌*◌, ◌<◌, List, [], ◌∷◌, ◌++◌, length, drop, append_assoc, append-nil, Option, Some, None, Ok, Err, Bool, true, false, cond, arith}
-use Rattle.std.specs.Prelude.{map, min, ◌==◌}
+use Rattle.std.specs.Prelude.{map, ◌==◌}
 use Rattle.std.specs.List.{filter_map, AllByRecursion}
 use Rattle.std.specs.declared.alloc.AllocError.{AllocError}
 use Rattle.std.proofs.lemmas.List.{length-append, map-append}

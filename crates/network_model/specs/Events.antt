@@ -1,5 +1,6 @@
 -- The events that the arrivals of a wire stand for, and how a turn serves them.
-use Rattle.std.specs.Prelude.{◌≡◌, ℕ, suc, ◌+◌, ◌*◌, ◌≤◌, Bool, true, false, if◌then◌else◌, ◌==◌, List, [], ◌∷◌, ◌++◌, length, map, drop, Option, Some, None, option_map}
+use Rattle.std.specs.Prelude.{◌≡◌, ℕ, suc, ◌+◌, ◌*◌, ◌≤◌, Bool, true, false, if◌then◌else◌, ◌==◌, List, [], ◌∷◌, ◌++◌}
+use Rattle.std.specs.Prelude.{length, map, drop, Option, Some, None, option_map}
 use Rattle.std.specs.List.{filter_map}
 use Rattle.tcp_frames.specs.Frames.{frames_of}
 use Rattle.suffix_routes.specs.declared.peer.Peer.{Peer}
@@ -7,8 +8,10 @@ use Rattle.suffix_routes.specs.Values.{Config}
 use Rattle.outstanding.specs.declared.ask.Path.{Path}
 use Rattle.outstanding.specs.declared.ask.Path.TheVariants.{Udp, Tcp}
 use Rattle.step_values.specs.declared.event.Client.TheVariants as client
-use Rattle.step_values.specs.Values.{Event, from_client, delivery, path_failed, tick, Action, ask_in, Handed, Outcome, Step}
-use Rattle.wires.specs.Wire.{Arrival, nothing, client_datagram, client_stream, client_closed, server_datagram, server_stream, path_gone, Put}
+use Rattle.step_values.specs.Values.{Event, from_client, delivery, path_failed, tick, Action, ask_in, Handed, Outcome}
+use Rattle.step_values.specs.Values.{Step}
+use Rattle.wires.specs.Wire.{Arrival, nothing, client_datagram, client_stream, client_closed, server_datagram}
+use Rattle.wires.specs.Wire.{server_stream, path_gone, Put}
 
 -- ---- streams
 
@@ -31,7 +34,8 @@ server_octets_with conn octets (Some (client_datagram from datagram)) = octets
 server_octets_with conn octets (Some (client_stream other piece)) = octets
 server_octets_with conn octets (Some (client_closed other)) = octets
 server_octets_with conn octets (Some (server_datagram port from datagram)) = octets
-server_octets_with conn octets (Some (server_stream other from piece)) = if conn == other then octets ++ piece else octets
+server_octets_with conn octets (Some (server_stream other from piece)) =
+    if conn == other then octets ++ piece else octets
 server_octets_with conn octets (Some (path_gone (Udp port))) = octets
 server_octets_with conn octets (Some (path_gone (Tcp other))) = if conn == other then [] else octets
 
@@ -62,10 +66,12 @@ abbrev pub events_of : List (Option Arrival) → Option Arrival → List Event
 events_of past None = []
 events_of past (Some nothing) = []
 events_of past (Some (client_datagram from datagram)) = from_client (client.Udp from) datagram ∷ []
-events_of past (Some (client_stream conn piece)) = map (client_message conn) (completed (client_octets conn [] past) piece)
+events_of past (Some (client_stream conn piece)) =
+    map (client_message conn) (completed (client_octets conn [] past) piece)
 events_of past (Some (client_closed conn)) = []
 events_of past (Some (server_datagram port from datagram)) = delivery (Udp port) from datagram ∷ []
-events_of past (Some (server_stream conn from piece)) = map (server_message conn from) (completed (server_octets conn [] past) piece)
+events_of past (Some (server_stream conn from piece)) =
+    map (server_message conn from) (completed (server_octets conn [] past) piece)
 events_of past (Some (path_gone path)) = path_failed path ∷ []
 
 -- ---- events that are handed to the forwarder
@@ -109,7 +115,8 @@ abbrev pub IsChain : Option Event → List Taken → Type 0
 IsChain None [] = Unit {0}
 IsChain None (x ∷ taken) = ⊥
 IsChain (Some event) [] = ⊥
-IsChain (Some event) (x ∷ taken) = (x.handed.event ≡ event) × IsChain (option_map path_failed (failed_of None x.puts)) taken
+IsChain (Some event) (x ∷ taken) = (x.handed.event ≡ event)
+    × IsChain (option_map path_failed (failed_of None x.puts)) taken
 
 abbrev pub joined : List (List Taken) → List Taken
 joined [] = []

@@ -1,5 +1,6 @@
 -- What the parts of a turn do.
-use Rattle.std.specs.Prelude.{◌≡◌, ◌⊎◌, ℕ, suc, ◌+◌, ◌*◌, ◌<◌, ◌≤◌, Bool, true, false, List, [], ◌∷◌, length, map, Option, Some, None}
+use Rattle.std.specs.Prelude.{◌≡◌, ◌⊎◌, ℕ, suc, ◌+◌, ◌*◌, ◌<◌, ◌≤◌, Bool, true, false, List, [], ◌∷◌, length, map}
+use Rattle.std.specs.Prelude.{Option, Some, None}
 use Rattle.outstanding.specs.declared.ask.Path.{Path}
 use Rattle.step_values.specs.Values.{Event, from_client, delivery, path_failed, tick, restart, Action}
 use Rattle.step_table.specs.State.{Running}
@@ -12,7 +13,8 @@ abbrev pub told_of_puts : List Put → Told
 told_of_puts puts = record silence { puts = puts }
 
 -- These actions were put in order; behind the path that failed last before, this one has.
-pub record Puts (last : Option Path) (actions : List Action) (failed : Option Path) (told told_after : Option Told) (counts counts_after : Served) : Type 0 where
+pub record Puts (last : Option Path) (actions : List Action) (failed : Option Path) (told told_after : Option Told)
+    (counts counts_after : Served) : Type 0 where
   pub puts : List Put
   pub actions_are : map (λ (p : Put). p.action) puts ≡ actions
   pub failed_is : failed ≡ failed_of last puts
@@ -36,7 +38,8 @@ IsOwn restart = ⊥
 
 -- Less is left to do; or nothing was done, no path failed by it, and a tick told that nothing more is due.
 abbrev pub StepsDown : Running → Running → Event → Option Path → Bool → Type 0
-StepsDown before after event failed more = (left after < left before) ⊎ ((failed ≡ None) × (left after ≡ left before) × (event ≡ tick → more ≡ false))
+StepsDown before after event failed more = (left after < left before)
+    ⊎ ((failed ≡ None) × (left after ≡ left before) × (event ≡ tick → more ≡ false))
 
 -- One event was handed to the forwarder.
 pub record Hands (event : Event) (failed : Option Path) (more : Bool) (before after : Standing) : Type 0 where

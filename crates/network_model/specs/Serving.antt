@@ -1,5 +1,6 @@
 -- What `serve` does over a wire.
-use Rattle.std.specs.Prelude.{◌≡◌, ℕ, ◌+◌, ◌-◌, ◌^◌, ◌≤◌, Bool, true, false, if◌then◌else◌, min, List, [], ◌∷◌, ◌++◌, length, map, Option, Some, None, Result, Ok, Err}
+use Rattle.std.specs.Prelude.{◌≡◌, ℕ, ◌+◌, ◌-◌, ◌^◌, ◌≤◌, Bool, true, false, if◌then◌else◌, min, List, [], ◌∷◌, ◌++◌}
+use Rattle.std.specs.Prelude.{length, map, Option, Some, None, Result, Ok, Err}
 use Rattle.std.specs.List.{AllByRecursion}
 use Rattle.std.specs.declared.alloc.AllocError.{AllocError}
 use Rattle.step_values.specs.Values.{ask_in, SentAsk, Outcome}
@@ -9,7 +10,8 @@ use Rattle.theorem_sound.specs.Runs.{Run}
 use Rattle.theorem_use.specs.Service.{ServesOnTruly}
 use Rattle.network_model.specs.declared.counts.Served.{Served}
 use Rattle.wires.specs.Wire.{Arrival, Put, Told, silence, ◌then◌, TellsMore, arrived}
-use Rattle.network_model.specs.Events.{Taken, PutsItsActions, steps_in, Turn, taken_in_turn, taken_in, AreTurns, IsCutShort}
+use Rattle.network_model.specs.Events.{Taken, PutsItsActions, steps_in, Turn, taken_in_turn, taken_in, AreTurns}
+use Rattle.network_model.specs.Events.{IsCutShort}
 
 -- ---- what a wire is told of
 
@@ -96,7 +98,8 @@ pub record Does (before : Standing) (taken : List Taken) (after : Standing) : Ty
 abbrev pub left : Running → ℕ
 left r = left_to_do r.config r.state
 
--- A call of `serve` that was to take so many turns: whole ones, as many, or, where memory ran out, fewer and one cut short.
+-- A call of `serve` that was to take so many turns: whole ones, as many, or, where memory ran out, fewer and one cut
+-- short.
 abbrev pub Ends : Running → ℕ → List Turn → Result Served AllocError → Type 0
 Ends before wanted turns (Ok counts) = (length turns ≡ wanted) × AreTurns before.config [] turns × (counts ≡ record {
   turns = wanted;
@@ -104,12 +107,15 @@ Ends before wanted turns (Ok counts) = (length turns ≡ wanted) × AreTurns bef
   refused_puts = capped (refused_in (taken_in turns));
   refused_arrivals = capped (missed_in turns);
 })
-Ends before wanted turns (Err refused) = (whole : List Turn) × ((last : Turn) × (turns ≡ whole ++ last ∷ []) × (length turns ≤ wanted) × AreTurns before.config [] whole × IsCutShort (map (λ (t : Turn). t.arrival) whole) last)
+Ends before wanted turns (Err refused) = (whole : List Turn)
+    × ((last : Turn) × (turns ≡ whole ++ last ∷ []) × (length turns ≤ wanted) × AreTurns before.config [] whole
+    × IsCutShort (map (λ (t : Turn). t.arrival) whole) last)
 
 -- What `serve` does: its turns are those of the wire's arrivals, the steps are a run of the forwarder, what was put are
 -- the actions in order, and the wire tells of nothing else. From a new forwarder these steps serve truly, and so they
 -- do behind whatever steps a forwarder made before since it was new.
-pub record Serves (before : Running) (told_before : Option Told) (wanted : ℕ) (result : Result Served AllocError) (after : Running) (told_after : Option Told) : Type 0 where
+pub record Serves (before : Running) (told_before : Option Told) (wanted : ℕ) (result : Result Served AllocError)
+    (after : Running) (told_after : Option Told) : Type 0 where
   pub turns : List Turn
   pub ends : Ends before wanted turns result
   pub config : after.config ≡ before.config

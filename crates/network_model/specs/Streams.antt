@@ -1,5 +1,6 @@
 -- What is left unfinished of the streams, and the events that an arrival completes.
-use Rattle.std.specs.Prelude.{◌≡◌, ℕ, suc, ◌≤◌, true, if◌then◌else◌, ◌==◌, List, [], ◌∷◌, ◌++◌, length, map, Option, Some, None, unwrap_or, Result, OnOk, OnErr}
+use Rattle.std.specs.Prelude.{◌≡◌, ℕ, suc, ◌≤◌, true, if◌then◌else◌, ◌==◌, List, [], ◌∷◌, ◌++◌, length, map, Option}
+use Rattle.std.specs.Prelude.{Some, None, unwrap_or, Result, OnOk, OnErr}
 use Rattle.std.specs.Ordering.{nat_cmp}
 use Rattle.std.specs.BTreeMap.{BTreeMap, get}
 use Rattle.std.specs.declared.alloc.AllocError.{AllocError}
@@ -10,8 +11,10 @@ use Rattle.step_values.specs.Values.{Event, from_client, delivery, path_failed}
 use Rattle.network_model.specs.declared.streams.Streams.{Streams}
 use Rattle.network_model.specs.declared.streams.Sender.{Sender}
 use Rattle.network_model.specs.declared.streams.Sender.TheVariants.{FromClient, FromServer}
-use Rattle.wires.specs.Wire.{Arrival, nothing, client_datagram, client_stream, client_closed, server_datagram, server_stream, path_gone, TellsMore, arrived}
-use Rattle.network_model.specs.Events.{Taken, joined, client_message, server_message, client_octets, server_octets, AreChains, AreTicks, Turn, taken_in_turn, IsPiece}
+use Rattle.wires.specs.Wire.{Arrival, nothing, client_datagram, client_stream, client_closed, server_datagram}
+use Rattle.wires.specs.Wire.{server_stream, path_gone, TellsMore, arrived}
+use Rattle.network_model.specs.Events.{Taken, joined, client_message, server_message, client_octets, server_octets}
+use Rattle.network_model.specs.Events.{AreChains, AreTicks, Turn, taken_in_turn, IsPiece}
 use Rattle.network_model.specs.Serving.{Standing, Does, Adds, missed_by}
 use Rattle.network_model.specs.Handing.{most_left}
 
@@ -31,7 +34,8 @@ events_by s (Some (client_datagram from datagram)) = from_client (client.Udp fro
 events_by s (Some (client_stream conn piece)) = map (client_message conn) (frames_of (left_on s.clients conn ++ piece))
 events_by s (Some (client_closed conn)) = []
 events_by s (Some (server_datagram port from datagram)) = delivery (Udp port) from datagram ∷ []
-events_by s (Some (server_stream conn from piece)) = map (server_message conn from) (frames_of (left_on s.servers conn ++ piece))
+events_by s (Some (server_stream conn from piece)) =
+    map (server_message conn from) (frames_of (left_on s.servers conn ++ piece))
 events_by s (Some (path_gone path)) = path_failed path ∷ []
 
 -- what is left on a client's connection after an arrival
@@ -39,7 +43,8 @@ abbrev pub client_left_with : ℕ → List ℕ → Option Arrival → List ℕ
 client_left_with conn left None = left
 client_left_with conn left (Some nothing) = left
 client_left_with conn left (Some (client_datagram from datagram)) = left
-client_left_with conn left (Some (client_stream other piece)) = if conn == other then unfinished_of (left ++ piece) else left
+client_left_with conn left (Some (client_stream other piece)) =
+    if conn == other then unfinished_of (left ++ piece) else left
 client_left_with conn left (Some (client_closed other)) = if conn == other then [] else left
 client_left_with conn left (Some (server_datagram port from datagram)) = left
 client_left_with conn left (Some (server_stream other from piece)) = left
@@ -52,7 +57,8 @@ server_left_with conn left (Some (client_datagram from datagram)) = left
 server_left_with conn left (Some (client_stream other piece)) = left
 server_left_with conn left (Some (client_closed other)) = left
 server_left_with conn left (Some (server_datagram port from datagram)) = left
-server_left_with conn left (Some (server_stream other from piece)) = if conn == other then unfinished_of (left ++ piece) else left
+server_left_with conn left (Some (server_stream other from piece)) =
+    if conn == other then unfinished_of (left ++ piece) else left
 server_left_with conn left (Some (path_gone (Udp port))) = left
 server_left_with conn left (Some (path_gone (Tcp other))) = if conn == other then [] else left
 
@@ -67,7 +73,8 @@ pub record Tracks {A : Type 0} (past : List (Option Arrival)) (s : Streams A) : 
   pub servers : (conn : ℕ) → left_on s.servers conn ≡ unfinished_of (server_octets conn [] past)
 
 -- These messages of the reader were served, in order, each as an event; where memory ran out, the first of them alone.
-pub record ServesFrames (sender : Sender) (stream : List ℕ) (result : Result (Unit {0}) AllocError) (rest : List ℕ) (before after : Standing) : Type 0 where
+pub record ServesFrames (sender : Sender) (stream : List ℕ) (result : Result (Unit {0}) AllocError) (rest : List ℕ)
+    (before after : Standing) : Type 0 where
   pub chains : List (List Taken)
   pub done : List (List ℕ)
   pub missed : List (List ℕ)
@@ -77,7 +84,8 @@ pub record ServesFrames (sender : Sender) (stream : List ℕ) (result : Result (
   pub ok : OnOk result ((missed ≡ []) × (rest ≡ unfinished_of stream))
 
 -- These events were served, in order; where memory ran out, the first of them alone.
-pub record ServesEvents (events : List Event) (result : Result (Unit {0}) AllocError) (before after : Standing) : Type 0 where
+pub record ServesEvents (events : List Event) (result : Result (Unit {0}) AllocError)
+    (before after : Standing) : Type 0 where
   pub chains : List (List Taken)
   pub done : List Event
   pub missed : List Event
@@ -96,7 +104,8 @@ pub record Arrives (before : Standing) (a : Option Arrival) (after : Standing) :
   pub refused_arrivals : Adds before.counts.refused_arrivals (missed_by a) after.counts.refused_arrivals
 
 -- An arrival came and its events were served.
-pub record TakesArrival {A : Type 0} (s : Streams A) (result : Result (Unit {0}) AllocError) (s' : Streams A) (before after : Standing) : Type 0 where
+pub record TakesArrival {A : Type 0} (s : Streams A) (result : Result (Unit {0}) AllocError) (s' : Streams A)
+    (before after : Standing) : Type 0 where
   pub arrival : Option Arrival
   pub mid : Standing
   pub arrives : Arrives before arrival mid
@@ -120,7 +129,8 @@ pub record MakesTurn {A : Type 0} (s : Streams A) (t : Turn) (s' : Streams A) (b
   pub follows : Follows s t.arrival s'
 
 -- A turn was made, or memory ran out in it.
-pub record TakesTurn {A : Type 0} (s : Streams A) (result : Result (Unit {0}) AllocError) (s' : Streams A) (before after : Standing) : Type 0 where
+pub record TakesTurn {A : Type 0} (s : Streams A) (result : Result (Unit {0}) AllocError) (s' : Streams A)
+    (before after : Standing) : Type 0 where
   pub turn : Turn
   pub mid : Standing
   pub arrives : Arrives before turn.arrival mid

@@ -75,7 +75,8 @@ fn hand<H: BuildHasher + Drop, A: Allocator + Copy, W: Wire<A>>(
     counts: &mut Served,
     event: Event<A>,
 ) -> Handled
-    ensures { Hands (event_of event) result.failed result.more (standing forwarder.old (W.told wire.old) counts.old) (standing forwarder.new (W.told wire.new) counts.new) }
+    ensures { Hands (event_of event) result.failed result.more (standing forwarder.old (W.told wire.old) counts.old)
+        (standing forwarder.new (W.told wire.new) counts.new) }
 {
     let now = wire.moment();
     let words = wire.words();
@@ -102,7 +103,8 @@ pub(crate) fn hand_on<H: BuildHasher + Drop, A: Allocator + Copy, W: Wire<A>>(
     counts: &mut Served,
     event: Event<A>,
 ) -> bool
-    ensures { HandsOn (event_of event) result (standing forwarder.old (W.told wire.old) counts.old) (standing forwarder.new (W.told wire.new) counts.new) }
+    ensures { HandsOn (event_of event) result (standing forwarder.old (W.told wire.old) counts.old)
+        (standing forwarder.new (W.told wire.new) counts.new) }
 {
     let handled = hand(wire, forwarder, counts, event);
     let mut failed = handled.failed;
@@ -118,7 +120,8 @@ pub(crate) fn tick_on<H: BuildHasher + Drop, A: Allocator + Copy, W: Wire<A>>(
     forwarder: &mut Forwarder<H, A>,
     counts: &mut Served,
 )
-    ensures { Ticks (standing forwarder.old (W.told wire.old) counts.old) (standing forwarder.new (W.told wire.new) counts.new) }
+    ensures { Ticks (standing forwarder.old (W.told wire.old) counts.old)
+        (standing forwarder.new (W.told wire.new) counts.new) }
 {
     while hand_on(wire, forwarder, counts, Event::Tick) {}
 }

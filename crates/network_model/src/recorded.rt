@@ -35,7 +35,8 @@ impl<H: BuildHasher, A: Allocator> Model for Recorded<H, A> {
 impl<H: BuildHasher + Drop, A: Allocator + Copy> Recorded<H, A> {
     /// A new forwarder, without steps. `Err` where memory ran out.
     pub fn new(alloc: A, config: Config<A>, hasher: H) -> Result<Recorded<H, A>, AllocError>
-        ensures { IfOk result (λ recorded. recorded ≡ record { running = record { config = config; state = start config }; steps = [] }) }
+        ensures { IfOk result (λ recorded. recorded
+            ≡ record { running = record { config = config; state = start config }; steps = [] }) }
     {
         let forwarder = Forwarder::new(alloc, config, hasher)?;
         Ok(Recorded {
@@ -53,9 +54,11 @@ impl<H: BuildHasher + Drop, A: Allocator + Copy> Recorded<H, A> {
         self.steps.as_slice()
     }
 
-    /// One step more: what is handed in, and what comes of it. `Err` where memory ran out, and then nothing has changed.
+    /// One step more: what is handed in, and what comes of it. `Err` where memory ran out, and then nothing has
+    /// changed.
     pub fn step(&mut self, handed: Handed<A>) -> Result<(), AllocError>
-        ensures ok { OnOk result ((outcome : Outcome) × (self.new.steps ≡ self.old.steps ++ record { handed = handed; outcome = outcome } ∷ [])
+        ensures ok { OnOk result ((outcome : Outcome)
+            × (self.new.steps ≡ self.old.steps ++ record { handed = handed; outcome = outcome } ∷ [])
             × Row self.old.running.config self.old.running.state handed outcome self.new.running.state) }
         ensures config { self.new.running.config ≡ self.old.running.config }
         ensures err { OnErr result (self.new ≡ self.old) }

@@ -38,7 +38,8 @@ fn serve_arrival<H: BuildHasher + Drop, A: Allocator + Copy, W: Wire<A>>(
     streams: &mut Streams<A>,
     arrival: Arrival<A>,
 ) -> Result<(), AllocError>
-    ensures serves { ServesEvents (events_by streams.old (Some (arrival_of arrival))) result (standing forwarder.old (W.told wire.old) counts.old) (standing forwarder.new (W.told wire.new) counts.new) }
+    ensures serves { ServesEvents (events_by streams.old (Some (arrival_of arrival))) result
+        (standing forwarder.old (W.told wire.old) counts.old) (standing forwarder.new (W.told wire.new) counts.new) }
     ensures follows { OnOk result (Follows streams.old (Some (arrival_of arrival)) streams.new) }
     ensures piece { OnErr result (IsPiece (Some (arrival_of arrival))) }
 {
@@ -102,7 +103,8 @@ fn take_arrival<H: BuildHasher + Drop, A: Allocator + Copy, W: Wire<A>>(
     counts: &mut Served,
     streams: &mut Streams<A>,
 ) -> Result<(), AllocError>
-    ensures { TakesArrival streams.old result streams.new (standing forwarder.old (W.told wire.old) counts.old) (standing forwarder.new (W.told wire.new) counts.new) }
+    ensures { TakesArrival streams.old result streams.new (standing forwarder.old (W.told wire.old) counts.old)
+        (standing forwarder.new (W.told wire.new) counts.new) }
 {
     match wire.arrival() {
         Ok(arrival) => serve_arrival(alloc, wire, forwarder, counts, streams, arrival),
@@ -121,7 +123,8 @@ fn take_turn<H: BuildHasher + Drop, A: Allocator + Copy, W: Wire<A>>(
     counts: &mut Served,
     streams: &mut Streams<A>,
 ) -> Result<(), AllocError>
-    ensures { TakesTurn streams.old result streams.new (standing forwarder.old (W.told wire.old) counts.old) (standing forwarder.new (W.told wire.new) counts.new) }
+    ensures { TakesTurn streams.old result streams.new (standing forwarder.old (W.told wire.old) counts.old)
+        (standing forwarder.new (W.told wire.new) counts.new) }
 {
     take_arrival(alloc, wire, forwarder, counts, streams)?;
     tick_on(wire, forwarder, counts);

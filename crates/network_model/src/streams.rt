@@ -60,7 +60,8 @@ pub(crate) fn take_out<A: Allocator + Copy>(
     conn: u64,
 ) -> FrameReader<A>
     ensures reader { result ≡ left_on readers.old conn }
-    ensures others { (other : ℕ) → left_on readers.new other ≡ (if other == conn then [] else left_on readers.old other) }
+    ensures others { (other : ℕ) → left_on readers.new other
+        ≡ (if other == conn then [] else left_on readers.old other) }
 {
     match readers.remove(&conn) {
         Some(reader) => reader,
@@ -74,7 +75,8 @@ pub(crate) fn put_in<A: Allocator + Copy>(
     conn: u64,
     reader: FrameReader<A>,
 ) -> Result<(), AllocError>
-    ensures { OnOk result ((other : ℕ) → left_on readers.new other ≡ (if other == conn then reader else left_on readers.old other)) }
+    ensures { OnOk result ((other : ℕ) → left_on readers.new other
+        ≡ (if other == conn then reader else left_on readers.old other)) }
 {
     readers.insert(conn, reader)?;
     Ok(())
@@ -88,7 +90,8 @@ fn serve_frames<H: BuildHasher + Drop, A: Allocator + Copy, W: Wire<A>>(
     reader: &mut FrameReader<A>,
     sender: Sender,
 ) -> Result<(), AllocError>
-    ensures { ServesFrames sender reader.old result reader.new (standing forwarder.old (W.told wire.old) counts.old) (standing forwarder.new (W.told wire.new) counts.new) }
+    ensures { ServesFrames sender reader.old result reader.new (standing forwarder.old (W.told wire.old) counts.old)
+        (standing forwarder.new (W.told wire.new) counts.new) }
 {
     cut_does_not_matter();
     all_frames_are_taken();
@@ -108,7 +111,8 @@ pub(crate) fn serve_piece<H: BuildHasher + Drop, A: Allocator + Copy, W: Wire<A>
     sender: Sender,
     piece: &[u8],
 ) -> Result<(), AllocError>
-    ensures serves { ServesEvents (map (message_from sender) (frames_of (reader.old ++ piece.now))) result (standing forwarder.old (W.told wire.old) counts.old) (standing forwarder.new (W.told wire.new) counts.new) }
+    ensures serves { ServesEvents (map (message_from sender) (frames_of (reader.old ++ piece.now))) result
+        (standing forwarder.old (W.told wire.old) counts.old) (standing forwarder.new (W.told wire.new) counts.new) }
     ensures reader { OnOk result (reader.new ≡ unfinished_of (reader.old ++ piece.now)) }
 {
     reader.feed(piece)?;

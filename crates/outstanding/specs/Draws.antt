@@ -1,5 +1,6 @@
 -- The identifier and the port that random words give an ask by UDP (RFC 5452 9.2).
-use Rattle.std.specs.Prelude.{ℕ, ◌+◌, ◌/◌, ◌%◌, Bool, false, ◌==◌, ◌||◌, not, if◌then◌else◌, List, [], ◌∷◌, Option, Some, None, ◌-◌, ◌^◌, true, get_or}
+use Rattle.std.specs.Prelude.{ℕ, ◌+◌, ◌/◌, ◌%◌, Bool, false, ◌==◌, ◌||◌, not, if◌then◌else◌, List, [], ◌∷◌, Option}
+use Rattle.std.specs.Prelude.{Some, None, ◌-◌, ◌^◌, true, get_or}
 use Rattle.std.specs.List.{list_any}
 use Rattle.outstanding.specs.declared.ask.Path.TheVariants.{Udp}
 use Rattle.outstanding.specs.Values.{Ask}
@@ -25,7 +26,8 @@ is_free port asks freed = is_freed port freed || not (is_used port asks)
 -- identifier and port of the first word whose port is free
 abbrev pub udp_draw : List ℕ → List Ask → Option ℕ → Option (ℕ × ℕ)
 udp_draw [] asks freed = None
-udp_draw (word ∷ words) asks freed = if is_free (port_of word) asks freed then Some (word % 65536, port_of word) else udp_draw words asks freed
+udp_draw (word ∷ words) asks freed = if is_free (port_of word) asks freed then Some (word % 65536, port_of word)
+    else udp_draw words asks freed
 
 -- the list once the freed port is given up
 abbrev pub without_port : Option ℕ → List Ask → List Ask
@@ -35,13 +37,25 @@ without_port (Some port) asks = without_path (Udp port) asks
 -- the text of an ask: RD alone, and one question (RFC 1035 4.1.1)
 abbrev pub ask_message : ℕ → Question → Message
 ask_message id q = record {
-  header = record { id = id; qr = false; opcode = 0; aa = false; tc = false; rd = true; ra = false; z = 0; rcode = 0; counts = 1 ∷ 0 ∷ 0 ∷ 0 ∷ [] };
+  header = record {
+    id = id;
+    qr = false;
+    opcode = 0;
+    aa = false;
+    tc = false;
+    rd = true;
+    ra = false;
+    z = 0;
+    rcode = 0;
+    counts = 1 ∷ 0 ∷ 0 ∷ 0 ∷ [];
+  };
   questions = q ∷ [];
   answers = [];
   authority = [];
   additional = [];
 }
 
--- by TCP, identifier and connection: that of the first word, and how many asks went by TCP before; the last number is never given
+-- by TCP, identifier and connection: that of the first word, and how many asks went by TCP before; the last number is
+-- never given
 abbrev pub drawn_by_tcp : List ℕ → ℕ → Option (ℕ × ℕ)
 drawn_by_tcp words count = if count == 2 ^ 64 - 1 then None else Some (get_or words 0 0 % 65536, count)

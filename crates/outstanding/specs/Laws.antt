@@ -20,4 +20,5 @@ EndedIsUnlisted = (asks : List Ask) (path : Path) → on_path path (without_path
 
 -- What is not listed is not listed either once an ask has ended.
 abbrev pub UnlistedStaysSo : Type 0
-UnlistedStaysSo = (asks : List Ask) (path other : Path) → on_path path asks ≡ None → on_path path (without_path other asks) ≡ None
+UnlistedStaysSo = (asks : List Ask) (path other : Path) → on_path path asks ≡ None
+    → on_path path (without_path other asks) ≡ None

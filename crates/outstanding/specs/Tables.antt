@@ -1,5 +1,7 @@
--- Asks under the keys of a slab, and lists of those keys: one in the order of asking, two that are searched and have numbers.
-use Rattle.std.specs.Prelude.{◌≡◌, ◌≢◌, ℕ, ◌<◌, ◌≤◌, ◌^◌, true, List, length, map, Option, Some, None, IsSome, slice_index}
+-- Asks under the keys of a slab, and lists of those keys: one in the order of asking, two that are searched and have
+-- numbers.
+use Rattle.std.specs.Prelude.{◌≡◌, ◌≢◌, ℕ, ◌<◌, ◌≤◌, ◌^◌, true, List, length, map, Option, Some, None, IsSome}
+use Rattle.std.specs.Prelude.{slice_index}
 use Rattle.std.specs.List.{All, filter_map}
 use Rattle.std.specs.Ordering.{nat_cmp, ordering_then}
 use Rattle.std.specs.VecDeque.{deque_len, deque_capacity}
@@ -26,7 +28,8 @@ pub record Covers (s : Slab Ask) (keys : List ℕ) : Type 0 where
 -- the asks under these keys rise in an order, by what is read of them
 abbrev pub Rises : {K : Type 0} → (K → K → Ordering) → (Ask → K) → Slab Ask → List ℕ → Type 0
 Rises R read s keys =
-    (i j : ℕ) (a b : Ask) → i < j → j < length keys → get s (slice_index keys i) ≡ Some a → get s (slice_index keys j) ≡ Some b
+    (i j : ℕ) (a b : Ask) → i < j → j < length keys → get s (slice_index keys i) ≡ Some a
+    → get s (slice_index keys j) ≡ Some b
     → R (read a) (read b) ≡ Less
 
 -- how the ask under a key compares to what is sought; a key without an ask comes first

@@ -30,8 +30,8 @@ impl Path {
         }
     }
 
-    /// The number that a search compares first: the port, and for all connections one number above the ports. So numbers that
-    /// differ tell how paths compare. It takes no memory.
+    /// The number that a search compares first: the port, and for all connections one number above the ports. So
+    /// numbers that differ tell how paths compare. It takes no memory.
     #[inline]
     pub(crate) fn number(self) -> u32
         ensures { result ≡ path_number self }
@@ -69,5 +69,14 @@ impl<A: Allocator> Model for Ask<A> {
 
     ghost Value = { Ask };
 
-    ghost view = { λ a. record { question = a.question; route = a.route; server = a.server; peer = a.peer; used = a.used; path = a.path; id = a.id; asked = a.asked } };
+    ghost view = { λ a. record {
+      question = a.question;
+      route = a.route;
+      server = a.server;
+      peer = a.peer;
+      used = a.used;
+      path = a.path;
+      id = a.id;
+      asked = a.asked;
+    } };
 }

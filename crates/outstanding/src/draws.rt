@@ -9,9 +9,9 @@ use crate::inquiries::Inquiries;
 use std::alloc::Allocator;
 
 /// Identifier and port of the first word whose port has no listed ask; the port `freed`, which is about to be given up,
-/// counts as free. A word `w` stands for identifier `w mod 65536` and port `1024 + (w / 65536) mod 64512`. `None` exactly
-/// where all eight ports are listed and not freed. So no ask is listed on the port once the freed one is given up. It takes
-/// no memory.
+/// counts as free. A word `w` stands for identifier `w mod 65536` and port `1024 + (w / 65536) mod 64512`. `None`
+/// exactly where all eight ports are listed and not freed. So no ask is listed on the port once the freed one is given
+/// up. It takes no memory.
 pub fn draw<A: Allocator>(
     words: [u32; 8],
     inquiries: &Inquiries<A>,

@@ -1,12 +1,15 @@
 //! The list of asks that are under way.
 
-ghost use Rattle.std.specs.Prelude.{◌≡◌, ◌<◌, ◌≤◌, ◌↔◌, ◌^◌, ◌∷◌, ◌++◌, [], length, Some, None, slice_get, IfErr, IsSome, MatchOption, OnErr, OnOk};
+ghost use Rattle.std.specs.Prelude.{◌≡◌, ◌<◌, ◌≤◌, ◌↔◌, ◌^◌, ◌∷◌, ◌++◌, [], length, Some, None, slice_get, IfErr};
+ghost use Rattle.std.specs.Prelude.{IsSome, MatchOption, OnErr, OnOk};
 ghost use Rattle.outstanding.specs.Due.{due_of, next_due};
+ghost use Rattle.dns_message.specs.Values.{Question};
+ghost use Rattle.outstanding.specs.Orders.{question_key};
 ghost use Rattle.outstanding.specs.Lists.{AreListed, IsInTime, MayBegin, of_question, on_path, without_path};
 
 use crate::ask::{Ask, Path};
+use crate::keyed::{KeyedAsk, QuestionKey};
 use crate::table::Table;
-use dns_message::Question;
 use std::alloc::{Allocator, Global};
 use std::marker::Model;
 use thiserror::Error;
@@ -22,8 +25,8 @@ pub enum Refusal {
     Memory,
 }
 
-/// The listed asks, in the order in which they were asked, at most `capacity` of them. Each stands for an inquiry: no two
-/// are on one path, no two have equal questions, and the moments of asking never fall along the list.
+/// The listed asks, in the order in which they were asked, at most `capacity` of them. Each stands for an inquiry: no
+/// two are on one path, no two have equal questions, and the moments of asking never fall along the list.
 #[derive(Drop)]
 pub struct Inquiries<A: Allocator = Global> {
     capacity: usize,
@@ -47,7 +50,8 @@ impl<A: Allocator> Inquiries<A> {
     pub fn new(alloc: A, capacity: usize) -> Inquiries<A>
     where
         A: Copy,
-        ensures { result ≡ record { capacity = capacity; asks = [] } }
+        ensures new { result ≡ record { capacity = capacity; asks = [] } }
+        ensures listed { AreListed result }
     {
         Inquiries {
             capacity,
@@ -60,13 +64,15 @@ impl<A: Allocator> Inquiries<A> {
     /// The ask comes back with `Full` exactly where `capacity` asks are listed, and with `Memory` where a growth was
     /// refused; then the list is as it was. The caller sees to it that its path and its question are not listed, that
     /// no listed ask was asked later, and that its moment is at most 2^62 milliseconds.
-    pub fn begin(&mut self, ask: Ask<A>) -> Result<(), (Ask<A>, Refusal)>
+    pub fn begin(&mut self, ask: KeyedAsk<A>) -> Result<(), (KeyedAsk<A>, Refusal)>
         requires { MayBegin ask self.old.asks }
         ensures ok { OnOk result (self.new ≡ record self.old { asks = self.old.asks ++ ask ∷ [] }) }
         ensures room { OnOk result (length self.old.asks < self.old.capacity) }
         ensures err { OnErr result (self.new ≡ self.old) }
         ensures back { IfErr result (λ refused. refused.0 ≡ ask) }
-        ensures full { IfErr result (λ refused. (refused.1 ≡ Refusal.Full) ↔ (length self.old.asks ≡ self.old.capacity)) }
+        ensures listed { AreListed self.new }
+        ensures full { IfErr result (λ refused. (refused.1 ≡ Refusal.Full)
+            ↔ (length self.old.asks ≡ self.old.capacity)) }
     {
         if self.table.len() >= self.capacity {
             return Err((ask, Refusal::Full));
@@ -78,8 +84,8 @@ impl<A: Allocator> Inquiries<A> {
         Ok(())
     }
 
-    /// Ends the ask on a path, and lists another one behind all others: it gets the room of the one that ended, so this is
-    /// never refused and takes no memory. The ended ask is the answer.
+    /// Ends the ask on a path, and lists another one behind all others: it gets the room of the one that ended, so this
+    /// is never refused and takes no memory. The ended ask is the answer.
     ///
     /// The caller sees to it that the path is listed, and that what `begin` asks of the new one holds without the ended
     /// one.
@@ -88,11 +94,12 @@ impl<A: Allocator> Inquiries<A> {
         requires begins { MayBegin ask (without_path path self.old.asks) }
         ensures ended { on_path path self.old.asks ≡ Some result }
         ensures list { self.new ≡ record self.old { asks = without_path path self.old.asks ++ ask ∷ [] } }
+        ensures listed { AreListed self.new }
     {
         let Some(ended) = self.table.take(path) else {
             unreachable!();
         };
-        self.table.put(ask);
+        self.table.put(KeyedAsk::of(ask));
         ended
     }
 
@@ -101,26 +108,30 @@ impl<A: Allocator> Inquiries<A> {
     pub fn end(&mut self, path: Path) -> Option<Ask<A>>
         ensures ended { result ≡ on_path path self.old.asks }
         ensures list { self.new ≡ record self.old { asks = without_path path self.old.asks } }
+        ensures listed { AreListed self.new }
     {
         self.table.take(path)
     }
 
-    /// The ask on a path. `None` exactly where no ask is listed there. It takes no memory. `listed` says again what holds of
-    /// each list.
+    /// The ask on a path. `None` exactly where no ask is listed there. It takes no memory. `listed` says again what
+    /// holds of each list.
     pub fn by_path(&self, path: Path) -> Option<&Ask<A>>
-        ensures found { MatchOption result (on_path path self.now.asks ≡ None) (λ ask. on_path path self.now.asks ≡ Some ask.now) }
+        ensures found { MatchOption result (on_path path self.now.asks ≡ None) (λ ask. on_path path self.now.asks
+            ≡ Some ask.now) }
         ensures listed { AreListed self.now }
     {
         self.table.on_path(path)
     }
 
-    /// The ask with an equal question: the same name, letter case aside, the same type and class. `None` exactly where
-    /// none is listed. It takes no memory.
-    pub fn by_question(&self, question: &Question<A>) -> Option<&Ask<A>>
-        ensures found { MatchOption result (of_question question.now self.now.asks ≡ None) (λ ask. of_question question.now self.now.asks ≡ Some ask.now) }
+    /// The ask with a question of this key, which is equal to each that has it: the same name, letter case aside, the
+    /// same type and class. `None` exactly where none is listed. It takes no memory.
+    pub fn by_question(&self, key: &QuestionKey) -> Option<&Ask<A>>
+        ensures found { (question : Question) → key.now ≡ question_key question
+            → MatchOption result (of_question question self.now.asks ≡ None)
+            (λ ask. of_question question self.now.asks ≡ Some ask.now) }
         ensures listed { AreListed self.now }
     {
-        self.table.of_question(question)
+        self.table.of_question(key)
     }
 
     /// The least moment at which an ask is due, which is `ask_ms` milliseconds after it was asked, and the path of that
@@ -143,7 +154,8 @@ impl<A: Allocator> Inquiries<A> {
 
     /// Ends all asks. It takes no memory.
     pub fn clear(&mut self)
-        ensures { self.new ≡ record self.old { asks = [] } }
+        ensures list { self.new ≡ record self.old { asks = [] } }
+        ensures listed { AreListed self.new }
     {
         self.table.clear();
     }

@@ -4,17 +4,17 @@ ghost use Rattle.std.specs.Prelude.{◌≡◌};
 ghost use Rattle.outstanding.specs.Orders.{key_cmp, octets_number, path_cmp, question_key};
 
 use crate::ask::{Ask, Path};
-use dns_message::Question;
+use dns_message::{Question, QuestionRef};
 use dns_name::NameKey;
-use std::alloc::Allocator;
+use std::alloc::{Allocator, Global};
 use std::cmp::Ordering;
 use std::marker::Model;
 
-/// A question for comparing: keys are equal exactly where questions are, letter case aside. The number, which is that of the
-/// name, is compared first: a list that is searched has it beside each key of a slab (`NumberedKey`), so most questions are
-/// told apart without a look at their names, which stand far from one another in memory. It is no hash against strangers:
-/// names that were sought out to have one number are told apart by their octets, which takes no more than it would without
-/// numbers.
+/// A question for comparing: keys are equal exactly where questions are, letter case aside. The number, which is that
+/// of the name, is compared first: a list that is searched has it beside each key of a slab (`NumberedKey`), so most
+/// questions are told apart without a look at their names, which stand far from one another in memory. It is no hash
+/// against strangers: names that were sought out to have one number are told apart by their octets, which takes no more
+/// than it would without numbers.
 #[derive(Clone, Copy, PartialEq, Eq, PartialOrd, Ord)]
 pub struct QuestionKey {
     number: u32,
@@ -28,13 +28,27 @@ impl QuestionKey {
     pub fn of<A: Allocator>(question: &Question<A>) -> QuestionKey
         ensures { result ≡ question_key question.now }
     {
-        let name = question.name.key();
+        QuestionKey::of_ref(&QuestionRef::of(question))
+    }
+
+    /// The key of a question where it lies. It takes no memory.
+    pub fn of_ref(question: &QuestionRef<'_>) -> QuestionKey
+        ensures { result ≡ question_key question.now }
+    {
+        let name = question.key();
         QuestionKey {
             number: number_of(name.octets()),
             name,
-            kind: question.kind,
-            class: question.class,
+            kind: question.kind(),
+            class: question.class(),
         }
+    }
+
+    /// The key of the question's name. It takes no memory.
+    pub fn name(&self) -> &NameKey
+        ensures { result.now ≡ self.now.name }
+    {
+        &self.name
     }
 
     /// The number, which is compared first. It takes no memory.
@@ -45,8 +59,8 @@ impl QuestionKey {
         self.number
     }
 
-    /// How it compares to another. It takes no memory. Numbers that differ tell it alone. Equal keys, to which a search comes
-    /// at its end, are told without a look at the zeros behind their names.
+    /// How it compares to another. It takes no memory. Numbers that differ tell it alone. Equal keys, to which a search
+    /// comes at its end, are told without a look at the zeros behind their names.
     pub fn compare(&self, other: &QuestionKey) -> Ordering
         ensures { result ≡ key_cmp self.now other.now }
     {
@@ -60,8 +74,8 @@ impl QuestionKey {
     }
 }
 
-/// What the number of the octets before is multiplied by at each octet. By this prime, which is that of the FNV hashes of
-/// 32 bits, names that differ in few letters get numbers that differ.
+/// What the number of the octets before is multiplied by at each octet. By this prime, which is that of the FNV hashes
+/// of 32 bits, names that differ in few letters get numbers that differ.
 const SPREAD: u32 = 0x01000193;
 
 /// The number of a name, by its octets in lower case.
@@ -75,10 +89,10 @@ fn number_of(octets: &[u8]) -> u32
     number
 }
 
-/// An ask, and the key of its question, which is made once. It is seen as the ask. The key stands first, where a search by
-/// question looks.
+/// An ask, and the key of its question, which is made once. It is seen as the ask. The key stands first, where a search
+/// by question looks.
 #[derive(Drop)]
-pub(crate) struct KeyedAsk<A: Allocator> {
+pub struct KeyedAsk<A: Allocator = Global> {
     key: QuestionKey,
     ask: Ask<A>,
 }
@@ -96,14 +110,24 @@ impl<A: Allocator> Model for KeyedAsk<A> {
 }
 
 impl<A: Allocator> KeyedAsk<A> {
-    pub(crate) fn new(ask: Ask<A>) -> KeyedAsk<A>
+    /// An ask with the key of its question, which was made before. It takes no memory.
+    pub fn new(ask: Ask<A>, key: QuestionKey) -> KeyedAsk<A>
+        requires { key ≡ question_key ask.question }
+        ensures { result ≡ ask }
+    {
+        KeyedAsk { key, ask }
+    }
+
+    /// An ask, whose key is made. It takes no memory.
+    pub fn of(ask: Ask<A>) -> KeyedAsk<A>
         ensures { result ≡ ask }
     {
         let key = QuestionKey::of(&ask.question);
         KeyedAsk { key, ask }
     }
 
-    pub(crate) fn ask(&self) -> &Ask<A>
+    /// The ask. It takes no memory.
+    pub fn ask(&self) -> &Ask<A>
         ensures { result.now ≡ self.now }
     {
         &self.ask

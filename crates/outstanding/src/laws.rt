@@ -2,8 +2,8 @@
 
 ghost use Rattle.outstanding.specs.Laws.{EndedIsUnlisted, NextMayBegin, UnlistedStaysSo};
 
-/// Where an ask ends, another one for its question may take its place, as `replace` wants it: its path has to be free once
-/// the first has ended, and no listed ask may have been asked later.
+/// Where an ask ends, another one for its question may take its place, as `replace` wants it: its path has to be free
+/// once the first has ended, and no listed ask may have been asked later.
 pub fn next_may_begin()
     ensures { NextMayBegin }
 {}

@@ -14,6 +14,6 @@ mod table;
 pub use ask::{Ask, Path};
 pub use draws::draw;
 pub use inquiries::{Inquiries, Refusal};
-pub use keyed::QuestionKey;
+pub use keyed::{KeyedAsk, QuestionKey};
 pub use laws::{ended_is_unlisted, next_may_begin, unlisted_stays_so};
 pub use numbered::NumberedKey;

@@ -2,7 +2,8 @@
 
 ghost use Rattle.std.specs.Prelude.{◌≡◌, ◌<◌, ◌≤◌, IfOk, IfErr};
 ghost use Rattle.std.specs.VecDeque.{deque_len};
-ghost use Rattle.outstanding.specs.Tables.{AreNumbered, compared_by_number, Covers, IsAt, IsGap, keys_of, Rises, to_path, to_question};
+ghost use Rattle.outstanding.specs.Tables.{AreNumbered, compared_by_number, Covers, IsAt, IsGap, keys_of, Rises};
+ghost use Rattle.outstanding.specs.Tables.{to_path, to_question};
 ghost use Rattle.outstanding.specs.Orders.{key_cmp, path_cmp, path_number, question_key};
 
 use crate::ask::Path;
@@ -31,8 +32,8 @@ pub(crate) fn place_on<A: Allocator>(
     keys.binary_search_by(|key| compare_path(asks, *key, number, path))
 }
 
-/// How the path of the ask under a key compares to another, which has this number: numbers that differ tell it, and only
-/// where they are equal the ask is looked at. A key without an ask comes first then.
+/// How the path of the ask under a key compares to another, which has this number: numbers that differ tell it, and
+/// only where they are equal the ask is looked at. A key without an ask comes first then.
 #[inline]
 fn compare_path<A: Allocator>(
     asks: &Slab<KeyedAsk<A>, A>,

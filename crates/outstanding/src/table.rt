@@ -1,24 +1,27 @@
 //! The asks under keys, with indexes of the keys.
 
-ghost use Rattle.std.specs.Prelude.{◌≡◌, ◌<◌, ◌≤◌, ◌+◌, ◌∷◌, ◌++◌, [], length, Some, None, OnOk, OnSome, MatchOption, slice_get};
+ghost use Rattle.std.specs.Prelude.{◌≡◌, ◌<◌, ◌≤◌, ◌+◌, ◌∷◌, ◌++◌, [], length, Some, None, OnOk, OnSome, MatchOption};
+ghost use Rattle.std.specs.Prelude.{slice_get};
 ghost use Rattle.std.specs.VecDeque.{deque_len, deque_capacity};
 ghost use Rattle.std.specs.List.{insert, remove};
 ghost use Rattle.outstanding.specs.Lists.{of_question, on_path, without_path};
+ghost use Rattle.outstanding.specs.Orders.{question_key};
 ghost use Rattle.outstanding.specs.Tables.{asks_of, HasRoom, IsIndexed};
+ghost use Rattle.dns_message.specs.Values.{Question};
 
 use crate::ask::{Ask, Path};
 use crate::keyed::{KeyedAsk, QuestionKey};
 use crate::numbered::NumberedKey;
 use crate::places::{place_of, place_on};
 use arrival_order::KeysInTurn;
-use dns_message::Question;
 use slab::Slab;
 use std::alloc::{AllocError, Allocator};
 use std::collections::VecDeque;
 
 /// The asks, each under a key that the slab picks, and the keys in the order of the paths, of the questions, and of
-/// asking. The first two lists have the number of the path or of the question beside each key, so that a search mostly stays
-/// in its list; where a key is put or taken out there, those before it move or those behind it, whichever are fewer.
+/// asking. The first two lists have the number of the path or of the question beside each key, so that a search mostly
+/// stays in its list; where a key is put or taken out there, those before it move or those behind it, whichever are
+/// fewer.
 #[derive(Drop)]
 pub(crate) struct Table<A: Allocator> {
     asks: Slab<KeyedAsk<A>, A>,
@@ -63,7 +66,8 @@ impl<A: Allocator> Table<A> {
     /// The ask on a path.
     pub(crate) fn on_path(&self, path: Path) -> Option<&Ask<A>>
         requires { IsIndexed self.now }
-        ensures { MatchOption result (on_path path (asks_of self.now) ≡ None) (λ ask. on_path path (asks_of self.now) ≡ Some ask.now) }
+        ensures { MatchOption result (on_path path (asks_of self.now) ≡ None) (λ ask. on_path path (asks_of self.now)
+            ≡ Some ask.now) }
     {
         match place_on(&self.asks, &self.by_path, path) {
             Ok(place) => Some(self.asks[self.by_path[place].key()].ask()),
@@ -71,19 +75,21 @@ impl<A: Allocator> Table<A> {
         }
     }
 
-    /// The ask with an equal question.
-    pub(crate) fn of_question(&self, question: &Question<A>) -> Option<&Ask<A>>
+    /// The ask with a question of this key.
+    pub(crate) fn of_question(&self, key: &QuestionKey) -> Option<&Ask<A>>
         requires { IsIndexed self.now }
-        ensures { MatchOption result (of_question question.now (asks_of self.now) ≡ None) (λ ask. of_question question.now (asks_of self.now) ≡ Some ask.now) }
+        ensures { (question : Question) → key.now ≡ question_key question
+            → MatchOption result (of_question question (asks_of self.now) ≡ None)
+            (λ ask. of_question question (asks_of self.now) ≡ Some ask.now) }
     {
-        match place_of(&self.asks, &self.by_question, &QuestionKey::of(question)) {
+        match place_of(&self.asks, &self.by_question, key) {
             Ok(place) => Some(self.asks[self.by_question[place].key()].ask()),
             Err(_) => None,
         }
     }
 
-    /// Makes room for one more ask. `Err` where memory ran out; that its key doesn't fit into 32 bits, as the lists want it,
-    /// counts as such.
+    /// Makes room for one more ask. `Err` where memory ran out; that its key doesn't fit into 32 bits, as the lists
+    /// want it, counts as such.
     pub(crate) fn reserve(&mut self) -> Result<(), AllocError>
         requires { IsIndexed self.old }
         ensures indexed { IsIndexed self.new }
@@ -101,7 +107,7 @@ impl<A: Allocator> Table<A> {
     }
 
     /// Puts an ask last, whose path and question no other has, where there is room.
-    pub(crate) fn put(&mut self, ask: Ask<A>)
+    pub(crate) fn put(&mut self, ask: KeyedAsk<A>)
         requires indexed { IsIndexed self.old }
         requires room { HasRoom self.old }
         requires path { on_path ask.path (asks_of self.old) ≡ None }
@@ -109,16 +115,15 @@ impl<A: Allocator> Table<A> {
         ensures indexed { IsIndexed self.new }
         ensures list { asks_of self.new ≡ asks_of self.old ++ ask ∷ [] }
     {
-        let keyed = KeyedAsk::new(ask);
-        let Err(path) = place_on(&self.asks, &self.by_path, keyed.ask().path) else {
+        let Err(path) = place_on(&self.asks, &self.by_path, ask.ask().path) else {
             unreachable!();
         };
-        let Err(question) = place_of(&self.asks, &self.by_question, keyed.key()) else {
+        let Err(question) = place_of(&self.asks, &self.by_question, ask.key()) else {
             unreachable!();
         };
-        let path_number = keyed.ask().path.number();
-        let question_number = keyed.key().number();
-        let key = self.asks.insert_reserved(keyed);
+        let path_number = ask.ask().path.number();
+        let question_number = ask.key().number();
+        let key = self.asks.insert_reserved(ask);
         put_key(&mut self.by_path, path, NumberedKey::new(path_number, key));
         put_key(
             &mut self.by_question,

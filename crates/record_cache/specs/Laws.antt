@@ -6,7 +6,8 @@ use Rattle.trust_rank.specs.Values.{Piece}
 use Rattle.trust_rank.specs.Replacing.{same_slot, is_name_error}
 use Rattle.trust_rank.specs.Formed.{IsPiece}
 use Rattle.record_cache.specs.Values.{Held}
-use Rattle.record_cache.specs.Entries.{is_slot, of_slot, entry_of, has_slot, without, promoted, has_name_error, may_deny, may_have_alias, AreApart, AreHeld}
+use Rattle.record_cache.specs.Entries.{is_slot, of_slot, entry_of, has_slot, without, promoted, has_name_error}
+use Rattle.record_cache.specs.Entries.{may_deny, may_have_alias, AreApart, AreHeld}
 use Rattle.record_cache.specs.Offers.{answer, kept, offered}
 use Rattle.record_cache.specs.declared.cache.Offered.{Offered}
 use Rattle.record_cache.specs.declared.cache.Offered.TheVariants.{Unkept}

@@ -1,5 +1,6 @@
 -- How the entries stand in the `lru` cache, and what is counted beside it.
-use Rattle.std.specs.Prelude.{◌≡◌, ◌<◌, ◌^◌, ℕ, ◌+◌, if◌then◌else◌, List, [], ◌∷◌, map, get_or, Option, Some, None, IfSome}
+use Rattle.std.specs.Prelude.{◌≡◌, ◌<◌, ◌^◌, ℕ, ◌+◌, if◌then◌else◌, List, [], ◌∷◌, map, get_or, Option, Some, None}
+use Rattle.std.specs.Prelude.{IfSome}
 use Rattle.std.specs.Map.{values_of}
 use Rattle.lru.specs.LruCache.{LruCache}
 use Rattle.trust_rank.specs.declared.slot.Slot.{Slot}
@@ -23,7 +24,11 @@ marks_of slot = record { size = name_error_size slot; ending = name_error_ending
 
 -- those of an entry, where there is one
 abbrev pub marks_in : Option Held → Marks
-marks_in h = record { size = number_in name_error_size h; ending = number_in name_error_ending h; alias = number_in alias_ending h }
+marks_in h = record {
+  size = number_in name_error_size h;
+  ending = number_in name_error_ending h;
+  alias = number_in alias_ending h;
+}
 
 -- a table has a place for each
 pub record AreFew (marks : Marks) : Type 0 where

@@ -1,7 +1,9 @@
 //! The entries, in the order of their last use.
 
-ghost use Rattle.std.specs.Prelude.{◌≡◌, ◌<◌, ◌||◌, [], if◌then◌else◌, length, option_map, None, Some, IfOk, MatchOption};
-ghost use Rattle.record_cache.specs.Entries.{AreHeld, entry_of, has_name_error, has_slot, may_deny_at, may_have_alias_at, promoted, without};
+ghost use Rattle.std.specs.Prelude.{◌≡◌, ◌<◌, ◌||◌, [], if◌then◌else◌, length, option_map, None, Some, IfOk};
+ghost use Rattle.std.specs.Prelude.{MatchOption};
+ghost use Rattle.record_cache.specs.Entries.{AreHeld, entry_of, has_name_error, has_slot, may_deny_at};
+ghost use Rattle.record_cache.specs.Entries.{may_have_alias_at, promoted, without};
 ghost use Rattle.record_cache.specs.Offers.{answer, found_room, is_outranked, kept, offered};
 ghost use Rattle.record_cache.specs.Storing.{AreFew, IsStored, marks_in};
 ghost use Rattle.std.specs.Map.{values_of};
@@ -65,13 +67,16 @@ impl<H: BuildHasher + Drop, A: Allocator + Copy> Cache<H, A> {
 
     /// Offers a piece that was accepted at a moment, in milliseconds.
     ///
-    /// `Outranked`, where its slot has a living entry of a higher rank (RFC 2181 5.4.1), which a name error never minds:
-    /// nothing changes. Else `NotKept`, where its lifetime is 0: the entry of its slot is removed. Else
-    /// `Kept`: it goes to the front, in place of its slot's entry; or else a full cache drops its last entry. `Unkept`,
-    /// where its slot has no entry and a growth was refused: nothing changes.
+    /// `Outranked`, where its slot has a living entry of a higher rank (RFC 2181 5.4.1), which a name error never
+    /// minds: nothing changes. Else `NotKept`, where its lifetime is 0: the entry of its slot is removed. Else `Kept`:
+    /// it goes to the front, in place of its slot's entry; or else a full cache drops its last entry. `Unkept`, where
+    /// its slot has no entry and a growth was refused: nothing changes.
     pub fn offer(&mut self, piece: Piece<A>, moment: u64) -> Offered
         ensures answer { result ≡ answer moment (found_room result) piece self.old.entries }
-        ensures list { self.new ≡ record self.old { entries = offered result self.old.capacity moment piece self.old.entries } }
+        ensures list { self.new ≡ record self.old {
+          entries = offered result self.old.capacity moment piece
+              self.old.entries;
+        } }
     {
         let held = Held {
             piece,
@@ -107,7 +112,8 @@ impl<H: BuildHasher + Drop, A: Allocator + Copy> Cache<H, A> {
     /// The entry of a slot, alive or dead; the order stays. `None` where the slot has none. It takes no
     /// memory. `held` says again what holds of all entries.
     pub fn peek(&self, slot: &Slot) -> Option<&Held<A>>
-        ensures found { MatchOption result (entry_of slot.now self.now.entries ≡ None) (λ held. entry_of slot.now self.now.entries ≡ Some held.now) }
+        ensures found { MatchOption result (entry_of slot.now self.now.entries ≡ None)
+            (λ held. entry_of slot.now self.now.entries ≡ Some held.now) }
         ensures held { AreHeld self.now }
     {
         self.entries.peek(slot)
@@ -143,9 +149,9 @@ impl<H: BuildHasher + Drop, A: Allocator + Copy> Cache<H, A> {
         self.entries.len()
     }
 
-    /// Whether a name error is held, alive or dead, of a name with so many octets, the zero octet at its end left out: where
-    /// none is, no look-up for one is needed. It takes no memory, and looks at no entry. `held` says again what holds of all
-    /// entries.
+    /// Whether a name error is held, alive or dead, of a name with so many octets, the zero octet at its end left out:
+    /// where none is, no look-up for one is needed. It takes no memory, and looks at no entry. `held` says again what
+    /// holds of all entries.
     pub fn has_name_error(&self, size: usize) -> bool
         ensures told { result ≡ has_name_error size self.now.entries }
         ensures held { AreHeld self.now }
@@ -153,9 +159,9 @@ impl<H: BuildHasher + Drop, A: Allocator + Copy> Cache<H, A> {
         self.tables.sizes.has(size)
     }
 
-    /// Whether some name error, alive or dead, may be of a name with this ending or of one above it: one whose name is short,
-    /// or has the same ending. Where none may, no look-up for one is needed. It takes no memory, and looks at no entry. `held`
-    /// says again what holds of all entries.
+    /// Whether some name error, alive or dead, may be of a name with this ending or of one above it: one whose name is
+    /// short, or has the same ending. Where none may, no look-up for one is needed. It takes no memory, and looks at no
+    /// entry. `held` says again what holds of all entries.
     pub fn may_deny(&self, ending: usize) -> bool
         ensures told { result ≡ may_deny_at ending self.now.entries }
         ensures held { AreHeld self.now }
@@ -164,9 +170,9 @@ impl<H: BuildHasher + Drop, A: Allocator + Copy> Cache<H, A> {
         endings.has(0) || endings.has(ending)
     }
 
-    /// Whether some entry of type CNAME, alive or dead, may be of a name with this ending: one whose owner has it too. Where
-    /// none may, no look-up for one is needed. It takes no memory, and looks at no entry. `held` says again what holds of all
-    /// entries.
+    /// Whether some entry of type CNAME, alive or dead, may be of a name with this ending: one whose owner has it too.
+    /// Where none may, no look-up for one is needed. It takes no memory, and looks at no entry. `held` says again what
+    /// holds of all entries.
     pub fn may_have_alias(&self, ending: usize) -> bool
         ensures told { result ≡ may_have_alias_at ending self.now.entries }
         ensures held { AreHeld self.now }
@@ -175,8 +181,8 @@ impl<H: BuildHasher + Drop, A: Allocator + Copy> Cache<H, A> {
     }
 }
 
-/// Puts an entry first, in place of its slot's or of the last one of a full cache. `false` where its slot has no entry and
-/// a growth was refused, and then nothing has changed.
+/// Puts an entry first, in place of its slot's or of the last one of a full cache. `false` where its slot has no entry
+/// and a growth was refused, and then nothing has changed.
 fn put_first<H: BuildHasher + Drop, A: Allocator + Copy>(
     entries: &mut LruCache<Slot, Held<A>, H, A>,
     tables: &mut Tables,
@@ -184,7 +190,8 @@ fn put_first<H: BuildHasher + Drop, A: Allocator + Copy>(
 ) -> bool
     requires { IsStored entries.old tables.old }
     ensures stored { IsStored entries.new tables.new }
-    ensures list { values_of entries.new.entries ≡ (if result then kept entries.old.cap held (values_of entries.old.entries) else values_of entries.old.entries) }
+    ensures list { values_of entries.new.entries ≡ (if result
+        then kept entries.old.cap held (values_of entries.old.entries) else values_of entries.old.entries) }
     ensures capacity { entries.new.cap ≡ entries.old.cap }
     ensures room { result || has_slot held.piece.slot (values_of entries.old.entries) ≡ result }
 {

@@ -10,8 +10,8 @@ use dns_name::NameKey;
 /// How many octets an ending is made of.
 const LAST: usize = 8;
 
-/// The ending of the name of a key: 0 where its octets are fewer than eight, else 1 and the rest by 251 of the last eight as
-/// one number. `Cache::may_deny` and `Cache::may_have_alias` are asked by it. It takes no memory.
+/// The ending of the name of a key: 0 where its octets are fewer than eight, else 1 and the rest by 251 of the last
+/// eight as one number. `Cache::may_deny` and `Cache::may_have_alias` are asked by it. It takes no memory.
 pub fn key_ending(key: &NameKey) -> usize
     ensures ending { result ≡ ending key.now }
     ensures few { result < 256 }

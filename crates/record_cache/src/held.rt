@@ -30,8 +30,8 @@ impl<A: Allocator> Model for Held<A> {
 }
 
 impl<A: Allocator> Held<A> {
-    /// Whether the entry is alive at a moment, in milliseconds: that is before its lifetime, in seconds, has passed since
-    /// it was accepted (RFC 1035 3.2.1). It takes no memory.
+    /// Whether the entry is alive at a moment, in milliseconds: that is before its lifetime, in seconds, has passed
+    /// since it was accepted (RFC 1035 3.2.1). It takes no memory.
     pub fn is_alive(&self, moment: u64) -> bool
         ensures { result ≡ is_alive moment self.now }
     {

@@ -1,5 +1,5 @@
-//! What is kept of the pieces of replies: entries with the moments at which they were accepted, of different slots and no
-//! more than the capacity. A full cache drops the one that was used least recently.
+//! What is kept of the pieces of replies: entries with the moments at which they were accepted, of different slots and
+//! no more than the capacity. A full cache drops the one that was used least recently.
 #![tactic(auto)]
 
 mod cache;

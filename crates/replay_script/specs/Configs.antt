@@ -11,7 +11,8 @@ use Rattle.replay_script.specs.declared.fault.ReplayFault.TheVariants.{Config, L
 -- octets that are refused for a fault: the first fault of their text, or the position behind all that is text
 abbrev pub IsRefused : List ℕ → ConfigFault → Type 0
 IsRefused octets fault =
-    (IsUtf8 octets × IsReadIn octets (Err fault)) ⊎ ((¬ IsUtf8 octets) × (fault ≡ Toml (position_of (take (utf8_valid_len octets) octets))))
+    (IsUtf8 octets × IsReadIn octets (Err fault)) ⊎ ((¬ IsUtf8 octets)
+    × (fault ≡ Toml (position_of (take (utf8_valid_len octets) octets))))
 
 -- why octets give no configuration
 abbrev pub IsFaultOf : List ℕ → ReplayFault → Type 0

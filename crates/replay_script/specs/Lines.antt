@@ -1,5 +1,6 @@
 -- Event lines, read as moments and events.
-use Rattle.std.specs.Prelude.{◌≡◌, ℕ, ◌^◌, Bool, true, false, ◌==◌, ◌&&◌, nat_lt, nat_le, if◌then◌else◌, List, [], length, codes, Option, Some, None, Result, Ok, Err}
+use Rattle.std.specs.Prelude.{◌≡◌, ℕ, ◌^◌, Bool, true, false, ◌==◌, ◌&&◌, nat_lt, nat_le, if◌then◌else◌, List, []}
+use Rattle.std.specs.Prelude.{length, codes, Option, Some, None, Result, Ok, Err}
 use Rattle.std.specs.List.{list_all, position_or_len, before_first, after_first}
 use Rattle.std.specs.Char.{is_ascii_digit}
 use Rattle.std.specs.Str.{bytes_eq, is_utf8}
@@ -49,7 +50,8 @@ is_space octet = octet == 32
 
 -- the first field, and what stands behind the space after it
 unfoldable pub cut : List ℕ → Result (List ℕ × List ℕ) Refusal
-cut text = if nat_lt (position_or_len is_space text) (length text) then Ok (before_first is_space text, after_first is_space text) else Err Form
+cut text = if nat_lt (position_or_len is_space text) (length text)
+    then Ok (before_first is_space text, after_first is_space text) else Err Form
 
 -- 1 to so many digits, and nothing else
 abbrev pub is_numeral : ℕ → List ℕ → Bool
@@ -57,7 +59,8 @@ is_numeral most text = nat_lt 0 (length text) && (nat_le (length text) most && l
 
 -- a decimal number of 1 to so many digits that fits 64 bits
 unfoldable pub number_in : ℕ → List ℕ → Result ℕ Refusal
-number_in most text = if is_numeral most text then (if nat_lt (decimal_value text) (2 ^ 64) then Ok (decimal_value text) else Err Form) else Err Form
+number_in most text = if is_numeral most text then (if nat_lt (decimal_value text) (2 ^ 64) then Ok (decimal_value text)
+    else Err Form) else Err Form
 
 -- one that fits 16 bits
 abbrev pub port_from : ℕ → Result ℕ Refusal
@@ -75,21 +78,25 @@ decoded (Err fault) = Err Form
 
 -- hexadecimal digits of either case, or `-` for none; not the empty text
 unfoldable pub octets_in : List ℕ → Result (List ℕ) Refusal
-octets_in text = if bytes_eq text (codes "") then Err Form else (if bytes_eq text (codes "-") then Ok [] else decoded (decode_of text))
+octets_in text = if bytes_eq text (codes "") then Err Form else (if bytes_eq text (codes "-") then Ok []
+    else decoded (decode_of text))
 
 -- ---- events
 
 -- by UDP or over TCP, else none of the forms
 abbrev pub by_transport : {X : Type 0} → List ℕ → Result X Refusal → Result X Refusal → Result X Refusal
-by_transport transport udp tcp = if bytes_eq transport (codes "udp") then udp else (if bytes_eq transport (codes "tcp") then tcp else Err Form)
+by_transport transport udp tcp = if bytes_eq transport (codes "udp") then udp
+    else (if bytes_eq transport (codes "tcp") then tcp else Err Form)
 
 -- the path to a server: a port, or the number of a connection
 unfoldable pub path_in : List ℕ → List ℕ → Result Path Refusal
-path_in transport at = by_transport transport (port_in at >>= λ port. Ok (path.Udp port)) (number_in 20 at >>= λ number. Ok (path.Tcp number))
+path_in transport at = by_transport transport (port_in at >>= λ port. Ok (path.Udp port)) (number_in 20 at
+    >>= λ number. Ok (path.Tcp number))
 
 -- who asks: a peer, or the number of a connection
 unfoldable pub client_in : List ℕ → List ℕ → Result Client Refusal
-client_in transport from = by_transport transport (peer_in from >>= λ peer. Ok (client.Udp peer)) (number_in 20 from >>= λ number. Ok (client.Tcp number))
+client_in transport from = by_transport transport (peer_in from >>= λ peer. Ok (client.Udp peer)) (number_in 20 from
+    >>= λ number. Ok (client.Tcp number))
 
 -- a transport, who asks, octets
 unfoldable pub client_event_in : List ℕ → Result Event Refusal
@@ -122,14 +129,16 @@ failed_event_in text =
 abbrev pub event_of_kind : List ℕ → List ℕ → Result Event Refusal
 event_of_kind kind rest =
     if bytes_eq kind (codes "client") then client_event_in rest
-    else (if bytes_eq kind (codes "reply") then reply_event_in rest else (if bytes_eq kind (codes "failed") then failed_event_in rest else Err Form))
+    else (if bytes_eq kind (codes "reply") then reply_event_in rest
+    else (if bytes_eq kind (codes "failed") then failed_event_in rest else Err Form))
 
 unfoldable pub event_in : List ℕ → Result Event Refusal
 event_in text = cut text >>= λ first. event_of_kind first.0 first.1
 
 -- what happens, which is an event of a kind alone or of a kind with more
 unfoldable pub happening_in : List ℕ → Result Event Refusal
-happening_in text = if bytes_eq text (codes "tick") then Ok tick else (if bytes_eq text (codes "restart") then Ok restart else event_in text)
+happening_in text = if bytes_eq text (codes "tick") then Ok tick
+    else (if bytes_eq text (codes "restart") then Ok restart else event_in text)
 
 -- a moment in milliseconds, and what happens
 unfoldable pub moment_and_event_in : List ℕ → Result (ℕ × Event) Refusal

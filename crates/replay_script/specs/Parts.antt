@@ -28,7 +28,8 @@ pub record FollowsLines (script rest : List ℕ) (lines : List (List ℕ)) : Typ
 pub record AreParts (script config events : List ℕ) : Type 0 where
   pub lines : List (List ℕ)
   pub config_is : config ≡ flat_map ended lines
-  pub follows : FollowsLines script (separator ++ 10 ∷ events) lines ⊎ (FollowsLines script separator lines × (events ≡ []))
+  pub follows : FollowsLines script (separator ++ 10 ∷ events) lines
+      ⊎ (FollowsLines script separator lines × (events ≡ []))
 
 -- No line separates.
 pub record HasOnePart (script : List ℕ) : Type 0 where

@@ -4,7 +4,9 @@ ghost use Rattle.std.specs.Prelude.{◌≡◌, ◌≤◌, Ok, IfErr, IfOk};
 ghost use Rattle.std.specs.List.{list_all};
 ghost use Rattle.std.specs.Char.{is_ascii_digit};
 ghost use Rattle.step_values.specs.Values.{event_of};
-ghost use Rattle.replay_script.specs.Lines.{Gives, Shows, IsLineFault, cut, read_of, is_numeral, number_in, port_in, peer_in, octets_in, path_in, client_in, client_event_in, reply_event_in, failed_event_in, event_in, happening_in, moment_and_event_in, line_in};
+ghost use Rattle.replay_script.specs.Lines.{Gives, Shows, IsLineFault, cut, read_of, is_numeral, number_in, port_in};
+ghost use Rattle.replay_script.specs.Lines.{peer_in, octets_in, path_in, client_in, client_event_in, reply_event_in};
+ghost use Rattle.replay_script.specs.Lines.{failed_event_in, event_in, happening_in, moment_and_event_in, line_in};
 ghost use Rattle.replay_script.specs.declared.events.Refusal.TheVariants.{Memory};
 ghost use Rattle.replay_script.specs.Words.{words_of};
 

@@ -56,7 +56,8 @@ pub fn parts(script: &[u8]) -> Option<(&[u8], &[u8])>
 
 /// The first line, and what stands behind its line feed; `None` where there is no line feed.
 fn first_line(text: &[u8]) -> Option<(&[u8], &[u8])>
-    ensures some { IfSome result (λ cut. (list_any is_feed cut.0.now ≡ false) × (text.now ≡ ended cut.0.now ++ cut.1.now)) }
+    ensures some { IfSome result (λ cut. (list_any is_feed cut.0.now ≡ false)
+        × (text.now ≡ ended cut.0.now ++ cut.1.now)) }
     ensures none { IfNone result (list_any is_feed text.now ≡ false) }
 {
     let end = first_feed(text)?;
@@ -70,8 +71,8 @@ fn first_feed(text: &[u8]) -> Option<usize>
     text.iter().position(|octet| *octet == b'\n')
 }
 
-/// The configuration in these octets; octets that are no UTF-8 are no TOML. `heap` is for the reading of TOML, `alloc` for
-/// all else. `Config` where the configuration is refused, `Memory` where memory ran out.
+/// The configuration in these octets; octets that are no UTF-8 are no TOML. `heap` is for the reading of TOML, `alloc`
+/// for all else. `Config` where the configuration is refused, `Memory` where memory ran out.
 pub fn config_in<A: Allocator + Copy>(
     heap: Global,
     alloc: A,

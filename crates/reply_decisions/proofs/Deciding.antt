@@ -3,6 +3,7 @@ use Rattle.std.proofs.Common.{◌≡◌, ℕ, ◌+◌, List, [], ◌∷◌, ◌+
 use Rattle.std.specs.Prelude.{filter, map, not, drop, slice_set, nat_lt, IsSome, Box}
 use Rattle.std.specs.List.{cons_option, filter_map, AllByRecursion}
 use Rattle.std.proofs.lemmas.Bool.{cond-true, cond-false}
+use Rattle.std.proofs.lemmas.List.{append-nil}
 use Rattle.dns_message.specs.Values.{Question}
 use Rattle.suffix_routes.specs.declared.peer.Peer.{Peer}
 use Rattle.suffix_routes.specs.Values.{Config}
@@ -29,7 +30,7 @@ use Rattle.step_actions.specs.declared.decision.Sending.{Sending}
 use Rattle.reply_decisions.specs.Fates.{Becomes, reply_of, onward_in, Become}
 use Rattle.reply_decisions.proofs.Becoming.{replies_are, waiting_are}
 use Rattle.step_actions.specs.Decision.{left_waiting, with_preferred, without_closed, closed_path, closing_path, changed, gives_from, told_from, left_or_sent, with_reply, with_replies}
-use Rattle.step_table.proofs.CallerLemmas.{ask_on-is, append_nil}
+use Rattle.step_table.proofs.CallerLemmas.{ask_on-is}
 
 -- one more action
 pub pushed : (A : Type 0) (owned : List (OwnedAction A)) (last : OwnedAction A) (actions : List Action) (action : Action) → actions_of owned ≡ actions → action_of last ≡ action → actions_of (owned ++ last ∷ []) ≡ actions ++ action ∷ []
@@ -53,7 +54,7 @@ one_more (Some a) [] rest = refl
 one_more (Some a) (b ∷ actions) rest = ap (λ ys. b ∷ ys) (one_more (Some a) actions rest)
 
 pub with_replies-is : (fate : Waiting → Fate) (actions : List Action) (xs : List Waiting) → with_replies fate actions xs ≡ actions ++ replies (map fate xs)
-with_replies-is fate actions [] = sym (append_nil actions)
+with_replies-is fate actions [] = sym (append-nil actions)
 with_replies-is fate actions (x ∷ xs) = with_replies-is fate (with_reply actions (reply_in (fate x))) xs ∙ one_more (reply_in (fate x)) actions (replies (map fate xs))
 
 -- a fate by which those that wait for the question wait no more
@@ -89,10 +90,10 @@ closed_is A n path s a fate preferred actions on told frees = λ i. record {
     path_is = (ask_on-is (λ b. Unit {0}) path s.asks a on (always s.asks)).0
 
     actions_are : actions ≡ closes a.path ∷ (replies (map fate s.waiting) ++ [])
-    actions_are = told ∙ with_replies-is fate (closes a.path ∷ []) s.waiting ∙ ap (λ ys. closes a.path ∷ ys) (sym (append_nil (replies (map fate s.waiting))))
+    actions_are = told ∙ with_replies-is fate (closes a.path ∷ []) s.waiting ∙ ap (λ ys. closes a.path ∷ ys) (sym (append-nil (replies (map fate s.waiting))))
 
     asks_are : without_path path s.asks ≡ without_path a.path s.asks ++ []
-    asks_are = ap (λ (p : Path). without_path p s.asks) (sym path_is) ∙ sym (append_nil (without_path a.path s.asks))
+    asks_are = ap (λ (p : Path). without_path p s.asks) (sym path_is) ∙ sym (append-nil (without_path a.path s.asks))
 
     waiting_is : left_waiting (ask_on path s.asks) s.waiting ≡ still_waiting (map fate s.waiting)
     waiting_is = ap (λ (r : Option Ask). left_waiting r s.waiting) on ∙ sym (left_by_filter a.question fate frees s.waiting)
@@ -175,8 +176,8 @@ expired_is A n s x others alone first = λ i. record {
 }
   where
     asks_are : (o : Option Ask) → without_closed (closed_path o) s.asks ≡ Rattle.step_table.specs.Steps.without_ask o s.asks ++ []
-    asks_are None = sym (append_nil s.asks)
-    asks_are (Some a) = sym (append_nil (without_path a.path s.asks))
+    asks_are None = sym (append-nil s.asks)
+    asks_are (Some a) = sym (append-nil (without_path a.path s.asks))
 
     waiting_is : drop 1 s.waiting ≡ still_waiting (map (λ y. waits y) others)
     waiting_is = ap (drop 1) first ∙ sym (all_wait others)

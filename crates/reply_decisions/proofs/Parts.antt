@@ -31,10 +31,6 @@ next_onward os more b rest left o rest_is put is =
     ap (λ (zs : List (Option Onward)). zs ++ map onward_in left) put ∙ append_assoc os (o ∷ []) (map onward_in left)
     ∙ ap (λ (r : Option Onward). os ++ r ∷ map onward_in left) (sym is) ∙ ap (λ (bs : List Becomes). os ++ map onward_in bs) (sym rest_is)
 
-pub nothing_in : {X : Type 0} (xs : List X) → length xs ≡ 0 → xs ≡ []
-nothing_in [] e = refl
-nothing_in (x ∷ xs) e = absurd (omega (arith, e))
-
 -- ---- what the first wants
 
 pub passed_over : {A : Type 0} (items : List (OwnFate A)) (i : ℕ) (f : OwnFate A) → i < length items → f ≡ get_or items i f → onward_in (becomes f) ≡ None → first_wanted (map becomes (drop (i + 1) items)) ≡ first_wanted (map becomes (drop i items))

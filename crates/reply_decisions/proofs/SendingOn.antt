@@ -3,9 +3,10 @@ use Rattle.std.proofs.Common.{◌≡◌, ℕ, ◌^◌, ◌≤◌, List, [], ◌�
 use Rattle.std.specs.Prelude.{filter, is_some, map}
 use Rattle.std.specs.List.{flat_map, AllByRecursion}
 use Rattle.std.proofs.lemmas.Bool.{cond-true, cond-false}
+use Rattle.std.proofs.lemmas.Simd.{map-map}
 use Rattle.dns_message.specs.Values.{Question}
 use Rattle.suffix_routes.specs.Values.{Config}
-use Rattle.outstanding.specs.Lists.{of_question, on_path as ask_on, without_path, AreListed}
+use Rattle.outstanding.specs.Lists.{of_question, on_path as ask_on, without_path}
 use Rattle.outstanding.specs.Values.{Ask, Inquiries}
 use Rattle.trust_rank.specs.declared.slot.Slot.{Slot}
 use Rattle.trust_rank.specs.Values.{Piece, End, elsewhere, Walk}
@@ -54,14 +55,10 @@ fate_then q fate (Some wanted) None = unless_no_port fate q
 
 -- ---- without a port
 
-twice : (f : Fate → Fate) (g : Waiting → Fate) (xs : List Waiting) → map f (map g xs) ≡ map (λ x. f (g x)) xs
-twice f g [] = refl
-twice f g (x ∷ xs) = ap (λ (ys : List Fate). f (g x) ∷ ys) (twice f g xs)
-
 no_port_of : (q : Question) (fate : Waiting → Fate) (xs : List Waiting)
     → map without_port (map fate (filter (waits_for q) xs)) ≡ map (unless_no_port fate q) (filter (waits_for q) xs)
 no_port_of q fate xs =
-    twice without_port fate (filter (waits_for q) xs)
+    map-map without_port fate (filter (waits_for q) xs)
     ∙ same_fates (waits_for q) (λ x. without_port (fate x)) (unless_no_port fate q)
     (λ x t. sym (cond-true (waits_for q x) _ _ t)) xs
 
@@ -194,7 +191,7 @@ module _ (n : ℕ) (behind : Waiting → Fate) (holds : Holds (IsEarlier n) behi
   then_holds None next are = all_hold (IsEarlier n) behind holds xs told count own are
   then_holds (Some q) (Some next) are = all_hold (IsEarlier n) behind holds xs told count own are
   then_holds (Some q) None are = all_hold (IsEarlier n) (λ x. without_port (behind x))
-      (no_port_holds (IsEarlier n) behind) xs told count own (are ∙ twice without_port behind xs)
+      (no_port_holds (IsEarlier n) behind) xs told count own (are ∙ map-map without_port behind xs)
 
   earlier_then : (o : Option Onward) → IsHeld (IsEarlier n) o → IsSentEarlier n o
   earlier_then None is = tt
@@ -250,7 +247,7 @@ asked_new q listed [] e = absurd (cc)
 asked_new q listed (y ∷ ys) e = new_of q listed y.wanted (of_question y.wanted listed) refl e
 
 module _ (c : Config) (n : ℕ) (words : List ℕ) (a : Ask) (e : Cache) (i : Inquiries) (ws : List Waiting) (ps : List ℕ)
-    (m k : ℕ) (kept : IsKeptForwarder c e i ws ps m k) (are : AreListed i) (later : m ≤ n) (small : n ≤ 2 ^ 62)
+    (m k : ℕ) (kept : IsKeptForwarder c e i ws ps m k) (later : m ≤ n) (small : n ≤ 2 ^ 62)
     (on : ask_on a.path i.asks ≡ Some a) where
   abbrev now : State
   now = record { cache = e; asks = i.asks; waiting = ws; preferred = ps; moment = m; tcp_asks = k }
@@ -267,7 +264,7 @@ module _ (c : Config) (n : ℕ) (words : List ℕ) (a : Ask) (e : Cache) (i : In
   by_route q next new None none is = absurd (cc)
   by_route q next new (Some route) there is =
       first_follows c n words q route (closing_state a now) left ps next kept_then refl there later small new
-      (let fewer = without_shorter a.path i.asks a on in let few = are.few in let capacity = kept.capacity in omega
+      (let fewer = without_shorter a.path i.asks a on in let few = kept.listed.few in let capacity = kept.capacity in omega
       (arith, fewer, few, capacity)) (sym is)
 
   by_asked : (asked : Option Question) (next : Ask) → ((q : Question) → asked ≡ Some q

@@ -1,8 +1,8 @@
 -- Which item a tick serves first.
-use Rattle.std.proofs.Common.{◌≡◌, ℕ, List, [], ◌∷◌, Bool, true, false, refl, sym, ap, ◌∙◌, Option, Some, None}
-use Rattle.std.specs.Prelude.{nat_le, slice_get, drop, ◌||◌}
+use Rattle.std.proofs.Common.{◌≡◌, ℕ, List, [], ◌∷◌, true, false, sym, ap, ◌∙◌, Option, Some, None}
+use Rattle.std.specs.Prelude.{nat_le, slice_get, drop}
 use Rattle.std.specs.List.{list_any}
-use Rattle.std.proofs.lemmas.Bool.{cond-true, cond-false, false≢true}
+use Rattle.std.proofs.lemmas.Bool.{cond-true, cond-false, or_parts}
 use Rattle.suffix_routes.specs.Values.{Config}
 use Rattle.outstanding.specs.Values.{Ask}
 use Rattle.dns_message.specs.Values.{Question}
@@ -52,26 +52,18 @@ tick_attempt_first c n words s x xs a first there f =
 pub oldest_on : (asks : List Ask) (a : Ask) → slice_get asks 0 ≡ Some a → ask_on a.path asks ≡ Some a
 oldest_on asks a there = let head = head_is asks a there in ap (ask_on a.path) head.1 ∙ cond-true (same_path a.path a.path) _ _ (same_path_reflexive a.path)
 
-pub or_right : (a b : Bool) → (a || b) ≡ false → b ≡ false
-or_right true b e = absurd (false≢true (sym e))
-or_right false b e = e
-
-pub or_left : (a b : Bool) → (a || b) ≡ false → a ≡ false
-or_left true b e = absurd (false≢true (sym e))
-or_left false b e = refl
-
 -- where nothing is due, the oldest question isn't
 pub no_question_due : (c : Config) (n : ℕ) (s : State) (x : Waiting) → slice_get s.waiting 0 ≡ Some x → is_due_at c n s ≡ false → nat_le (deadline_of c x) n ≡ false
 no_question_due c n s x there none =
-    or_left (nat_le (deadline_of c x) n) (list_any (λ (y : Waiting). nat_le (deadline_of c y) n) (drop 1 s.waiting))
-    (sym (ap (list_any (λ (y : Waiting). nat_le (deadline_of c y) n)) (rest_is s.waiting x there)) ∙ or_left (list_any (λ (y : Waiting). nat_le (deadline_of c y) n) s.waiting) (list_any (λ (a : Ask). nat_le (timeout_of c a) n) s.asks) none)
+    (or_parts (nat_le (deadline_of c x) n) (list_any (λ (y : Waiting). nat_le (deadline_of c y) n) (drop 1 s.waiting))
+    (sym (ap (list_any (λ (y : Waiting). nat_le (deadline_of c y) n)) (rest_is s.waiting x there)) ∙ (or_parts (list_any (λ (y : Waiting). nat_le (deadline_of c y) n) s.waiting) (list_any (λ (a : Ask). nat_le (timeout_of c a) n) s.asks) none).0)).0
 
 -- and the oldest ask isn't
 pub no_ask_due : (c : Config) (n : ℕ) (s : State) (a : Ask) → slice_get s.asks 0 ≡ Some a → is_due_at c n s ≡ false → nat_le (timeout_of c a) n ≡ false
 no_ask_due c n s a there none =
     let head = head_is s.asks a there in
-    or_left (nat_le (timeout_of c a) n) (list_any (λ (b : Ask). nat_le (timeout_of c b) n) head.0)
-    (sym (ap (list_any (λ (b : Ask). nat_le (timeout_of c b) n)) head.1) ∙ or_right (list_any (λ (x : Waiting). nat_le (deadline_of c x) n) s.waiting) (list_any (λ (b : Ask). nat_le (timeout_of c b) n) s.asks) none)
+    (or_parts (nat_le (timeout_of c a) n) (list_any (λ (b : Ask). nat_le (timeout_of c b) n) head.0)
+    (sym (ap (list_any (λ (b : Ask). nat_le (timeout_of c b) n)) head.1) ∙ (or_parts (list_any (λ (x : Waiting). nat_le (deadline_of c x) n) s.waiting) (list_any (λ (b : Ask). nat_le (timeout_of c b) n) s.asks) none).1)).0
 
 -- the ask of a question for which no other waits
 pub alone_is : (q : Question) (others : List Waiting) (listed : List Ask) (o : Option Ask) → list_any (waits_for q) others ≡ false → of_question q listed ≡ o → closed_path o ≡ closed_path (left_alone q others listed)

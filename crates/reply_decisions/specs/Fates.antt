@@ -83,7 +83,8 @@ abbrev pub fate_behind : Config → ℕ → List Held → List Held → List (Li
 fate_behind c n entries aliases name x = fate_of c n x (looked_behind c n entries aliases name x)
 
 -- the look-up that goes on, with as many aliases as may still be taken
-pub record LooksOn (c : Config) (n : ℕ) (entries aliases : List Held) (name : List (List ℕ)) (x : Waiting) (l : Seen) : Type 0 where
+pub record LooksOn (c : Config) (n : ℕ) (entries aliases : List Held) (name : List (List ℕ)) (x : Waiting)
+    (l : Seen) : Type 0 where
   pub more : ℕ
   pub count : more + length (x.held ++ aliases) ≡ 8
   pub is : l ≡ seen_of (look_up c.routes n entries more [] (asked_at x.wanted name))

@@ -124,7 +124,6 @@ pub(crate) fn fail<'a, H: BuildHasher + Drop, A: Allocator + Copy>(
     requires on { ask_on path turn.now.state.asks ≡ Some ask.now }
     ensures decides { IfOk result (MeetsRow turn.now (λ _. row_of_failure turn.now ask.now failure)) }
 {
-    let _listed = turn.inquiries.by_path(path);
     let plan = plan(turn.config, ask);
     match after(&plan, failure) {
         Next::GiveUp => run_out(turn, path, ask),

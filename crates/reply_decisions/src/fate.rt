@@ -61,7 +61,8 @@ pub(crate) fn unless_sent<A: Allocator + Copy>(
     waiting: &Waiting<A>,
     fate: Fate<A>,
 ) -> Result<Fate<A>, AllocError>
-    ensures { IfOk result (λ told. fate_in waiting.now (becomes told) ≡ without_port (fate_in waiting.now (becomes fate))) }
+    ensures { IfOk result (λ told. fate_in waiting.now (becomes told)
+        ≡ without_port (fate_in waiting.now (becomes fate))) }
 {
     match fate {
         Fate::Reply(action) => Ok(Fate::Reply(action)),
@@ -77,7 +78,9 @@ fn answers<A: Allocator + Copy>(
     moment: u64,
 ) -> Result<Fate<A>, AllocError>
     requires { AllByRecursion (IsEarlier moment) (lent chain.now) }
-    ensures { IfOk result (λ fate. fate_in waiting.now (becomes fate) ≡ gets (sends Answered waiting.now (answer_of waiting.now.asked (lent chain.now) moment (transport_of waiting.now.client)))) }
+    ensures { IfOk result (λ fate. fate_in waiting.now (becomes fate)
+        ≡ gets (sends Answered waiting.now (answer_of waiting.now.asked (lent chain.now) moment
+        (transport_of waiting.now.client)))) }
 {
     let action = answer(alloc, &waiting.request(), chain, moment)?;
     Ok(Fate::Reply(action))
@@ -93,15 +96,16 @@ fn ends_without_server<A: Allocator + Copy>(
     name: &Name<A>,
 ) -> Result<Fate<A>, AllocError>
     requires { AllByRecursion (IsEarlier moment) (lent chain.now) }
-    ensures { IfOk result (λ fate. fate_in waiting.now (becomes fate) ≡ gets (without_server config.now moment waiting.now (lent chain.now) name.now)) }
+    ensures { IfOk result (λ fate. fate_in waiting.now (becomes fate)
+        ≡ gets (without_server config.now moment waiting.now (lent chain.now) name.now)) }
 {
     let is_denied = config.denies(name);
     let action = without_server(alloc, &waiting.request(), chain, is_denied, moment)?;
     Ok(Fate::Reply(action))
 }
 
-/// The question waits on with the aliases of this chain, of which there are at most eight, for this name, or gets its reply
-/// where no route serves the name.
+/// The question waits on with the aliases of this chain, of which there are at most eight, for this name, or gets its
+/// reply where no route serves the name.
 fn waits_on<A: Allocator + Copy>(
     alloc: A,
     config: &Config<A>,
@@ -113,7 +117,12 @@ fn waits_on<A: Allocator + Copy>(
     requires few { length (lent chain.now) ≤ 8 }
     requires earlier { AllByRecursion (IsEarlier moment) (lent chain.now) }
     ensures { IfOk result (λ fate. fate_in waiting.now (becomes fate)
-        ≡ fate_missed config.now moment waiting.now (record { held = lent chain.now; wanted = asked_at waiting.now.wanted name; met = missed; used = [] }) (route_of config.now name)) }
+        ≡ fate_missed config.now moment waiting.now (record {
+          held = lent chain.now;
+          wanted = asked_at waiting.now.wanted name;
+          met = missed;
+          used = [];
+        }) (route_of config.now name)) }
 {
     if config.serving_route_of(&name).is_none() {
         return ends_without_server(alloc, config, moment, waiting, chain, &name);
@@ -154,10 +163,13 @@ pub(crate) fn fate_of<A: Allocator + Copy>(
     requires own { AllByRecursion (IsEarlier moment) waiting.now.held }
     requires aliases { AllByRecursion (IsEarlier moment) lead.now.aliases.now }
     requires used { AllByRecursion (IsEarlier moment) looked.now.used }
-    requires few { looked.now.met ≡ LookUpEnd.Missed → length ((waiting.now.held ++ lead.now.aliases.now) ++ looked.now.used) ≤ 8 }
+    requires few { looked.now.met ≡ LookUpEnd.Missed
+        → length ((waiting.now.held ++ lead.now.aliases.now) ++ looked.now.used) ≤ 8 }
     ensures { (entries : List HeldValue) → (more : ℕ) → more + length (waiting.now.held ++ lead.now.aliases.now) ≡ 8
-        → looked.now ≡ seen_of (look_up config.now.routes moment entries more [] (asked_at waiting.now.wanted lead.now.name.now))
-        → IfOk result (λ fate. fate_in waiting.now (becomes fate) ≡ fate_behind config.now moment entries lead.now.aliases.now lead.now.name.now waiting.now) }
+        → looked.now ≡ seen_of (look_up config.now.routes moment entries more []
+        (asked_at waiting.now.wanted lead.now.name.now))
+        → IfOk result (λ fate. fate_in waiting.now (becomes fate)
+        ≡ fate_behind config.now moment entries lead.now.aliases.now lead.now.name.now waiting.now) }
 {
     let chain = chain_of(alloc, waiting.aliases(), lead.aliases, looked.used())?;
     match looked.met() {

@@ -11,7 +11,8 @@ ghost use Rattle.answer_builder.specs.Answers.{IsEarlier};
 ghost use Rattle.step_table.specs.Replies.{without_port};
 ghost use Rattle.step_table.specs.Steps.{replies};
 ghost use Rattle.step_values.specs.Values.{actions_of};
-ghost use Rattle.reply_decisions.specs.Fates.{becomes, fates_in, fate_behind, first_wanted, looked_behind, onward_in, reply_of, OneMore};
+ghost use Rattle.reply_decisions.specs.Fates.{becomes, fates_in, fate_behind, first_wanted, looked_behind, onward_in};
+ghost use Rattle.reply_decisions.specs.Fates.{reply_of, OneMore};
 
 use crate::fate::{AliasLead, Fate, fails, fate_of, unless_sent};
 use crate::looking_on::look_on;
@@ -43,8 +44,8 @@ impl<'a, A: Allocator> Model for Fates<'a, A> {
     ghost view = { λ f. record { each = map becomes f.each.items; used = lent f.used.items } };
 }
 
-/// What becomes of the questions that waited for a reply which leads on: each looks on at the name that it leads to, in the
-/// cache as it is, question by question, at this moment in milliseconds. `Err` where memory ran out.
+/// What becomes of the questions that waited for a reply which leads on: each looks on at the name that it leads to, in
+/// the cache as it is, question by question, at this moment in milliseconds. `Err` where memory ran out.
 pub fn fates_behind<'a, H: BuildHasher + Drop, A: Allocator + Copy>(
     alloc: A,
     cache: &'a Cache<H, A>,
@@ -56,9 +57,12 @@ pub fn fates_behind<'a, H: BuildHasher + Drop, A: Allocator + Copy>(
     requires entries { AllByRecursion (IsEarlier moment) cache.now.entries }
     requires aliases { AllByRecursion (IsEarlier moment) lead.now.aliases.now }
     requires own { AllByRecursion (λ x. AllByRecursion (IsEarlier moment) x.held) those.now }
-    ensures fates { IfOk result (λ f. fates_in those.now f.each ≡ map (fate_behind config.now moment cache.now.entries lead.now.aliases.now lead.now.name.now) those.now) }
+    ensures fates { IfOk result (λ f. fates_in those.now f.each
+        ≡ map (fate_behind config.now moment cache.now.entries lead.now.aliases.now lead.now.name.now) those.now) }
     ensures count { IfOk result (λ f. length f.each ≡ length those.now) }
-    ensures used { IfOk result (λ f. map (λ h. h.piece.slot) f.used ≡ flat_map (λ x. (looked_behind config.now moment cache.now.entries lead.now.aliases.now lead.now.name.now x).used) those.now) }
+    ensures used { IfOk result (λ f. map (λ h. h.piece.slot) f.used
+        ≡ flat_map (λ x. (looked_behind config.now moment cache.now.entries lead.now.aliases.now lead.now.name.now
+        x).used) those.now) }
 {
     let mut fates = Fates {
         each: Vec::with_capacity(alloc, those.len())?,
@@ -84,10 +88,14 @@ impl<'a, A: Allocator + Copy> Fates<'a, A> {
         requires own { AllByRecursion (IsEarlier moment) waiting.now.held }
         requires aliases { AllByRecursion (IsEarlier moment) lead.now.aliases.now }
         requires used { AllByRecursion (IsEarlier moment) looked.now.used }
-        requires few { looked.now.met ≡ LookUpEnd.Missed → length ((waiting.now.held ++ lead.now.aliases.now) ++ looked.now.used) ≤ 8 }
-        ensures fate { (entries : List HeldValue) → (more : ℕ) → more + length (waiting.now.held ++ lead.now.aliases.now) ≡ 8
-            → looked.now ≡ seen_of (look_up config.now.routes moment entries more [] (asked_at waiting.now.wanted lead.now.name.now))
-            → IfOk result (λ _. OneMore (fate_behind config.now moment entries lead.now.aliases.now lead.now.name.now) waiting.now self.old.each self.new.each) }
+        requires few { looked.now.met ≡ LookUpEnd.Missed
+            → length ((waiting.now.held ++ lead.now.aliases.now) ++ looked.now.used) ≤ 8 }
+        ensures fate { (entries : List HeldValue) → (more : ℕ)
+            → more + length (waiting.now.held ++ lead.now.aliases.now) ≡ 8
+            → looked.now ≡ seen_of (look_up config.now.routes moment entries more []
+            (asked_at waiting.now.wanted lead.now.name.now))
+            → IfOk result (λ _. OneMore (fate_behind config.now moment entries lead.now.aliases.now lead.now.name.now)
+            waiting.now self.old.each self.new.each) }
         ensures used { IfOk result (λ _. self.new.used ≡ self.old.used ++ looked.now.used) }
     {
         self.used.extend_from_slice(looked.used())?;
@@ -108,9 +116,13 @@ impl<'a, A: Allocator + Copy> Fates<'a, A> {
         requires entries { AllByRecursion (IsEarlier moment) cache.now.entries }
         requires aliases { AllByRecursion (IsEarlier moment) lead.now.aliases.now }
         requires own { AllByRecursion (IsEarlier moment) waiting.now.held }
-        ensures fate { IfOk result (λ _. OneMore (fate_behind config.now moment cache.now.entries lead.now.aliases.now lead.now.name.now) waiting.now self.old.each self.new.each) }
+        ensures fate { IfOk result (λ _. OneMore
+            (fate_behind config.now moment cache.now.entries lead.now.aliases.now lead.now.name.now) waiting.now
+            self.old.each self.new.each) }
         ensures used { IfOk result (λ _. map (λ h. h.piece.slot) self.new.used
-            ≡ map (λ h. h.piece.slot) self.old.used ++ (looked_behind config.now moment cache.now.entries lead.now.aliases.now lead.now.name.now waiting.now).used) }
+            ≡ map (λ h. h.piece.slot) self.old.used
+            ++ (looked_behind config.now moment cache.now.entries lead.now.aliases.now lead.now.name.now
+            waiting.now).used) }
     {
         match look_on(alloc, cache, config, moment, lead, waiting)? {
             None => {
@@ -130,10 +142,11 @@ impl<'a, A: Allocator + Copy> Fates<'a, A> {
         Ok(())
     }
 
-    /// What the first of those that are sent on wants to know, which all of them want; `None` exactly where none is sent on. It
-    /// takes no memory.
+    /// What the first of those that are sent on wants to know, which all of them want; `None` exactly where none is
+    /// sent on. It takes no memory.
     pub fn wanted(&self) -> Option<&Question<A>>
-        ensures { MatchOption result (first_wanted self.now.each ≡ None) (λ q. first_wanted self.now.each ≡ Some q.now) }
+        ensures { MatchOption result (first_wanted self.now.each ≡ None) (λ q. first_wanted self.now.each
+            ≡ Some q.now) }
     {
         for fate in &self.each {
             if let Fate::SentOn(sent_on) = fate {
@@ -150,7 +163,8 @@ impl<'a, A: Allocator + Copy> Fates<'a, A> {
         those: &WaitingFor<'_, A>,
     ) -> Result<Fates<'a, A>, AllocError>
         requires { length self.each ≡ length those.now }
-        ensures fates { IfOk result (λ f. fates_in those.now f.each ≡ map without_port (fates_in those.now self.entry.each)) }
+        ensures fates { IfOk result (λ f. fates_in those.now f.each
+            ≡ map without_port (fates_in those.now self.entry.each)) }
         ensures count { IfOk result (λ f. length f.each ≡ length those.now) }
         ensures used { IfOk result (λ f. f.used ≡ self.entry.used) }
     {
@@ -163,14 +177,15 @@ impl<'a, A: Allocator + Copy> Fates<'a, A> {
         Ok(Fates { each: told, used })
     }
 
-    /// Puts the replies last, and gives what each question is sent on with, if it is, and the slots that look-ups used, in
-    /// order. `Err` where memory ran out.
+    /// Puts the replies last, and gives what each question is sent on with, if it is, and the slots that look-ups used,
+    /// in order. `Err` where memory ran out.
     pub fn into_parts(
         self,
         alloc: A,
         actions: &mut PlainList<Action<A>, A>,
     ) -> Result<(Vec<Option<SentOn<A>>, A>, SlotsRef<'a, A>), AllocError>
-        ensures replies { IfOk result (λ parts. actions_of actions.new ≡ actions_of actions.old ++ filter_map reply_of self.entry.each) }
+        ensures replies { IfOk result (λ parts. actions_of actions.new
+            ≡ actions_of actions.old ++ filter_map reply_of self.entry.each) }
         ensures onward { IfOk result (λ parts. parts.0.items ≡ map onward_in self.entry.each) }
         ensures used { IfOk result (λ parts. parts.1 ≡ map (λ h. h.piece.slot) self.entry.used) }
     {

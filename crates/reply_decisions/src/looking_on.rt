@@ -12,8 +12,8 @@ use suffix_routes::Config;
 use trust_rank::MOST_ALIASES;
 use waiting_questions::Waiting;
 
-/// The look-up of what a question wants at the name that a reply leads on to, once it holds the aliases of the reply too;
-/// `None` where these are too many.
+/// The look-up of what a question wants at the name that a reply leads on to, once it holds the aliases of the reply
+/// too; `None` where these are too many.
 pub(crate) fn look_on<'a, H: BuildHasher + Drop, A: Allocator + Copy>(
     alloc: A,
     cache: &'a Cache<H, A>,
@@ -22,7 +22,8 @@ pub(crate) fn look_on<'a, H: BuildHasher + Drop, A: Allocator + Copy>(
     lead: &AliasLead<'_, A>,
     waiting: &Waiting<A>,
 ) -> Result<Option<LookUp<'a, A>>, AllocError>
-    ensures { IfOk result (λ looked. IfLooksOn config.now moment cache.now.entries lead.now.aliases.now lead.now.name.now waiting.now looked) }
+    ensures { IfOk result (λ looked. IfLooksOn config.now moment cache.now.entries lead.now.aliases.now
+        lead.now.name.now waiting.now looked) }
 {
     let count = waiting.aliases().len().saturating_add(lead.aliases.len());
     let Some(more) = MOST_ALIASES.checked_sub(count) else {

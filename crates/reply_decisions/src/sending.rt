@@ -5,7 +5,8 @@ ghost use Rattle.std.specs.List.{AllByRecursion};
 ghost use Rattle.outstanding.specs.Lists.{on_path as ask_on, of_question, without_path};
 ghost use Rattle.waiting_questions.specs.Values.{Waiting, waits_for};
 ghost use Rattle.step_table.specs.Attempts.{first_ask_for, preferred_on};
-ghost use Rattle.step_table.specs.Steps.{Fate, ask_list, asks, closing_step, offering_step, with_preferred_server, with_promoted};
+ghost use Rattle.step_table.specs.Steps.{Fate, ask_list, asks, closing_step, offering_step, with_preferred_server};
+ghost use Rattle.step_table.specs.Steps.{with_promoted};
 ghost use Rattle.step_table.specs.Replies.{row_of_acceptance};
 ghost use Rattle.step_values.specs.Values.{actions_of};
 ghost use Rattle.step_actions.specs.Decision.{MeetsRow, IfFollows, IsRouted, IsSentEarlier};
@@ -19,7 +20,7 @@ use crate::fate::AliasLead;
 use crate::fates::{Fates, fates_behind};
 use alias_chains::held_from;
 use dns_message::Question;
-use outstanding::{Ask, Path, draw};
+use outstanding::{Ask, Path, QuestionKey, draw};
 use plain_list::PlainList;
 use record_cache::Held;
 use std::alloc::{AllocError, Allocator};
@@ -105,7 +106,8 @@ fn is_asked_beside<'a, H: BuildHasher + Drop, A: Allocator + Copy>(
     requires { ask_on answered.now.path turn.now.state.asks ≡ Some answered.now }
     ensures { result ≡ is_some (of_question question.now (without_path answered.now.path turn.now.state.asks)) }
 {
-    match turn.inquiries.by_question(question) {
+    let key = QuestionKey::of(question);
+    match turn.inquiries.by_question(&key) {
         Some(open) => !open.path.is_same(answered.path),
         None => false,
     }
@@ -207,7 +209,6 @@ pub(crate) fn send_on<'a, H: BuildHasher + Drop, A: Allocator + Copy>(
     let End::Elsewhere(name) = end else {
         unreachable!();
     };
-    let _listed = turn.inquiries.by_path(answered.path);
     let walked = pieces.as_slice().len();
     let held = held_from(turn.alloc, pieces, authority, turn.moment)?;
     let those = turn.waiting.for_question(&answered.question);

@@ -7,7 +7,7 @@ ghost use Rattle.step_actions.specs.Decision.{closed_path, IsQuiet, MeetsRow};
 ghost use Rattle.step_table.specs.State.{turn};
 
 use crate::attempt::fail;
-use outstanding::{Ask, Path};
+use outstanding::{Ask, Path, QuestionKey};
 use retry_failover::Failure;
 use std::alloc::{AllocError, Allocator};
 use std::hash::BuildHasher;
@@ -28,7 +28,8 @@ fn left_alone<'a, H: BuildHasher + Drop, A: Allocator + Copy>(
     if turn.waiting.is_any_other_for(oldest.wanted()) {
         return None;
     }
-    match turn.inquiries.by_question(oldest.wanted()) {
+    let key = QuestionKey::of(oldest.wanted());
+    match turn.inquiries.by_question(&key) {
         Some(ask) => Some(ask.path),
         None => None,
     }

@@ -15,7 +15,8 @@ use Rattle.reply_match.specs.Questions.{asks_this}
 -- a reply to a standard query, with the ask's identifier, from its server
 abbrev pub is_reply : Ask → Peer → List ℕ → Bool
 is_reply ask from octets =
-    nat_le 12 (length octets) && nat_le (length octets) 65535 && (header_in octets).qr && ((header_in octets).opcode == 0) && ((header_in octets).id == ask.id)
+    nat_le 12 (length octets) && nat_le (length octets) 65535 && (header_in octets).qr
+    && ((header_in octets).opcode == 0) && ((header_in octets).id == ask.id)
     && same_peer from ask.peer
 
 -- such a reply, with the ask's question and no other (RFC 5452 9.1)
@@ -33,5 +34,6 @@ judge ask from octets =
     then
     if (header_in octets).tc
     then Truncated
-    else if ((header_in octets).rcode == 0) || ((header_in octets).rcode == 3) then judged_whole (message_of octets) else Failed (header_in octets).rcode
+    else if ((header_in octets).rcode == 0) || ((header_in octets).rcode == 3) then judged_whole (message_of octets)
+    else Failed (header_in octets).rcode
     else Stranger

@@ -44,7 +44,8 @@ pub fn judge<'a, A: Allocator>(ask: &Ask<A>, from: Peer, bytes: &'a [u8]) -> Jud
 /// told before its question is read.
 #[tactic(auto, unfolding(dns_message::specs::Header::header_of))]
 fn reply_header<A: Allocator>(ask: &Ask<A>, from: Peer, bytes: &[u8]) -> Option<Header>
-    ensures { MatchOption result (is_reply ask.now from bytes.now ≡ false) (λ header. (is_reply ask.now from bytes.now ≡ true) × (header ≡ header_in bytes.now)) }
+    ensures { MatchOption result (is_reply ask.now from bytes.now ≡ false)
+        (λ header. (is_reply ask.now from bytes.now ≡ true) × (header ≡ header_in bytes.now)) }
 {
     let header = Header::read(bytes)?;
     let is_reply = bytes.len() <= 65535

@@ -25,7 +25,8 @@ made plan GiveUp = None
 abbrev pub ask_of : Plan → Ask
 ask_of plan = record { server = plan.server; tcp = plan.tcp }
 
--- this ask and those that follow it where the asks fail so, one after the other; failures after the last ask are none of its
+-- this ask and those that follow it where the asks fail so, one after the other; failures after the last ask are none
+-- of its
 abbrev pub asks_from : Plan → List Failure → List Ask
 asks_from plan [] = ask_of plan ∷ []
 asks_from plan (failure ∷ failures) =

@@ -1,5 +1,6 @@
 -- A wire in memory: what it stores, and its script.
-use Rattle.std.specs.Prelude.{◌≡◌, ℕ, ◌+◌, ◌-◌, ◌^◌, ◌==◌, min, Bool, List, [], ◌∷◌, Option, Some, None, if◌then◌else◌, drop}
+use Rattle.std.specs.Prelude.{◌≡◌, ℕ, ◌+◌, ◌-◌, ◌^◌, ◌==◌, min, Bool, List, [], ◌∷◌, Option, Some, None, if◌then◌else◌}
+use Rattle.std.specs.Prelude.{drop}
 use Rattle.std.specs.List.{list_any}
 use Rattle.step_values.specs.declared.action.Action.{Action as OwnedAction}
 use Rattle.step_values.specs.Values.{action_of}
@@ -12,7 +13,8 @@ put_of p = record { action = action_of p.0; sent = p.1 }
 
 -- what is told, unless memory ran out before
 abbrev pub stored : Bool → List (Option Arrival) → List Put → List ℕ → List (List ℕ) → Option Told
-stored tells arrivals puts moments words = if tells then Some (record { arrivals = arrivals; puts = puts; moments = moments; words = words }) else None
+stored tells arrivals puts moments words =
+    if tells then Some (record { arrivals = arrivals; puts = puts; moments = moments; words = words }) else None
 
 -- ---- its script
 
@@ -25,9 +27,9 @@ pub record Turn : Type 0 where
 abbrev pub turn_of : {A : Type 0} → ScriptTurn A → Turn
 turn_of turn = record { arrival = arrival_of turn.arrival; moment = turn.moment; words = turn.words }
 
--- A wire in memory: what it tells, and how many faults it counted; the turns that have not begun; the moment and the words
--- of the turn that began last, before the first one of that one; the numbers of the calls of `arrival` and `put` that it
--- refuses, and how many such calls there were.
+-- A wire in memory: what it tells, and how many faults it counted; the turns that have not begun; the moment and the
+-- words of the turn that began last, before the first one of that one; the numbers of the calls of `arrival` and `put`
+-- that it refuses, and how many such calls there were.
 pub record Script : Type 0 where
   pub told : Option Told
   pub faults : ℕ
@@ -56,7 +58,11 @@ next_turn script = next_of script script.to_come
 
 -- the script once its next turn has begun
 abbrev pub begun : Script → Script
-begun script = record script { to_come = drop 1 script.to_come; moment = (next_turn script).moment; words = (next_turn script).words }
+begun script = record script {
+  to_come = drop 1 script.to_come;
+  moment = (next_turn script).moment;
+  words = (next_turn script).words;
+}
 
 -- whether the next call of `arrival` or `put` is refused
 abbrev pub refuses : Script → Bool

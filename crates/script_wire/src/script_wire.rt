@@ -4,7 +4,8 @@ ghost use Rattle.std.specs.Prelude.{◌≡◌, ◌+◌, ◌-◌, ◌<◌, ◌^�
 ghost use Rattle.step_values.specs.Values.{action_of};
 ghost use Rattle.wires.specs.Wire.{silence, TellsMore, arrival_of, given, arrived, was_put, moment_was, words_were};
 ghost use Rattle.wires.specs.Wire.Arrival.{nothing};
-ghost use Rattle.script_wire.specs.Scripts.{put_of, turn_of, next_turn, begun, calls_once, faults_once, refuses, standing, AllButTold};
+ghost use Rattle.script_wire.specs.Scripts.{put_of, turn_of, next_turn, begun, calls_once, faults_once, refuses};
+ghost use Rattle.script_wire.specs.Scripts.{standing, AllButTold};
 
 use std::alloc::{AllocError, Allocator, Global};
 use std::collections::VecDeque;
@@ -40,7 +41,8 @@ impl<A: Allocator> Model for Stored<A> {
 
     ghost Value = { Option Told };
 
-    ghost view = { λ s. stored s.tells (map given s.arrivals.items) (map put_of s.puts.items) s.moments.items s.words.items };
+    ghost view = { λ s. stored s.tells (map given s.arrivals.items)
+        (map put_of s.puts.items) s.moments.items s.words.items };
 }
 
 impl<A: Allocator + Copy> Stored<A> {
@@ -173,7 +175,8 @@ impl<A: Allocator + Copy> Stored<A> {
 /// The moment and the words of a wire of these turns before the first one begins.
 #[tactic(auto, using(crate::proofs::Storing::standing_some, crate::proofs::Storing::standing_none))]
 fn stands_at<A: Allocator>(turns: &[ScriptTurn<A>]) -> (u64, [u32; 8])
-    ensures { (result.0 ≡ (standing (map turn_of turns.now)).moment) × (result.1 ≡ (standing (map turn_of turns.now)).words) }
+    ensures { (result.0 ≡ (standing (map turn_of turns.now)).moment)
+        × (result.1 ≡ (standing (map turn_of turns.now)).words) }
 {
     match turns.first() {
         Some(turn) => (turn.moment, turn.words),
@@ -206,7 +209,15 @@ impl<A: Allocator> Model for ScriptWire<A> {
 
     ghost Value = { Script };
 
-    ghost view = { λ w. record { told = w.stored; faults = w.faults; to_come = map turn_of w.to_come.items; moment = w.moment; words = w.words; refuse = w.refuse.items; calls = w.calls } };
+    ghost view = { λ w. record {
+      told = w.stored;
+      faults = w.faults;
+      to_come = map turn_of w.to_come.items;
+      moment = w.moment;
+      words = w.words;
+      refuse = w.refuse.items;
+      calls = w.calls;
+    } };
 }
 
 impl<A: Allocator + Copy> ScriptWire<A> {
@@ -216,7 +227,8 @@ impl<A: Allocator + Copy> ScriptWire<A> {
         ensures told { result.told ≡ Some silence }
         ensures faults { result.faults ≡ 0 }
         ensures script { result.to_come ≡ map turn_of turns.items }
-        ensures stands { (result.moment ≡ (standing result.to_come).moment) × (result.words ≡ (standing result.to_come).words) }
+        ensures stands { (result.moment ≡ (standing result.to_come).moment)
+            × (result.words ≡ (standing result.to_come).words) }
         ensures refuses { (result.refuse ≡ refuse.items) × (result.calls ≡ 0) }
     {
         let (moment, words) = stands_at(turns.as_slice());
@@ -273,8 +285,10 @@ impl<A: Allocator + Copy> Wire<A> for ScriptWire<A> {
         ensures tells { TellsMore self.old.told (arrived (given result)) self.new.told }
         ensures faults { OnErr result (self.old.faults < self.new.faults) }
         ensures last { self.old.faults ≡ 2 ^ 64 - 1 → (given result ≡ Some nothing) × AllButTold self.old self.new }
-        ensures gives { self.old.faults < 2 ^ 64 - 1 → OnOk result ((given result ≡ Some (next_turn self.old).arrival) × (refuses self.old ≡ false) × AllButTold (calls_once (begun self.old)) self.new) }
-        ensures refuses { OnErr result (AllButTold (faults_once (calls_once (begun self.old))) self.new × (refuses self.old ≡ false → self.new.told ≡ None)) }
+        ensures gives { self.old.faults < 2 ^ 64 - 1 → OnOk result ((given result ≡ Some (next_turn self.old).arrival)
+            × (refuses self.old ≡ false) × AllButTold (calls_once (begun self.old)) self.new) }
+        ensures refuses { OnErr result (AllButTold (faults_once (calls_once (begun self.old))) self.new
+            × (refuses self.old ≡ false → self.new.told ≡ None)) }
     {
         if self.faults == u64::MAX {
             let _ = self.stored.keep_arrival(&Arrival::Nothing);
@@ -299,8 +313,10 @@ impl<A: Allocator + Copy> Wire<A> for ScriptWire<A> {
         ensures tells { TellsMore self.old.told (was_put (action_of action.now) (is_ok result)) self.new.told }
         ensures faults { OnErr result (self.old.faults < self.new.faults) }
         ensures last { self.old.faults ≡ 2 ^ 64 - 1 → (is_ok result ≡ true) × AllButTold self.old self.new }
-        ensures takes { self.old.faults < 2 ^ 64 - 1 → OnOk result ((refuses self.old ≡ false) × AllButTold (calls_once self.old) self.new) }
-        ensures refuses { OnErr result (AllButTold (faults_once (calls_once self.old)) self.new × (refuses self.old ≡ false → self.new.told ≡ None)) }
+        ensures takes { self.old.faults < 2 ^ 64 - 1 → OnOk result ((refuses self.old ≡ false)
+            × AllButTold (calls_once self.old) self.new) }
+        ensures refuses { OnErr result (AllButTold (faults_once (calls_once self.old)) self.new
+            × (refuses self.old ≡ false → self.new.told ≡ None)) }
     {
         if self.faults == u64::MAX {
             let _ = self.stored.keep_put(action, true);

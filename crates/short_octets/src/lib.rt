@@ -6,8 +6,8 @@ ghost use Rattle.std.specs.Prelude.{◌≡◌, ◌≤◌, [], length, IfOk, IsOk
 use std::alloc::{AllocError, Allocator, Global};
 use std::marker::Model;
 
-/// So many octets lie in place: with their number and the mark of the place they take as much as a vector on the heap, in
-/// whole words.
+/// So many octets lie in place: with their number and the mark of the place they take as much as a vector on the heap,
+/// in whole words.
 const FEW: usize = 30;
 
 /// Octets in place, as many as `len` says.

@@ -16,16 +16,19 @@ use Rattle.socket_wire.specs.Rounds.{IsBegun}
 
 -- with a place for one client more: where there are 1,024, the oldest that waits for nothing goes
 abbrev pub with_place : {A : Type 0} → Connections A → Connections A
-with_place before = if nat_lt (length before.clients) 1024 then before else without_first (first_idle before.clients) before
+with_place before = if nat_lt (length before.clients) 1024 then before
+    else without_first (first_idle before.clients) before
 
 -- A connection is listed under the next number, which was never given before.
-pub record IsTakenIn {A : Type 0} (number now : ℕ) (before : Connections A) (next : ℕ) (after : Connections A) : Type 0 where
+pub record IsTakenIn {A : Type 0} (number now : ℕ) (before : Connections A) (next : ℕ)
+    (after : Connections A) : Type 0 where
   pub given : next ≡ number + 1
   pub listed : Admits number now before.clients after.clients
   pub rest : after ≡ record before { clients = after.clients; has_room = after.has_room }
 
 -- No connection is listed.
-pub record IsLeftOut {A : Type 0} (number : ℕ) (before : Connections A) (next : ℕ) (after : Connections A) : Type 0 where
+pub record IsLeftOut {A : Type 0} (number : ℕ) (before : Connections A) (next : ℕ)
+    (after : Connections A) : Type 0 where
   pub above : number ≤ next
   pub below : next ≤ number + 1
   pub rest : after ≡ record before { has_room = after.has_room }
@@ -35,7 +38,8 @@ abbrev pub Comes : {A : Type 0} → (number now : ℕ) → Connections A → (ne
 Comes number now before next after = IsTakenIn number now before next after ⊎ IsLeftOut number before next after
 
 -- A client's connection comes to the sockets. Where there are 1,024 and each waits for something, nothing changes.
-pub record TakesIn {R A Streams Listeners : Type 0} (now : ℕ) (before after : Sockets R A Streams Listeners) : Type 0 where
+pub record TakesIn {R A Streams Listeners : Type 0} (now : ℕ)
+    (before after : Sockets R A Streams Listeners) : Type 0 where
   pub full : 1024 ≤ length before.connections.clients → first_idle before.connections.clients ≡ None → after ≡ before
   pub comes : Comes before.numbers.next now (with_place before.connections) after.numbers.next after.connections
   pub rest : after ≡ record before { connections = after.connections; numbers = after.numbers }
@@ -75,7 +79,13 @@ told (Client conn) = ClientClosed conn
 told (Server conn) = PathGone (path.Tcp conn)
 
 -- The end that is to be told next arrives, if there is one; nothing else changes then.
-pub record TellsEnd {R A Streams Listeners : Type 0} (result : Result (Arrival A) AllocError) (before after : Sockets R A Streams Listeners) : Type 0 where
+pub record TellsEnd {R A Streams Listeners : Type 0} (result : Result (Arrival A) AllocError)
+    (before after : Sockets R A Streams Listeners) : Type 0 where
   pub tells : (ended : Closed) → slice_get before.connections.closed 0 ≡ Some ended → result ≡ Ok (told ended)
   pub once : 0 < length before.connections.closed
-      → after ≡ record before { connections = record before.connections { closed = drop 1 before.connections.closed; has_room = after.connections.has_room } }
+      → after ≡ record before {
+        connections = record before.connections {
+          closed = drop 1 before.connections.closed;
+          has_room = after.connections.has_room;
+        };
+      }

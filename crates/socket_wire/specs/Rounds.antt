@@ -24,7 +24,8 @@ first_of None tokens = slice_get tokens 0
 
 -- the token behind the one that was tried last; behind the last of them the first
 abbrev pub next_token : ℕ → List ℕ → Option ℕ
-next_token last tokens = first_of (slice_get (filter (range_contains nat_cmp (Included (min (last + 1) (2 ^ 64 - 1))) Unbounded) tokens) 0) tokens
+next_token last tokens = first_of (slice_get
+    (filter (range_contains nat_cmp (Included (min (last + 1) (2 ^ 64 - 1))) Unbounded) tokens) 0) tokens
 
 -- A token is no longer among those of a round.
 pub record Loses {A : Type 0} (token : ℕ) (before after : Round A) : Type 0 where
@@ -34,24 +35,29 @@ pub record Loses {A : Type 0} (token : ℕ) (before after : Round A) : Type 0 wh
 -- A token is among those of a round, unless memory ran out; then nothing has changed.
 pub record Gains {A : Type 0} (token : ℕ) (before after : Round A) : Type 0 where
   pub last : after.last ≡ before.last
-  pub tokens : (after.tokens.keys ≡ insert_key nat_cmp before.tokens.keys token) ⊎ (after.tokens.keys ≡ before.tokens.keys)
+  pub tokens : (after.tokens.keys ≡ insert_key nat_cmp before.tokens.keys token)
+      ⊎ (after.tokens.keys ≡ before.tokens.keys)
 
 -- A round gives the next one, which is the last that was tried then.
 pub record Gives {A : Type 0} (given : Option Origin) (before after : Round A) : Type 0 where
   pub tried : after ≡ record before { last = unwrap_or (next_token before.last before.tokens.keys) before.last }
-  pub next : (origin : Origin) → HasToken origin → next_token before.last before.tokens.keys ≡ Some (token_of origin) → given ≡ Some origin
+  pub next : (origin : Origin) → HasToken origin → next_token before.last before.tokens.keys ≡ Some (token_of origin)
+      → given ≡ Some origin
   pub none : next_token before.last before.tokens.keys ≡ None → given ≡ None
 
 -- One round of the two has changed so.
 abbrev pub InStreams : {A : Type 0} → (Round A → Round A → Type 0) → Ready A → Ready A → Type 0
-InStreams Changes before after = Changes before.streams after.streams × (after.datagrams ≡ before.datagrams) × (after.servers ≡ before.servers)
+InStreams Changes before after = Changes before.streams after.streams × (after.datagrams ≡ before.datagrams)
+    × (after.servers ≡ before.servers)
 
 abbrev pub InServers : {A : Type 0} → (Round A → Round A → Type 0) → Ready A → Ready A → Type 0
-InServers Changes before after = Changes before.servers after.servers × (after.datagrams ≡ before.datagrams) × (after.streams ≡ before.streams)
+InServers Changes before after = Changes before.servers after.servers × (after.datagrams ≡ before.datagrams)
+    × (after.streams ≡ before.streams)
 
 -- Nothing may be ready.
 abbrev pub IsNothing : {A : Type 0} → Ready A → Type 0
-IsNothing ready = (ready.datagrams ≡ false) × (btree_set_len ready.streams.tokens ≡ 0) × (btree_set_len ready.servers.tokens ≡ 0)
+IsNothing ready = (ready.datagrams ≡ false) × (btree_set_len ready.streams.tokens ≡ 0)
+    × (btree_set_len ready.servers.tokens ≡ 0)
 
 -- As it begins only the socket for datagrams may be ready.
 pub record IsBegun {A : Type 0} (ready : Ready A) : Type 0 where
@@ -101,4 +107,5 @@ pub record FindsNow {A : Type 0} (given : Option Origin) (turn turn' : ℕ) (bef
 abbrev pub Finds : {A : Type 0} → (tries : ℕ) → Option Origin → (turn turn' : ℕ) → Ready A → Ready A → Type 0
 Finds zero given turn turn' before after = (given ≡ None) × (turn' ≡ turn) × (after ≡ before)
 Finds {A} (suc tries) given turn turn' before after =
-    FindsNow given turn turn' before after ⊎ ((between : Ready A) × (GivesOnTurn (turn % 4 + 1) None before between × Finds tries given (turn % 4 + 1) turn' between after))
+    FindsNow given turn turn' before after ⊎ ((between : Ready A)
+    × (GivesOnTurn (turn % 4 + 1) None before between × Finds tries given (turn % 4 + 1) turn' between after))

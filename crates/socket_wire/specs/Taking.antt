@@ -63,19 +63,23 @@ abbrev pub closed_if : {A : Type 0} → Bool → (Connections A → Connections 
 closed_if is_to_be close connections = if is_to_be then close connections else connections
 
 -- Taking of the client with this number. No other changes.
-pub record TakesClient {R A Streams Listeners : Type 0} (conn now : ℕ) (result : Result (Tried A) AllocError) (before after : Sockets R A Streams Listeners) : Type 0 where
+pub record TakesClient {R A Streams Listeners : Type 0} (conn now : ℕ) (result : Result (Tried A) AllocError)
+    (before after : Sockets R A Streams Listeners) : Type 0 where
   pub heard : Option Heard
   pub clients : List (ℕ × ClientStream A)
   pub serves : ServesOn conn heard now after.buffer.value before.connections.clients clients
   pub arrives : Arrives conn after.buffer.value heard result
-  pub closes : after.connections ≡ closed_if (is_closed_then heard (is_ok result)) (without_client conn) (record before.connections { clients = clients })
+  pub closes : after.connections ≡ closed_if (is_closed_then heard (is_ok result)) (without_client conn)
+      (record before.connections { clients = clients })
   pub rest : after ≡ record before { connections = after.connections; buffer = after.buffer }
 
--- What arrives of the server on the connection with this number: the octets that were read, unless memory ran out. Where it
--- sends nothing more, nothing does; nor where the stream failed, or would wait.
-abbrev pub ArrivesOf : {A : Type 0} → (conn : ℕ) (buffer : List ℕ) → Option (Peer × Result ℕ Error) → Result (Tried A) AllocError → Type 0
+-- What arrives of the server on the connection with this number: the octets that were read, unless memory ran out.
+-- Where it sends nothing more, nothing does; nor where the stream failed, or would wait.
+abbrev pub ArrivesOf : {A : Type 0} → (conn : ℕ) (buffer : List ℕ) → Option (Peer × Result ℕ Error)
+    → Result (Tried A) AllocError → Type 0
 ArrivesOf conn buffer (Some (from, Ok zero)) result = result ≡ Ok Served
-ArrivesOf conn buffer (Some (from, Ok (suc before_last))) (Ok tried) = tried ≡ Arrived (ServerStream conn from (take (suc before_last) buffer))
+ArrivesOf conn buffer (Some (from, Ok (suc before_last))) (Ok tried) =
+    tried ≡ Arrived (ServerStream conn from (take (suc before_last) buffer))
 ArrivesOf conn buffer (Some (from, Ok (suc before_last))) (Err _) = Unit {0}
 ArrivesOf conn buffer (Some (from, Err _)) result = (result ≡ Ok Nothing) ⊎ (result ≡ Ok Served)
 ArrivesOf conn buffer None result = result ≡ Ok Nothing
@@ -88,12 +92,14 @@ is_closed_by (Ok Nothing) = false
 is_closed_by (Err _) = true
 
 -- Taking of the server on the connection with this number. No other changes.
-pub record TakesServer {R A Streams Listeners : Type 0} (conn : ℕ) (result : Result (Tried A) AllocError) (before after : Sockets R A Streams Listeners) : Type 0 where
+pub record TakesServer {R A Streams Listeners : Type 0} (conn : ℕ) (result : Result (Tried A) AllocError)
+    (before after : Sockets R A Streams Listeners) : Type 0 where
   pub served : Option (Peer × Result ℕ Error)
   pub servers : List (ℕ × ServerConnection A)
   pub serves : ServesServer conn served after.buffer.value before.connections.servers servers
   pub arrives : ArrivesOf conn after.buffer.value served result
-  pub closes : after.connections ≡ closed_if (is_closed_by result) (without_server conn) (record before.connections { servers = servers })
+  pub closes : after.connections ≡ closed_if (is_closed_by result) (without_server conn)
+      (record before.connections { servers = servers })
   pub rest : after ≡ record before { connections = after.connections; buffer = after.buffer }
 
 -- the sockets of asks, without that at this port where its end is told
@@ -109,7 +115,8 @@ IsOfAsk port buffer Served = Unit {0}
 IsOfAsk port buffer Nothing = Unit {0}
 
 -- Taking of the socket of the ask at this port.
-pub record TakesAsk {R A Streams Listeners : Type 0} (port : ℕ) (result : Result (Tried A) AllocError) (before after : Sockets R A Streams Listeners) : Type 0 where
+pub record TakesAsk {R A Streams Listeners : Type 0} (port : ℕ) (result : Result (Tried A) AllocError)
+    (before after : Sockets R A Streams Listeners) : Type 0 where
   pub asks : after.asks.entries ≡ left_by port result before.asks.entries
   pub arrives : IfOk result (IsOfAsk port after.buffer.value)
   pub rest : after ≡ record before { asks = after.asks; buffer = after.buffer }

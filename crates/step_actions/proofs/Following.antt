@@ -137,8 +137,8 @@ pub server_within : (c : Config) (m k : ℕ) (path : Path) (asks : List Ask) (a 
 server_within c m k path asks a on all = Rattle.step_table.proofs.CallerLemmas.peer_within c a.route a.server a.peer (kept_of c m k path asks a on all).server
 
 -- the listed asks, with the room of the configuration
-pub listed_within : (c : Config) (e : Cache) (i : Inquiries) (ws : List Waiting) (ps : List ℕ) (m k : ℕ) → IsKeptForwarder c e i ws ps m k → AreListed i → AreListed (record { capacity = c.limits.inquiries; asks = i.asks })
-listed_within c e i ws ps m k kept are = subst (λ (n : ℕ). AreListed (record { capacity = n; asks = i.asks })) kept.capacity are
+pub listed_within : (c : Config) (e : Cache) (i : Inquiries) (ws : List Waiting) (ps : List ℕ) (m k : ℕ) → IsKeptForwarder c e i ws ps m k → AreListed (record { capacity = c.limits.inquiries; asks = i.asks })
+listed_within c e i ws ps m k kept = subst (λ (n : ℕ). AreListed (record { capacity = n; asks = i.asks })) kept.capacity kept.listed
 
 -- where another ask comes next, a try is left for it
 pub left_for : (plan : Plan) (f : Failure) → (after_failure plan f ≡ GiveUp → ⊥) → plan.used ≤ plan.tries → plan.used + 1 ≤ plan.tries
@@ -159,7 +159,7 @@ tcp_goes_on r server e gives = let bad : GiveUp ≡ AskTcp server = sym gives �
 pub more_left : (c : Config) (e : Cache) (i : Inquiries) (ws : List Waiting) (ps : List ℕ) (m k : ℕ) (path : Path) (a : Ask) (f : Failure) → IsKeptForwarder c e i ws ps m k → ask_on path i.asks ≡ Some a → (after_failure (plan_of c a) f ≡ GiveUp → ⊥) → a.used + 1 ≤ c.limits.tries
 more_left c e i ws ps m k path a f kept on goes_on = left_for (plan_of c a) f goes_on (kept_of c m k path i.asks a on kept.asks).tries.1
 
-module _ (c : Config) (e : Cache) (i : Inquiries) (ws : List Waiting) (ps : List ℕ) (m k n : ℕ) (words : List ℕ) (path : Path) (a : Ask) (f : Failure) (kept : IsKeptForwarder c e i ws ps m k) (are : AreListed i) (later : m ≤ n) (small : n ≤ 2 ^ 62) (on : ask_on path i.asks ≡ Some a) where
+module _ (c : Config) (e : Cache) (i : Inquiries) (ws : List Waiting) (ps : List ℕ) (m k n : ℕ) (words : List ℕ) (path : Path) (a : Ask) (f : Failure) (kept : IsKeptForwarder c e i ws ps m k) (later : m ≤ n) (small : n ≤ 2 ^ 62) (on : ask_on path i.asks ≡ Some a) where
   abbrev here : State
   here = record { cache = e; asks = i.asks; waiting = ws; preferred = ps; moment = m; tcp_asks = k }
 
@@ -167,7 +167,7 @@ module _ (c : Config) (e : Cache) (i : Inquiries) (ws : List Waiting) (ps : List
   path_is = (ask_on-is (IsKeptAsk c m k) path i.asks a on kept.asks).0
 
   pub next_by_udp : (server : ℕ) → after_failure (plan_of c a) f ≡ AskUdp server → (next : Ask) → ask_by n a.question a.route server (a.used + 1) (peer_at c a.route server) (over_udp (udp_draw words i.asks (freed_by a.path))) ≡ Some next → CanFollow c n here (without_path path i.asks) next
-  next_by_udp server goes next is = udp_follows c n words path a here kept.asks (listed_within c e i ws ps m k kept are) later small on path_is (more_left c e i ws ps m k path a f kept on (udp_goes_on (after_failure (plan_of c a) f) server goes)) kept.counted next server is
+  next_by_udp server goes next is = udp_follows c n words path a here kept.asks (listed_within c e i ws ps m k kept) later small on path_is (more_left c e i ws ps m k path a f kept on (udp_goes_on (after_failure (plan_of c a) f) server goes)) kept.counted next server is
 
   pub next_by_tcp : (server : ℕ) → after_failure (plan_of c a) f ≡ AskTcp server → (next : Ask) → ask_by n a.question a.route server (a.used + 1) (peer_at c a.route server) (over_tcp (drawn_by_tcp words k)) ≡ Some next → CanFollow c n here (without_path path i.asks) next
-  next_by_tcp server goes next is = tcp_follows c n words path a here kept.asks (listed_within c e i ws ps m k kept are) later small on path_is (more_left c e i ws ps m k path a f kept on (tcp_goes_on (after_failure (plan_of c a) f) server goes)) kept.counted next server is
+  next_by_tcp server goes next is = tcp_follows c n words path a here kept.asks (listed_within c e i ws ps m k kept) later small on path_is (more_left c e i ws ps m k path a f kept on (tcp_goes_on (after_failure (plan_of c a) f) server goes)) kept.counted next server is

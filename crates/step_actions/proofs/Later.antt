@@ -4,8 +4,9 @@ use Rattle.std.specs.Prelude.{not}
 use Rattle.std.specs.List.{AllByRecursion}
 use Rattle.suffix_routes.specs.Values.{Config}
 use Rattle.outstanding.specs.declared.ask.Path.{Path}
-use Rattle.outstanding.specs.Lists.{same_path, without_path}
+use Rattle.outstanding.specs.Lists.{same_path, without_path, AreListed}
 use Rattle.outstanding.specs.Values.{Ask, Inquiries}
+use Rattle.outstanding.proofs.CallerLemmas.{listed_without_path}
 use Rattle.waiting_questions.specs.Values.{Waiting}
 use Rattle.record_cache.specs.Values.{Held, Cache}
 use Rattle.answer_builder.specs.Answers.{IsEarlier}
@@ -29,6 +30,7 @@ kept_without c e i i' ws ps m k closed kept is = subst (λ (q : Inquiries). IsKe
   cache = kept.cache;
   accepted = kept.accepted;
   capacity = kept.capacity;
+  listed = still closed;
   asks = by closed;
   few = kept.few;
   in_turn = kept.in_turn;
@@ -39,6 +41,10 @@ kept_without c e i i' ws ps m k closed kept is = subst (λ (q : Inquiries). IsKe
   counted = kept.counted;
 })
   where
+    still : (o : Option Path) → AreListed (record i { asks = without_closed o i.asks })
+    still None = kept.listed
+    still (Some path) = listed_without_path path i.capacity i.asks kept.listed
+
     by : (o : Option Path) → AllByRecursion (IsKeptAsk c m k) (without_closed o i.asks)
     by None = kept.asks
     by (Some path) = kept_rest c m k path i.asks kept.asks

@@ -1,19 +1,22 @@
 -- What a step is about to do, before it is put in place.
-use Rattle.std.specs.Prelude.{◌≡◌, ℕ, suc, ◌+◌, ◌^◌, ◌<◌, ◌≤◌, Bool, if◌then◌else◌, not, nat_le, List, [], ◌∷◌, ◌++◌, length, drop, filter, slice_set, Option, Some, None, Result, Ok, Err}
+use Rattle.std.specs.Prelude.{◌≡◌, ℕ, suc, ◌+◌, ◌^◌, ◌<◌, ◌≤◌, Bool, if◌then◌else◌, not, nat_le, List, [], ◌∷◌, ◌++◌}
+use Rattle.std.specs.Prelude.{length, drop, filter, slice_set, Option, Some, None, Result, Ok, Err}
 use Rattle.std.specs.declared.alloc.AllocError.{AllocError}
 use Rattle.suffix_routes.specs.Values.{Config}
 use Rattle.dns_message.specs.Values.{Question}
 use Rattle.outstanding.specs.declared.ask.Path.{Path}
 use Rattle.step_actions.specs.declared.decision.Preferred.{Preferred}
 use Rattle.step_actions.specs.declared.decision.Change.{Change}
-use Rattle.step_actions.specs.declared.decision.Change.TheVariants.{Nothing, Join, Open, Close, SendOn, AskAgain, Expire}
+use Rattle.step_actions.specs.declared.decision.Change.TheVariants.{Nothing, Join, Open, Close, SendOn, AskAgain}
+use Rattle.step_actions.specs.declared.decision.Change.TheVariants.{Expire}
 use Rattle.step_actions.specs.declared.decision.Decision.{Decision}
 use Rattle.step_values.specs.Values.{Event, restart, Action, actions_of, Outcome}
 use Rattle.step_table.specs.State.{State, Turn}
 use Rattle.waiting_questions.specs.Values.{Waiting, waits_for}
 use Rattle.outstanding.specs.Lists.{on_path as ask_on, without_path, MayBegin, is_tcp}
 use Rattle.outstanding.specs.Values.{Ask}
-use Rattle.step_table.specs.Steps.{Done, Fate, gets, waits, gives_up, ask_list, tcp_count, closes, reply_in, with_promoted, offering_step, sends, transport_of}
+use Rattle.step_table.specs.Steps.{Done, Fate, gets, waits, gives_up, ask_list, tcp_count, closes, reply_in}
+use Rattle.step_table.specs.Steps.{with_promoted, offering_step, sends, transport_of}
 use Rattle.step_table.specs.Row.{is_due_at, Happens}
 use Rattle.answer_builder.specs.Transports.{answer_of}
 use Rattle.trust_rank.specs.Values.{Piece}
@@ -61,10 +64,31 @@ closing_path (Some path) = closes path ∷ []
 abbrev pub changed : {A : Type 0} → ℕ → State → Change A → State
 changed n s Nothing = record s { moment = n }
 changed n s (Join b) = record s { waiting = s.waiting ++ b.value ∷ []; moment = n }
-changed n s (Open b) = record s { asks = s.asks ++ b.value.ask ∷ []; waiting = s.waiting ++ b.value.waiting ∷ []; moment = n; tcp_asks = s.tcp_asks + tcp_count_of b.value.ask.path }
-changed n s (Close path preferred) = record s { asks = without_path path s.asks; waiting = left_waiting (ask_on path s.asks) s.waiting; preferred = with_preferred preferred s.preferred; moment = n }
-changed n s (SendOn b) = record s { asks = without_path b.value.path s.asks ++ ask_list b.value.ask; waiting = left_or_sent (ask_on b.value.path s.asks) b.value.onward.items s.waiting; preferred = with_preferred (Some b.value.preferred) s.preferred; moment = n; tcp_asks = s.tcp_asks + tcp_count b.value.ask }
-changed n s (AskAgain path b) = record s { asks = without_path path s.asks ++ b.value ∷ []; moment = n; tcp_asks = s.tcp_asks + tcp_count_of b.value.path }
+changed n s (Open b) = record s {
+  asks = s.asks ++ b.value.ask ∷ [];
+  waiting = s.waiting ++ b.value.waiting ∷ [];
+  moment = n;
+  tcp_asks = s.tcp_asks + tcp_count_of b.value.ask.path;
+}
+changed n s (Close path preferred) =
+    record s {
+      asks = without_path path s.asks;
+      waiting = left_waiting (ask_on path s.asks) s.waiting;
+      preferred = with_preferred preferred s.preferred;
+      moment = n;
+    }
+changed n s (SendOn b) = record s {
+  asks = without_path b.value.path s.asks ++ ask_list b.value.ask;
+  waiting = left_or_sent (ask_on b.value.path s.asks) b.value.onward.items s.waiting;
+  preferred = with_preferred (Some b.value.preferred) s.preferred;
+  moment = n;
+  tcp_asks = s.tcp_asks + tcp_count b.value.ask;
+}
+changed n s (AskAgain path b) = record s {
+  asks = without_path path s.asks ++ b.value ∷ [];
+  moment = n;
+  tcp_asks = s.tcp_asks + tcp_count_of b.value.path;
+}
 changed n s (Expire closed) = record s { asks = without_closed closed s.asks; waiting = drop 1 s.waiting; moment = n }
 
 -- an ask that may be listed behind these
@@ -82,7 +106,8 @@ pub record CanWait (c : Config) (n : ℕ) (s : State) (x : Waiting) : Type 0 whe
 
 abbrev pub IsServed : Config → Option Preferred → Type 0
 IsServed c None = Unit {0}
-IsServed c (Some p) = p.server < length (Rattle.step_table.specs.Attempts.servers_in (Rattle.step_table.specs.Attempts.group_of c p.route))
+IsServed c (Some p) = p.server < length (Rattle.step_table.specs.Attempts.servers_in
+    (Rattle.step_table.specs.Attempts.group_of c p.route))
 
 -- the aliases that it is sent on with were accepted by now
 abbrev pub IsSentEarlier : ℕ → Option Onward → Type 0
@@ -99,7 +124,8 @@ IfFollows c n s listed None = Unit {0}
 IfFollows c n s listed (Some a) = CanFollow c n s listed a
 
 -- those that wait for the ask on this path may be sent on now
-pub record CanSendOn (c : Config) (n : ℕ) (s : State) (path : Path) (preferred : Preferred) (onward : List (Option Onward)) (next : Option Ask) : Type 0 where
+pub record CanSendOn (c : Config) (n : ℕ) (s : State) (path : Path) (preferred : Preferred)
+    (onward : List (Option Onward)) (next : Option Ask) : Type 0 where
   pub those : AreForThose (ask_on path s.asks) onward s.waiting
   pub earlier : AllByRecursion (IsSentEarlier n) onward
   pub served : IsServed c (Some preferred)
@@ -111,7 +137,8 @@ FitsChange c n s (Join b) = CanWait c n s b.value
 FitsChange c n s (Open b) = CanWait c n s b.value.waiting × CanFollow c n s s.asks b.value.ask
 FitsChange c n s (Close path preferred) = IsServed c preferred
 FitsChange c n s (SendOn b) = CanSendOn c n s b.value.path b.value.preferred b.value.onward.items b.value.ask
-FitsChange c n s (AskAgain path b) = Rattle.std.specs.Prelude.IsSome (ask_on path s.asks) × CanFollow c n s (without_path path s.asks) b.value
+FitsChange c n s (AskAgain path b) = Rattle.std.specs.Prelude.IsSome (ask_on path s.asks)
+    × CanFollow c n s (without_path path s.asks) b.value
 FitsChange c n s (Expire closed) = Unit {0}
 
 -- a piece that the cache may keep: its name is on the route of the ask that brought it

@@ -2,6 +2,7 @@
 use Rattle.std.specs.Prelude.{◌≡◌, ℕ, ◌^◌, ◌<◌, ◌≤◌, List, length, Some}
 use Rattle.std.specs.List.{AllByRecursion}
 use Rattle.suffix_routes.specs.Values.{Config, IsConfig}
+use Rattle.outstanding.specs.Lists.{AreListed}
 use Rattle.outstanding.specs.Values.{Ask, Inquiries}
 use Rattle.suffix_routes.specs.Serving.{route_of}
 use Rattle.waiting_questions.specs.Values.{Waiting}
@@ -10,8 +11,8 @@ use Rattle.record_cache.specs.Values.{Cache}
 use Rattle.answer_builder.specs.Answers.{IsEarlier}
 use Rattle.step_table.specs.Progress.{AreTakenInTurn, IsTry, IsCacheOf, IsBelow, ArePreferred}
 
--- a listed ask is for a name on its route; it went to the server at its place, as one of the tries that an inquiry has, over
--- a path that was given
+-- a listed ask is for a name on its route; it went to the server at its place, as one of the tries that an inquiry has,
+-- over a path that was given
 pub record IsKeptAsk (c : Config) (moment count : ℕ) (a : Ask) : Type 0 where
   pub earlier : a.asked ≤ moment
   pub on_route : route_of c a.question.name ≡ Some a.route
@@ -23,15 +24,17 @@ pub record IsKeptAsk (c : Config) (moment count : ℕ) (a : Ask) : Type 0 where
 abbrev pub HoldsEarlier : ℕ → Waiting → Type 0
 HoldsEarlier moment x = AllByRecursion (IsEarlier moment) x.held
 
--- the cache has the configured capacity and what it holds is on its routes, both lists are within their limits and in the
--- order of time, no moment is past the effective one, that of an alias that is held neither, and each preferred server is one
--- of its group
-pub record IsKeptForwarder (c : Config) (store : Cache) (inquiries : Inquiries) (waiting : List Waiting) (preferred : List ℕ) (moment count : ℕ)
+-- the cache has the configured capacity and what it holds is on its routes, both lists are within their limits and in
+-- the order of time, no moment is past the effective one, that of an alias that is held neither, and each preferred
+-- server is one of its group
+pub record IsKeptForwarder (c : Config) (store : Cache) (inquiries : Inquiries) (waiting : List Waiting)
+    (preferred : List ℕ) (moment count : ℕ)
     : Type 0 where
   pub config : IsConfig c
   pub cache : IsCacheOf c store
   pub accepted : AllByRecursion (IsEarlier moment) store.entries
   pub capacity : inquiries.capacity ≡ c.limits.inquiries
+  pub listed : AreListed inquiries
   pub asks : AllByRecursion (IsKeptAsk c moment count) inquiries.asks
   pub few : length waiting ≤ c.limits.questions
   pub in_turn : AreTakenInTurn waiting

@@ -1,5 +1,7 @@
--- Texts of answers to questions that are spelled alike: they differ in identifier, opcode and RD alone (RFC 1035 4.1.1).
-use Rattle.std.specs.Prelude.{◌≡◌, ℕ, ◌+◌, ◌*◌, ◌/◌, ◌%◌, ◌<◌, ◌==◌, ◌&&◌, Bool, true, false, List, [], ◌∷◌, ◌++◌, drop, slice_index, option_map, Option, Some, None, Result, Ok, Err}
+-- Texts of answers to questions that are spelled alike: they differ in identifier, opcode and RD alone (RFC 1035
+-- 4.1.1).
+use Rattle.std.specs.Prelude.{◌≡◌, ℕ, ◌+◌, ◌*◌, ◌/◌, ◌%◌, ◌<◌, ◌==◌, ◌&&◌, Bool, true, false, List, [], ◌∷◌, ◌++◌, drop}
+use Rattle.std.specs.Prelude.{slice_index, option_map, Option, Some, None, Result, Ok, Err}
 use Rattle.std.specs.List.{AllByRecursion}
 use Rattle.std.specs.Str.{bytes_eq}
 use Rattle.dns_name.specs.Labels.{octets_of}
@@ -59,9 +61,11 @@ same_transport Tcp Tcp = true
 abbrev pub is_for : {A : Type 0} → Transport → Question → Spelled A → Bool
 is_for t q s = same_transport s.transport t && are_alike s.question.now q
 
--- under the front of each request with its question, and an opcode of 4 bits, it is what that request gets over its transport
+-- under the front of each request with its question, and an opcode of 4 bits, it is what that request gets over its
+-- transport
 abbrev pub IsSpelled : {A : Type 0} → List Held → ℕ → Spelled A → Type 0
-IsSpelled chain n s = (a : Asked) → a.opcode < 16 → a.question ≡ Some s.question.now → option_map (with_front a) s.text ≡ ok_text (answer_of a chain n s.transport)
+IsSpelled chain n s = (a : Asked) → a.opcode < 16 → a.question ≡ Some s.question.now
+    → option_map (with_front a) s.text ≡ ok_text (answer_of a chain n s.transport)
 
 pub record AreSpelled {A : Type 0} (chain : List Held) (n : ℕ) (spelled : List (Spelled A)) : Type 0 where
   pub earlier : AllByRecursion (IsEarlier n) chain

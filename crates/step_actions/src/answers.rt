@@ -1,7 +1,8 @@
-//! Answers from borrowed pieces. From the second reply on a text is written once for questions that are spelled alike and
-//! came over one transport, since the answers to them differ in identifier, opcode and RD alone (RFC 1035 4.1.1).
+//! Answers from borrowed pieces. From the second reply on a text is written once for questions that are spelled alike
+//! and came over one transport, since the answers to them differ in identifier, opcode and RD alone (RFC 1035 4.1.1).
 
-ghost use Rattle.std.specs.Prelude.{◌≡◌, ◌<◌, ◌≤◌, ◌++◌, ℕ, List, Result, IfOk, MatchOption, Some, None, length, option_map};
+ghost use Rattle.std.specs.Prelude.{◌≡◌, ◌<◌, ◌≤◌, ◌++◌, ℕ, List, Result, IfOk, MatchOption, Some, None, length};
+ghost use Rattle.std.specs.Prelude.{option_map};
 ghost use Rattle.std.specs.List.{AllByRecursion, find};
 ghost use Rattle.std.specs.Option.{IfSome};
 ghost use Rattle.answer_builder.specs.Answers.{IsEarlier};
@@ -12,7 +13,8 @@ ghost use Rattle.answer_builder.specs.declared.fault.Fault.{Fault};
 ghost use Rattle.step_values.specs.Values.{action_of};
 ghost use Rattle.step_values.specs.declared.action.Why.TheVariants.{Answered};
 ghost use Rattle.step_table.specs.Steps.{sends, transport_of};
-ghost use Rattle.step_actions.specs.Spelling.{are_alike, front_of, is_for, IsSpelled, ok_text, same_spelling, sends_text, with_front};
+ghost use Rattle.step_actions.specs.Spelling.{are_alike, front_of, is_for, IsSpelled, ok_text, same_spelling};
+ghost use Rattle.step_actions.specs.Spelling.{sends_text, with_front};
 
 use crate::refusals::failure;
 use answer_builder::{AskedRef, Fault, Transport, put_answer};
@@ -66,7 +68,8 @@ pub(crate) fn text_put<A: Allocator>(
     octets: Vec<u8, A>,
     put: Result<(), Fault>,
 ) -> Result<Option<Octets<A>>, AllocError>
-    ensures { (text : Result (List ℕ) Fault) → Gives (λ _. octets.items) put text → IfOk result (λ own. own ≡ ok_text text) }
+    ensures { (text : Result (List ℕ) Fault) → Gives (λ _. octets.items) put text
+        → IfOk result (λ own. own ≡ ok_text text) }
 {
     match put {
         Ok(()) => Ok(Some(Octets::from_vec(octets))),
@@ -94,8 +97,8 @@ pub(crate) fn reply<A: Allocator + Copy>(
     }
 }
 
-/// The reply to a question from a chain of pieces, none accepted after the moment, in milliseconds: aliases in order, then a
-/// set or a denial. `Err` where memory ran out.
+/// The reply to a question from a chain of pieces, none accepted after the moment, in milliseconds: aliases in order,
+/// then a set or a denial. `Err` where memory ran out.
 pub fn answer<A: Allocator + Copy>(
     alloc: A,
     request: &Request<'_>,
@@ -103,7 +106,8 @@ pub fn answer<A: Allocator + Copy>(
     moment: u64,
 ) -> Result<Action<A>, AllocError>
     requires earlier { AllByRecursion (IsEarlier moment) (lent chain.now) }
-    ensures { IfOk result (λ action. action_of action ≡ sends Answered request.now (answer_of request.now.asked (lent chain.now) moment (transport_of request.now.client))) }
+    ensures { IfOk result (λ action. action_of action ≡ sends Answered request.now
+        (answer_of request.now.asked (lent chain.now) moment (transport_of request.now.client))) }
 {
     let transport = transport_of(request.client);
     let text = text_from(alloc, request, chain, moment, transport)?;
@@ -138,7 +142,8 @@ fn find_spelled<'a, 'b, A: Allocator>(
     question: &Question<A>,
     transport: Transport,
 ) -> Option<&'b Spelled<'a, A>>
-    ensures { MatchOption result (find (is_for transport question.now) texts.now ≡ None) (λ s. find (is_for transport question.now) texts.now ≡ Some s.now) }
+    ensures { MatchOption result (find (is_for transport question.now) texts.now ≡ None)
+        (λ s. find (is_for transport question.now) texts.now ≡ Some s.now) }
 {
     for spelled in texts {
         if spelled.transport == transport && is_alike(spelled.question, question) {
@@ -148,7 +153,8 @@ fn find_spelled<'a, 'b, A: Allocator>(
     None
 }
 
-/// The first three octets of the answer to a request: identifier, QR, opcode and RD, and the TC of these flags; AA is clear.
+/// The first three octets of the answer to a request: identifier, QR, opcode and RD, and the TC of these flags; AA is
+/// clear.
 fn front_of(asked: &AskedRef<'_>, flags: u8) -> [u8; 3]
     requires { asked.now.opcode < 16 }
     ensures { result ≡ front_of asked.now flags }
@@ -226,7 +232,8 @@ impl<'a, A: Allocator + Copy> Answers<'a, A> {
         transport: Transport,
     ) -> Result<Option<Octets<A>>, AllocError>
         ensures same { self.new ≡ self.old }
-        ensures text { IfOk result (λ text. text ≡ ok_text (answer_of waiting.now.asked self.old.chain self.old.moment transport)) }
+        ensures text { IfOk result (λ text. text
+            ≡ ok_text (answer_of waiting.now.asked self.old.chain self.old.moment transport)) }
     {
         let request = waiting.request();
         if let Some(spelled) = find_spelled(self.spelled.as_slice(), &waiting.question, transport) {
@@ -246,7 +253,9 @@ impl<'a, A: Allocator + Copy> Answers<'a, A> {
     /// The reply to a question that holds no aliases.
     fn plain_reply(&mut self, waiting: &'a Waiting<A>) -> Result<Action<A>, AllocError>
         ensures same { self.new ≡ self.old }
-        ensures reply { IfOk result (λ action. action_of action ≡ sends Answered waiting.now (answer_of waiting.now.asked self.old.chain self.old.moment (transport_of waiting.now.client))) }
+        ensures reply { IfOk result (λ action. action_of action
+            ≡ sends Answered waiting.now (answer_of waiting.now.asked self.old.chain self.old.moment
+            (transport_of waiting.now.client))) }
     {
         let request = waiting.request();
         if !self.has_replied {
@@ -257,12 +266,14 @@ impl<'a, A: Allocator + Copy> Answers<'a, A> {
         reply(self.alloc, &request, text, Why::Answered)
     }
 
-    /// The reply to a question, from the aliases that it holds and then the chain. The caller sees to it that none of the
-    /// aliases was accepted after the moment. `Err` where memory ran out.
+    /// The reply to a question, from the aliases that it holds and then the chain. The caller sees to it that none of
+    /// the aliases was accepted after the moment. `Err` where memory ran out.
     pub fn reply(&mut self, waiting: &'a Waiting<A>) -> Result<Action<A>, AllocError>
         requires earlier { AllByRecursion (IsEarlier self.old.moment) waiting.now.held }
         ensures same { self.new ≡ self.old }
-        ensures reply { IfOk result (λ action. action_of action ≡ sends Answered waiting.now (answer_of waiting.now.asked (waiting.now.held ++ self.old.chain) self.old.moment (transport_of waiting.now.client))) }
+        ensures reply { IfOk result (λ action. action_of action
+            ≡ sends Answered waiting.now (answer_of waiting.now.asked
+            (waiting.now.held ++ self.old.chain) self.old.moment (transport_of waiting.now.client))) }
     {
         let aliases = waiting.aliases();
         if aliases.is_empty() {

@@ -3,7 +3,8 @@
 ghost use Rattle.std.specs.Prelude.{◌≡◌, ◌≤◌, ◌+◌, ◌<◌, length, IfOk};
 ghost use Rattle.suffix_routes.specs.Values.{IsConfig};
 ghost use Rattle.outstanding.specs.Draws.{drawn_by_tcp};
-ghost use Rattle.step_table.specs.Attempts.{group_of, servers_in, peer_at, over_udp, over_tcp, ask_by, freed_by, plan_of};
+ghost use Rattle.step_table.specs.Attempts.{group_of, servers_in, peer_at, over_udp, over_tcp, ask_by, freed_by};
+ghost use Rattle.step_table.specs.Attempts.{plan_of};
 
 use dns_message::Question;
 use outstanding::{Ask, Path};
@@ -87,7 +88,8 @@ pub fn new_ask<A: Allocator + Copy>(
     attempt: Attempt,
     drawn: Option<(u16, Path)>,
 ) -> Result<Option<Ask<A>>, AllocError>
-    ensures { IfOk result (λ ask. ask ≡ ask_by moment question.now attempt.route attempt.server attempt.used (peer_at config.now attempt.route attempt.server) drawn) }
+    ensures { IfOk result (λ ask. ask ≡ ask_by moment question.now attempt.route attempt.server attempt.used
+        (peer_at config.now attempt.route attempt.server) drawn) }
 {
     let Some(peer) = server_at(config, attempt.route, attempt.server) else {
         return Ok(None);

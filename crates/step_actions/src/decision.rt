@@ -5,13 +5,13 @@ ghost use Rattle.step_values.specs.Values.{actions_of};
 ghost use Rattle.alias_chains.specs.Offering.{pieces_of};
 
 use alias_chains::SlotsRef;
-use outstanding::{Ask, Path};
+use outstanding::{Ask, KeyedAsk, Path};
 use plain_list::PlainList;
 use record_cache::Held;
 use std::alloc::{Allocator, Global};
 use step_values::Action;
 use suffix_routes::RouteId;
-use waiting_questions::{SentOn, Waiting};
+use waiting_questions::{KeyedWaiting, SentOn};
 
 /// A server that is asked first from now on: its route, and its place in the route's group.
 #[derive(Clone, Copy)]
@@ -23,12 +23,13 @@ pub struct Preferred {
 /// A question, and the first ask of its inquiry.
 #[derive(Drop)]
 pub struct Opening<A: Allocator = Global> {
-    pub waiting: Waiting<A>,
-    pub ask: Ask<A>,
+    pub waiting: KeyedWaiting<A>,
+    pub ask: KeyedAsk<A>,
 }
 
-/// Those that waited for the ask on a path wait no more, or wait on: each, in the order of taking, with the aliases and the
-/// question that it is sent on with, if it is. The ask is closed, and the first ask for that question is listed, where none is.
+/// Those that waited for the ask on a path wait no more, or wait on: each, in the order of taking, with the aliases and
+/// the question that it is sent on with, if it is. The ask is closed, and the first ask for that question is listed,
+/// where none is.
 #[derive(Drop)]
 pub struct Sending<A: Allocator = Global> {
     pub path: Path,
@@ -37,13 +38,13 @@ pub struct Sending<A: Allocator = Global> {
     pub ask: Option<Ask<A>>,
 }
 
-/// What changes beside the moment and the cache. What it lists stands in a box: most steps list nothing, and hand a change
-/// on that is small.
+/// What changes beside the moment and the cache. What it lists stands in a box: most steps list nothing, and hand a
+/// change on that is small.
 #[derive(Drop)]
 pub enum Change<A: Allocator = Global> {
     Nothing,
     /// A question waits for an ask that is listed already.
-    Join(Box<Waiting<A>, A>),
+    Join(Box<KeyedWaiting<A>, A>),
     /// A question waits, and the first ask of its inquiry is listed.
     Open(Box<Opening<A>, A>),
     /// The ask on this path is closed, and those that waited for it wait no more.
@@ -56,8 +57,8 @@ pub enum Change<A: Allocator = Global> {
     Expire(Option<Path>),
 }
 
-/// The actions of a step, and what it changes: the entries of the slots that a look-up used are promoted, and the pieces
-/// that an accepted reply carries are offered to the cache, last.
+/// The actions of a step, and what it changes: the entries of the slots that a look-up used are promoted, and the
+/// pieces that an accepted reply carries are offered to the cache, last.
 #[derive(Drop)]
 pub struct Decision<'a, A: Allocator = Global> {
     pub actions: PlainList<Action<A>, A>,

@@ -1,4 +1,5 @@
-//! The last that is told of a question whose tries are used up: a set past its end where one serves, or that all failed.
+//! The last that is told of a question whose tries are used up: a set past its end where one serves, or that all
+//! failed.
 
 ghost use Rattle.std.specs.Prelude.{◌≡◌, ◌∷◌, ◌++◌, [], IfOk, option_map};
 ghost use Rattle.std.specs.List.{AllByRecursion};
@@ -27,8 +28,8 @@ use suffix_routes::Config;
 use trust_rank::MOST_ALIASES;
 use waiting_questions::{Waiting, WaitingQuestions};
 
-/// What the cache has for a question within the configured window, at a moment in milliseconds: aliases, as many as it may
-/// still take, and a set. Without a window nothing is looked up.
+/// What the cache has for a question within the configured window, at a moment in milliseconds: aliases, as many as it
+/// may still take, and a set. Without a window nothing is looked up.
 fn found_past<'a, H: BuildHasher + Drop, A: Allocator + Copy>(
     alloc: A,
     cache: &'a Cache<H, A>,
@@ -37,8 +38,10 @@ fn found_past<'a, H: BuildHasher + Drop, A: Allocator + Copy>(
     waiting: &Waiting<A>,
 ) -> Result<Option<Vec<&'a Held<A>, A>>, AllocError>
     requires { IsConfig config.now }
-    ensures exact { IfOk result (λ found. option_map (λ f. lent f.items) found ≡ found_past config.now moment cache.now.entries waiting.now) }
-    ensures from_cache { IfOk result (λ found. IfSome found (λ f. AllByRecursion (λ h. Among h cache.now.entries) (lent f.items))) }
+    ensures exact { IfOk result (λ found. option_map (λ f. lent f.items) found
+        ≡ found_past config.now moment cache.now.entries waiting.now) }
+    ensures from_cache { IfOk result
+        (λ found. IfSome found (λ f. AllByRecursion (λ h. Among h cache.now.entries) (lent f.items))) }
 {
     let window = config.limits.stale_s;
     if window == 0 {
@@ -69,7 +72,8 @@ fn last_reply<H: BuildHasher + Drop, A: Allocator + Copy>(
     requires accepted { IsConfig config.now }
     requires entries { AllByRecursion (IsEarlier moment) cache.now.entries }
     requires aliases { AllByRecursion (IsEarlier moment) waiting.now.held }
-    ensures { IfOk result (λ action. action_of action ≡ told_past moment waiting.now (found_past config.now moment cache.now.entries waiting.now)) }
+    ensures { IfOk result (λ action. action_of action ≡ told_past moment waiting.now
+        (found_past config.now moment cache.now.entries waiting.now)) }
 {
     let request = waiting.request();
     match found_past(alloc, cache, config, moment, waiting)? {
@@ -90,14 +94,15 @@ fn put_last<H: BuildHasher + Drop, A: Allocator + Copy>(
     requires accepted { IsConfig config.now }
     requires entries { AllByRecursion (IsEarlier moment) cache.now.entries }
     requires aliases { AllByRecursion (IsEarlier moment) waiting.now.held }
-    ensures { IfOk result (λ _. actions_of actions.new ≡ actions_of actions.old ++ told_past moment waiting.now (found_past config.now moment cache.now.entries waiting.now) ∷ []) }
+    ensures { IfOk result (λ _. actions_of actions.new ≡ actions_of actions.old
+        ++ told_past moment waiting.now (found_past config.now moment cache.now.entries waiting.now) ∷ []) }
 {
     let action = last_reply(alloc, cache, config, moment, waiting)?;
     actions.push(action)
 }
 
-/// The ask is closed, whose question has no try left: each question that waits for it gets its last reply at a moment, in
-/// milliseconds. `Err` where memory ran out.
+/// The ask is closed, whose question has no try left: each question that waits for it gets its last reply at a moment,
+/// in milliseconds. `Err` where memory ran out.
 pub fn last_replies<H: BuildHasher + Drop, A: Allocator + Copy>(
     alloc: A,
     ask: &Ask<A>,
@@ -109,7 +114,8 @@ pub fn last_replies<H: BuildHasher + Drop, A: Allocator + Copy>(
     requires accepted { IsConfig config.now }
     requires entries { AllByRecursion (IsEarlier moment) cache.now.entries }
     requires aliases { AllByRecursion (HoldsEarlier moment) waiting.now.items }
-    ensures { IfOk result (λ actions. actions_of actions ≡ with_replies (runs_out config.now moment cache.now.entries ask.now.question) (closes ask.now.path ∷ []) waiting.now.items) }
+    ensures { IfOk result (λ actions. actions_of actions ≡ with_replies
+        (runs_out config.now moment cache.now.entries ask.now.question) (closes ask.now.path ∷ []) waiting.now.items) }
 {
     let mut actions = PlainList::new(alloc);
     actions.push(close_path(ask.path))?;

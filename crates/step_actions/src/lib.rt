@@ -1,5 +1,5 @@
-//! What a step is about to do: its queries and replies, as actions with their octets, and the change of the forwarder that
-//! comes with them, with all the memory that it takes.
+//! What a step is about to do: its queries and replies, as actions with their octets, and the change of the forwarder
+//! that comes with them, with all the memory that it takes.
 #![tactic(auto)]
 
 mod answers;

@@ -19,8 +19,8 @@ use std::alloc::{AllocError, Allocator};
 use step_values::{Action, Why};
 use waiting_questions::Request;
 
-/// What is told of a chain of pieces at a moment, in milliseconds: of so many by what is left of them, and of those behind
-/// them past their end.
+/// What is told of a chain of pieces at a moment, in milliseconds: of so many by what is left of them, and of those
+/// behind them past their end.
 fn told_from<'a, A: Allocator + Copy>(
     alloc: A,
     chain: &'a [&Held<A>],
@@ -71,8 +71,8 @@ fn local_text<A: Allocator + Copy>(
 }
 
 /// The reply to a question whose tries are used up, from the aliases that it holds and the pieces that were found past
-/// their end behind them, none accepted after the moment, in milliseconds: of what was found, what has ended is told for
-/// 30 seconds (RFC 8767 4). `Err` where memory ran out.
+/// their end behind them, none accepted after the moment, in milliseconds: of what was found, what has ended is told
+/// for 30 seconds (RFC 8767 4). `Err` where memory ran out.
 pub fn stale_answer<A: Allocator + Copy>(
     alloc: A,
     request: &Request<'_>,
@@ -83,7 +83,8 @@ pub fn stale_answer<A: Allocator + Copy>(
     requires aliases { AllByRecursion (IsEarlier moment) aliases.now }
     requires found { AllByRecursion (IsEarlier moment) (lent found.now) }
     ensures { IfOk result (λ action. action_of action ≡ sends Stale request.now
-        (stale_answer_of request.now.asked (aliases.now ++ lent found.now) (length aliases.now) moment (transport_of request.now.client))) }
+        (stale_answer_of request.now.asked (aliases.now ++ lent found.now) (length aliases.now) moment
+        (transport_of request.now.client))) }
 {
     let chain = behind(alloc, aliases, found)?;
     let told = told_from(alloc, &chain, aliases.len(), moment)?;
@@ -118,7 +119,8 @@ pub fn without_server<A: Allocator + Copy>(
     moment: u64,
 ) -> Result<Action<A>, AllocError>
     requires { AllByRecursion (IsEarlier moment) (lent aliases.now) }
-    ensures { IfOk result (λ action. action_of action ≡ if is_denied then denied_locally moment request.now (lent aliases.now) else gives_up NoRoute request.now) }
+    ensures { IfOk result (λ action. action_of action ≡ if is_denied
+        then denied_locally moment request.now (lent aliases.now) else gives_up NoRoute request.now) }
 {
     if is_denied {
         return local_answer(alloc, request, aliases, moment);

@@ -66,7 +66,8 @@ pub fn failures<A: Allocator + Copy>(
     waiting: &WaitingQuestions<A>,
     why: Why,
 ) -> Result<PlainList<Action<A>, A>, AllocError>
-    ensures { IfOk result (λ actions. actions_of actions ≡ with_replies (fails why ask.now.question) (closes ask.now.path ∷ []) waiting.now.items) }
+    ensures { IfOk result (λ actions. actions_of actions ≡ with_replies (fails why ask.now.question)
+        (closes ask.now.path ∷ []) waiting.now.items) }
 {
     let mut actions = PlainList::new(alloc);
     actions.push(close_path(ask.path))?;
@@ -107,7 +108,8 @@ fn put_answer<'a, A: Allocator + Copy>(
     requires pieces { pieces ≡ length answers.old.chain }
     requires earlier { AllByRecursion (IsEarlier answers.old.moment) waiting.now.held }
     ensures same { answers.new ≡ answers.old }
-    ensures put { IfOk result (λ _. actions_of actions.new ≡ actions_of actions.old ++ told_from answers.old waiting.now ∷ []) }
+    ensures put { IfOk result (λ _. actions_of actions.new ≡ actions_of actions.old ++ told_from answers.old waiting.now
+        ∷ []) }
 {
     let action = answer_or_fail(alloc, answers, pieces, waiting)?;
     actions.push(action)
@@ -124,7 +126,8 @@ fn put_answers<'a, A: Allocator + Copy>(
 ) -> Result<(), AllocError>
     requires pieces { pieces ≡ length answers.old.chain }
     requires earlier { AllByRecursion (HoldsEarlier answers.old.moment) waiting.now.items }
-    ensures { IfOk result (λ _. actions_of actions.new ≡ with_replies (gives_from answers.old question.now) (actions_of actions.old) waiting.now.items) }
+    ensures { IfOk result (λ _. actions_of actions.new ≡ with_replies (gives_from answers.old question.now)
+        (actions_of actions.old) waiting.now.items) }
 {
     let those = waiting.for_question(question);
     for place in 0..those.len() {
@@ -156,7 +159,9 @@ pub fn answers_to<A: Allocator + Copy>(
 ) -> Result<PlainList<Action<A>, A>, AllocError>
     requires pieces { AllByRecursion (IsEarlier moment) held.now }
     requires aliases { AllByRecursion (HoldsEarlier moment) waiting.now.items }
-    ensures { IfOk result (λ actions. actions_of actions ≡ with_replies (gives_from (record { chain = held.now; moment = moment }) ask.now.question) (closes ask.now.path ∷ []) waiting.now.items) }
+    ensures { IfOk result (λ actions. actions_of actions ≡ with_replies
+        (gives_from (record { chain = held.now; moment = moment }) ask.now.question) (closes ask.now.path
+        ∷ []) waiting.now.items) }
 {
     let chain = borrowed(alloc, held)?;
     let mut answers = Answers::new(alloc, &chain, moment);

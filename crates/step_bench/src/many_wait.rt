@@ -105,8 +105,8 @@ fn time_of_reply(
     time_of_step(rt, &mut forwarder, event)
 }
 
-/// Prints how long the step with the reply takes where one and where 1,000 wait for it, over UDP and over TCP. The files
-/// have the octets of a client's message and of the server's, whose identifier is 8.
+/// Prints how long the step with the reply takes where one and where 1,000 wait for it, over UDP and over TCP. The
+/// files have the octets of a client's message and of the server's, whose identifier is 8.
 pub fn measure(rt: &HostRuntime, question: &str, reply: &str) -> Result<()> {
     let question = fs::read(rt, question)?;
     let reply = fs::read(rt, reply)?;

@@ -144,7 +144,8 @@ fn answer_all(forwarder: &mut Forwarder<DefaultHasher>, alloc: Global, open: u16
     Ok(answers)
 }
 
-/// Nanoseconds for a question and the reply to the oldest query, while so many are under way, and how many were answered.
+/// Nanoseconds for a question and the reply to the oldest query, while so many are under way, and how many were
+/// answered.
 fn time_of_pair(rt: &HostRuntime, open: u16) -> Result<(u128, usize)> {
     let mut forwarder = waited_for(rt.alloc(), open, 1)?;
     let started = Instant::now(rt)?;
@@ -152,8 +153,8 @@ fn time_of_pair(rt: &HostRuntime, open: u16) -> Result<(u128, usize)> {
     Ok((started.elapsed(rt)?.as_nanos() / u128::from(PAIRS), answers))
 }
 
-/// Nanoseconds for each question, where so many queries are replied to one after another, for each of which four clients
-/// wait, and how many were answered.
+/// Nanoseconds for each question, where so many queries are replied to one after another, for each of which four
+/// clients wait, and how many were answered.
 fn time_of_all(rt: &HostRuntime, open: u16) -> Result<(u128, usize)> {
     let mut forwarder = waited_for(rt.alloc(), open, CLIENTS)?;
     let started = Instant::now(rt)?;
@@ -162,8 +163,8 @@ fn time_of_all(rt: &HostRuntime, open: u16) -> Result<(u128, usize)> {
     Ok((took / (answers as u128).max(1), answers))
 }
 
-/// Prints what a question with its reply costs with few and with many queries under way, and what it costs to answer all
-/// that wait.
+/// Prints what a question with its reply costs with few and with many queries under way, and what it costs to answer
+/// all that wait.
 pub fn measure(rt: &HostRuntime) -> Result<()> {
     for open in [10u16, 100, 1000] {
         let (mut least, mut answers) = (u128::MAX, 0usize);

@@ -19,8 +19,8 @@ use Rattle.dns_message.specs.Questions.{asked_at}
 abbrev pub has_slot : Piece → List (List ℕ) → ℕ → Option ℕ → Bool
 has_slot p name class kind = same_slot p.slot (record { key = name; class = class; kind = kind })
 
--- these justified aliases lead, one after another, from the first question to the last; a question for CNAME follows none
--- (RFC 1034 3.6.2)
+-- these justified aliases lead, one after another, from the first question to the last; a question for CNAME follows
+-- none (RFC 1034 3.6.2)
 abbrev pub FollowsAliases : Look → Question → List Held → Question → Type 0
 FollowsAliases l q [] last = last ≡ q
 FollowsAliases l q (o ∷ os) last =

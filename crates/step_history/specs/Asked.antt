@@ -39,7 +39,8 @@ abbrev pub IsDrawn : Step → List Step → ℕ → Path → Type 0
 IsDrawn s past id (Udp port) = drawn s.handed.words (listed past) s.outcome.actions ≡ Some (id, port)
 IsDrawn s past id (Tcp conn) = drawn_by_tcp s.handed.words (tcp_asks past) ≡ Some (id, conn)
 
--- an ask of this step says one question and nothing else, goes to a server of its name's route, and has the identifier and the path that are drawn for it (RFC 5452 9.2)
+-- an ask of this step says one question and nothing else, goes to a server of its name's route, and has the identifier
+-- and the path that are drawn for it (RFC 5452 9.2)
 pub record AsksRight (c : Config) (s : Step) (past : List Step) (a : SentAsk) : Type 0 where
   pub id : ℕ
   pub question : Question

@@ -1,18 +1,22 @@
 -- Why a question is answered without success.
-use Rattle.std.specs.Prelude.{◌≡◌, ◌≢◌, ℕ, zero, suc, ◌+◌, ◌-◌, ◌^◌, ◌<◌, ◌≤◌, true, false, List, [], ◌∷◌, length, Some, None, ◌⊎◌}
+use Rattle.std.specs.Prelude.{◌≡◌, ◌≢◌, ℕ, zero, suc, ◌+◌, ◌-◌, ◌^◌, ◌<◌, ◌≤◌, true, false, List, [], ◌∷◌, length, Some}
+use Rattle.std.specs.Prelude.{None, ◌⊎◌}
 use Rattle.std.specs.List.{AllByRecursion}
 use Rattle.dns_message.specs.Values.{Question}
 use Rattle.suffix_routes.specs.Values.{Config}
 use Rattle.step_values.specs.declared.event.Client.{Client}
 use Rattle.step_values.specs.declared.event.Client.TheVariants.{Udp, Tcp}
 use Rattle.step_values.specs.declared.action.Why.{Why}
-use Rattle.step_values.specs.declared.action.Why.TheVariants.{Answered, BadFormat, BadOpcode, NotServed, NoRoute, QuestionsFull, InquiriesFull, NoPort, Exhausted, Deadline, ChainLong, TooLarge, Stale, LocalDenied}
+use Rattle.step_values.specs.declared.action.Why.TheVariants.{Answered, BadFormat, BadOpcode, NotServed, NoRoute}
+use Rattle.step_values.specs.declared.action.Why.TheVariants.{QuestionsFull, InquiriesFull, NoPort, Exhausted, Deadline}
+use Rattle.step_values.specs.declared.action.Why.TheVariants.{ChainLong, TooLarge, Stale, LocalDenied}
 use Rattle.step_values.specs.Values.{tick, Action, Step}
 use Rattle.suffix_routes.specs.Serving.{route_of, is_local}
 use Rattle.dns_message.specs.Questions.{same_question, is_unserved}
 use Rattle.dns_message.specs.Header.{header_in}
 use Rattle.record_cache.specs.Values.{Held}
-use Rattle.step_history.specs.History.{is_restart, before_newest, Look, ShownAsk, listed, on_path, closes_path, tcp_asks, moment_at, NothingAccepted, Reads}
+use Rattle.step_history.specs.History.{is_restart, before_newest, Look, ShownAsk, listed, on_path, closes_path}
+use Rattle.step_history.specs.History.{tcp_asks, moment_at, NothingAccepted, Reads}
 use Rattle.step_history.specs.Answers.{FollowsAliases, Leads, Chain}
 use Rattle.step_history.specs.Stale.{ChainPastEnds}
 use Rattle.step_history.specs.Local.{ChainToLocal}
@@ -49,7 +53,8 @@ LastFailed c q [] (suc k) = ⊥
 LastFailed c q (s ∷ past) zero = Unit {0}
 LastFailed c q (s ∷ past) (suc k) =
     (is_restart s ≡ false)
-    × ((ClosesAsk q s past × NothingAccepted c s past × LastFailed c q past k) ⊎ ((ClosesAsk q s past → ⊥) × LastFailed c q past (suc k)))
+    × ((ClosesAsk q s past × NothingAccepted c s past × LastFailed c q past k)
+    ⊎ ((ClosesAsk q s past → ⊥) × LastFailed c q past (suc k)))
 
 -- the newest step closes an ask of this question
 abbrev pub ClosesNow : Question → List Step → Type 0
@@ -107,15 +112,16 @@ pub record FollowsTooMany (l : Look) (octets : List ℕ) : Type 0 where
 
 -- no port is free, or as many asks went by TCP as may
 abbrev pub NoPathIsFree : Look → Type 0
-NoPathIsFree l = (drawn (newest_words l.now) (listed (before_newest l.now)) (newest_actions l.now) ≡ None) ⊎ (tcp_asks (before_newest l.now) ≡ 2 ^ 64 - 1)
+NoPathIsFree l = (drawn (newest_words l.now) (listed (before_newest l.now)) (newest_actions l.now) ≡ None)
+    ⊎ (tcp_asks (before_newest l.now) ≡ 2 ^ 64 - 1)
 
 -- time has passed, and the question has waited as long as it may
 pub record IsOverdue (l : Look) : Type 0 where
   pub passed : IsTick l.now
   pub late : moment_at (l.asked ∷ l.before) + l.config.limits.deadline_ms ≤ moment_at l.now
 
--- the full answer passes what TCP carries: from living pieces, from pieces past their end once all tries failed, or from
--- aliases that lead to a denied name
+-- the full answer passes what TCP carries: from living pieces, from pieces past their end once all tries failed, or
+-- from aliases that lead to a denied name
 pub record AnswerIsTooLarge (l : Look) (octets : List ℕ) : Type 0 where
   pub question : Question
   pub aliases : List Held
@@ -130,28 +136,33 @@ pub record StaleAnswerIsTooLarge (l : Look) (octets : List ℕ) : Type 0 where
   pub past : List Held
   pub end : Held
   pub chain : ChainPastEnds l tries.aliases tries.last past end
-  pub large : 65535 < length (full_text (asked_in (header_in octets) (Some tries.question)) (stale_sections (moment_at l.now) tries.aliases past end))
+  pub large : 65535 < length (full_text (asked_in (header_in octets) (Some tries.question))
+      (stale_sections (moment_at l.now) tries.aliases past end))
 
 pub record LocalAnswerIsTooLarge (l : Look) (octets : List ℕ) : Type 0 where
   pub question : Question
   pub reads : Reads octets question
   pub aliases : List Held
   pub chain : ChainToLocal l question aliases
-  pub large : 65535 < length (full_text (asked_in (header_in octets) (Some question)) (denied_sections (moment_at l.now) aliases))
+  pub large : 65535 < length (full_text (asked_in (header_in octets) (Some question))
+      (denied_sections (moment_at l.now) aliases))
 
 -- waiting is the number of questions without a reply before the step asked
 abbrev pub Cause : Look → Client → List ℕ → ℕ → Why → Type 0
 Cause l client octets waiting BadOpcode = (l.now ≡ l.asked ∷ l.before) × ((header_in octets).opcode ≢ 0)
-Cause l client octets waiting BadFormat = (l.now ≡ l.asked ∷ l.before) × ((header_in octets).opcode ≡ 0) × ((q : Question) → Reads octets q → ⊥)
+Cause l client octets waiting BadFormat = (l.now ≡ l.asked ∷ l.before) × ((header_in octets).opcode ≡ 0)
+    × ((q : Question) → Reads octets q → ⊥)
 Cause l client octets waiting NotServed = AsksUnserved l octets
 Cause l client octets waiting NoRoute = HasNoRoute l octets
 Cause l client octets waiting QuestionsFull = (l.now ≡ l.asked ∷ l.before) × (waiting ≡ l.config.limits.questions)
-Cause l client octets waiting InquiriesFull = (l.now ≡ l.asked ∷ l.before) × (length (listed l.before) ≡ l.config.limits.inquiries)
+Cause l client octets waiting InquiriesFull = (l.now ≡ l.asked ∷ l.before)
+    × (length (listed l.before) ≡ l.config.limits.inquiries)
 Cause l client octets waiting NoPort = NoPathIsFree l
 Cause l client octets waiting Exhausted = AllTriesFailed l octets
 Cause l client octets waiting Deadline = IsOverdue l
 Cause l (Udp peer) octets waiting TooLarge = ⊥
-Cause l (Tcp conn) octets waiting TooLarge = AnswerIsTooLarge l octets ⊎ StaleAnswerIsTooLarge l octets ⊎ LocalAnswerIsTooLarge l octets
+Cause l (Tcp conn) octets waiting TooLarge = AnswerIsTooLarge l octets ⊎ StaleAnswerIsTooLarge l octets
+    ⊎ LocalAnswerIsTooLarge l octets
 Cause l client octets waiting ChainLong = FollowsTooMany l octets
 -- these tell no failure
 Cause l client octets waiting Answered = ⊥

@@ -15,4 +15,5 @@ is_busy path asks actions = list_any (λ a. same_path a.path path) asks && not (
 -- by UDP, identifier and port: those of the first word whose port is free (RFC 5452 9.2)
 abbrev pub drawn : List ℕ → List ShownAsk → List Action → Option (ℕ × ℕ)
 drawn [] asks actions = None
-drawn (word ∷ words) asks actions = if is_busy (Udp (port_of word)) asks actions then drawn words asks actions else Some (word % 65536, port_of word)
+drawn (word ∷ words) asks actions = if is_busy (Udp (port_of word)) asks actions then drawn words asks actions
+    else Some (word % 65536, port_of word)

@@ -1,5 +1,6 @@
 -- A history is the list of its steps, the newest first: what is said of a step is said of the list that begins with it.
-use Rattle.std.specs.Prelude.{◌≡◌, ℕ, ◌+◌, ◌^◌, ◌<◌, ◌≤◌, Bool, true, false, if◌then◌else◌, not, min, max, List, [], ◌∷◌, ◌++◌, length, filter, Option, Some, None, ◌⊎◌}
+use Rattle.std.specs.Prelude.{◌≡◌, ℕ, ◌+◌, ◌^◌, ◌<◌, ◌≤◌, Bool, true, false, if◌then◌else◌, not, min, max, List, []}
+use Rattle.std.specs.Prelude.{◌∷◌, ◌++◌, length, filter, Option, Some, None, ◌⊎◌}
 use Rattle.std.specs.List.{find, list_any}
 use Rattle.dns_message.specs.Values.{Question, Message}
 use Rattle.dns_message.specs.Messages.{Spells}
@@ -8,7 +9,8 @@ use Rattle.suffix_routes.specs.Values.{Config}
 use Rattle.step_values.specs.declared.event.Client.{Client}
 use Rattle.outstanding.specs.declared.ask.Path.{Path}
 use Rattle.outstanding.specs.Lists.{same_path, is_tcp}
-use Rattle.step_values.specs.Values.{Event, from_client, delivery, path_failed, tick, restart, Action, Request, request_in, delivery_in, SentAsk, ask_in, closed_path_in, Step}
+use Rattle.step_values.specs.Values.{Event, from_client, delivery, path_failed, tick, restart, Action, Request}
+use Rattle.step_values.specs.Values.{request_in, delivery_in, SentAsk, ask_in, closed_path_in, Step}
 use Rattle.suffix_routes.specs.Serving.{route_of}
 use Rattle.dns_message.specs.Questions.{same_question, one_question}
 use Rattle.dns_message.specs.Header.{header_in}
@@ -32,7 +34,8 @@ abbrev pub InEra : List Step → List Step → Type 0
 InEra upto [] = ⊥
 InEra upto (s ∷ past) = (upto ≡ s ∷ past) ⊎ ((is_restart s ≡ false) × InEra upto past)
 
--- the effective moment after the newest step: the greatest of the era, a restart's own left out, at most 2^62 milliseconds
+-- the effective moment after the newest step: the greatest of the era, a restart's own left out, at most 2^62
+-- milliseconds
 abbrev pub moment_at : List Step → ℕ
 moment_at [] = 0
 moment_at (s ∷ past) = if is_restart s then 0 else max (min s.handed.now (2 ^ 62)) (moment_at past)
@@ -113,8 +116,10 @@ Reads octets q = one_question octets ≡ Some q
 abbrev pub Delivers : Event → Path → Peer → List ℕ → Type 0
 Delivers e path from octets = delivery_in e ≡ Some (record { path = path; from = from; octets = octets })
 
--- the newest step delivers octets that match an ask which is open before it, in server, path, identifier and question (RFC 5452 9.1)
-pub record Matches (c : Config) (s : Step) (past : List Step) (ask : ShownAsk) (octets : List ℕ) (asked : Question) : Type 0 where
+-- the newest step delivers octets that match an ask which is open before it, in server, path, identifier and question
+-- (RFC 5452 9.1)
+pub record Matches (c : Config) (s : Step) (past : List Step) (ask : ShownAsk) (octets : List ℕ)
+    (asked : Question) : Type 0 where
   pub delivered : Delivers s.handed.event ask.path ask.server octets
   pub is_listed : on_path ask.path (listed past) ≡ Some ask
   pub is_live : moment_at (s ∷ past) < ask.moment + c.limits.ask_ms
@@ -130,7 +135,8 @@ pub record Matches (c : Config) (s : Step) (past : List Step) (ask : ShownAsk) (
   pub same_question_as_ask : same_question question asked ≡ true
 
 -- the newest step is accepted: whole, neither truncated nor a failure, and not lame
-pub record Accepts (c : Config) (s : Step) (past : List Step) (ask : ShownAsk) (asked : Question) (route : ℕ) (m : Message) : Type 0 where
+pub record Accepts (c : Config) (s : Step) (past : List Step) (ask : ShownAsk) (asked : Question) (route : ℕ)
+    (m : Message) : Type 0 where
   pub octets : List ℕ
   pub matches : Matches c s past ask octets asked
   pub spells : Spells octets m
@@ -139,7 +145,8 @@ pub record Accepts (c : Config) (s : Step) (past : List Step) (ask : ShownAsk) (
   pub route_is : route_of c asked.name ≡ Some route
   pub not_lame : is_lame (walk_of c m asked route).end ≡ false
 
--- the newest step is accepted and carried these pieces: those of the walk, then the name servers of the authority section
+-- the newest step is accepted and carried these pieces: those of the walk, then the name servers of the authority
+-- section
 pub record Carries (c : Config) (s : Step) (past : List Step) (ps : List Piece) : Type 0 where
   pub ask : ShownAsk
   pub asked : Question

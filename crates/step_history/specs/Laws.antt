@@ -22,11 +22,12 @@ MomentsAreInTime = (past : List Step) → moment_at past ≤ 2 ^ 62
 
 -- What was carried up to a step of the era is the older part of what was carried in it.
 abbrev pub WhatWasCarriedStaysSo : Type 0
-WhatWasCarriedStaysSo = (c : Config) (upto now : List Step) (all : List Held) → InEra upto now → CarriedInEra c now all → (os : List Held) × (new : List Held) × CarriedInEra c upto os × (all ≡ new ++ os)
+WhatWasCarriedStaysSo = (c : Config) (upto now : List Step) (all : List Held) → InEra upto now → CarriedInEra c now all
+    → (os : List Held) × (new : List Held) × CarriedInEra c upto os × (all ≡ new ++ os)
 
--- What the second version of a configuration adds to the claims is nothing where it has no window and no route that denies:
--- no reply is right that tells of either, only an answer from living pieces can be too large, and each name is served by its
--- route.
+-- What the second version of a configuration adds to the claims is nothing where it has no window and no route that
+-- denies: no reply is right that tells of either, only an answer from living pieces can be too large, and each name is
+-- served by its route.
 pub record AddsNothing (l : Look) (client : Client) (request octets : List ℕ) (waiting : ℕ) : Type 0 where
   pub stale : RightReply l client request waiting Stale octets → ⊥
   pub local : RightReply l client request waiting LocalDenied octets → ⊥
@@ -34,4 +35,5 @@ pub record AddsNothing (l : Look) (client : Client) (request octets : List ℕ) 
   pub routed : (name : List (List ℕ)) → route_of l.config name ≡ routes.route_of l.config.routes name
 
 abbrev pub FirstVersionStandsAlone : Type 0
-FirstVersionStandsAlone = (l : Look) (client : Client) (request octets : List ℕ) (waiting : ℕ) → HasNeither l.config → AddsNothing l client request octets waiting
+FirstVersionStandsAlone = (l : Look) (client : Client) (request octets : List ℕ) (waiting : ℕ) → HasNeither l.config
+    → AddsNothing l client request octets waiting

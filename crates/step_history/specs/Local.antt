@@ -11,8 +11,8 @@ use Rattle.step_history.specs.Answers.{Leads}
 use Rattle.step_history.specs.Replies.{full_text, short_text, denied_sections, sized_for, FitsTransport}
 use Rattle.answer_builder.specs.Values.{asked_in}
 
--- justified aliases lead from the question to a name that the configuration denies; where there are none, its own name is
--- denied, which is told at once
+-- justified aliases lead from the question to a name that the configuration denies; where there are none, its own name
+-- is denied, which is told at once
 pub record ChainToLocal (l : Look) (q : Question) (aliases : List Held) : Type 0 where
   pub last : Question
   pub leads : Leads l q aliases last

@@ -3,7 +3,8 @@ use Rattle.std.specs.Prelude.{ℕ, ◌≤◌, List, [], ◌∷◌, ◌++◌, len
 use Rattle.dns_message.specs.Writing.{written}
 use Rattle.record_cache.specs.Values.{Held}
 use Rattle.answer_builder.specs.Values.{Asked, Sections}
-use Rattle.answer_builder.specs.Answers.{told_at, told_stale, sections_told, sections_of, local_sections, full_answer, cut_answer, error_response}
+use Rattle.answer_builder.specs.Answers.{told_at, told_stale, sections_told, sections_of, local_sections, full_answer}
+use Rattle.answer_builder.specs.Answers.{cut_answer, error_response}
 use Rattle.answer_builder.specs.Transports.{over_udp}
 use Rattle.step_values.specs.declared.event.Client.{Client}
 use Rattle.step_values.specs.declared.event.Client.TheVariants.{Udp, Tcp}
@@ -25,8 +26,8 @@ full_text a s = written (full_answer a s)
 abbrev pub short_text : Asked → Sections → List ℕ
 short_text a s = written (cut_answer a s)
 
--- what is said of aliases that were held, and of aliases and a set behind them that may have ended: of these, what has ended
--- is told for 30 seconds (RFC 8767 4)
+-- what is said of aliases that were held, and of aliases and a set behind them that may have ended: of these, what has
+-- ended is told for 30 seconds (RFC 8767 4)
 abbrev pub stale_sections : ℕ → List Held → List Held → Held → Sections
 stale_sections t held past end = sections_told (told_stale (length held) t (held ++ (past ++ end ∷ [])))
 

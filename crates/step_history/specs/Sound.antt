@@ -1,5 +1,6 @@
 -- What is claimed of each reply, and of each history.
-use Rattle.std.specs.Prelude.{◌≡◌, ℕ, ◌≤◌, Bool, true, false, if◌then◌else◌, ◌==◌, ◌&&◌, not, List, [], ◌∷◌, ◌++◌, length, Option, Some, None, ◌⊎◌}
+use Rattle.std.specs.Prelude.{◌≡◌, ℕ, ◌≤◌, Bool, true, false, if◌then◌else◌, ◌==◌, ◌&&◌, not, List, [], ◌∷◌, ◌++◌}
+use Rattle.std.specs.Prelude.{length, Option, Some, None, ◌⊎◌}
 use Rattle.std.specs.List.{list_any, concat}
 use Rattle.dns_message.specs.Values.{Question, Message}
 use Rattle.dns_message.specs.Messages.{Spells}
@@ -10,7 +11,8 @@ use Rattle.step_values.specs.declared.action.Why.TheVariants.{Answered, BadForma
 use Rattle.step_values.specs.Values.{Request, request_in, Action, SentReply, reply_in_action, Step}
 use Rattle.dns_message.specs.Questions.{same_question, is_unserved}
 use Rattle.dns_message.specs.Header.{header_in}
-use Rattle.step_history.specs.History.{is_restart, InEra, moment_at, Look, NothingAccepted, Reads, Sends, takes_question}
+use Rattle.step_history.specs.History.{is_restart, InEra, moment_at, Look, NothingAccepted, Reads, Sends}
+use Rattle.step_history.specs.History.{takes_question}
 use Rattle.step_history.specs.Answers.{Answers}
 use Rattle.step_history.specs.Replies.{failure_text}
 use Rattle.answer_builder.specs.Values.{asked_in}
@@ -22,19 +24,23 @@ use Rattle.step_history.specs.Causes.{AllTriesFailed, Cause}
 abbrev pub among : ℕ → List ℕ → Bool
 among i js = list_any (λ j. j == i) js
 
--- the numbers of the questions of this era that own no reply, the oldest first; a step's number is how many came before it
+-- the numbers of the questions of this era that own no reply, the oldest first; a step's number is how many came before
+-- it
 abbrev pub unanswered : List Step → List ℕ → List ℕ
 unanswered [] owners = []
 unanswered (s ∷ past) owners =
     if is_restart s
     then []
-    else unanswered past owners ++ (if takes_question s.handed.event && not (among (length past) owners) then length past ∷ [] else [])
+    else unanswered past owners ++ (if takes_question s.handed.event && not (among (length past) owners)
+    then length past ∷ [] else [])
 
--- the text of a failure: without the question where it was not looked at or can't be read, else with the client's question as it came
+-- the text of a failure: without the question where it was not looked at or can't be read, else with the client's
+-- question as it came
 abbrev pub IsErrorResponse : List ℕ → Why → List ℕ → Type 0
 IsErrorResponse request BadFormat octets = octets ≡ failure_text (asked_in (header_in request) None) BadFormat
 IsErrorResponse request BadOpcode octets = octets ≡ failure_text (asked_in (header_in request) None) BadOpcode
-IsErrorResponse request why octets = (q : Question) × Reads request q × (octets ≡ failure_text (asked_in (header_in request) (Some q)) why)
+IsErrorResponse request why octets = (q : Question) × Reads request q
+    × (octets ≡ failure_text (asked_in (header_in request) (Some q)) why)
 
 -- the client asked what is served, and the octets answer it
 pub record RightAnswer (l : Look) (client : Client) (request octets : List ℕ) : Type 0 where
@@ -44,8 +50,8 @@ pub record RightAnswer (l : Look) (client : Client) (request octets : List ℕ) 
   pub served : is_unserved question ≡ false
   pub answers : Answers l client (header_in request) question octets
 
--- all tries failed for what the client asked or for what aliases lead to, the configuration has a window, and the octets
--- answer it past the ends of sets
+-- all tries failed for what the client asked or for what aliases lead to, the configuration has a window, and the
+-- octets answer it past the ends of sets
 pub record RightStaleAnswer (l : Look) (client : Client) (request octets : List ℕ) : Type 0 where
   pub opcode : (header_in request).opcode ≡ 0
   pub tries : AllTriesFailed l request
@@ -77,7 +83,8 @@ pub record Owns (c : Config) (now : List Step) (owners : List ℕ) (i : ℕ) (r 
   pub request : List ℕ
   pub sent : Sends asked.handed.event r.client request
   pub taken : takes_question asked.handed.event ≡ true
-  pub right : RightReply (record { config = c; asked = asked; before = before; now = now }) r.client request (length (unanswered before owners)) r.why r.octets
+  pub right : RightReply (record { config = c; asked = asked; before = before; now = now }) r.client request
+      (length (unanswered before owners)) r.why r.octets
 
 -- a reply takes the next owner, which owns no other; what is no reply takes none
 abbrev pub OwnedNext : Config → List Step → Option SentReply → (List ℕ → List ℕ → Type 0) → List ℕ → List ℕ → Type 0
@@ -110,14 +117,17 @@ FromCache s q octets = AsksIn (request_in s.handed.event) q × Replies s.outcome
 
 -- read as messages without TC, both have the same result code, answers and authority
 abbrev pub SameSections : List ℕ → List ℕ → Type 0
-SameSections a b = (m m' : Message) → Spells a m → Spells b m' → m.header.tc ≡ false → m'.header.tc ≡ false → (m.header.rcode ≡ m'.header.rcode) × (m.answers ≡ m'.answers) × (m.authority ≡ m'.authority)
+SameSections a b = (m m' : Message) → Spells a m → Spells b m' → m.header.tc ≡ false → m'.header.tc ≡ false
+    → (m.header.rcode ≡ m'.header.rcode) × (m.answers ≡ m'.answers) × (m.authority ≡ m'.authority)
 
--- the answer has the sections of each one from cache to an equal question at the same moment, as far back as nothing was accepted
+-- the answer has the sections of each one from cache to an equal question at the same moment, as far back as nothing
+-- was accepted
 abbrev pub SameAsEarlierFromCache : Config → ℕ → Question → List ℕ → List Step → Type 0
 SameAsEarlierFromCache c t q octets [] = Unit {0}
 SameAsEarlierFromCache c t q octets (s ∷ past) =
     is_restart s ≡ false → moment_at (s ∷ past) ≡ t → NothingAccepted c s past
-    → ((q' : Question) (octets' : List ℕ) → FromCache s q' octets' → same_question q q' ≡ true → SameSections octets octets') × SameAsEarlierFromCache c t q octets past
+    → ((q' : Question) (octets' : List ℕ) → FromCache s q' octets' → same_question q q' ≡ true
+    → SameSections octets octets') × SameAsEarlierFromCache c t q octets past
 
 -- w has for each step, the newest first, the owners of its replies, in their order
 abbrev pub Sound : Config → List Step → List (List ℕ) → Type 0
@@ -127,4 +137,5 @@ Sound c (s ∷ past) [] = ⊥
 Sound c (s ∷ past) (is ∷ w) =
     Sound c past w
     × EachOwned c (s ∷ past) s.outcome.actions (concat w) is
-    × ((q : Question) (octets : List ℕ) → FromCache s q octets → SameAsEarlierFromCache c (moment_at (s ∷ past)) q octets past)
+    × ((q : Question) (octets : List ℕ) → FromCache s q octets
+    → SameAsEarlierFromCache c (moment_at (s ∷ past)) q octets past)

@@ -22,9 +22,9 @@ IsSet (rows each) = Unit {0}
 IsSet (no_data soa) = ⊥
 IsSet (denied soa) = ⊥
 
--- o may serve the question for this name although it may have ended: it is a set with a lifetime, it came before the newest
--- step, carried whole by one reply of the era on the name's route, nothing that came up to now took its place, and it ended
--- fewer seconds ago than the configured window has
+-- o may serve the question for this name although it may have ended: it is a set with a lifetime, it came before the
+-- newest step, carried whole by one reply of the era on the name's route, nothing that came up to now took its place,
+-- and it ended fewer seconds ago than the configured window has
 pub record JustifiedPastItsEnd (l : Look) (name : List (List ℕ)) (o : Held) : Type 0 where
   pub old : List Held
   pub new : List Held
@@ -53,13 +53,15 @@ pub record ChainPastEnds (l : Look) (held : List Held) (q : Question) (past : Li
   pub justified : JustifiedPastItsEnd l last.name o
   pub slot : has_slot o.piece last.name last.class (Some last.kind) ≡ true
 
--- the octets answer the question so, and can be read: held are the aliases that led to what was asked last, behind which they
--- go on
-pub record StaleAnswers (l : Look) (client : Client) (h : Header) (q : Question) (held : List Held) (asked : Question) (octets : List ℕ) : Type 0 where
+-- the octets answer the question so, and can be read: held are the aliases that led to what was asked last, behind
+-- which they go on
+pub record StaleAnswers (l : Look) (client : Client) (h : Header) (q : Question) (held : List Held) (asked : Question)
+    (octets : List ℕ) : Type 0 where
   pub past : List Held
   pub end : Held
   pub chain : ChainPastEnds l held asked past end
-  pub text : octets ≡ sized_for client (full_text (asked_in h (Some q)) (stale_sections (moment_at l.now) held past end))
+  pub text : octets ≡ sized_for client (full_text (asked_in h (Some q))
+      (stale_sections (moment_at l.now) held past end))
       (short_text (asked_in h (Some q)) (stale_sections (moment_at l.now) held past end))
   pub fits : FitsTransport client octets
   pub message : Message

@@ -1,6 +1,7 @@
 //! What the definitions are good for, as statements about histories.
 
-ghost use Rattle.step_history.specs.Laws.{FirstVersionStandsAlone, MomentsAreInTime, MomentsNeverFall, WhatWasCarriedStaysSo};
+ghost use Rattle.step_history.specs.Laws.{FirstVersionStandsAlone, MomentsAreInTime, MomentsNeverFall};
+ghost use Rattle.step_history.specs.Laws.{WhatWasCarriedStaysSo};
 
 /// The effective moment never falls from step to step of an era, and is at most 2^62 milliseconds.
 pub fn moments_never_fall()

@@ -1,7 +1,7 @@
 -- What the proofs of crates above cite of the table.
 pub use Rattle.step_table.proofs.Progress.{first_due, first_late, less_is_left, left_is_bounded, more_is_served, sooner, next_due_by_lists, first_deadline}
 -- What holds of each of a list
-pub use Rattle.step_table.proofs.Lists.{All-weaker, All-append, All-filter, All-first, append_nil}
+pub use Rattle.step_table.proofs.Lists.{All-weaker, All-append, All-filter, All-first}
 -- listed asks, what is drawn beside them, and the asks that come of it
 pub use Rattle.step_table.proofs.Listed.{ask_on-is, of_question-is, without_shorter, none_same, IsFresh, drawn_fresh, none_there, free_now, free_then, none_above, IsNumbered, drawn_numbered, drawn_last, own_on, still_earlier}
 pub use Rattle.step_table.proofs.Draws.{draws_left}

@@ -1,5 +1,5 @@
 -- What holds of each of a list.
-use Rattle.std.proofs.Common.{List, [], ◌∷◌, ◌++◌, Bool, true, false, cond, ◌≡◌, ◌+◌, refl, ap}
+use Rattle.std.proofs.Common.{List, [], ◌∷◌, ◌++◌, Bool, true, false, cond, ◌+◌}
 use Rattle.std.specs.Prelude.{filter}
 use Rattle.std.specs.List.{AllByRecursion}
 
@@ -18,7 +18,3 @@ All-filter P test (x ∷ xs) h = elim (test x) as (λ v. AllByRecursion P (cond 
 pub All-first : {X : Type 0} (P : X → Type 0) (xs ys : List X) → AllByRecursion P (xs ++ ys) → AllByRecursion P xs × AllByRecursion P ys
 All-first P [] ys all = (tt, all)
 All-first P (x ∷ xs) ys all = let rest = All-first P xs ys all.1 in ((all.0, rest.0), rest.1)
-
-pub append_nil : {X : Type 0} (xs : List X) → xs ++ [] ≡ xs
-append_nil [] = refl
-append_nil (x ∷ xs) = ap (λ ys. x ∷ ys) (append_nil xs)

@@ -17,7 +17,7 @@ use Rattle.step_values.specs.declared.event.Client.{Client}
 use Rattle.step_values.specs.declared.event.Client.TheVariants.{Udp as FromUdp}
 use Rattle.outstanding.specs.declared.ask.Path.TheVariants.{Udp}
 use Rattle.step_values.specs.declared.action.Why.TheVariants.{Answered, BadFormat, BadOpcode, NotServed, QuestionsFull, InquiriesFull, NoPort}
-use Rattle.step_values.specs.Values.{from_client, delivery, ask_udp, close_udp, send_reply}
+use Rattle.step_values.specs.Values.{ask_udp, close_udp, send_reply}
 use Rattle.step_table.specs.State.{State, turn}
 use Rattle.step_table.specs.Steps.{start, idle_step, reply_step}
 use Rattle.step_table.specs.Replies.{row_of_delivery}

@@ -37,7 +37,17 @@ over_tcp draw = option_map (λ d. (d.0, Tcp d.1)) draw
 abbrev pub ask_by : ℕ → Question → ℕ → ℕ → ℕ → Option Peer → Option (ℕ × Path) → Option Ask
 ask_by n q route server used None drawn = None
 ask_by n q route server used (Some peer) None = None
-ask_by n q route server used (Some peer) (Some d) = Some (record { question = q; route = route; server = server; peer = peer; used = used; path = d.1; id = d.0; asked = n })
+ask_by n q route server used (Some peer) (Some d) =
+    Some (record {
+      question = q;
+      route = route;
+      server = server;
+      peer = peer;
+      used = used;
+      path = d.1;
+      id = d.0;
+      asked = n;
+    })
 
 -- the place of the server that is asked first on a route
 abbrev pub preferred_on : State → ℕ → ℕ
@@ -63,7 +73,13 @@ freed_by (Udp port) = Some port
 freed_by (Tcp conn) = None
 
 abbrev pub plan_of : Config → Ask → Plan
-plan_of c a = record { servers = length (servers_in (group_of c a.route)); tries = c.limits.tries; used = a.used; server = a.server; tcp = is_tcp a.path }
+plan_of c a = record {
+  servers = length (servers_in (group_of c a.route));
+  tries = c.limits.tries;
+  used = a.used;
+  server = a.server;
+  tcp = is_tcp a.path;
+}
 
 -- the ask that follows one; the port that is given up counts as free
 abbrev pub next_ask : Turn → Ask → Next → Option Ask

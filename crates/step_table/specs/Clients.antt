@@ -9,7 +9,8 @@ use Rattle.outstanding.specs.Values.{Ask}
 use Rattle.trust_rank.specs.Walks.{most_aliases}
 use Rattle.record_cache.specs.Values.{Held}
 use Rattle.step_values.specs.declared.event.Client.{Client}
-use Rattle.step_values.specs.declared.action.Why.TheVariants.{BadFormat, BadOpcode, NotServed, NoRoute, QuestionsFull, InquiriesFull, NoPort, ChainLong}
+use Rattle.step_values.specs.declared.action.Why.TheVariants.{BadFormat, BadOpcode, NotServed, NoRoute, QuestionsFull}
+use Rattle.step_values.specs.declared.action.Why.TheVariants.{InquiriesFull, NoPort, ChainLong}
 use Rattle.step_values.specs.Values.{Action}
 use Rattle.suffix_routes.specs.Serving.{route_of, is_local}
 use Rattle.step_values.specs.Requests.{is_taken}
@@ -18,7 +19,8 @@ use Rattle.step_table.specs.State.{State, Turn, from_state}
 use Rattle.waiting_questions.specs.Values.{Waiting}
 use Rattle.step_table.specs.Attempts.{first_ask_for}
 use Rattle.alias_chains.specs.LookingUp.{LookUpEnd, ends, too_long, missed, LookUp, look_up}
-use Rattle.step_table.specs.Steps.{Done, Fate, gets, waits, with_promoted, idle_step, reply_step, taking_step, failed, gives_up, answered, denied_locally}
+use Rattle.step_table.specs.Steps.{Done, Fate, gets, waits, with_promoted, idle_step, reply_step, taking_step, failed}
+use Rattle.step_table.specs.Steps.{gives_up, answered, denied_locally}
 
 -- ---- a question after its look-up
 
@@ -26,8 +28,8 @@ use Rattle.step_table.specs.Steps.{Done, Fate, gets, waits, with_promoted, idle_
 abbrev pub waits_with : Waiting → LookUp → Waiting
 waits_with x l = record x { held = l.held; wanted = l.wanted }
 
--- a name that no route serves is denied where the configuration denies it, behind the aliases that lead to it; else it has
--- no route
+-- a name that no route serves is denied where the configuration denies it, behind the aliases that lead to it; else it
+-- has no route
 abbrev pub without_server : Config → ℕ → Waiting → List Held → List (List ℕ) → Action
 without_server c n x aliases name = if is_local c name then denied_locally n x aliases else gives_up NoRoute x
 
@@ -78,7 +80,8 @@ row_of_look_up t x l = row_of_fate (from_state (with_promoted l.used t.state) t)
 
 abbrev pub row_of_route : Turn → Waiting → Option ℕ → Done
 row_of_route t x None = reply_step t.moment (without_server t.config t.moment x [] x.wanted.name) t.state
-row_of_route t x (Some route) = row_of_look_up t x (look_up t.config.routes t.moment t.state.cache.entries most_aliases [] x.wanted)
+row_of_route t x (Some route) =
+    row_of_look_up t x (look_up t.config.routes t.moment t.state.cache.entries most_aliases [] x.wanted)
 
 abbrev pub row_of_service : Turn → Waiting → Done
 row_of_service t x =

@@ -27,8 +27,8 @@ abbrev pub told_past : ℕ → Waiting → Option (List Held) → Action
 told_past n x None = gives_up Exhausted x
 told_past n x (Some chain) = answered_past n x chain
 
--- what the cache has for a question within the window, with as many aliases as it may still take; it is looked up where there
--- is a window
+-- what the cache has for a question within the window, with as many aliases as it may still take; it is looked up where
+-- there is a window
 abbrev pub found_past : Config → ℕ → List Held → Waiting → Option (List Held)
 found_past c n entries x =
     if c.limits.stale_s == 0
@@ -42,7 +42,8 @@ runs_out c n entries q x = if waits_for q x then gets (told_past n x (found_past
 abbrev pub row_of_next : Turn → Ask → Next → Done
 row_of_next t a (AskUdp server) = row_of_attempt t.moment a t.state (next_ask t a (AskUdp server))
 row_of_next t a (AskTcp server) = row_of_attempt t.moment a t.state (next_ask t a (AskTcp server))
-row_of_next t a GiveUp = closing_step t.moment a (runs_out t.config t.moment t.state.cache.entries a.question) None t.state
+row_of_next t a GiveUp = closing_step t.moment a (runs_out t.config t.moment t.state.cache.entries a.question) None
+    t.state
 
 -- the ask is closed; then the next one goes out, or those that wait for it are told why not
 abbrev pub row_of_failure : Turn → Ask → Failure → Done

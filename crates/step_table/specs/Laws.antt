@@ -14,15 +14,18 @@ use Rattle.step_table.specs.Progress.{left_to_do, ServesSomething, next_due, IsI
 
 -- A step that serves something leaves less to do.
 abbrev pub LessIsLeft : Type 0
-LessIsLeft = (c : Config) (s : State) (h : Handed) (o : Outcome) (s' : State) → IsInOrder c s → Row c s h o s' → ServesSomething c (effective h.now s) s h.event → left_to_do c s' < left_to_do c s
+LessIsLeft = (c : Config) (s : State) (h : Handed) (o : Outcome) (s' : State) → IsInOrder c s → Row c s h o s'
+    → ServesSomething c (effective h.now s) s h.event → left_to_do c s' < left_to_do c s
 
 -- What is left is bounded by the limits.
 abbrev pub LeftIsBounded : Type 0
-LeftIsBounded = (c : Config) (s : State) → IsInOrder c s → left_to_do c s ≤ c.limits.questions + c.limits.inquiries * c.limits.tries
+LeftIsBounded = (c : Config) (s : State) → IsInOrder c s → left_to_do c s ≤ c.limits.questions
+    + c.limits.inquiries * c.limits.tries
 
 -- Where something is due now, a tick serves something, at whatever later moment it comes.
 abbrev pub MoreIsServed : Type 0
-MoreIsServed = (c : Config) (s : State) (n : ℕ) → s.moment ≤ n → is_due_at c s.moment s ≡ true → ServesSomething c n s tick
+MoreIsServed = (c : Config) (s : State) (n : ℕ) → s.moment ≤ n → is_due_at c s.moment s ≡ true
+    → ServesSomething c n s tick
 
 -- the moment has come, where there is one
 abbrev pub has_come : ℕ → Option ℕ → Bool
@@ -35,5 +38,7 @@ NextDueTells = (c : Config) (s : State) (n : ℕ) → is_due_at c n s ≡ has_co
 
 -- Where a reply leads elsewhere, all that wait on behind it want one and the same question, which is what is asked.
 abbrev pub SentOnQuestionsWantOne : Type 0
-SentOnQuestionsWantOne = (c : Config) (n : ℕ) (entries : List Held) (a : Ask) (w : Walk) (name : List (List ℕ)) (x y x' y' : Waiting) → w.end ≡ elsewhere name
-    → waits_for a.question x ≡ true → waits_for a.question y ≡ true → fate_by c n entries a w x ≡ waits x' → fate_by c n entries a w y ≡ waits y' → x'.wanted ≡ y'.wanted
+SentOnQuestionsWantOne = (c : Config) (n : ℕ) (entries : List Held) (a : Ask) (w : Walk) (name : List (List ℕ))
+    (x y x' y' : Waiting) → w.end ≡ elsewhere name
+    → waits_for a.question x ≡ true → waits_for a.question y ≡ true → fate_by c n entries a w x ≡ waits x'
+    → fate_by c n entries a w y ≡ waits y' → x'.wanted ≡ y'.wanted

@@ -1,5 +1,6 @@
 -- What a state has left to do, and when something is due.
-use Rattle.std.specs.Prelude.{◌≡◌, ℕ, suc, ◌+◌, ◌-◌, ◌≤◌, true, List, [], ◌∷◌, ◌++◌, length, map, min, Option, Some, None, IsSome, ◌<◌, false}
+use Rattle.std.specs.Prelude.{◌≡◌, ℕ, suc, ◌+◌, ◌-◌, ◌≤◌, true, List, [], ◌∷◌, ◌++◌, length, map, min, Option, Some}
+use Rattle.std.specs.Prelude.{None, IsSome, ◌<◌, false}
 use Rattle.std.specs.List.{AllByRecursion}
 use Rattle.suffix_routes.specs.Values.{Config, Route}
 use Rattle.outstanding.specs.Lists.{on_path as ask_on, AreInTurn}

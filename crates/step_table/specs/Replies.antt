@@ -1,5 +1,6 @@
 -- What comes of a delivery, and of a reply that is accepted.
-use Rattle.std.specs.Prelude.{ℕ, suc, ◌+◌, ◌-◌, Bool, if◌then◌else◌, nat_lt, nat_le, List, [], ◌∷◌, ◌++◌, length, map, filter, take, Option, Some, None, Result, Ok, Err}
+use Rattle.std.specs.Prelude.{ℕ, suc, ◌+◌, ◌-◌, Bool, if◌then◌else◌, nat_lt, nat_le, List, [], ◌∷◌, ◌++◌, length, map}
+use Rattle.std.specs.Prelude.{filter, take, Option, Some, None, Result, Ok, Err}
 use Rattle.std.specs.List.{flat_map}
 use Rattle.dns_message.specs.Fault.{Fault}
 use Rattle.dns_message.specs.Values.{Question, Message}
@@ -22,7 +23,8 @@ use Rattle.step_table.specs.State.{State, Turn, from_state}
 use Rattle.waiting_questions.specs.Values.{Waiting, waits_for}
 use Rattle.step_table.specs.Attempts.{first_ask_for}
 use Rattle.alias_chains.specs.LookingUp.{ends, too_long, missed, LookUp, look_up}
-use Rattle.step_table.specs.Steps.{Done, Fate, gets, waits, with_preferred_server, with_promoted, idle_step, still_waiting, closing_step, offering_step, gives_up}
+use Rattle.step_table.specs.Steps.{Done, Fate, gets, waits, with_preferred_server, with_promoted, idle_step}
+use Rattle.step_table.specs.Steps.{still_waiting, closing_step, offering_step, gives_up}
 use Rattle.alias_chains.specs.Offering.{held_at}
 use Rattle.step_table.specs.Clients.{fate_of}
 use Rattle.step_table.specs.Failures.{row_of_failure}
@@ -41,7 +43,12 @@ before_last p (q ∷ ps) = p ∷ before_last q ps
 -- it ends at the last piece, with the aliases before it held
 abbrev pub ends_at : ℕ → List Held → Question → List Piece → LookUp
 ends_at n held q [] = record { held = held; wanted = q; met = missed; used = [] }
-ends_at n held q (p ∷ ps) = record { held = held ++ map (held_at n) (before_last p ps); wanted = q; met = ends (held_at n (last_of p ps)); used = [] }
+ends_at n held q (p ∷ ps) = record {
+  held = held ++ map (held_at n) (before_last p ps);
+  wanted = q;
+  met = ends (held_at n (last_of p ps));
+  used = [];
+}
 
 -- more aliases than a question may hold: the first that is too many ends it
 abbrev pub too_many : List Held → Question → LookUp
@@ -59,7 +66,8 @@ goes_on c n entries held q =
 
 -- what the reply makes of a question that waits for it
 abbrev pub looked_by : Config → ℕ → List Held → Walk → Waiting → End → LookUp
-looked_by c n entries w x (elsewhere name) = goes_on c n entries (x.held ++ map (held_at n) w.pieces) (asked_at x.wanted name)
+looked_by c n entries w x (elsewhere name) =
+    goes_on c n entries (x.held ++ map (held_at n) w.pieces) (asked_at x.wanted name)
 looked_by c n entries w x found = unless_many (ends_at n x.held x.wanted w.pieces)
 looked_by c n entries w x ends_no_data = unless_many (ends_at n x.held x.wanted w.pieces)
 looked_by c n entries w x ends_denied = unless_many (ends_at n x.held x.wanted w.pieces)
@@ -103,8 +111,10 @@ row_of_sent_on t a fate (Some q) =
 -- all that wait for it are answered, or are sent on to the name that the aliases lead to
 abbrev pub row_of_end : Turn → Ask → Walk → (Waiting → Fate) → End → Done
 row_of_end t a w fate (elsewhere name) =
-    row_of_sent_on (from_state (with_promoted (used_by t.config t.moment t.state.cache.entries a w t.state.waiting) t.state) t) a fate
-    (to_be_asked (without_path a.path t.state.asks) (still_waiting (map fate (filter (waits_for a.question) t.state.waiting))))
+    row_of_sent_on (from_state (with_promoted (used_by t.config t.moment t.state.cache.entries a w t.state.waiting)
+    t.state) t) a fate
+    (to_be_asked (without_path a.path t.state.asks) (still_waiting
+    (map fate (filter (waits_for a.question) t.state.waiting))))
 row_of_end t a w fate found = closing_step t.moment a fate None t.state
 row_of_end t a w fate ends_no_data = closing_step t.moment a fate None t.state
 row_of_end t a w fate ends_denied = closing_step t.moment a fate None t.state
@@ -113,7 +123,8 @@ row_of_end t a w fate lame = closing_step t.moment a fate None t.state
 abbrev pub row_of_acceptance : Turn → List Bool → Ask → Walk → Done
 row_of_acceptance t rooms a w =
     offering_step t.moment rooms (w.pieces ++ w.authority)
-    (row_of_end (from_state (with_preferred_server a t.state) t) a w (fate_by t.config t.moment t.state.cache.entries a w) w.end)
+    (row_of_end (from_state (with_preferred_server a t.state) t) a w
+    (fate_by t.config t.moment t.state.cache.entries a w) w.end)
 
 -- ---- a delivery
 

@@ -17,12 +17,14 @@ use Rattle.step_table.specs.Ticks.{deadline_of, row_of_tick}
 
 -- a question has waited as long as it may, or an ask is past its time
 abbrev pub is_due_at : Config → ℕ → State → Bool
-is_due_at c n s = list_any (λ x. nat_le (deadline_of c x) n) s.waiting || list_any (λ a. nat_le (timeout_of c a) n) s.asks
+is_due_at c n s = list_any (λ x. nat_le (deadline_of c x) n) s.waiting
+    || list_any (λ a. nat_le (timeout_of c a) n) s.asks
 
 abbrev pub Happens : Turn → Event → Done → Type 0
 Happens t (from_client client octets) d = d ≡ row_of_request t client octets
 -- rooms tells which of the new slots found memory
-Happens t (delivery path from octets) d = (rooms : List Bool) × (d ≡ row_of_delivery t rooms from octets (ask_on path t.state.asks))
+Happens t (delivery path from octets) d = (rooms : List Bool)
+    × (d ≡ row_of_delivery t rooms from octets (ask_on path t.state.asks))
 Happens t (path_failed path) d = d ≡ row_of_failed_path t (ask_on path t.state.asks)
 Happens t tick d = d ≡ row_of_tick t
 Happens t restart d = d ≡ record { actions = []; unkept = 0; state = start t.config }
@@ -39,7 +41,8 @@ HandsOctets restart = Unit {0}
 abbrev pub effective : ℕ → State → ℕ
 effective now s = max (min now (2 ^ 62)) s.moment
 
--- these events take no memory: a message that is dropped, a delivery that matches nothing, a path without an ask, a tick with nothing due, and a restart
+-- these events take no memory: a message that is dropped, a delivery that matches nothing, a path without an ask, a
+-- tick with nothing due, and a restart
 abbrev pub TakesNoMemory : Config → ℕ → State → Event → Type 0
 TakesNoMemory c n s (from_client client octets) = is_taken octets ≡ false
 TakesNoMemory c n s (delivery path from octets) = verdict_on c n from octets (ask_on path s.asks) ≡ Stranger
@@ -50,5 +53,6 @@ TakesNoMemory c n s restart = Unit {0}
 -- from s, this step may have this outcome and leave s'
 pub record Row (c : Config) (s : State) (h : Handed) (o : Outcome) (s' : State) : Type 0 where
   pub octets : HandsOctets h.event
-  pub happens : Happens (turn c (effective h.now s) h.words s) h.event (record { actions = o.actions; unkept = o.unkept; state = s' })
+  pub happens : Happens (turn c (effective h.now s) h.words s) h.event
+      (record { actions = o.actions; unkept = o.unkept; state = s' })
   pub more : o.more ≡ is_due_at c s'.moment s'

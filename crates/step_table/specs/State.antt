@@ -18,8 +18,8 @@ pub record Running : Type 0 where
   pub config : Config
   pub state : State
 
--- a step as its rows see it: the effective moment, in milliseconds, the random words that it is handed, and the state in which
--- it begins
+-- a step as its rows see it: the effective moment, in milliseconds, the random words that it is handed, and the state
+-- in which it begins
 pub record Turn : Type 0 where
   pub config : Config
   pub moment : ℕ

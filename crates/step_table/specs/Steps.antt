@@ -1,5 +1,6 @@
 -- What a step may do, and what it leaves.
-use Rattle.std.specs.Prelude.{ℕ, ◌+◌, if◌then◌else◌, Bool, List, [], ◌∷◌, ◌++◌, length, map, slice_set, Option, Some, None, Result, Ok, Err}
+use Rattle.std.specs.Prelude.{ℕ, ◌+◌, if◌then◌else◌, Bool, List, [], ◌∷◌, ◌++◌, length, map, slice_set, Option, Some}
+use Rattle.std.specs.Prelude.{None, Result, Ok, Err}
 use Rattle.std.specs.List.{filter_map}
 use Rattle.dns_message.specs.Values.{Question}
 use Rattle.dns_message.specs.Writing.{written}
@@ -95,7 +96,12 @@ abbrev pub taking_step : ℕ → Waiting → Option Ask → State → Done
 taking_step n x next s = record {
   actions = map asks (ask_list next);
   unkept = 0;
-  state = record s { asks = s.asks ++ ask_list next; waiting = s.waiting ++ x ∷ []; moment = n; tcp_asks = s.tcp_asks + tcp_count next };
+  state = record s {
+    asks = s.asks ++ ask_list next;
+    waiting = s.waiting ++ x ∷ [];
+    moment = n;
+    tcp_asks = s.tcp_asks + tcp_count next;
+  };
 }
 
 abbrev pub reply_in : Fate → Option Action
@@ -172,7 +178,8 @@ answered n x aliases end = sends Answered x (answer_of x.asked (aliases ++ end �
 
 -- the answer from the aliases that it holds and, behind them, what was found past its end
 abbrev pub answered_past : ℕ → Waiting → List Held → Action
-answered_past n x found = sends Stale x (stale_answer_of x.asked (x.held ++ found) (length x.held) n (transport_of x.client))
+answered_past n x found = sends Stale x (stale_answer_of x.asked (x.held ++ found) (length x.held) n
+    (transport_of x.client))
 
 -- the answer that aliases lead to a name that the configuration denies, or that it denies its own
 abbrev pub denied_locally : ℕ → Waiting → List Held → Action

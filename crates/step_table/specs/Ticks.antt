@@ -22,7 +22,8 @@ pub data Item : Type 0 where
   attempt : Ask → Item
   nothing : Item
 
--- both lists are in the order of time, so the least moment is that of the oldest question or of the oldest ask; at equal moments the question comes first
+-- both lists are in the order of time, so the least moment is that of the oldest question or of the oldest ask; at
+-- equal moments the question comes first
 abbrev pub first_item : Config → List Waiting → List Ask → Item
 first_item c [] [] = nothing
 first_item c [] (a ∷ others) = attempt a

@@ -10,7 +10,8 @@ use Rattle.step_values.specs.declared.event.Event.TheVariants.{Client as OfClien
 use Rattle.step_values.specs.declared.action.Action.{Action as OwnedAction}
 use Rattle.step_values.specs.declared.action.Action.TheVariants.{AskUdp, AskTcp, CloseUdp, CloseTcp, Reply}
 
--- what happens: a message of a client, a message on a path to a server, the end of such a path, the passing of time, a new beginning
+-- what happens: a message of a client, a message on a path to a server, the end of such a path, the passing of time, a
+-- new beginning
 pub data Event : Type 0 where
   from_client : Client → List ℕ → Event
   delivery : Path → Peer → List ℕ → Event

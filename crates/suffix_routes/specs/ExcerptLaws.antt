@@ -11,5 +11,7 @@ pub len_back : (octets : List ℕ) (len : ℕ) → IsExcerpt octets len → kept
 unfolding kept_len
 len_back octets len is =
     let text : List ℕ = take len octets in
-    let whole : length text + (64 - length text) ≡ length octets = sym (length-append text (replicate (64 - length text) 0) ∙ ap (λ (n : ℕ). length text + n) (length-replicate (64 - length text) 0)) ∙ ap length is.zeros in
+    let whole : length text + (64 - length text) ≡ length octets =
+    sym (length-append text (replicate (64 - length text) 0)
+    ∙ ap (λ (n : ℕ). length text + n) (length-replicate (64 - length text) 0)) ∙ ap length is.zeros in
     omega (arith, whole, length-take len octets, is.short)

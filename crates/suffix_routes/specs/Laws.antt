@@ -6,7 +6,8 @@ use Rattle.suffix_routes.specs.Routes.{route_of, serving_route_of, is_denied}
 use Rattle.suffix_routes.specs.Reading.{IsTextOf, IsReadIn}
 
 abbrev pub FirstVersionHasNeither : Type 0
-FirstVersionHasNeither = (text : List ℕ) (config : Config) → IsTextOf One text → IsReadIn text (Ok config) → HasNeither config
+FirstVersionHasNeither = (text : List ℕ) (config : Config) → IsTextOf One text → IsReadIn text (Ok config)
+    → HasNeither config
 
 -- Where no route denies, each name is served by its route, and none is denied.
 abbrev pub NothingIsDenied : Type 0

@@ -1,5 +1,7 @@
 -- A peer in text.
-use Rattle.std.specs.Prelude.{◌≡◌, ◌++◌, ℕ, ◌+◌, ◌-◌, ◌*◌, Bool, not, ◌&&◌, ◌==◌, nat_lt, nat_le, if◌then◌else◌, List, [], ◌∷◌, length, take, drop, slice_index, fold, position, option_map, Option, Some, None, codes, decimal}
+use Rattle.std.specs.Prelude.{◌≡◌, ◌++◌, ℕ, ◌+◌, ◌-◌, ◌*◌, Bool, not, ◌&&◌, ◌==◌, nat_lt, nat_le, if◌then◌else◌, List}
+use Rattle.std.specs.Prelude.{[], ◌∷◌, length, take, drop, slice_index, fold, position, option_map, Option, Some, None}
+use Rattle.std.specs.Prelude.{codes, decimal}
 use Rattle.std.specs.List.{list_all}
 use Rattle.std.specs.Char.{is_ascii_digit}
 use Rattle.suffix_routes.specs.declared.peer.Peer.{Peer}
@@ -16,7 +18,8 @@ cut separator text = option_map (λ at. (take at text, drop (at + 1) text)) (pos
 
 -- digits alone, at least one, and no leading zero but `0` itself
 abbrev pub is_decimal : List ℕ → Bool
-is_decimal text = (nat_lt 0 (length text) && not (nat_lt 1 (length text) && slice_index text 0 == 48)) && list_all is_ascii_digit text
+is_decimal text = (nat_lt 0 (length text) && not (nat_lt 1 (length text) && slice_index text 0 == 48))
+    && list_all is_ascii_digit text
 
 abbrev pub decimal_value : List ℕ → ℕ
 decimal_value digits = fold (λ n c. 10 * n + (c - 48)) 0 digits
@@ -27,7 +30,8 @@ up_to high n = if nat_le n high then Some n else None
 
 -- the decimal number that a text writes, where it is from low to high
 unfoldable pub number_in : ℕ → ℕ → List ℕ → Option ℕ
-number_in low high text = if is_decimal text then (if nat_le low (decimal_value text) then up_to high (decimal_value text) else None) else None
+number_in low high text = if is_decimal text then (if nat_le low (decimal_value text)
+    then up_to high (decimal_value text) else None) else None
 
 -- four numbers from 0 to 255 with dots between, a colon, and a port from 1 to 65535
 unfoldable pub peer_of : List ℕ → Option Peer
@@ -66,4 +70,7 @@ pub record Writes (text : List ℕ) (peer : Peer) : Type 0 where
 -- how a peer is written: its octets with dots between, a colon, its port
 abbrev pub peer_text : Peer → List ℕ
 peer_text peer =
-    decimal (slice_index peer.ip 0) ++ (codes "." ++ (decimal (slice_index peer.ip 1) ++ (codes "." ++ (decimal (slice_index peer.ip 2) ++ (codes "." ++ (decimal (slice_index peer.ip 3) ++ (codes ":" ++ decimal peer.port)))))))
+    decimal (slice_index peer.ip 0)
+    ++ (codes "." ++ (decimal (slice_index peer.ip 1) ++ (codes "."
+    ++ (decimal (slice_index peer.ip 2)
+    ++ (codes "." ++ (decimal (slice_index peer.ip 3) ++ (codes ":" ++ decimal peer.port)))))))

@@ -5,7 +5,8 @@ use Rattle.std.specs.Cmp.Lexicographic.{pointwise}
 use Rattle.suffix_routes.specs.declared.version.Version.{Version}
 use Rattle.suffix_routes.specs.declared.version.Version.TheVariants.{One, Two}
 use Rattle.suffix_routes.specs.declared.place.Limit.{Limit}
-use Rattle.suffix_routes.specs.declared.place.Limit.TheVariants.{Questions, Inquiries, Cache, Tries, AskMs, DeadlineMs, StaleS}
+use Rattle.suffix_routes.specs.declared.place.Limit.TheVariants.{Questions, Inquiries, Cache, Tries, AskMs, DeadlineMs}
+use Rattle.suffix_routes.specs.declared.place.Limit.TheVariants.{StaleS}
 use Rattle.suffix_routes.specs.declared.place.Place.{Place}
 use Rattle.suffix_routes.specs.declared.place.Place.TheVariants.{Document, Limits, Route}
 use Rattle.suffix_routes.specs.declared.fault.ConfigFault.{ConfigFault}
@@ -55,7 +56,8 @@ abbrev pub document_keys : List (List ℕ)
 document_keys = codes "version" ∷ codes "listen" ∷ codes "limits" ∷ codes "route" ∷ []
 
 abbrev pub first_limit_keys : List (List ℕ)
-first_limit_keys = limit_key Questions ∷ limit_key Inquiries ∷ limit_key Cache ∷ limit_key Tries ∷ limit_key AskMs ∷ limit_key DeadlineMs ∷ []
+first_limit_keys = limit_key Questions ∷ limit_key Inquiries ∷ limit_key Cache ∷ limit_key Tries ∷ limit_key AskMs
+    ∷ limit_key DeadlineMs ∷ []
 
 abbrev pub limit_keys : Version → List (List ℕ)
 limit_keys One = first_limit_keys

@@ -15,4 +15,7 @@ last_line octets = take_while (λ octet. not (is_line_feed octet)) (reverse octe
 
 -- the position behind these octets: a line for each line feed, and a column for each character behind the last one
 abbrev pub position_of : List ℕ → Position
-position_of octets = record { line = 1 + count_by is_line_feed octets; column = 1 + count_by begins_character (last_line octets) }
+position_of octets = record {
+  line = 1 + count_by is_line_feed octets;
+  column = 1 + count_by begins_character (last_line octets);
+}

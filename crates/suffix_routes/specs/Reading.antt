@@ -1,10 +1,13 @@
 -- The configuration that a table of TOML holds, else the first fault in order.
-use Rattle.std.specs.Prelude.{◌≡◌, ℕ, ◌≤◌, ℤ, pos, int_le, unsigned_abs, Bool, true, false, not, ◌==◌, nat_lt, ◌&&◌, if◌then◌else◌, List, [], ◌∷◌, ◌++◌, length, take, codes, option_map, Option, Some, None, Result, Ok, Err}
+use Rattle.std.specs.Prelude.{◌≡◌, ℕ, ◌≤◌, ℤ, pos, int_le, unsigned_abs, Bool, true, false, not, ◌==◌, nat_lt, ◌&&◌}
+use Rattle.std.specs.Prelude.{if◌then◌else◌, List, [], ◌∷◌, ◌++◌, length, take, codes, option_map, Option, Some, None}
+use Rattle.std.specs.Prelude.{Result, Ok, Err}
 use Rattle.std.specs.Ordering.{int_eq}
 use Rattle.std.specs.List.{find}
 use Rattle.first_fault.specs.Reading as reading
 pub use Rattle.first_fault.specs.Reading.{◌>>=◌}
-use Rattle.toml.specs.Data.{Data, Items, no_items, item, Members, no_members, member, get_member, as_str, as_integer, as_bool, as_array, as_table}
+use Rattle.toml.specs.Data.{Data, Items, no_items, item, Members, no_members, member, get_member, as_str, as_integer}
+use Rattle.toml.specs.Data.{as_bool, as_array, as_table}
 use Rattle.toml.specs.Parse.{parse_document}
 use Rattle.dns_name.specs.Text.{name_in}
 use Rattle.dns_name.specs.declared.fault.NameFault.{NameFault}
@@ -18,7 +21,10 @@ use Rattle.suffix_routes.specs.declared.place.Place.{Place}
 use Rattle.suffix_routes.specs.declared.place.Place.TheVariants as place
 use Rattle.suffix_routes.specs.declared.fault.ConfigFault.{ConfigFault}
 use Rattle.suffix_routes.specs.declared.fault.ConfigFault.TheVariants as fault
-use Rattle.suffix_routes.specs.declared.fault.ConfigFault.TheVariants.{Toml, MissingKey, WrongKind, BadName, BadPeer, Range, TooManyServers, TwiceSuffix, TooManyRoutes, NoServers, UnknownKey, DenyWithServers, Memory}
+use Rattle.suffix_routes.specs.declared.fault.ConfigFault.TheVariants.{Toml, MissingKey, WrongKind, BadName, BadPeer}
+use Rattle.suffix_routes.specs.declared.fault.ConfigFault.TheVariants.{Range, TooManyServers, TwiceSuffix}
+use Rattle.suffix_routes.specs.declared.fault.ConfigFault.TheVariants.{TooManyRoutes, NoServers, UnknownKey}
+use Rattle.suffix_routes.specs.declared.fault.ConfigFault.TheVariants.{DenyWithServers, Memory}
 use Rattle.suffix_routes.specs.Values.{Route, Config, default_limits}
 use Rattle.suffix_routes.specs.Places.{limit_key, lowest, highest, default_of, knows}
 use Rattle.suffix_routes.specs.Positions.{position_of}
@@ -184,7 +190,8 @@ suffix_in earlier ms =
 -- the servers, each behind those before it
 abbrev pub servers_after : ℕ → List Peer → List Data → Result (List Peer) ConfigFault
 servers_after route earlier [] = Ok earlier
-servers_after route earlier (d ∷ ds) = peer_in (place.Server route (length earlier)) d >>= λ peer. servers_after route (earlier ++ peer ∷ []) ds
+servers_after route earlier (d ∷ ds) = peer_in (place.Server route (length earlier)) d
+    >>= λ peer. servers_after route (earlier ++ peer ∷ []) ds
 
 -- 1 to 8 of them
 abbrev pub counted_servers : ℕ → List Data → Result (List Peer) ConfigFault
@@ -229,7 +236,8 @@ route_in version earlier d =
 
 abbrev pub routes_after : Version → List Route → List Data → Result (List Route) ConfigFault
 routes_after version earlier [] = Ok earlier
-routes_after version earlier (d ∷ ds) = route_in version earlier d >>= λ route. routes_after version (earlier ++ route ∷ []) ds
+routes_after version earlier (d ∷ ds) = route_in version earlier d
+    >>= λ route. routes_after version (earlier ++ route ∷ []) ds
 
 -- 1 to 64 of them
 abbrev pub counted_routes : Version → List Data → Result (List Route) ConfigFault

@@ -1,5 +1,6 @@
 -- The route of a name.
-use Rattle.std.specs.Prelude.{◌≡◌, ℕ, ◌≤◌, Bool, false, if◌then◌else◌, List, [], ◌∷◌, length, slice_get, position, Option, Some, None}
+use Rattle.std.specs.Prelude.{◌≡◌, ℕ, ◌≤◌, Bool, false, if◌then◌else◌, List, [], ◌∷◌, length, slice_get, position}
+use Rattle.std.specs.Prelude.{Option, Some, None}
 use Rattle.dns_name.specs.Labels.{IsUnder, same}
 use Rattle.suffix_routes.specs.Values.{Route}
 
@@ -8,7 +9,8 @@ pub record IsRouteOf (routes : List Route) (name : List (List ℕ)) (place : ℕ
   pub route : Route
   pub there : slice_get routes place ≡ Some route
   pub under : IsUnder name route.suffix
-  pub most : (k : ℕ) (other : Route) → slice_get routes k ≡ Some other → IsUnder name other.suffix → length other.suffix ≤ length route.suffix
+  pub most : (k : ℕ) (other : Route) → slice_get routes k ≡ Some other → IsUnder name other.suffix
+      → length other.suffix ≤ length route.suffix
 
 -- the name is under no suffix
 abbrev pub HasNoRoute : List Route → List (List ℕ) → Type 0

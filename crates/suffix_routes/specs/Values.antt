@@ -61,7 +61,8 @@ pub record IsConfig (config : Config) : Type 0 where
   pub each : AllByRecursion IsRoute config.routes
   pub differ : AllDiffer config.routes
 
--- no window for answers past their end, and no route that denies: nothing that the second version has more than the first
+-- no window for answers past their end, and no route that denies: nothing that the second version has more than the
+-- first
 pub record HasNeither (config : Config) : Type 0 where
   pub window : config.limits.stale_s ≡ 0
   pub routes : AllByRecursion (λ r. r.deny ≡ false) config.routes

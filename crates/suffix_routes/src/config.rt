@@ -61,8 +61,8 @@ impl<A: Allocator> Config<A> {
         longest(self.routes(), key)
     }
 
-    /// The route whose servers are asked for a name: its route, where that doesn't deny the name; else `None`. It takes no
-    /// memory.
+    /// The route whose servers are asked for a name: its route, where that doesn't deny the name; else `None`. It takes
+    /// no memory.
     pub fn serving_route_of(&self, name: &Name<A>) -> Option<RouteId>
         ensures { result ≡ serving_route_of self.now.routes name.now }
     {

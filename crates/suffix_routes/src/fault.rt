@@ -63,9 +63,9 @@ pub enum ConfigFault {
 }
 
 impl ConfigFault {
-    /// The number by which programs tell the fault: 1 no TOML, 2 version, 3 missing key, 4 wrong kind, 5 bad name, 6 bad
-    /// peer, 7 out of range, 8 suffix twice, 9 too many routes, 10 no servers, 11 unknown key, 12 memory,
-    /// 13 servers of a route that denies.
+    /// The number by which programs tell the fault: 1 no TOML, 2 version, 3 missing key, 4 wrong kind, 5 bad name, 6
+    /// bad peer, 7 out of range, 8 suffix twice, 9 too many routes, 10 no servers, 11 unknown key, 12 memory, 13
+    /// servers of a route that denies.
     pub fn number(&self) -> u8
         ensures { result ≡ number_of self.now }
     {

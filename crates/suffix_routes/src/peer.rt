@@ -3,7 +3,8 @@
 ghost use Rattle.std.specs.Prelude.{◌≡◌, ◌≤◌, ◌==◌, true, Some, IfSome, MatchOption, option_map, position};
 ghost use Rattle.std.specs.Char.{is_ascii_digit};
 ghost use Rattle.std.specs.List.{list_all};
-ghost use Rattle.suffix_routes.specs.Peers.{cut, is_decimal, decimal_value, up_to, number_in, peer_of, peer_text, Writes};
+ghost use Rattle.suffix_routes.specs.Peers.{cut, is_decimal, decimal_value, up_to, number_in, peer_of, peer_text};
+ghost use Rattle.suffix_routes.specs.Peers.{Writes};
 
 use std::fmt;
 

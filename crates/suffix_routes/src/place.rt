@@ -2,7 +2,8 @@
 
 ghost use Rattle.std.specs.Prelude.{◌≡◌, pos};
 ghost use Rattle.suffix_routes.specs.declared.version.Version.TheVariants.{One};
-ghost use Rattle.suffix_routes.specs.Places.{limit_key, limit_keys, route_keys, is_among, lowest, highest, default_of, knows};
+ghost use Rattle.suffix_routes.specs.Places.{limit_key, limit_keys, route_keys, is_among, lowest, highest, default_of};
+ghost use Rattle.suffix_routes.specs.Places.{knows};
 
 use crate::excerpt::Excerpt;
 use crate::version::Version;

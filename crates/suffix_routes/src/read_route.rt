@@ -4,7 +4,8 @@ ghost use Rattle.std.specs.Prelude.{◌≡◌, [], map};
 ghost use Rattle.toml.specs.View.{view, table_view};
 ghost use Rattle.dns_name.specs.Text.{name_in};
 ghost use Rattle.suffix_routes.specs.Routes.{route_at};
-ghost use Rattle.suffix_routes.specs.Reading.{Gives, suffix_name, suffix_in, servers_after, servers_in, deny_in, group_in, route_in, routes_after, routes_in};
+ghost use Rattle.suffix_routes.specs.Reading.{Gives, suffix_name, suffix_in, servers_after, servers_in, deny_in};
+ghost use Rattle.suffix_routes.specs.Reading.{group_in, route_in, routes_after, routes_in};
 
 use crate::excerpt::Excerpt;
 use crate::fault::ConfigFault;

@@ -6,7 +6,8 @@ ghost use Rattle.std.specs.List.{find};
 ghost use Rattle.toml.specs.Data.{get_member};
 ghost use Rattle.toml.specs.View.{view, table_view};
 ghost use Rattle.suffix_routes.specs.Places.{knows, limit_key, lowest, highest};
-ghost use Rattle.suffix_routes.specs.Reading.{Shows, known_keys, required, peer_in, limit_in, in_range, text_in, array_in, table_in, integer_in, boolean_in};
+ghost use Rattle.suffix_routes.specs.Reading.{Shows, known_keys, required, peer_in, limit_in, in_range, text_in};
+ghost use Rattle.suffix_routes.specs.Reading.{array_in, table_in, integer_in, boolean_in};
 
 use crate::excerpt::Excerpt;
 use crate::fault::ConfigFault;

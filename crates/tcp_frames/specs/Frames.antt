@@ -1,5 +1,6 @@
 -- Messages in a TCP stream (RFC 1035 4.2.2): each goes behind its length in two octets, the high one first.
-use Rattle.std.specs.Prelude.{◌≡◌, ℕ, suc, ◌+◌, ◌*◌, ◌/◌, ◌%◌, ◌<◌, ◌≤◌, List, [], ◌∷◌, ◌++◌, length, take, drop, Option, Some, None, Result, Ok, Err, OnOk, OnErr, nat_le, if◌then◌else◌}
+use Rattle.std.specs.Prelude.{◌≡◌, ℕ, suc, ◌+◌, ◌*◌, ◌/◌, ◌%◌, ◌<◌, ◌≤◌, List, [], ◌∷◌, ◌++◌, length, take, drop}
+use Rattle.std.specs.Prelude.{Option, Some, None, Result, Ok, Err, OnOk, OnErr, nat_le, if◌then◌else◌}
 use Rattle.std.specs.List.{flat_map, AllByRecursion}
 use Rattle.std.specs.declared.alloc.AllocError.{AllocError}
 use Rattle.tcp_frames.specs.declared.fault.FrameFault.{FrameFault}
@@ -46,7 +47,8 @@ Takes before (Err _) after = (after ≡ before) × ((message : List ℕ) × ((re
 -- the messages whose frames stand whole at the beginning of the stream, in order; `most` is at least their number
 unfoldable pub frames_within : ℕ → List ℕ → List (List ℕ)
 frames_within (suc most) (high ∷ low ∷ more) =
-    if nat_le (256 * high + low) (length more) then take (256 * high + low) more ∷ frames_within most (drop (256 * high + low) more) else []
+    if nat_le (256 * high + low) (length more) then take (256 * high + low) more
+    ∷ frames_within most (drop (256 * high + low) more) else []
 frames_within most stream = []
 
 -- the messages of a stream, in order: no frame is shorter than an octet

@@ -16,9 +16,11 @@ pub record KeepsFrames (before : List ℕ) (calls : List Call) (after : List ℕ
   pub unfinished : unfinished_of (before ++ fed_in calls) ≡ unfinished_of after
 
 abbrev pub CutDoesNotMatter : Type 0
-CutDoesNotMatter = (before : List ℕ) (calls : List Call) (after : List ℕ) → Runs before calls after → KeepsFrames before calls after
+CutDoesNotMatter = (before : List ℕ) (calls : List Call) (after : List ℕ) → Runs before calls after
+    → KeepsFrames before calls after
 
--- Where nothing whole is left of all that was fed to a new reader, its frames have been taken, and what is left follows them.
+-- Where nothing whole is left of all that was fed to a new reader, its frames have been taken, and what is left follows
+-- them.
 abbrev pub AllFramesAreTaken : Type 0
 AllFramesAreTaken =
     (calls : List Call) (after : List ℕ) → Runs [] calls after → IsUnfinished after
@@ -30,7 +32,8 @@ FramesAreUnique =
     → IsCut messages rest stream → IsCut others left stream → (messages ≡ others) × (rest ≡ left)
 
 abbrev pub FramesAreFound : Type 0
-FramesAreFound = (stream : List ℕ) → AllByRecursion (λ octet. octet < 256) stream → IsCut (frames_of stream) (unfinished_of stream) stream
+FramesAreFound = (stream : List ℕ) → AllByRecursion (λ octet. octet < 256) stream
+    → IsCut (frames_of stream) (unfinished_of stream) stream
 
 -- An unfinished stream begins with no frame.
 abbrev pub UnfinishedHasNoFrame : Type 0

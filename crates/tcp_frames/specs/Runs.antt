@@ -10,7 +10,8 @@ pub data Call : Type 0 where
 -- The calls lead from the octets before them to those after them.
 abbrev pub Runs : List ℕ → List Call → List ℕ → Type 0
 Runs before [] after = after ≡ before
-Runs before (fed piece answer ∷ calls) after = (between : List ℕ) × (Feeds before piece answer between × Runs between calls after)
+Runs before (fed piece answer ∷ calls) after = (between : List ℕ)
+    × (Feeds before piece answer between × Runs between calls after)
 Runs before (took answer ∷ calls) after = (between : List ℕ) × (Takes before answer between × Runs between calls after)
 
 -- all octets that were fed; a feed that was refused fed none

@@ -43,7 +43,8 @@ impl Within {
     fn advance(&mut self, piece: &[u8]) -> usize
         requires { 0 < length piece.now }
         ensures taken { (0 < result) × (result ≤ length piece.now) }
-        ensures counts { (rest : List ℕ) → Stands self.old rest → Counts rest (take result piece.now) (ended self.new) self.new }
+        ensures counts { (rest : List ℕ) → Stands self.old rest
+            → Counts rest (take result piece.now) (ended self.new) self.new }
     {
         match *self {
             Within::Nothing => {

@@ -1,6 +1,7 @@
 //! What the definitions of a stream's frames are good for.
 
-ghost use Rattle.tcp_frames.specs.Laws.{AllFramesAreTaken, CutDoesNotMatter, FramesAreFound, FramesAreUnique, NothingIsLost, PiecesContinue, UnfinishedHasNoFrame};
+ghost use Rattle.tcp_frames.specs.Laws.{AllFramesAreTaken, CutDoesNotMatter, FramesAreFound, FramesAreUnique};
+ghost use Rattle.tcp_frames.specs.Laws.{NothingIsLost, PiecesContinue, UnfinishedHasNoFrame};
 
 /// Over any run of feeds and takes, refused ones too: what was taken, each message with its length, followed by what
 /// is left, is what was there followed by what was fed.

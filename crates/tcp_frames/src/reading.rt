@@ -78,7 +78,8 @@ impl<A: Allocator + Copy> FrameReader<A> {
 
 /// The message of the frame with which a stream begins, if all of it came.
 fn message_of_first_frame(stream: &[u8]) -> Option<&[u8]>
-    ensures { MatchOption result (IsUnfinished stream.now) (λ message. Leads message.now (drop (2 + length message.now) stream.now) stream.now) }
+    ensures { MatchOption result (IsUnfinished stream.now) (λ message. Leads message.now
+        (drop (2 + length message.now) stream.now) stream.now) }
 {
     let [high, low, more @ ..] = stream else {
         return None;

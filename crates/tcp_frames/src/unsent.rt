@@ -77,7 +77,8 @@ impl<A: Allocator + Copy> Unsent<A> {
         Ok(())
     }
 
-    /// Puts octets last, behind a copy of those that are left. `Err` where memory ran out, and then nothing has changed.
+    /// Puts octets last, behind a copy of those that are left. `Err` where memory ran out, and then nothing has
+    /// changed.
     fn push_anew(&mut self, more: &[u8]) -> Result<(), AllocError>
         ensures ok { OnOk result (self.new ≡ record { left = self.old.left ++ more.now; taken = 0 }) }
         ensures err { OnErr result (self.new ≡ self.old) }

@@ -25,7 +25,8 @@ pub fn frame<A: Allocator>(alloc: A, message: &[u8]) -> Result<Octets<A>, FrameF
 
 /// The two octets that say a length, if two octets can.
 fn length_octets(length: usize) -> Option<[u8; 2]>
-    ensures { MatchOption result (65535 < length) (λ octets. (length < 65536) × (octets ≡ length / 256 ∷ length % 256 ∷ [])) }
+    ensures { MatchOption result (65535 < length) (λ octets. (length < 65536)
+        × (octets ≡ length / 256 ∷ length % 256 ∷ [])) }
 {
     match u16::try_from(length) {
         Ok(length) => Some(length.to_be_bytes()),

@@ -6,9 +6,9 @@ use Rattle.std.specs.Option.{IfSome}
 use Rattle.std.proofs.lemmas.Bool.{leb-true, true≢false}
 use Rattle.dns_message.specs.Values.{Question, Record, Message}
 use Rattle.dns_message.specs.Data.{IsShaped}
-use Rattle.dns_message.specs.Messages.{Spells, AreShaped, HasShapes}
+use Rattle.dns_message.specs.Messages.{Spells, AreShaped}
 use Rattle.dns_message.specs.Writing.{written}
-use Rattle.dns_message.specs.Written.{IsQuestion, IsRecord, IsMessage}
+use Rattle.dns_message.specs.Written.{IsQuestion, IsRecord}
 use Rattle.dns_message.proofs.CallerLemmas.{written_message_is_spelled, one_message_is_spelled}
 use Rattle.trust_rank.specs.Values.{Body, rows, no_data, denied, Piece}
 use Rattle.trust_rank.specs.Formed.{FitsKind, IsPiece, IsSoa}

@@ -83,7 +83,8 @@ abbrev pub AreStillFound : Config → ℕ → List Held → List Step → Type 0
 AreStillFound c t entries [] = Unit {0}
 AreStillFound c t entries (s ∷ past) =
     is_restart s ≡ false → moment_at (s ∷ past) ≡ t → NothingAccepted c s past
-    → ((q : Question) (octets : List ℕ) → FromCache s q octets → IsStillFound c t entries q octets) × AreStillFound c t entries past
+    → ((q : Question) (octets : List ℕ) → FromCache s q octets → IsStillFound c t entries q octets)
+    × AreStillFound c t entries past
 
 -- what is kept of the replies, and what was answered from it, is explained by what was carried
 pub record IsCached (c : Config) (past : List Step) (moment : ℕ) (cache : Cache) : Type 0 where

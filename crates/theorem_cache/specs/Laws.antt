@@ -16,47 +16,62 @@ use Rattle.suffix_routes.specs.Serving.{route_of}
 use Rattle.step_history.specs.History.{is_restart, moment_at, InEra, Carries, NothingAccepted}
 use Rattle.step_history.specs.Carried.{CarriedInEra}
 use Rattle.step_history.specs.Answers.{FollowsAliases, Leads}
-use Rattle.step_history.specs.Replies.{answer_text, cut_text, full_text, short_text, stale_sections, denied_sections, sized_for, FitsTransport}
+use Rattle.step_history.specs.Replies.{answer_text, cut_text, full_text, short_text, stale_sections, denied_sections}
+use Rattle.step_history.specs.Replies.{sized_for, FitsTransport}
 use Rattle.step_history.specs.Sound.{FromCache, SameAsEarlierFromCache}
 use Rattle.alias_chains.specs.LookingUp.{look_up, promoted_all}
 use Rattle.alias_chains.specs.PastEnds.{look_up_past}
 use Rattle.alias_chains.specs.Offering.{put_all}
-use Rattle.theorem_cache.specs.Kept.{CanBeKept, CanBeTold, CanBeRepeated, SpellsSections, SpellsAnswer, looked, IsStillFound, IsCached}
+use Rattle.theorem_cache.specs.Kept.{CanBeKept, CanBeTold, CanBeRepeated, SpellsSections, SpellsAnswer, looked}
+use Rattle.theorem_cache.specs.Kept.{IsStillFound, IsCached}
 use Rattle.theorem_cache.specs.Chains.{look_from, GoesOn, IsRight, IsRightPast, LeadToEnd, LeadOn}
 
 -- ---- what is kept
 
 -- A step that accepts nothing keeps what was kept, where each of its answers from cache is found now.
 abbrev pub QuietStepsKeep : Type 0
-QuietStepsKeep = (c : Config) (past : List Step) (m n : ℕ) (cache : Cache) (s : Step) → IsCached c past m cache → m ≡ moment_at past → (is_restart s ≡ false) × NothingAccepted c s past → n ≡ moment_at (s ∷ past)
-    → ((q : Question) (octets : List ℕ) → FromCache s q octets → IsStillFound c n cache.entries q octets) → IsCached c (s ∷ past) n cache
+QuietStepsKeep = (c : Config) (past : List Step) (m n : ℕ) (cache : Cache) (s : Step) → IsCached c past m cache
+    → m ≡ moment_at past → (is_restart s ≡ false) × NothingAccepted c s past → n ≡ moment_at (s ∷ past)
+    → ((q : Question) (octets : List ℕ) → FromCache s q octets → IsStillFound c n cache.entries q octets)
+    → IsCached c (s ∷ past) n cache
 
 -- So does a promotion.
 abbrev pub PromotionsKeep : Type 0
-PromotionsKeep = (c : Config) (past : List Step) (m : ℕ) (cache : Cache) (used : List Slot) → IsCached c past m cache → IsCached c past m (record { capacity = cache.capacity; entries = promoted_all used cache.entries })
+PromotionsKeep = (c : Config) (past : List Step) (m : ℕ) (cache : Cache) (used : List Slot) → IsCached c past m cache
+    → IsCached c past m (record { capacity = cache.capacity; entries = promoted_all used cache.entries })
 
 -- An accepted reply leaves what it carried among what is kept, whatever memory there was for it.
 abbrev pub OffersKeep : Type 0
-OffersKeep = (c : Config) (past : List Step) (m n : ℕ) (cache : Cache) (s : Step) (rooms : List Bool) (ps : List Piece) → IsCached c past m cache → m ≡ moment_at past → is_restart s ≡ false → n ≡ moment_at (s ∷ past)
-    → Carries c s past ps → AllByRecursion (CanBeKept c) ps → IsCached c (s ∷ past) n (record { capacity = cache.capacity; entries = put_all cache.capacity n rooms ps cache.entries })
+OffersKeep = (c : Config) (past : List Step) (m n : ℕ) (cache : Cache) (s : Step) (rooms : List Bool) (ps : List Piece)
+    → IsCached c past m cache → m ≡ moment_at past → is_restart s ≡ false → n ≡ moment_at (s ∷ past)
+    → Carries c s past ps → AllByRecursion (CanBeKept c) ps
+    → IsCached c (s ∷ past) n (record {
+      capacity = cache.capacity;
+      entries = put_all cache.capacity n rooms ps cache.entries;
+    })
 
 -- ---- an accepted reply
 
 -- The pieces of a reply that isn't lame can be kept.
 abbrev pub AcceptedPiecesCanBeKept : Type 0
-AcceptedPiecesCanBeKept = (c : Config) (m : Message) (q : Question) (route : ℕ) → IsMessage m → HasShapes m → IsQuestion q → route_of c q.name ≡ Some route → is_lame (walk_of c m q route).end ≡ false
+AcceptedPiecesCanBeKept = (c : Config) (m : Message) (q : Question) (route : ℕ) → IsMessage m → HasShapes m
+    → IsQuestion q → route_of c q.name ≡ Some route → is_lame (walk_of c m q route).end ≡ false
     → AllByRecursion (CanBeKept c) ((walk_of c m q route).pieces ++ (walk_of c m q route).authority)
 
 -- Where the walk has a last piece, they answer each question of the era that is equal to the one that was asked.
 abbrev pub AcceptedPiecesAnswer : Type 0
-AcceptedPiecesAnswer = (c : Config) (asked s : Step) (before past : List Step) (os : List Held) (m : Message) (q other : Question) (route : ℕ) → InEra (asked ∷ before) past → is_restart s ≡ false → CarriedInEra c past os
-    → Carries c s past ((walk_of c m q route).pieces ++ (walk_of c m q route).authority) → HasShapes m → route_of c q.name ≡ Some route → has_last (walk_of c m q route).end ≡ true → IsSameQuestion other q
+AcceptedPiecesAnswer = (c : Config) (asked s : Step) (before past : List Step) (os : List Held) (m : Message)
+    (q other : Question) (route : ℕ) → InEra (asked ∷ before) past → is_restart s ≡ false → CarriedInEra c past os
+    → Carries c s past ((walk_of c m q route).pieces ++ (walk_of c m q route).authority) → HasShapes m
+    → route_of c q.name ≡ Some route → has_last (walk_of c m q route).end ≡ true → IsSameQuestion other q
     → LeadToEnd (look_from c asked before (s ∷ past)) (moment_at (s ∷ past)) other (walk_of c m q route).pieces
 
 -- Where it leads to a name that it doesn't answer, they are aliases that lead each such question on to that name.
 abbrev pub AcceptedPiecesLeadOn : Type 0
-AcceptedPiecesLeadOn = (c : Config) (asked s : Step) (before past : List Step) (os : List Held) (m : Message) (q other : Question) (route : ℕ) (name : List (List ℕ)) → InEra (asked ∷ before) past → is_restart s ≡ false
-    → CarriedInEra c past os → Carries c s past ((walk_of c m q route).pieces ++ (walk_of c m q route).authority) → HasShapes m → route_of c q.name ≡ Some route
+AcceptedPiecesLeadOn = (c : Config) (asked s : Step) (before past : List Step) (os : List Held) (m : Message)
+    (q other : Question) (route : ℕ) (name : List (List ℕ)) → InEra (asked ∷ before) past → is_restart s ≡ false
+    → CarriedInEra c past os → Carries c s past ((walk_of c m q route).pieces ++ (walk_of c m q route).authority)
+    → HasShapes m → route_of c q.name ≡ Some route
     → (walk_of c m q route).end ≡ elsewhere name → IsSameQuestion other q
     → LeadOn (look_from c asked before (s ∷ past)) (moment_at (s ∷ past)) other (walk_of c m q route).pieces name
 
@@ -64,51 +79,71 @@ AcceptedPiecesLeadOn = (c : Config) (asked s : Step) (before past : List Step) (
 
 -- What a client's question meets in the cache is justified, in a step that accepts nothing.
 abbrev pub LookUpsAreRight : Type 0
-LookUpsAreRight = (c : Config) (past : List Step) (m n : ℕ) (cache : Cache) (s : Step) (q : Question) → IsCached c past m cache → m ≡ moment_at past → (is_restart s ≡ false) × NothingAccepted c s past → n ≡ moment_at (s ∷ past)
+LookUpsAreRight = (c : Config) (past : List Step) (m n : ℕ) (cache : Cache) (s : Step) (q : Question)
+    → IsCached c past m cache → m ≡ moment_at past → (is_restart s ≡ false) × NothingAccepted c s past
+    → n ≡ moment_at (s ∷ past)
     → IsRight (look_from c s past (s ∷ past)) n q (looked c n cache.entries q)
 
--- A look-up that goes on for a question that waits, with the aliases that it holds, in the cache as it was before the step,
--- is right too, whatever the step accepts.
+-- A look-up that goes on for a question that waits, with the aliases that it holds, in the cache as it was before the
+-- step, is right too, whatever the step accepts.
 abbrev pub LookUpsThatGoOnAreRight : Type 0
-LookUpsThatGoOnAreRight = (c : Config) (asked s : Step) (before past : List Step) (m n : ℕ) (cache : Cache) (q wanted : Question) (held : List Held) (more : ℕ) → IsCached c past m cache → m ≡ moment_at past
-    → InEra (asked ∷ before) past → GoesOn c s past → n ≡ moment_at (s ∷ past) → AllByRecursion (CanBeTold n) held → FollowsAliases (look_from c asked before (s ∷ past)) q held wanted → more + length held ≡ most_aliases
+LookUpsThatGoOnAreRight = (c : Config) (asked s : Step) (before past : List Step) (m n : ℕ) (cache : Cache)
+    (q wanted : Question) (held : List Held) (more : ℕ) → IsCached c past m cache → m ≡ moment_at past
+    → InEra (asked ∷ before) past → GoesOn c s past → n ≡ moment_at (s ∷ past) → AllByRecursion (CanBeTold n) held
+    → FollowsAliases (look_from c asked before (s ∷ past)) q held wanted → more + length held ≡ most_aliases
     → IsRight (look_from c asked before (s ∷ past)) n q (look_up c.routes n cache.entries more held wanted)
 
 -- What is found past the ends of entries, in a step that accepts nothing, is justified so for each question of the era.
 abbrev pub LookUpsPastEndsAreRight : Type 0
-LookUpsPastEndsAreRight = (c : Config) (asked s : Step) (before past : List Step) (m n : ℕ) (cache : Cache) (q : Question) (most : ℕ) (chain : List Held) → IsCached c past m cache → m ≡ moment_at past
-    → (is_restart s ≡ false) × NothingAccepted c s past → n ≡ moment_at (s ∷ past) → look_up_past c.limits.stale_s n cache.entries most q ≡ Some chain
+LookUpsPastEndsAreRight = (c : Config) (asked s : Step) (before past : List Step) (m n : ℕ) (cache : Cache)
+    (q : Question) (most : ℕ) (chain : List Held) → IsCached c past m cache → m ≡ moment_at past
+    → (is_restart s ≡ false) × NothingAccepted c s past → n ≡ moment_at (s ∷ past)
+    → look_up_past c.limits.stale_s n cache.entries most q ≡ Some chain
     → IsRightPast (look_from c asked before (s ∷ past)) n q most chain
 
 -- ---- answers
 
 -- What a client gets of a chain is read as the answer, or as the answer cut to the question.
 abbrev pub AnswersAreSpelled : Type 0
-AnswersAreSpelled = (a : Asked) (q : Question) (t : ℕ) (aliases : List Held) (end : Held) → CanBeRepeated a q → AllByRecursion (CanBeTold t) (aliases ++ end ∷ []) → (client : Client)
+AnswersAreSpelled = (a : Asked) (q : Question) (t : ℕ) (aliases : List Held) (end : Held) → CanBeRepeated a q
+    → AllByRecursion (CanBeTold t) (aliases ++ end ∷ []) → (client : Client)
     → FitsTransport client (sized_for client (answer_text a aliases end t) (cut_text a aliases end t))
     → SpellsAnswer (sized_for client (answer_text a aliases end t) (cut_text a aliases end t)) a (aliases ++ end ∷ []) t
 
 -- So is what it gets past the ends of entries, and where the configuration denies.
 abbrev pub StaleAnswersAreSpelled : Type 0
-StaleAnswersAreSpelled = (a : Asked) (q : Question) (t : ℕ) (held past : List Held) (end : Held) → CanBeRepeated a q → AllByRecursion (CanBeTold t) (held ++ (past ++ end ∷ [])) → (client : Client)
-    → FitsTransport client (sized_for client (full_text a (stale_sections t held past end)) (short_text a (stale_sections t held past end)))
-    → SpellsSections (sized_for client (full_text a (stale_sections t held past end)) (short_text a (stale_sections t held past end))) a (stale_sections t held past end)
+StaleAnswersAreSpelled = (a : Asked) (q : Question) (t : ℕ) (held past : List Held) (end : Held) → CanBeRepeated a q
+    → AllByRecursion (CanBeTold t) (held ++ (past ++ end ∷ [])) → (client : Client)
+    → FitsTransport client (sized_for client (full_text a (stale_sections t held past end))
+    (short_text a (stale_sections t held past end)))
+    → SpellsSections (sized_for client (full_text a (stale_sections t held past end))
+    (short_text a (stale_sections t held past end))) a (stale_sections t held past end)
 
 abbrev pub LocalAnswersAreSpelled : Type 0
-LocalAnswersAreSpelled = (a : Asked) (q : Question) (t : ℕ) (aliases : List Held) → CanBeRepeated a q → AllByRecursion (CanBeTold t) aliases → (client : Client)
-    → FitsTransport client (sized_for client (full_text a (denied_sections t aliases)) (short_text a (denied_sections t aliases)))
-    → SpellsSections (sized_for client (full_text a (denied_sections t aliases)) (short_text a (denied_sections t aliases))) a (denied_sections t aliases)
+LocalAnswersAreSpelled = (a : Asked) (q : Question) (t : ℕ) (aliases : List Held) → CanBeRepeated a q
+    → AllByRecursion (CanBeTold t) aliases → (client : Client)
+    → FitsTransport client (sized_for client (full_text a (denied_sections t aliases))
+    (short_text a (denied_sections t aliases)))
+    → SpellsSections (sized_for client (full_text a (denied_sections t aliases))
+    (short_text a (denied_sections t aliases))) a (denied_sections t aliases)
 
--- An answer from cache has the sections of each earlier one to an equal question at its moment, back to the last accepted reply.
+-- An answer from cache has the sections of each earlier one to an equal question at its moment, back to the last
+-- accepted reply.
 abbrev pub AnswersFromCacheAgree : Type 0
-AnswersFromCacheAgree = (c : Config) (past : List Step) (m n : ℕ) (cache : Cache) (q : Question) (octets : List ℕ) → IsCached c past m cache → m ≡ moment_at past → IsStillFound c n cache.entries q octets → SameAsEarlierFromCache c n q octets past
+AnswersFromCacheAgree = (c : Config) (past : List Step) (m n : ℕ) (cache : Cache) (q : Question) (octets : List ℕ)
+    → IsCached c past m cache → m ≡ moment_at past → IsStillFound c n cache.entries q octets
+    → SameAsEarlierFromCache c n q octets past
 
 -- A promotion leaves what is found.
 abbrev pub PromotionsFindTheSame : Type 0
-PromotionsFindTheSame = (c : Config) (past : List Step) (m n : ℕ) (cache : Cache) (used : List Slot) (q : Question) (octets : List ℕ) → IsCached c past m cache → IsStillFound c n cache.entries q octets → IsStillFound c n (promoted_all used cache.entries) q octets
+PromotionsFindTheSame = (c : Config) (past : List Step) (m n : ℕ) (cache : Cache) (used : List Slot) (q : Question)
+    (octets : List ℕ) → IsCached c past m cache → IsStillFound c n cache.entries q octets
+    → IsStillFound c n (promoted_all used cache.entries) q octets
 
 -- ---- what waits
 
 -- Aliases that lead on lead on a step later too.
 abbrev pub LeadsStayLeads : Type 0
-LeadsStayLeads = (c : Config) (asked s : Step) (before now : List Step) (q : Question) (held : List Held) (last : Question) → GoesOn c s now → Leads (look_from c asked before now) q held last → Leads (look_from c asked before (s ∷ now)) q held last
+LeadsStayLeads = (c : Config) (asked s : Step) (before now : List Step) (q : Question) (held : List Held)
+    (last : Question) → GoesOn c s now → Leads (look_from c asked before now) q held last
+    → Leads (look_from c asked before (s ∷ now)) q held last

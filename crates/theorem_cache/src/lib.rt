@@ -1,5 +1,5 @@
-//! What is kept of replies along the table's steps, what is found in it, and what is answered from it: each is explained
-//! by the history.
+//! What is kept of replies along the table's steps, what is found in it, and what is answered from it: each is
+//! explained by the history.
 #![tactic(auto)]
 
 mod laws;

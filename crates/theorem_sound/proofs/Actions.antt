@@ -2,7 +2,7 @@
 use Rattle.std.proofs.Common.{◌≡◌, ℕ, List, [], ◌∷◌, ◌++◌, Bool, true, false, cond, refl, sym, ap, ◌∙◌, inl, inr, arith, Option, Some, None}
 use Rattle.std.specs.Prelude.{map, not, ◌==◌, ◌||◌}
 use Rattle.std.specs.List.{cons_option, AllByRecursion}
-use Rattle.std.proofs.lemmas.List.{map-append}
+use Rattle.std.proofs.lemmas.List.{map-append, append-nil}
 use Rattle.std.proofs.lemmas.Bool.{ne_eqb, false≢true, eq-eqb}
 use Rattle.dns_message.specs.Writing.{written}
 use Rattle.suffix_routes.specs.Values.{Config}
@@ -115,10 +115,6 @@ owned_asks c now (Some a) owners = by a.path
 
 -- ---- listed asks
 
-append_nil : {X : Type 0} (xs : List X) → xs ++ [] ≡ xs
-append_nil [] = refl
-append_nil (x ∷ xs) = ap (λ ys. x ∷ ys) (append_nil xs)
-
 pub shown_left : (p : Path) (listed : List Ask) → unlisted p (map shown listed) ≡ map shown (without_path p listed)
 shown_left p [] = refl
 shown_left p (a ∷ listed) = elim (not (same_path a.path p)) as (λ v. cond v (shown a ∷ unlisted p (map shown listed)) (unlisted p (map shown listed)) ≡ map shown (cond v (a ∷ without_path p listed) (without_path p listed))) [
@@ -148,7 +144,7 @@ AskedAt t None = Unit {0}
 AskedAt t (Some a) = a.asked ≡ t
 
 pub next_listed : (t : ℕ) (next : Option Ask) (ls : List ShownAsk) → AskedAt t next → asks_after t (map asks (ask_list next)) ls ≡ ls ++ map shown (ask_list next)
-next_listed t None ls e = sym (append_nil ls)
+next_listed t None ls e = sym (append-nil ls)
 next_listed t (Some a) ls e = by a.path ∙ ap (λ (m : ℕ). ls ++ record { path = a.path; server = a.peer; octets = written (ask_message a.id a.question); moment = m } ∷ []) (sym e)
   where
     by : (p : Path) → asks_after t (asks_by p a ∷ []) ls ≡ ls ++ record { path = p; server = a.peer; octets = written (ask_message a.id a.question); moment = t } ∷ []

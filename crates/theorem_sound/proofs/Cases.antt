@@ -19,7 +19,7 @@ use Rattle.step_history.specs.Sound.{among, unanswered, Owns, EachOwned, Replies
 use Rattle.step_history.specs.Asked.{AreRightAsks}
 use Rattle.step_table.specs.State.{State}
 use Rattle.waiting_questions.specs.Values.{Waiting}
-use Rattle.step_table.specs.Steps.{Fate, gets, waits, reply_in, replies, still_waiting, closes, closing, without_ask, asks, asks_by, ask_list, tcp_count, start}
+use Rattle.step_table.specs.Steps.{Fate, gets, waits, replies, still_waiting, closing, without_ask, asks, asks_by, ask_list, tcp_count, start}
 use Rattle.step_table.specs.Row.{is_due_at}
 use Rattle.theorem_cache.specs.Kept.{CanBeTold, IsCached}
 use Rattle.theorem_sound.specs.Explains.{shown, Waits, Tried, Explains}

@@ -3,7 +3,7 @@ use Rattle.std.proofs.Common.{◌≡◌, ℕ, ◌+◌, ◌^◌, ◌≤◌, List,
 use Rattle.std.specs.Prelude.{◌==◌, min, max, nat_le}
 use Rattle.std.specs.List.{concat, AllByRecursion}
 use Rattle.std.proofs.lemmas.Bool.{cond_both, eqb-true, eqb-false}
-use Rattle.std.proofs.lemmas.List.{length-map}
+use Rattle.std.proofs.lemmas.List.{length-map, append-nil}
 use Rattle.dns_message.specs.Values.{Question}
 use Rattle.dns_message.specs.Header.{header_in}
 use Rattle.suffix_routes.specs.declared.peer.Peer.{Peer}
@@ -31,7 +31,7 @@ use Rattle.step_history.specs.Sound.{unanswered, RightReply, Replies, FromCache,
 use Rattle.step_table.specs.State.{State, turn}
 use Rattle.waiting_questions.specs.Values.{Waiting}
 use Rattle.step_table.specs.Attempts.{peer_at, over_udp, preferred_on, first_ask, first_ask_on}
-use Rattle.step_table.specs.Steps.{Done, reply_step, gives_up, answered, asks, ask_list, tcp_count}
+use Rattle.step_table.specs.Steps.{Done, reply_step, gives_up, answered, asks, tcp_count}
 use Rattle.alias_chains.specs.LookingUp.{LookUpEnd, ends, too_long, missed, LookUp, promoted_all}
 use Rattle.step_table.specs.Row.{is_due_at}
 use Rattle.step_table.specs.Clients.{waits_with, taken_now, without_server, fate_missed, fate_at, row_of_opening, row_of_inquiry, row_of_waiting, row_of_fate, row_of_route, row_of_question, row_of_request}
@@ -41,7 +41,7 @@ use Rattle.theorem_cache.specs.Chains.{look_from, IsRightEnd, EndsRight, IsSized
 use Rattle.theorem_sound.specs.Explains.{shown, Comes, Waits, Explains}
 use Rattle.step_table.specs.Progress.{IsBelow}
 use Rattle.theorem_cache.proofs.CallerLemmas.{quiet_steps_keep, promotions_keep_cached, look_ups_are_right, answers_from_cache_agree, promotions_find_the_same}
-use Rattle.step_table.proofs.CallerLemmas.{All-append, still_earlier, IsAskBy, ask_by-some, ask_by-none, udp-some, udp-none, preferred_peer, IsFresh, drawn_fresh, free_now, append_nil}
+use Rattle.step_table.proofs.CallerLemmas.{All-append, still_earlier, IsAskBy, ask_by-some, ask_by-none, udp-some, udp-none, preferred_peer, IsFresh, drawn_fresh, free_now}
 use Rattle.theorem_sound.proofs.Answering.{IsTold, answered_told, answer_owned, without_server_owned, without_server_fails}
 use Rattle.theorem_sound.proofs.Actions.{OwnsReply, asks_answer_none}
 use Rattle.theorem_sound.proofs.SendingOn.{question_led}
@@ -261,7 +261,7 @@ module _ (c : Config) (past : List Step) (w : List (List ℕ)) (s : State) (x : 
       inquired room (Some a) there = λ more_is. (
         [],
         taken_explained c past w s x handed unkept more n z None used (record s { cache = used; asks = s.asks ++ []; waiting = s.waiting ++ z ∷ []; moment = n; tcp_asks = s.tcp_asks + 0 }) refl (refl, moment) takes (no_delivery []) (waits_now []) room tt
-            (listed_next c s.asks None x.asks_are tt) tt (subst (λ (as' : List Ask). AllByRecursion (λ b. IsBelow (s.tcp_asks + 0) b.path) as') (sym (append_nil s.asks)) all_below_one) tt
+            (listed_next c s.asks None x.asks_are tt) tt (subst (λ (as' : List Ask). AllByRecursion (λ b. IsBelow (s.tcp_asks + 0) b.path) as') (sym (append-nil s.asks)) all_below_one) tt
             (cached [] used used_is (λ v octets f. absurd f.1)) more_is,
       )
       inquired room None new =

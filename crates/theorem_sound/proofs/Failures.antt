@@ -1,9 +1,9 @@
 -- A failed attempt, a failed path and the passing of time leave explained what was explained.
 use Rattle.std.proofs.Common.{◌≡◌, ◌⊎◌, ℕ, zero, suc, ◌+◌, ◌-◌, ◌^◌, ◌<◌, ◌≤◌, List, [], ◌∷◌, ◌++◌, length, Bool, true, false, cond, refl, sym, ap, ◌∙◌, subst, inl, inr, arith, Option, Some, None}
-use Rattle.std.specs.Prelude.{Result, Ok, Err, ◌==◌, ◌||◌, min, max, map, nat_le, slice_get, get_or}
-use Rattle.std.specs.List.{concat, list_any, AllByRecursion}
+use Rattle.std.specs.Prelude.{Result, Ok, Err, ◌==◌, min, max, map}
+use Rattle.std.specs.List.{AllByRecursion}
 use Rattle.std.proofs.lemmas.Bool.{cond_both, cond-false, eqb-true, true≢false}
-use Rattle.std.proofs.lemmas.List.{length-map}
+use Rattle.std.proofs.lemmas.List.{length-map, append-nil}
 use Rattle.dns_message.specs.Values.{Question}
 use Rattle.dns_message.specs.Questions.{same_question}
 use Rattle.suffix_routes.specs.declared.peer.Peer.{Peer}
@@ -24,7 +24,7 @@ use Rattle.step_values.specs.Values.{Event, request_in, Action, Handed, Step}
 use Rattle.record_cache.specs.Values.{Held, Cache}
 use Rattle.answer_builder.specs.declared.fault.Fault.{Fault}
 use Rattle.answer_builder.specs.Transports.{stale_answer_of}
-use Rattle.step_history.specs.History.{is_restart_event, is_taken_request, moment_at, listed, tcp_asks, on_path, closes_path, takes_question, Look, NothingAccepted}
+use Rattle.step_history.specs.History.{is_restart_event, is_taken_request, moment_at, listed, tcp_asks, on_path, closes_path, takes_question, NothingAccepted}
 use Rattle.step_history.specs.Draws.{drawn}
 use Rattle.step_history.specs.Causes.{ClosesAsk, LastFailed, NoneAsks}
 use Rattle.step_history.specs.Asked.{IsDrawn}
@@ -33,14 +33,14 @@ use Rattle.step_history.specs.Replies.{failure_text}
 use Rattle.step_table.specs.State.{State, turn}
 use Rattle.waiting_questions.specs.Values.{Waiting, waits_for}
 use Rattle.step_table.specs.Attempts.{peer_at, over_udp, over_tcp, freed_by, plan_of, next_ask}
-use Rattle.step_table.specs.Steps.{Done, Fate, gets, waits, gives_up, transport_of, sends, answered_past, fails, asks, asks_by, ask_list, tcp_count, closing, replies, closing_step, settling_step, without_ask}
+use Rattle.step_table.specs.Steps.{Done, Fate, gets, waits, gives_up, transport_of, sends, answered_past, fails, asks, ask_list, tcp_count, closing, replies, closing_step}
 use Rattle.alias_chains.specs.PastEnds.{look_up_past}
 use Rattle.step_table.specs.Row.{is_due_at}
 use Rattle.step_table.specs.Failures.{told_past, found_past, runs_out, row_of_attempt, row_of_next, row_of_failure}
 use Rattle.theorem_cache.specs.Kept.{CanBeTold, IsCached}
 use Rattle.theorem_cache.specs.Chains.{GoesOn, look_from}
 use Rattle.theorem_cache.proofs.CallerLemmas.{leads_stay_leads, look_ups_past_ends_are_right, told_later, quiet_steps_keep}
-use Rattle.step_table.proofs.CallerLemmas.{All-weaker, All-append, All-filter, still_earlier, IsAskBy, ask_by-some, ask_by-none, udp-some, udp-none, tcp-some, tcp-none, peer_within, peer_there, ask_on-is, drawn_fresh, free_then, none_above, drawn_numbered, drawn_last, without_shorter, none_same, append_nil}
+use Rattle.step_table.proofs.CallerLemmas.{All-weaker, All-append, All-filter, still_earlier, IsAskBy, ask_by-some, ask_by-none, udp-some, udp-none, tcp-some, tcp-none, peer_within, peer_there, ask_on-is, drawn_fresh, free_then, none_above, drawn_numbered, drawn_last, without_shorter, none_same}
 use Rattle.step_history.specs.Answers.{Leads}
 use Rattle.theorem_sound.proofs.Answering.{comes_later, owns, failure_told, stale_owned}
 use Rattle.theorem_sound.specs.Explains.{shown, Comes, Waits, Tried, Explains}
@@ -232,7 +232,7 @@ module _ (c : Config) (past : List Step) (w : List (List ℕ)) (s : State) (x : 
 
       left_listed : map shown (without_path a.path s.asks) ≡ listed (step (actions_by lasts None) ∷ past)
       left_listed =
-          ap (map shown) (sym (append_nil (without_path a.path s.asks)))
+          ap (map shown) (sym (append-nil (without_path a.path s.asks)))
           ∙ sym (listed_settled (moment_at (step (actions_by lasts None) ∷ past)) (Some a) lasts None s.asks lasts_speak tt)
           ∙ ap (λ ls. Rattle.step_history.specs.History.asks_after (moment_at (step (actions_by lasts None) ∷ past)) (actions_by lasts None) ls) x.asks
           ∙ sym (cond-false (is_restart_event e) _ _ runs)

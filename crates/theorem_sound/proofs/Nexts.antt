@@ -1,8 +1,8 @@
 -- An ask that comes next is tried, right, listed and numbered as it should be.
 use Rattle.std.proofs.Common.{◌≡◌, ℕ, suc, ◌+◌, ◌^◌, ◌<◌, List, [], ◌∷◌, ◌++◌, length, Bool, true, false, refl, sym, subst, arith, Option, Some, None}
 use Rattle.std.specs.List.{AllByRecursion}
+use Rattle.std.proofs.lemmas.List.{append-nil}
 use Rattle.dns_message.specs.Values.{Question}
-use Rattle.dns_message.specs.Questions.{same_question}
 use Rattle.dns_message.specs.Writing.{written}
 use Rattle.dns_message.specs.Written.{IsQuestion}
 use Rattle.suffix_routes.specs.Values.{Config}
@@ -28,7 +28,6 @@ use Rattle.step_table.specs.Progress.{IsBelow}
 use Rattle.theorem_sound.proofs.AskText.{ask_reads}
 use Rattle.theorem_sound.proofs.Attempts.{serves}
 use Rattle.theorem_sound.proofs.Actions.{IsRightNext}
-use Rattle.step_table.proofs.CallerLemmas.{append_nil}
 
 -- what is known of an ask for a question that comes next
 pub record IsNext (c : Config) (now : List Step) (q : Question) (a : Ask) : Type 0 where
@@ -75,7 +74,7 @@ MayFollow c listed None = Unit {0}
 MayFollow c listed (Some a) = MayBegin a listed × (length listed < c.limits.inquiries)
 
 pub listed_next : (c : Config) (listed : List Ask) (next : Option Ask) → AreListed (record { capacity = c.limits.inquiries; asks = listed }) → MayFollow c listed next → AreListed (record { capacity = c.limits.inquiries; asks = listed ++ ask_list next })
-listed_next c listed None are may = subst (λ (xs : List Ask). AreListed (record { capacity = c.limits.inquiries; asks = xs })) (sym (append_nil listed)) are
+listed_next c listed None are may = subst (λ (xs : List Ask). AreListed (record { capacity = c.limits.inquiries; asks = xs })) (sym (append-nil listed)) are
 listed_next c listed (Some a) are may = put c.limits.inquiries listed a are.in_turn are.in_time may.0 may.1
 
 below_more : (count k : ℕ) (p : Path) → IsBelow count p → IsBelow (count + k) p

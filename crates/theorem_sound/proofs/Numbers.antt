@@ -7,6 +7,7 @@ use Rattle.step_values.specs.Values.{Step}
 use Rattle.step_history.specs.History.{is_restart, takes_question}
 use Rattle.step_history.specs.Sound.{among, unanswered}
 use Rattle.std.specs.List.{AllByRecursion}
+use Rattle.std.proofs.lemmas.List.{append-nil}
 use Rattle.step_table.proofs.CallerLemmas.{All-append, All-weaker}
 use Rattle.theorem_sound.proofs.Fates.{Distinct}
 
@@ -70,11 +71,7 @@ free_one n taken is b t e h = cases b t e
     up = All-weaker (λ i. i < n) (λ i. i < suc n) (λ i l. omega (arith, l)) is h.0
 
     none : Free (suc n) taken (is ++ [])
-    none = (All-append _ is [] up tt, All-append _ is [] h.1 tt, subst Distinct (sym (append_nil is)) h.2)
-      where
-        append_nil : (xs : List ℕ) → xs ++ [] ≡ xs
-        append_nil [] = refl
-        append_nil (x ∷ xs) = ap (λ ys. x ∷ ys) (append_nil xs)
+    none = (All-append _ is [] up tt, All-append _ is [] h.1 tt, subst Distinct (sym (append-nil is)) h.2)
 
     cases : (b t : Bool) → among n taken ≡ t → Free (suc n) taken (is ++ cond (b && not t) (n ∷ []) [])
     cases false t e = none
@@ -97,11 +94,7 @@ pub numbers_left : (s : Step) (past : List Step) (taken : List ℕ) → is_resta
 numbers_left s past taken run asks =
     cond-false (is_restart s) _ _ run
     ∙ ap (λ (v : Bool). unanswered past taken ++ cond (v && not (among (length past) taken)) (length past ∷ []) []) asks
-    ∙ append_nil (unanswered past taken)
-  where
-    append_nil : (xs : List ℕ) → xs ++ [] ≡ xs
-    append_nil [] = refl
-    append_nil (x ∷ xs) = ap (λ ys. x ∷ ys) (append_nil xs)
+    ∙ append-nil (unanswered past taken)
 
 below_taken : (n : ℕ) (is : List ℕ) → AllByRecursion (λ i. i < n) is → among n is ≡ false
 below_taken n [] h = refl
@@ -118,7 +111,7 @@ numbers_at_once s past taken run asks =
     cond-false (is_restart s) _ _ run
     ∙ ap (λ (v : Bool). unanswered past (n ∷ taken) ++ cond (takes_question s.handed.event && not v) (n ∷ []) []) found
     ∙ ap (λ (v : Bool). unanswered past (n ∷ taken) ++ cond v (n ∷ []) []) (and_no (takes_question s.handed.event))
-    ∙ append_nil (unanswered past (n ∷ taken))
+    ∙ append-nil (unanswered past (n ∷ taken))
     ∙ unanswered-more past (n ∷ []) taken
     ∙ filter_all (λ i. not (among i (n ∷ []))) (unanswered past taken) (All-weaker (λ i. i < n) (λ i. not (among i (n ∷ [])) ≡ true) (λ i l. ap (λ v. not (v || false)) (ne_eqb n i (λ e. omega (arith, l, e)))) (unanswered past taken) (are_free past taken).below)
   where
@@ -131,10 +124,6 @@ numbers_at_once s past taken run asks =
     and_no : (b : Bool) → (b && false) ≡ false
     and_no true = refl
     and_no false = refl
-
-    append_nil : (xs : List ℕ) → xs ++ [] ≡ xs
-    append_nil [] = refl
-    append_nil (x ∷ xs) = ap (λ ys. x ∷ ys) (append_nil xs)
 
 -- a question that waits
 pub numbers_waiting : (s : Step) (past : List Step) (taken : List ℕ) → is_restart s ≡ false → takes_question s.handed.event ≡ true → AllByRecursion (λ i. i < length past) taken

@@ -1,7 +1,7 @@
 -- A run goes on by one step.
 use Rattle.std.proofs.Common.{◌≡◌, ◌∙◌, ℕ, ◌+◌, ◌<◌, ◌≤◌, arith, List, [], ◌∷◌, ◌++◌, length, take, get_or, refl, sym, ap, subst, append_assoc}
 use Rattle.std.specs.Prelude.{reverse, map}
-use Rattle.std.proofs.lemmas.List.{reverse-append, map-append, take_more, length-map}
+use Rattle.std.proofs.lemmas.List.{reverse-append, map-append, take_more, length-map, append-nil}
 use Rattle.std.specs.List.{concat}
 use Rattle.suffix_routes.specs.Values.{Config, IsConfig}
 use Rattle.step_values.specs.Values.{Handed, Outcome, Step}
@@ -72,9 +72,5 @@ Run-explained c s s' (t ∷ steps) past w x run =
 pub runs_sound : (c : Config) (steps : List Step) (s : State) → IsConfig c → Run c (start c) steps s → IsSound c steps × AsksWell c (reverse steps)
 runs_sound c steps s config run =
     let all = Run-explained c (start c) s steps [] [] (start_explained c config) run in
-    let one = subst (λ (past : List Step). Explains c past all.0 s) (append_nil (reverse steps)) all.1 in
+    let one = subst (λ (past : List Step). Explains c past all.0 s) (append-nil (reverse steps)) all.1 in
     (explained_is_sound c steps s (all.0, one), one.asked_well)
-  where
-    append_nil : (xs : List Step) → xs ++ [] ≡ xs
-    append_nil [] = refl
-    append_nil (x ∷ xs) = ap (λ ys. x ∷ ys) (append_nil xs)

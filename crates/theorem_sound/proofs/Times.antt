@@ -1,9 +1,9 @@
 -- A failed path and the passing of time leave explained what was explained.
-use Rattle.std.proofs.Common.{◌≡◌, ℕ, ◌+◌, ◌^◌, ◌<◌, ◌≤◌, List, [], ◌∷◌, ◌++◌, length, Bool, true, false, cond, refl, sym, ap, ◌∙◌, subst, inl, inr, arith, Option, Some, None}
+use Rattle.std.proofs.Common.{◌≡◌, ℕ, ◌+◌, ◌^◌, ◌≤◌, List, [], ◌∷◌, ◌++◌, length, Bool, true, false, cond, refl, sym, ap, ◌∙◌, subst, inl, arith, Option, Some, None}
 use Rattle.std.specs.Prelude.{min, max, map, nat_le, not}
 use Rattle.std.specs.List.{list_any, AllByRecursion}
 use Rattle.std.proofs.lemmas.Bool.{cond_both, cond-true, leb-true}
-use Rattle.std.proofs.lemmas.List.{length-map}
+use Rattle.std.proofs.lemmas.List.{length-map, append-nil}
 use Rattle.suffix_routes.specs.Values.{Config}
 use Rattle.outstanding.specs.declared.ask.Path.{Path}
 use Rattle.outstanding.specs.Lists.{of_question, on_path as ask_on, same_path, AreListed}
@@ -16,7 +16,7 @@ use Rattle.step_history.specs.History.{moment_at, NothingAccepted}
 use Rattle.step_history.specs.Replies.{failure_text}
 use Rattle.step_table.specs.State.{State, turn}
 use Rattle.waiting_questions.specs.Values.{Waiting, waits_for}
-use Rattle.step_table.specs.Steps.{Done, Fate, gets, waits, gives_up, asks, ask_list, closing, replies, settling_step, without_ask}
+use Rattle.step_table.specs.Steps.{Done, Fate, gets, waits, gives_up, asks, closing, replies, without_ask}
 use Rattle.step_table.specs.Ticks.{question, attempt, expiry_step, deadline_of, Item, first_item, left_alone, row_of_item, row_of_tick}
 use Rattle.step_table.specs.Replies.{timeout_of}
 use Rattle.step_table.specs.Failures.{row_of_failed_path}
@@ -24,7 +24,7 @@ use Rattle.theorem_sound.specs.Explains.{Waits, Tried, Explains}
 use Rattle.step_table.specs.Progress.{IsBelow}
 use Rattle.theorem_cache.proofs.CallerLemmas.{quiet_steps_keep}
 use Rattle.theorem_sound.proofs.Answering.{comes_later, owns, failure_told}
-use Rattle.step_table.proofs.CallerLemmas.{All-filter, ask_on-is, own_on, append_nil}
+use Rattle.step_table.proofs.CallerLemmas.{All-filter, ask_on-is, own_on}
 use Rattle.theorem_sound.proofs.Fates.{fates_in, fated, fated_fates, fated_numbers}
 use Rattle.theorem_sound.proofs.Asking.{all_tried_on, closes_none}
 use Rattle.theorem_sound.proofs.Nexts.{listed_next, all_below}
@@ -131,8 +131,8 @@ module _ (c : Config) (past : List Step) (w : List (List ℕ)) (s : State) (x : 
         (subst (λ (v : Waiting). OwnsReply c (step (actions o) ∷ past) z.1 (gives_up Deadline v)) head_is (owned_at z.0 head_is (subst (λ (vs : List (Waiting × ℕ)). AllByRecursion (λ v. Waits c past v.0 v.1) vs) e x.waits).0), all_waits o zs (subst (λ (vs : List (Waiting × ℕ)). AllByRecursion (λ v. Waits c past v.0 v.1) vs) e x.waits).1)
         tt
         (listed_next c (without_ask o s.asks) None (listed_left o) tt)
-        (subst (AllByRecursion (Tried c (step (actions o) ∷ past))) (sym (append_nil (without_ask o s.asks))) (tried_left o on))
-        (subst (AllByRecursion (λ a. IsBelow (s.tcp_asks + 0) a.path)) (sym (append_nil (without_ask o s.asks))) (all_below s.tcp_asks 0 (without_ask o s.asks) (below_left o)))
+        (subst (AllByRecursion (Tried c (step (actions o) ∷ past))) (sym (append-nil (without_ask o s.asks))) (tried_left o on))
+        (subst (AllByRecursion (λ a. IsBelow (s.tcp_asks + 0) a.path)) (sym (append-nil (without_ask o s.asks))) (all_below s.tcp_asks 0 (without_ask o s.asks) (below_left o)))
         tt x.preferred (quiet_steps_keep c past s.moment n s.cache (step (actions o)) x.cache x.moment (refl, no_delivery (actions o)) (moment_now (actions o)) (λ q octets f. absurd f.0)) more_is
       where
         gs : List (Fate × ℕ)

@@ -56,7 +56,8 @@ pub record Waits (c : Config) (now : List Step) (x : Waiting) (i : ℕ) : Type 0
   pub leads : Leads (look_from c comes.asked comes.before now) comes.question x.held x.wanted
   pub told : AllByRecursion (CanBeTold (moment_at now)) x.held
 
--- the text of a listed ask reads as its question, on its route; it went to the server at its place in the group; the tries before it failed
+-- the text of a listed ask reads as its question, on its route; it went to the server at its place in the group; the
+-- tries before it failed
 pub record Tried (c : Config) (now : List Step) (a : Ask) : Type 0 where
   pub question : IsQuestion a.question
   pub reads : Reads (written (ask_message a.id a.question)) a.question

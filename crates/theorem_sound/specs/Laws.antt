@@ -11,7 +11,8 @@ use Rattle.theorem_sound.specs.Runs.{Run, IsSound, StaysExplained}
 
 -- A row keeps what explains.
 abbrev pub RowsKeepWhatExplains : Type 0
-RowsKeepWhatExplains = (c : Config) (s : State) (h : Handed) (o : Outcome) (s' : State) → Row c s h o s' → StaysExplained c s h o s'
+RowsKeepWhatExplains = (c : Config) (s : State) (h : Handed) (o : Outcome) (s' : State) → Row c s h o s'
+    → StaysExplained c s h o s'
 
 -- The empty history explains a new forwarder.
 abbrev pub NothingExplainsAStart : Type 0
@@ -19,4 +20,5 @@ NothingExplainsAStart = (c : Config) → IsConfig c → Explains c [] [] (start 
 
 -- The steps of a run, the oldest first, are sound, and ask well.
 abbrev pub RunsAreSound : Type 0
-RunsAreSound = (c : Config) (steps : List Step) (s : State) → IsConfig c → Run c (start c) steps s → IsSound c steps × AsksWell c (reverse steps)
+RunsAreSound = (c : Config) (steps : List Step) (s : State) → IsConfig c → Run c (start c) steps s → IsSound c steps
+    × AsksWell c (reverse steps)

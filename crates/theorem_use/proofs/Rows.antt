@@ -32,10 +32,10 @@ use Rattle.waiting_questions.specs.Values.{Waiting, waits_for}
 use Rattle.step_table.specs.Attempts.{first_ask_for, plan_of, next_ask}
 use Rattle.alias_chains.specs.LookingUp.{LookUp, look_up, promoted_all}
 use Rattle.step_table.specs.Steps.{Done, Fate, gets, waits, idle_step, with_preferred_server, with_promoted, settling_step, still_waiting}
-use Rattle.step_table.specs.Ticks.{question, attempt, nothing, Item, first_item, left_alone, row_of_item, row_of_tick, deadline_of}
-use Rattle.step_table.specs.Replies.{fate_by, used_by, to_be_asked, timeout_of, row_of_next_name, row_of_sent_on, row_of_end, row_of_acceptance, row_of_walk, row_of_message, row_of_verdict, row_of_delivery}
+use Rattle.step_table.specs.Ticks.{question, attempt, nothing, Item, first_item, row_of_item, row_of_tick, deadline_of}
+use Rattle.step_table.specs.Replies.{used_by, to_be_asked, timeout_of, row_of_next_name, row_of_sent_on, row_of_end, row_of_acceptance, row_of_message, row_of_verdict, row_of_delivery}
 use Rattle.step_table.specs.Failures.{row_of_attempt, row_of_next, row_of_failure, row_of_failed_path}
-use Rattle.step_table.specs.Clients.{fate_of, taken_now, row_of_opening, row_of_new_inquiry, row_of_inquiry, row_of_waiting, row_of_fate, row_of_look_up, row_of_route, row_of_service, row_of_question, row_of_request}
+use Rattle.step_table.specs.Clients.{fate_of, taken_now, row_of_opening, row_of_inquiry, row_of_waiting, row_of_fate, row_of_look_up, row_of_route, row_of_question, row_of_request}
 
 -- the entries after these promotions
 abbrev pub promoted_cache : List Slot → Cache → Cache

@@ -1,9 +1,9 @@
 -- A row keeps what mirrors, and uses what stands.
 use Rattle.std.proofs.Common.{◌≡◌, ◌∙◌, ℕ, ◌^◌, ◌≤◌, List, [], ◌∷◌, ◌++◌, length, Bool, true, false, refl, sym, ap, subst, inl, inr, arith, Some, None, append_assoc}
-use Rattle.std.specs.Prelude.{min, max, nat_lt, reverse}
+use Rattle.std.specs.Prelude.{min, max, reverse}
 use Rattle.std.specs.List.{concat, AllByRecursion}
 use Rattle.std.proofs.lemmas.Bool.{true≢false}
-use Rattle.std.proofs.lemmas.List.{reverse-append, length-map}
+use Rattle.std.proofs.lemmas.List.{reverse-append, length-map, append-nil}
 use Rattle.dns_message.specs.Header.{header_in}
 use Rattle.dns_message.specs.Values.{Question}
 use Rattle.dns_message.specs.Questions.{one_question}
@@ -34,7 +34,7 @@ use Rattle.step_table.specs.Replies.{fate_by, row_of_end, row_of_acceptance, row
 use Rattle.step_table.specs.Clients.{row_of_request}
 use Rattle.theorem_cache.specs.Kept.{CanBeKept}
 use Rattle.theorem_cache.proofs.CallerLemmas.{promotions_keep_cached, same_look_ups}
-use Rattle.step_table.proofs.CallerLemmas.{All-weaker, append_nil}
+use Rattle.step_table.proofs.CallerLemmas.{All-weaker}
 use Rattle.theorem_sound.specs.Explains.{Explains}
 use Rattle.theorem_sound.specs.Runs.{Run}
 use Rattle.theorem_sound.proofs.CallerLemmas.{row_explained, start_explained, IsHeard, heard, heard_carried, carries, offered}
@@ -405,7 +405,7 @@ few_wait c past w s x =
 pub run_serves_truly : (c : Config) (steps : List Step) (s : State) → ComesTo c steps s → ServesTruly c steps
 run_serves_truly c steps s came =
     let all = run_fully_explained c (start c) s steps [] [] (start_fully_explained c came.config) came.run in
-    let one = subst (λ (past : List Step). FullyExplains c past all.0 s) (append_nil (reverse steps)) all.1 in
+    let one = subst (λ (past : List Step). FullyExplains c past all.0 s) (append-nil (reverse steps)) all.1 in
     record {
       sound = record {
         owners = all.0;

@@ -9,7 +9,8 @@ use Rattle.record_cache.specs.Ageing.{is_alive}
 abbrev pub ranks_above : Held → Held → Bool
 ranks_above o h = same_slot o.piece.slot h.piece.slot && nat_lt o.piece.rank h.piece.rank
 
--- o is believed beside what stood when it came: nothing of its slot has a higher rank; a name error is believed beside all
+-- o is believed beside what stood when it came: nothing of its slot has a higher rank; a name error is believed beside
+-- all
 abbrev pub is_believed : Held → List Held → Bool
 is_believed o stood = is_name_error o.piece || not (list_any (ranks_above o) stood)
 
@@ -17,8 +18,8 @@ abbrev pub with_this : Bool → Held → List Held → List Held
 with_this true o others = o ∷ others
 with_this false o others = others
 
--- Of what was carried, the newest first, what stands at the moment n: what is alive then, was believed when it came, and
--- whose place nothing took that was carried since (RFC 2181 5.4, RFC 8020 2).
+-- Of what was carried, the newest first, what stands at the moment n: what is alive then, was believed when it came,
+-- and whose place nothing took that was carried since (RFC 2181 5.4, RFC 8020 2).
 abbrev pub standing : ℕ → List Held → List Held
 standing n [] = []
 standing n (o ∷ os) =

@@ -73,7 +73,8 @@ EndsOrLeadsOn onward miss = ⊥
 -- what stands answers the question, behind so many aliases at most
 abbrev pub LeadsToEnd : List Route → ℕ → List Held → ℕ → Question → Type 0
 LeadsToEnd routes n stood zero q = EndsOrLeadsOn (λ name. ⊥) (found routes n stood q)
-LeadsToEnd routes n stood (suc more) q = EndsOrLeadsOn (λ name. LeadsToEnd routes n stood more (asked_at q name)) (found routes n stood q)
+LeadsToEnd routes n stood (suc more) q =
+    EndsOrLeadsOn (λ name. LeadsToEnd routes n stood more (asked_at q name)) (found routes n stood q)
 
 -- at the step's moment, what stands answers the question, behind eight aliases at most
 abbrev pub IsKnown : Config → Step → List Step → List Held → Question → Type 0

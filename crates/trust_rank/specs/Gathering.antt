@@ -15,7 +15,8 @@ few = 16
 
 -- the index has the data behind those
 abbrev pub Indexes : BTreeSet (Bor (List ℕ)) → List (List ℕ) → Type 0
-Indexes index rows = (octets : List ℕ) → contains_by (λ (k : Bor (List ℕ)). slice_cmp nat_cmp octets k.now) index ≡ list_any (same_octets octets) (drop few rows)
+Indexes index rows = (octets : List ℕ) → contains_by (λ (k : Bor (List ℕ)). slice_cmp nat_cmp octets k.now) index
+    ≡ list_any (same_octets octets) (drop few rows)
 
 -- the data of a record that belongs to the set, behind what is there
 abbrev pub added : Question → List (List ℕ) → Record → List (List ℕ)

@@ -7,7 +7,8 @@ use Rattle.dns_message.specs.Messages.{HasShapes}
 use Rattle.dns_message.specs.Written.{IsQuestion, IsRecord}
 use Rattle.suffix_routes.specs.Values.{Config}
 use Rattle.suffix_routes.specs.Routes.{route_of}
-use Rattle.trust_rank.specs.Values.{Body, rows, no_data, denied, Piece, End, found, ends_no_data, ends_denied, elsewhere, lame, Reply, reply_of}
+use Rattle.trust_rank.specs.Values.{Body, rows, no_data, denied, Piece, End, found, ends_no_data, ends_denied}
+use Rattle.trust_rank.specs.Values.{elsewhere, lame, Reply, reply_of}
 use Rattle.trust_rank.specs.Walks.{target_of, most_aliases, walk_of}
 use Rattle.trust_rank.specs.Formed.{IsPiece}
 use Rattle.trust_rank.specs.Writable.{IsWritable}
@@ -61,7 +62,8 @@ abbrev pub EndsSo : Reply → List Piece → List Piece → End → Type 0
 EndsSo r pieces authority found = Closes r most_aliases r.question.name found pieces
 EndsSo r pieces authority ends_no_data = Closes r most_aliases r.question.name ends_no_data pieces
 EndsSo r pieces authority ends_denied = Closes r most_aliases r.question.name ends_denied pieces
-EndsSo r pieces authority (elsewhere name) = (1 ≤ length pieces) × (length pieces ≤ most_aliases) × Lead r r.question.name pieces name
+EndsSo r pieces authority (elsewhere name) = (1 ≤ length pieces) × (length pieces ≤ most_aliases)
+    × Lead r r.question.name pieces name
 EndsSo r pieces authority lame = (pieces ≡ []) × (authority ≡ [])
 
 -- Aliases lead from the asked name one to the next, and a last piece closes at the last name: fewer than eight aliases
@@ -69,7 +71,8 @@ EndsSo r pieces authority lame = (pieces ≡ []) × (authority ≡ [])
 abbrev pub WalkLeads : Type 0
 WalkLeads =
     (c : Config) (m : Message) (q : Question) (route : ℕ) → HasShapes m → route_of c.routes q.name ≡ Some route
-    → EndsSo (reply_of c m q route) (walk_of c m q route).pieces (walk_of c m q route).authority (walk_of c m q route).end
+    → EndsSo (reply_of c m q route) (walk_of c m q route).pieces (walk_of c m q route).authority
+    (walk_of c m q route).end
 
 -- an NS set at its owner, which is at or above the asked name
 pub record IsServerSet (r : Reply) (p : Piece) : Type 0 where
@@ -85,5 +88,6 @@ ServersFit =
 -- What a reply carries can be written, where the question and the records of its sections can.
 abbrev pub PiecesAreWritable : Type 0
 PiecesAreWritable =
-    (c : Config) (m : Message) (q : Question) (route : ℕ) → IsQuestion q → AllByRecursion IsRecord m.answers → AllByRecursion IsRecord m.authority
+    (c : Config) (m : Message) (q : Question) (route : ℕ) → IsQuestion q → AllByRecursion IsRecord m.answers
+    → AllByRecursion IsRecord m.authority
     → AllByRecursion IsWritable (walk_of c m q route).pieces × AllByRecursion IsWritable (walk_of c m q route).authority

@@ -1,5 +1,6 @@
 -- Record sets: RFC 2181 5.
-use Rattle.std.specs.Prelude.{ℕ, ◌^◌, Bool, if◌then◌else◌, ◌==◌, ◌&&◌, nat_le, min, List, [], ◌∷◌, ◌++◌, filter, Option, Some, None}
+use Rattle.std.specs.Prelude.{ℕ, ◌^◌, Bool, if◌then◌else◌, ◌==◌, ◌&&◌, nat_le, min, List, [], ◌∷◌, ◌++◌, filter, Option}
+use Rattle.std.specs.Prelude.{Some, None}
 use Rattle.std.specs.List.{list_any}
 use Rattle.dns_name.specs.Labels.{lowered, same}
 use Rattle.dns_message.specs.Values.{Question, Record}

@@ -48,7 +48,15 @@ pub record Reply : Type 0 where
   pub authority : List Record
 
 abbrev pub reply_of : Config → Message → Question → ℕ → Reply
-reply_of c m q route = record { config = c; route = route; question = q; is_authoritative = m.header.aa; rcode = m.header.rcode; answers = m.answers; authority = m.authority }
+reply_of c m q route = record {
+  config = c;
+  route = route;
+  question = q;
+  is_authoritative = m.header.aa;
+  rcode = m.header.rcode;
+  answers = m.answers;
+  authority = m.authority;
+}
 
 -- the record in the box, where there is one
 abbrev pub unboxed : {A : Type 0} → Option (Box Record A) → Option Record

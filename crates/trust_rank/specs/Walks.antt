@@ -1,5 +1,7 @@
--- The walk of a reply, from the asked name along its aliases: RFC 1034 3.6.2 and 5.3.3, RFC 2181 5.4.1 and 10.1, RFC 2308 2.
-use Rattle.std.specs.Prelude.{ℕ, zero, suc, Bool, true, false, not, if◌then◌else◌, ◌==◌, ◌&&◌, nat_lt, List, [], ◌∷◌, ◌++◌, length, Option, Some, None, is_none}
+-- The walk of a reply, from the asked name along its aliases: RFC 1034 3.6.2 and 5.3.3, RFC 2181 5.4.1 and 10.1, RFC
+-- 2308 2.
+use Rattle.std.specs.Prelude.{ℕ, zero, suc, Bool, true, false, not, if◌then◌else◌, ◌==◌, ◌&&◌, nat_lt, List, [], ◌∷◌}
+use Rattle.std.specs.Prelude.{◌++◌, length, Option, Some, None, is_none}
 use Rattle.std.specs.List.{list_any}
 use Rattle.dns_name.specs.Labels.{same, is_under}
 use Rattle.dns_message.specs.Values.{Question, Record, Message}
@@ -8,14 +10,15 @@ use Rattle.suffix_routes.specs.Values.{Config}
 use Rattle.suffix_routes.specs.Routes.{route_of}
 use Rattle.trust_rank.specs.declared.reply.AtName.{AtName as OwnedAtName}
 use Rattle.trust_rank.specs.declared.reply.AtName.TheVariants as owned
-use Rattle.trust_rank.specs.Values.{Body, rows, no_data, denied, Piece, End, found, ends_no_data, ends_denied, elsewhere, lame, Walk, Reply, reply_of}
+use Rattle.trust_rank.specs.Values.{Body, rows, no_data, denied, Piece, End, found, ends_no_data, ends_denied}
+use Rattle.trust_rank.specs.Values.{elsewhere, lame, Walk, Reply, reply_of}
 use Rattle.trust_rank.specs.Sets.{records_for, set_of, set_with}
 use Rattle.trust_rank.specs.Denials.{soa_for, no_data_with, name_error_with}
 
 -- ---- one name of the walk
 
--- What a reply has at a name: nothing that counts, so that it has to be asked for; the asked set; a denial of the type or
--- of the name; an alias, and the name that it leads to; or what makes the whole reply lame.
+-- What a reply has at a name: nothing that counts, so that it has to be asked for; the asked set; a denial of the type
+-- or of the name; an alias, and the name that it leads to; or what makes the whole reply lame.
 pub data AtName : Type 0 where
   met_nothing : AtName
   met_set : Piece → AtName
@@ -69,10 +72,12 @@ abbrev pub is_referral : Reply → Bool
 is_referral r = not r.is_authoritative && list_any is_name_server r.authority
 
 abbrev pub name_error_at : Reply → List (List ℕ) → Piece
-name_error_at r name = name_error_with (rank_at r name) r.route name r.question.class (soa_for name r.question.class r.authority)
+name_error_at r name = name_error_with (rank_at r name) r.route name r.question.class
+    (soa_for name r.question.class r.authority)
 
 abbrev pub no_data_at : Reply → List (List ℕ) → Piece
-no_data_at r name = no_data_with (rank_at r name) r.route name r.question.class r.question.kind (soa_for name r.question.class r.authority)
+no_data_at r name = no_data_with (rank_at r name) r.route name r.question.class r.question.kind
+    (soa_for name r.question.class r.authority)
 
 -- where neither the asked set nor an alias stands at the name, which may be the first of the walk: a name error by the
 -- response code; behind an alias with no SOA the name has to be asked for; a referral with no SOA is lame; else NODATA
@@ -106,7 +111,8 @@ set_or kind (Some p) other = set_met kind p
 abbrev pub met_at : Reply → Bool → List (List ℕ) → AtName
 met_at r is_first name =
     if is_on_route r name
-    then set_or r.question.kind (answer_set r r.question.kind name) (alias_or (alias_set r name) (denial_at r is_first name))
+    then set_or r.question.kind (answer_set r r.question.kind name)
+    (alias_or (alias_set r name) (denial_at r is_first name))
     else met_nothing
 
 abbrev pub met_of : {A : Type 0} → OwnedAtName A → AtName
@@ -139,7 +145,11 @@ is_lame (elsewhere name) = false
 
 -- an alias, and the walk from the name that it leads to
 abbrev pub behind : Piece → Walk → Walk
-behind alias w = if is_lame w.end then lame_walk else record { pieces = alias ∷ w.pieces; authority = w.authority; end = w.end }
+behind alias w = if is_lame w.end then lame_walk else record {
+  pieces = alias ∷ w.pieces;
+  authority = w.authority;
+  end = w.end;
+}
 
 abbrev pub go_on : (List (List ℕ) → Walk) → List (List ℕ) → AtName → Walk
 go_on rest name met_nothing = ending [] (elsewhere name)
@@ -158,7 +168,8 @@ walk_from r (suc left) is_first name = go_on (λ target. walk_from r left false 
 
 -- an NS record of the question's class, whose owner is at or above the asked name and on the route
 abbrev pub is_server_for : Reply → Record → Bool
-is_server_for r s = is_name_server s && (s.class == r.question.class) && is_under r.question.name s.owner && is_on_route r s.owner
+is_server_for r s = is_name_server s && (s.class == r.question.class) && is_under r.question.name s.owner
+    && is_on_route r s.owner
 
 -- a piece has this owner
 abbrev pub has_owner : List (List ℕ) → Piece → Bool
@@ -166,7 +177,8 @@ has_owner name p = same p.owner name
 
 -- the NS set that begins with this record
 abbrev pub servers_with : Reply → Record → List Record → Piece
-servers_with r first others = set_with 2 r.route first (records_for (record { name = first.owner; kind = first.kind; class = first.class }) others)
+servers_with r first others = set_with 2 r.route first (records_for
+    (record { name = first.owner; kind = first.kind; class = first.class }) others)
 
 -- the record fits, and its owner has no piece yet
 abbrev pub begins_set : Reply → List Piece → Record → Bool
@@ -179,7 +191,8 @@ servers_at r carried first others = if begins_set r carried first then servers_w
 -- those sets, in the order of the section
 unfoldable pub servers_from : Reply → List Piece → List Record → List Piece
 servers_from r carried [] = []
-servers_from r carried (s ∷ records) = servers_at r carried s records ++ servers_from r (carried ++ servers_at r carried s records) records
+servers_from r carried (s ∷ records) =
+    servers_at r carried s records ++ servers_from r (carried ++ servers_at r carried s records) records
 
 -- an authoritative reply that is not lame carries them
 abbrev pub carries_servers : Reply → End → Bool

@@ -4,7 +4,8 @@ ghost use Rattle.std.specs.Prelude.{◌≡◌, Some, None, IfOk, MatchOption, le
 ghost use Rattle.std.specs.Option.{IfSome};
 ghost use Rattle.dns_name.specs.Labels.{is_under};
 ghost use Rattle.dns_message.specs.Messages.{AreShaped};
-ghost use Rattle.trust_rank.specs.Denials.{is_soa_for, soa_for, minimum_of, denial_lifetime, no_data_with, name_error_with};
+ghost use Rattle.trust_rank.specs.Denials.{is_soa_for, soa_for, minimum_of, denial_lifetime, no_data_with};
+ghost use Rattle.trust_rank.specs.Denials.{name_error_with};
 ghost use Rattle.trust_rank.specs.Formed.{IsSoa};
 ghost use Rattle.trust_rank.specs.Values.{unboxed};
 
@@ -41,7 +42,8 @@ fn find_soa<'a, A: Allocator>(
     class: u16,
     authority: &'a [Record<A>],
 ) -> Option<&'a Record<A>>
-    ensures { MatchOption result (soa_for name.now class authority.now ≡ None) (λ soa. soa_for name.now class authority.now ≡ Some soa.now) }
+    ensures { MatchOption result (soa_for name.now class authority.now ≡ None)
+        (λ soa. soa_for name.now class authority.now ≡ Some soa.now) }
 {
     for record in authority {
         if is_soa_for(record, name, class) {
@@ -76,7 +78,8 @@ fn minimum_from(rdata: &[u8]) -> u32
     BigEndian::read_u32(&rdata[rdata.len() - 4..])
 }
 
-/// How long a denial with this SOA lives, in seconds: the least of the SOA's TTL, its MINIMUM and three hours (RFC 2308 5).
+/// How long a denial with this SOA lives, in seconds: the least of the SOA's TTL, its MINIMUM and three hours (RFC 2308
+/// 5).
 fn lifetime_from<A: Allocator>(soa: &Record<A>) -> u32
     requires { IsSoa soa.now }
     ensures { result ≡ denial_lifetime (Some soa.now) }
@@ -105,7 +108,8 @@ pub(crate) fn no_data<A: Allocator + Copy>(
     soa: Option<Box<Record<A>, A>>,
 ) -> Result<Piece<A>, AllocError>
     requires { IfSome (unboxed soa) IsSoa }
-    ensures { IfOk result (λ p. p ≡ no_data_with source.rank source.route denied.now.name denied.now.class denied.now.kind (unboxed soa)) }
+    ensures { IfOk result (λ p. p ≡ no_data_with source.rank source.route denied.now.name denied.now.class
+        denied.now.kind (unboxed soa)) }
 {
     let owner = denied.name.copy(alloc)?;
     Ok(Piece {
@@ -127,7 +131,8 @@ pub(crate) fn name_error<A: Allocator + Copy>(
     soa: Option<Box<Record<A>, A>>,
 ) -> Result<Piece<A>, AllocError>
     requires { IfSome (unboxed soa) IsSoa }
-    ensures { IfOk result (λ p. p ≡ name_error_with source.rank source.route denied.now.name denied.now.class (unboxed soa)) }
+    ensures { IfOk result (λ p. p ≡ name_error_with source.rank source.route denied.now.name denied.now.class
+        (unboxed soa)) }
 {
     let owner = denied.name.copy(alloc)?;
     Ok(Piece {

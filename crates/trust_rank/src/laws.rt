@@ -2,9 +2,9 @@
 
 ghost use Rattle.trust_rank.specs.Laws.{PiecesAreWritable, ServersFit, WalkLeads};
 
-/// Aliases lead from the asked name one to the next, all on the route that was asked, and a last piece closes at the last
-/// name; a question for CNAME follows none. Fewer than eight stand before a last piece, one to eight lead to a name that
-/// has to be asked for, and a lame reply carries nothing.
+/// Aliases lead from the asked name one to the next, all on the route that was asked, and a last piece closes at the
+/// last name; a question for CNAME follows none. Fewer than eight stand before a last piece, one to eight lead to a
+/// name that has to be asked for, and a lame reply carries nothing.
 pub fn walk_leads()
     ensures { WalkLeads }
 {}

@@ -23,7 +23,8 @@ pub enum Body<A: Allocator = Global> {
     Denied(Option<Box<Record<A>, A>>),
 }
 
-/// A record set or a denial, which lives and dies as one. Contracts see its class and type as a slot, with the owner's key.
+/// A record set or a denial, which lives and dies as one. Contracts see its class and type as a slot, with the owner's
+/// key.
 #[derive(Drop)]
 pub struct Piece<A: Allocator = Global> {
     /// In seconds, a week at most.
@@ -49,9 +50,27 @@ impl<A: Allocator> Model for Piece<A> {
 
     ghost Value = { Piece };
 
-    ghost view = { λ p. record { owner = p.owner; slot = record { class = p.class; kind = p.kind; key = lowered p.owner }; body = body_of p.body; lifetime = p.lifetime; rank = p.rank; route = p.route } };
+    ghost view = { λ p. record {
+      owner = p.owner;
+      slot = record {
+        class = p.class;
+        kind = p.kind;
+        key = lowered p.owner;
+      };
+      body = body_of p.body;
+      lifetime = p.lifetime;
+      rank = p.rank;
+      route = p.route;
+    } };
 
-    ghost invariant = { λ p. IsPiece (record { owner = p.owner; slot = record { class = p.class; kind = p.kind; key = lowered p.owner }; body = body_of p.body; lifetime = p.lifetime; rank = p.rank; route = p.route }) };
+    ghost invariant = { λ p. IsPiece (record {
+      owner = p.owner;
+      slot = record { class = p.class; kind = p.kind; key = lowered p.owner };
+      body = body_of p.body;
+      lifetime = p.lifetime;
+      rank = p.rank;
+      route = p.route;
+    }) };
 }
 
 impl<A: Allocator> Piece<A> {

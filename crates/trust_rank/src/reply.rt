@@ -6,7 +6,8 @@ ghost use Rattle.std.specs.Option.{IfSome};
 ghost use Rattle.trust_rank.specs.Denials.{soa_for};
 ghost use Rattle.trust_rank.specs.Formed.{IsSoa};
 ghost use Rattle.trust_rank.specs.Values.{unboxed};
-ghost use Rattle.trust_rank.specs.Walks.{is_on_route, rank_at, at_name, answer_set, alias_set, has_many, target_of, is_referral, denial_at, leads, set_met, met_at, is_name_server, met_of};
+ghost use Rattle.trust_rank.specs.Walks.{is_on_route, rank_at, at_name, answer_set, alias_set, has_many, target_of};
+ghost use Rattle.trust_rank.specs.Walks.{is_referral, denial_at, leads, set_met, met_at, is_name_server, met_of};
 
 use crate::denials::{name_error, no_data, soa_for};
 use crate::piece::{Body, Piece};
@@ -51,7 +52,15 @@ impl<'a, A: Allocator> Model for Reply<'a, A> {
 
     ghost Value = { Reply };
 
-    ghost view = { λ r. record { config = r.config.now; route = r.route; question = record { name = r.name.now; kind = r.kind; class = r.class }; is_authoritative = r.is_authoritative; rcode = r.rcode; answers = r.answers.now; authority = r.authority.now } };
+    ghost view = { λ r. record {
+      config = r.config.now;
+      route = r.route;
+      question = record { name = r.name.now; kind = r.kind; class = r.class };
+      is_authoritative = r.is_authoritative;
+      rcode = r.rcode;
+      answers = r.answers.now;
+      authority = r.authority.now;
+    } };
 
     ghost invariant = { λ r. AreShapedSections r.answers.now r.authority.now };
 }

@@ -45,8 +45,8 @@ fn has_piece<A: Allocator>(pieces: &[Piece<A>], sets: &[Piece<A>], name: &Name<A
     is_among(pieces, name) || is_among(sets, name)
 }
 
-/// An NS record that fits, and whose owner has no piece yet. That is asked first: of many records of one owner the route of
-/// the first alone is looked for.
+/// An NS record that fits, and whose owner has no piece yet. That is asked first: of many records of one owner the
+/// route of the first alone is looked for.
 #[tactic(auto, using(crate::proofs::ServerLaws::begins_none, crate::proofs::ServerLaws::begins_one))]
 fn begins_set<A: Allocator + Copy>(
     reply: &Reply<'_, A>,

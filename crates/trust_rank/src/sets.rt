@@ -178,7 +178,8 @@ fn gather<'a, A: Allocator + Copy>(
     key: &SetKey<'_, A>,
 ) -> Result<(Rows<A>, u32), AllocError>
     ensures rows { IfOk result (λ g. g.0 ≡ added_all key.now (first.now.rdata ∷ []) others.now) }
-    ensures lifetime { IfOk result (λ g. g.1 ≡ lowered_by_all key.now (min longest (seconds_of first.now.ttl)) others.now) }
+    ensures lifetime { IfOk result (λ g. g.1 ≡ lowered_by_all key.now
+        (min longest (seconds_of first.now.ttl)) others.now) }
 {
     let mut gathered = Gathered::begin(alloc, first)?;
     for record in others {

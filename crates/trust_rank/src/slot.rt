@@ -3,8 +3,8 @@
 use dns_name::NameKey;
 use std::hash::{Hash, Hasher};
 
-/// What a piece tells of: a name and class with a type, or with none for the denial of a whole name. Class and type come
-/// first, so that they lie in memory beside the octets of a usual name.
+/// What a piece tells of: a name and class with a type, or with none for the denial of a whole name. Class and type
+/// come first, so that they lie in memory beside the octets of a usual name.
 #[derive(Clone, Copy, PartialEq, Eq)]
 pub struct Slot {
     /// 1 is IN.
@@ -24,7 +24,8 @@ impl Hash for Slot {
     ghost use Rattle.std.proofs.Common.{rules};
     ghost use Rattle.dns_name.specs.Key.{key_octets, key_len, end_of_words};
 
-    ghost hash_input = { λ s. take (end_of_words (key_len s.key)) (key_octets s.key) ∷ fed.u64 (65536 * s.class + unwrap_or s.kind 0) };
+    ghost hash_input = { λ s. take (end_of_words (key_len s.key)) (key_octets s.key)
+        ∷ fed.u64 (65536 * s.class + unwrap_or s.kind 0) };
 
     ghost respects_eq = { Prim.search (hashing, rules) };
 

@@ -1,5 +1,7 @@
--- Waiting questions under the keys of a slab, and two lists of those keys: one in the order of taking, one by question, with numbers.
-use Rattle.std.specs.Prelude.{◌≡◌, ◌≢◌, ℕ, ◌<◌, ◌≤◌, ◌+◌, ◌^◌, ◌==◌, ◌&&◌, Bool, true, false, nat_le, nat_lt, if◌then◌else◌, List, length, filter, map, Option, Some, None, IsSome, slice_index}
+-- Waiting questions under the keys of a slab, and two lists of those keys: one in the order of taking, one by question,
+-- with numbers.
+use Rattle.std.specs.Prelude.{◌≡◌, ◌≢◌, ℕ, ◌<◌, ◌≤◌, ◌+◌, ◌^◌, ◌==◌, ◌&&◌, Bool, true, false, nat_le, nat_lt}
+use Rattle.std.specs.Prelude.{if◌then◌else◌, List, length, filter, map, Option, Some, None, IsSome, slice_index}
 use Rattle.std.specs.List.{All, AllPairs, between, filter_map}
 use Rattle.std.specs.List.Sorted.{IsPartitionPoint}
 use Rattle.std.specs.Ordering.{is_lt, nat_cmp}
@@ -38,7 +40,8 @@ compared f (Some x) = f x
 
 -- the same under a key with a number, where numbers that differ tell it alone
 abbrev pub compared_item : QuestionKey → Slab Waiting → NumberedKey → Ordering
-compared_item key s item = if item.number == key.number then compared (to_question key) (get s item.key) else nat_cmp item.number key.number
+compared_item key s item = if item.number == key.number then compared (to_question key) (get s item.key)
+    else nat_cmp item.number key.number
 
 -- in the order of their questions
 abbrev pub IsByQuestion : Waiting → Waiting → Type 0
@@ -56,17 +59,21 @@ pub record AreKeys (L : Waiting → Waiting → Type 0) (s : Slab Waiting) (keys
 
 -- each number is that of the question under the key
 abbrev pub AreNumbered : Slab Waiting → List NumberedKey → Type 0
-AreNumbered s items = All (λ item. (a : Waiting) → get s item.key ≡ Some a → (question_key a.wanted).number ≡ item.number) items
+AreNumbered s items = All (λ item. (a : Waiting) → get s item.key ≡ Some a
+    → (question_key a.wanted).number ≡ item.number) items
 
 -- by question stand the same keys as in the order of taking, those for one question in that order too
 pub record AreIndexed (s : Slab Waiting) (by_question in_turn : List ℕ) : Type 0 where
   pub questions : AreKeys IsByQuestion s by_question
   pub turns : AreKeys IsByTaken s in_turn
-  pub same : (q : Question) → filter (λ key. passes (waits_for q) (get s key)) by_question ≡ filter (λ key. passes (waits_for q) (get s key)) in_turn
+  pub same : (q : Question) → filter (λ key. passes (waits_for q) (get s key)) by_question
+      ≡ filter (λ key. passes (waits_for q) (get s key)) in_turn
 
 -- those that come before what is sought stand before place i
 abbrev pub BeginsAt : (Waiting → Ordering) → Slab Waiting → List ℕ → ℕ → Type 0
-BeginsAt f s keys i = (i ≤ length keys) × IsPartitionPoint (λ key. is_lt (compared f (get s key)) ≡ true) (λ key. is_lt (compared f (get s key)) ≡ false) keys i
+BeginsAt f s keys i = (i ≤ length keys)
+    × IsPartitionPoint (λ key. is_lt (compared f (get s key)) ≡ true) (λ key. is_lt (compared f (get s key))
+    ≡ false) keys i
 
 -- what is sought stands from place i up to place j
 pub record IsRange (f : Waiting → Ordering) (s : Slab Waiting) (keys : List ℕ) (i j : ℕ) : Type 0 where

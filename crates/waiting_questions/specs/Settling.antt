@@ -1,5 +1,6 @@
 -- Questions that wait no more, or wait on: each that waits for a question has a fate.
-use Rattle.std.specs.Prelude.{ℕ, suc, if◌then◌else◌, Bool, List, [], ◌∷◌, ◌++◌, length, filter, take, drop, option_map, Option, Some}
+use Rattle.std.specs.Prelude.{ℕ, suc, if◌then◌else◌, Bool, List, [], ◌∷◌, ◌++◌, length, filter, take, drop, option_map}
+use Rattle.std.specs.Prelude.{Option, Some}
 use Rattle.std.specs.List.{cons_option, filter_map}
 use Rattle.dns_message.specs.Values.{Question}
 use Rattle.waiting_questions.specs.Values.{Waiting, waits_for}
@@ -9,11 +10,13 @@ use Rattle.waiting_questions.specs.Onward.{Onward, sent_on}
 abbrev pub left_by : Option Onward → Waiting → Option Waiting
 left_by fate x = option_map (λ s. sent_on s x) fate
 
--- those that wait for the question get the fates, in order; all others stay where they are, and so do those for whom no fate is left
+-- those that wait for the question get the fates, in order; all others stay where they are, and so do those for whom no
+-- fate is left
 abbrev pub settled : Question → List (Option Onward) → List Waiting → List Waiting
 settled q fates [] = []
 settled q [] (x ∷ xs) = x ∷ xs
-settled q (fate ∷ fates) (x ∷ xs) = if waits_for q x then cons_option (left_by fate x) (settled q fates xs) else x ∷ settled q (fate ∷ fates) xs
+settled q (fate ∷ fates) (x ∷ xs) = if waits_for q x then cons_option (left_by fate x) (settled q fates xs)
+    else x ∷ settled q (fate ∷ fates) xs
 
 -- the same, where a function gives the fates
 abbrev pub settled_by : Question → (Waiting → Option Onward) → List Waiting → List Waiting

@@ -6,8 +6,8 @@ use Rattle.record_cache.specs.Values.{Held}
 use Rattle.answer_builder.specs.Values.{Asked}
 use Rattle.step_values.specs.declared.event.Client.{Client}
 
--- a question that waits: what its answer repeats of it, the aliases that it holds, and what it wants to know now, which is
--- its own question or the same at the name that its aliases lead to
+-- a question that waits: what its answer repeats of it, the aliases that it holds, and what it wants to know now, which
+-- is its own question or the same at the name that its aliases lead to
 pub record Waiting : Type 0 where
   pub client : Client
   pub asked : Asked

@@ -7,14 +7,14 @@ ghost use Rattle.waiting_questions.specs.Indexes.{to_question};
 
 use crate::waiting::{SentOn, Waiting};
 use outstanding::QuestionKey;
-use std::alloc::Allocator;
+use std::alloc::{Allocator, Global};
 use std::cmp::Ordering;
 use std::marker::Model;
 
 /// A waiting question, and the key of the question that it wants to know, which is made once. It is seen as the waiting
 /// question. The key stands first, where a search looks.
 #[derive(Drop)]
-pub(crate) struct KeyedWaiting<A: Allocator> {
+pub struct KeyedWaiting<A: Allocator = Global> {
     key: QuestionKey,
     waiting: Waiting<A>,
 }
@@ -32,10 +32,11 @@ impl<A: Allocator> Model for KeyedWaiting<A> {
 }
 
 impl<A: Allocator> KeyedWaiting<A> {
-    pub(crate) fn new(waiting: Waiting<A>) -> KeyedWaiting<A>
+    /// A waiting question with the key of the question that it wants to know, which was made before. It takes no memory.
+    pub fn new(waiting: Waiting<A>, key: QuestionKey) -> KeyedWaiting<A>
+        requires { key ≡ question_key waiting.wanted }
         ensures { result ≡ waiting }
     {
-        let key = QuestionKey::of(waiting.wanted());
         KeyedWaiting { key, waiting }
     }
 

@@ -1,5 +1,5 @@
-//! The questions that wait for their replies, in the order in which they were taken. What waits for one question is found
-//! without a look at the others.
+//! The questions that wait for their replies, in the order in which they were taken. What waits for one question is
+//! found without a look at the others.
 #![tactic(auto)]
 
 mod keyed;
@@ -8,5 +8,6 @@ mod table;
 mod waiting;
 mod waiting_questions;
 
+pub use keyed::KeyedWaiting;
 pub use waiting::{Request, SentOn, Waiting};
 pub use waiting_questions::{WaitingFor, WaitingQuestions};

@@ -2,7 +2,8 @@
 
 ghost use Rattle.std.specs.Prelude.{◌≡◌, ◌≢◌, ℕ, ◌+◌, ◌≤◌, Bool, filter, length};
 ghost use Rattle.std.specs.List.{between, All, AllPairs, Contains};
-ghost use Rattle.waiting_questions.specs.Indexes.{compared_item, keys_of, to_question, AreKeys, AreNumbered, BeginsAt, IsByQuestion, IsRange};
+ghost use Rattle.waiting_questions.specs.Indexes.{compared_item, keys_of, to_question, AreKeys, AreNumbered, BeginsAt};
+ghost use Rattle.waiting_questions.specs.Indexes.{IsByQuestion, IsRange};
 ghost use Rattle.waiting_questions.specs.Settling.{earlier};
 
 use crate::keyed::KeyedWaiting;
@@ -13,8 +14,8 @@ use std::alloc::Allocator;
 use std::cmp::Ordering;
 use std::collections::VecDeque;
 
-/// How the question under a key compares to another. Numbers that differ tell it alone: what waits stands far away in memory,
-/// and is looked at only where they are equal. A key without a question comes first then.
+/// How the question under a key compares to another. Numbers that differ tell it alone: what waits stands far away in
+/// memory, and is looked at only where they are equal. A key without a question comes first then.
 #[inline]
 fn compare<A: Allocator>(
     waiting: &Slab<KeyedWaiting<A>, A>,
@@ -71,8 +72,8 @@ fn end_from<A: Allocator>(
     keys.partition_point(|item| compare(waiting, *item, question).is_le())
 }
 
-/// Where a key of this turn belongs among the keys from one place up to another, which stand in turn: behind those of an earlier
-/// turn. Found by halves.
+/// Where a key of this turn belongs among the keys from one place up to another, which stand in turn: behind those of
+/// an earlier turn. Found by halves.
 pub(crate) fn place_by_turn<A: Allocator>(
     keys: &VecDeque<NumberedKey, A>,
     in_turn: &KeysInTurn<A>,
@@ -84,7 +85,8 @@ pub(crate) fn place_by_turn<A: Allocator>(
     requires high { end ≤ length keys.now.items }
     requires listed { All (Contains in_turn.now.keys) (between start end (keys_of keys.now.items)) }
     requires apart { AllPairs (λ j k. j ≢ k) in_turn.now.keys }
-    ensures { (p : ℕ → Bool) → filter p in_turn.now.keys ≡ between start end (keys_of keys.now.items) → result ≡ start + earlier p in_turn.now.keys turn }
+    ensures { (p : ℕ → Bool) → filter p in_turn.now.keys ≡ between start end (keys_of keys.now.items)
+        → result ≡ start + earlier p in_turn.now.keys turn }
 {
     let mut low = start;
     let mut high = end;

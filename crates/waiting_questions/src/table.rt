@@ -1,6 +1,7 @@
 //! The waiting questions under keys, with indexes of the keys.
 
-ghost use Rattle.std.specs.Prelude.{◌≡◌, ◌<◌, ◌≤◌, ◌∷◌, ◌++◌, [], true, not, filter, length, Option, Some, MatchOption, OnOk, slice_get, slice_index};
+ghost use Rattle.std.specs.Prelude.{◌≡◌, ◌<◌, ◌≤◌, ◌∷◌, ◌++◌, [], true, not, filter, length, Option, Some, MatchOption};
+ghost use Rattle.std.specs.Prelude.{OnOk, slice_get, slice_index};
 ghost use Rattle.std.specs.List.{remove, remove_range, AllByRecursion};
 ghost use Rattle.slab.specs.Slab.{ContainsKey, Updates};
 ghost use Rattle.waiting_questions.specs.Values.{Waiting as Asking, waits_for};
@@ -10,7 +11,7 @@ ghost use Rattle.waiting_questions.specs.Settling.{left_by, settled, with_at};
 
 use crate::keyed::KeyedWaiting;
 use crate::places::{place_by_turn, range_of};
-use crate::waiting::{SentOn, Waiting};
+use crate::waiting::SentOn;
 use arrival_order::KeysInTurn;
 use dns_message::Question;
 use outstanding::{NumberedKey, QuestionKey};
@@ -18,9 +19,9 @@ use slab::Slab;
 use std::alloc::{AllocError, Allocator};
 use std::collections::VecDeque;
 
-/// The waiting questions, each under a key that the slab picks, and the keys in the order of the questions, those for equal
-/// ones in the order of taking, and of all in the order of taking. Those by question have the numbers of the questions with
-/// them, so that a search seldom looks at what waits.
+/// The waiting questions, each under a key that the slab picks, and the keys in the order of the questions, those for
+/// equal ones in the order of taking, and of all in the order of taking. Those by question have the numbers of the
+/// questions with them, so that a search seldom looks at what waits.
 #[derive(Drop)]
 pub(crate) struct Table<A: Allocator> {
     pub(crate) waiting: Slab<KeyedWaiting<A>, A>,
@@ -54,7 +55,8 @@ impl<A: Allocator> Table<A> {
     /// What was taken first, with its key.
     pub(crate) fn first(&self) -> Option<&KeyedWaiting<A>>
         requires { IsIndexed self.now }
-        ensures { MatchOption result (items_of self.now ≡ []) (λ keyed. slice_get (items_of self.now) 0 ≡ Some keyed.now) }
+        ensures { MatchOption result (items_of self.now ≡ []) (λ keyed. slice_get (items_of self.now) 0
+            ≡ Some keyed.now) }
     {
         let key = self.in_turn.first()?;
         Some(&self.waiting[key])
@@ -63,7 +65,8 @@ impl<A: Allocator> Table<A> {
     /// From where up to where those stand by question that wait for this one.
     pub(crate) fn range(&self, question: &QuestionKey) -> (usize, usize)
         requires { IsIndexed self.now }
-        ensures { IsRange (to_question question.now) self.now.waiting (keys_of self.now.by_question.items) result.0 result.1 }
+        ensures { IsRange (to_question question.now) self.now.waiting
+            (keys_of self.now.by_question.items) result.0 result.1 }
     {
         range_of(&self.waiting, &self.by_question, question)
     }
@@ -85,18 +88,17 @@ impl<A: Allocator> Table<A> {
     }
 
     /// Puts a question last, which was taken no earlier than the others, where there is room.
-    pub(crate) fn put(&mut self, waiting: Waiting<A>)
+    pub(crate) fn put(&mut self, waiting: KeyedWaiting<A>)
         requires indexed { IsIndexed self.old }
         requires room { has_room self.old ≡ true }
         requires later { AllByRecursion (λ x. x.taken ≤ waiting.taken) (items_of self.old) }
         ensures indexed { IsIndexed self.new }
         ensures list { items_of self.new ≡ items_of self.old ++ waiting ∷ [] }
     {
-        let keyed = KeyedWaiting::new(waiting);
-        let question = keyed.key();
+        let question = waiting.key();
         let number = question.number();
         let (_, end) = self.range(question);
-        let key = self.waiting.insert_reserved(keyed);
+        let key = self.waiting.insert_reserved(waiting);
         let item = NumberedKey::new(number, key);
         let Ok(()) = self.by_question.insert(end, item) else {
             unreachable!();
@@ -127,7 +129,8 @@ impl<A: Allocator> Table<A> {
         requires turn { turn < length self.old.in_turn.keys }
         requires one { slice_index (keys_of self.old.by_question.items) place ≡ slice_index self.old.in_turn.keys turn }
         ensures indexed { IsIndexed self.new }
-        ensures list { (x : Asking) → slice_get (items_of self.old) turn ≡ Some x → items_of self.new ≡ with_at (items_of self.old) turn (Some (sent_on onward x)) }
+        ensures list { (x : Asking) → slice_get (items_of self.old) turn ≡ Some x
+            → items_of self.new ≡ with_at (items_of self.old) turn (Some (sent_on onward x)) }
     {
         let Some(old) = self.by_question.remove(place) else {
             unreachable!();
@@ -145,14 +148,16 @@ impl<A: Allocator> Table<A> {
         };
     }
 
-    /// Gives its fate to the question whose key stands at this place by question, and in this turn: it is sent on, or goes.
+    /// Gives its fate to the question whose key stands at this place by question, and in this turn: it is sent on, or
+    /// goes.
     fn settle_one(&mut self, place: usize, turn: usize, fate: Option<SentOn<A>>)
         requires indexed { IsIndexed self.old }
         requires place { place < length self.old.by_question.items }
         requires turn { turn < length self.old.in_turn.keys }
         requires one { slice_index (keys_of self.old.by_question.items) place ≡ slice_index self.old.in_turn.keys turn }
         ensures indexed { IsIndexed self.new }
-        ensures list { (x : Asking) → slice_get (items_of self.old) turn ≡ Some x → items_of self.new ≡ with_at (items_of self.old) turn (left_by fate x) }
+        ensures list { (x : Asking) → slice_get (items_of self.old) turn ≡ Some x
+            → items_of self.new ≡ with_at (items_of self.old) turn (left_by fate x) }
     {
         match fate {
             None => self.take(place, turn),
@@ -160,8 +165,8 @@ impl<A: Allocator> Table<A> {
         }
     }
 
-    /// Gives their fates to those that wait for this question, the newest of them first, so that those before it stay where they
-    /// stand.
+    /// Gives their fates to those that wait for this question, the newest of them first, so that those before it stay
+    /// where they stand.
     pub(crate) fn settle(&mut self, question: &Question<A>, mut fates: Vec<Option<SentOn<A>>, A>)
         requires indexed { IsIndexed self.old }
         requires one_each { length fates.items ≡ length (filter (waits_for question.now) (items_of self.old)) }
@@ -177,8 +182,8 @@ impl<A: Allocator> Table<A> {
         }
     }
 
-    /// Lets those go that wait for this question, the newest of them first. Their keys leave those by question at once, when
-    /// all are gone.
+    /// Lets those go that wait for this question, the newest of them first. Their keys leave those by question at once,
+    /// when all are gone.
     pub(crate) fn end(&mut self, question: &Question<A>)
         requires { IsIndexed self.old }
         ensures indexed { IsIndexed self.new }
@@ -213,8 +218,8 @@ fn let_go<A: Allocator>(waiting: &mut Slab<KeyedWaiting<A>, A>, key: usize)
     waiting.remove(key);
 }
 
-/// Takes the keys from one place up to another out. Those before them or those behind them move up, whichever are fewer: once
-/// where one key goes, and twice where more do.
+/// Takes the keys from one place up to another out. Those before them or those behind them move up, whichever are
+/// fewer: once where one key goes, and twice where more do.
 fn take_range<A: Allocator>(keys: &mut VecDeque<NumberedKey, A>, start: usize, end: usize)
     requires low { start ≤ end }
     requires high { end ≤ length keys.old.items }

@@ -28,7 +28,13 @@ impl<'a> Model for Request<'a> {
 
     ghost Value = { Waiting };
 
-    ghost view = { λ r. record { client = r.client; asked = asked_in r.header (Some r.question); taken = r.taken; held = []; wanted = r.question } };
+    ghost view = { λ r. record {
+      client = r.client;
+      asked = asked_in r.header (Some r.question);
+      taken = r.taken;
+      held = [];
+      wanted = r.question;
+    } };
 
     ghost invariant = { λ r. r.header.opcode < 16 };
 }
@@ -47,8 +53,8 @@ impl<'a> Request<'a> {
         }
     }
 
-    /// The same as a question that waits, with the aliases that it holds and the question that it is sent on with, or for its
-    /// own question: its name is copied. `Err` where memory ran out.
+    /// The same as a question that waits, with the aliases that it holds and the question that it is sent on with, or
+    /// for its own question: its name is copied. `Err` where memory ran out.
     pub fn to_waiting<A: Allocator>(
         &self,
         alloc: A,
@@ -67,8 +73,8 @@ impl<'a> Request<'a> {
     }
 }
 
-/// The aliases that a question holds, at most eight, and the question that it wants to know now: its own at the name that they
-/// lead to.
+/// The aliases that a question holds, at most eight, and the question that it wants to know now: its own at the name
+/// that they lead to.
 #[derive(Drop)]
 pub struct SentOn<A: Allocator = Global> {
     pub aliases: Vec<Held<A>, A>,
@@ -107,7 +113,13 @@ impl<A: Allocator> Model for Waiting<A> {
 
     ghost Value = { Waiting };
 
-    ghost view = { λ w. record { client = w.client; asked = asked_in w.header (Some w.question); taken = w.taken; held = held_of w.sent_on; wanted = wanted_of w.question w.sent_on } };
+    ghost view = { λ w. record {
+      client = w.client;
+      asked = asked_in w.header (Some w.question);
+      taken = w.taken;
+      held = held_of w.sent_on;
+      wanted = wanted_of w.question w.sent_on;
+    } };
 
     ghost invariant = { λ w. w.header.opcode < 16 };
 }
@@ -148,8 +160,8 @@ impl<A: Allocator> Waiting<A> {
         }
     }
 
-    /// It holds these aliases from now on, in the place of those that it held, and waits for the question that they lead to. It
-    /// takes no memory.
+    /// It holds these aliases from now on, in the place of those that it held, and waits for the question that they
+    /// lead to. It takes no memory.
     pub fn send_on(&mut self, sent_on: SentOn<A>)
         ensures { self.new ≡ record self.old { held = sent_on.held; wanted = sent_on.wanted } }
     {

@@ -1,6 +1,7 @@
 //! The questions that wait.
 
-ghost use Rattle.std.specs.Prelude.{◌≡◌, ◌<◌, ◌≤◌, ◌∷◌, ◌++◌, [], true, not, drop, filter, length, None, Some, IsSome, MatchOption, OnErr, OnOk, slice_get, slice_index};
+ghost use Rattle.std.specs.Prelude.{◌≡◌, ◌<◌, ◌≤◌, ◌∷◌, ◌++◌, [], true, not, drop, filter, length, None, Some, IsSome};
+ghost use Rattle.std.specs.Prelude.{MatchOption, OnErr, OnOk, slice_get, slice_index};
 ghost use Rattle.std.specs.List.{between, list_any, AllByRecursion};
 ghost use Rattle.slab.specs.Slab.{get};
 ghost use Rattle.waiting_questions.specs.Values.{waits_for};
@@ -68,9 +69,9 @@ impl<A: Allocator> WaitingQuestions<A> {
         self.table.reserve()
     }
 
-    /// Puts a question last. It takes no memory. The caller sees to it that there is room for it (`reserve_one`) and that
-    /// no question was taken later.
-    pub fn push_reserved(&mut self, waiting: Waiting<A>)
+    /// Puts a question last. It takes no memory. The caller sees to it that there is room for it (`reserve_one`) and
+    /// that no question was taken later.
+    pub fn push_reserved(&mut self, waiting: KeyedWaiting<A>)
         requires room { self.old.has_room ≡ true }
         requires later { AllByRecursion (λ x. x.taken ≤ waiting.taken) self.old.items }
         ensures { self.new.items ≡ self.old.items ++ waiting ∷ [] }
@@ -78,9 +79,9 @@ impl<A: Allocator> WaitingQuestions<A> {
         self.table.put(waiting);
     }
 
-    /// Puts a question last. `Err` where memory ran out, and then the same questions wait. The caller sees to it that no
-    /// question was taken later.
-    pub fn push(&mut self, waiting: Waiting<A>) -> Result<(), AllocError>
+    /// Puts a question last. `Err` where memory ran out, and then the same questions wait. The caller sees to it that
+    /// no question was taken later.
+    pub fn push(&mut self, waiting: KeyedWaiting<A>) -> Result<(), AllocError>
         requires { AllByRecursion (λ x. x.taken ≤ waiting.taken) self.old.items }
         ensures ok { OnOk result (self.new.items ≡ self.old.items ++ waiting ∷ []) }
         ensures err { OnErr result (self.new.items ≡ self.old.items) }
@@ -101,16 +102,17 @@ impl<A: Allocator> WaitingQuestions<A> {
         self.table.take(place, 0);
     }
 
-    /// Those that wait for this question wait no more, the newest of them first. It takes no memory, and looks at no other
-    /// question but those that the searches by halves meet.
+    /// Those that wait for this question wait no more, the newest of them first. It takes no memory, and looks at no
+    /// other question but those that the searches by halves meet.
     pub fn end(&mut self, question: &Question<A>)
         ensures { self.new.items ≡ filter (λ x. not (waits_for question.now x)) self.old.items }
     {
         self.table.end(question);
     }
 
-    /// Those that wait for this question wait no more, or wait on: in the order of taking, each has a fate, the aliases and the
-    /// question that it is sent on with, or none. It takes no memory, and each keeps its place in the order of taking.
+    /// Those that wait for this question wait no more, or wait on: in the order of taking, each has a fate, the aliases
+    /// and the question that it is sent on with, or none. It takes no memory, and each keeps its place in the order of
+    /// taking.
     pub fn send_on(&mut self, question: &Question<A>, fates: Vec<Option<SentOn<A>>, A>)
         requires { length fates.items ≡ length (filter (waits_for question.now) self.old.items) }
         ensures { self.new.items ≡ settled question.now fates.items self.old.items }

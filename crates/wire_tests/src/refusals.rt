@@ -1,5 +1,5 @@
-//! Runs in which each call of a wire is refused in turn: as many turns are made, nothing is lost, and what was refused is
-//! counted. They have actions of every kind.
+//! Runs in which each call of a wire is refused in turn: as many turns are made, nothing is lost, and what was refused
+//! is counted. They have actions of every kind.
 
 ghost use Rattle.std.specs.Prelude.{◌<◌, ◌≤◌, length};
 
@@ -135,7 +135,8 @@ fn word(number: u16) -> u32 {
     u32::from(number) * 65_537
 }
 
-/// The words of the turn with this number, from 1: its first identifier is 8 times the number, and each further one the next.
+/// The words of the turn with this number, from 1: its first identifier is 8 times the number, and each further one the
+/// next.
 fn words_of(turn: u8) -> [u32; 8] {
     let first = 8 * u16::from(turn);
     [
@@ -253,8 +254,8 @@ fn fate_without(
     Ok(fate_of(&wire, served, count))
 }
 
-/// The first call that is not counted where it is refused, and the fate of the run then: there is no such call, if all is
-/// as it has to be, and then so many calls were made.
+/// The first call that is not counted where it is refused, and the fate of the run then: there is no such call, if all
+/// is as it has to be, and then so many calls were made.
 fn first_uncounted(
     alloc: Global,
     servers: &[Peer],

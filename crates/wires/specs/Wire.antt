@@ -4,7 +4,8 @@ use Rattle.suffix_routes.specs.declared.peer.Peer.{Peer}
 use Rattle.outstanding.specs.declared.ask.Path.{Path}
 use Rattle.step_values.specs.Values.{Action}
 use Rattle.wires.specs.declared.wire.Arrival.{Arrival as OwnedArrival}
-use Rattle.wires.specs.declared.wire.Arrival.TheVariants.{Nothing, ClientDatagram, ClientStream, ClientClosed, ServerDatagram, ServerStream, PathGone}
+use Rattle.wires.specs.declared.wire.Arrival.TheVariants.{Nothing, ClientDatagram, ClientStream, ClientClosed}
+use Rattle.wires.specs.declared.wire.Arrival.TheVariants.{ServerDatagram, ServerStream, PathGone}
 use Rattle.wires.specs.declared.wire.WireFault.{WireFault}
 
 -- What comes: nothing, a client's datagram, a piece of a client's stream, the end of a client's connection; a datagram
@@ -51,7 +52,12 @@ silence = record { arrivals = []; puts = []; moments = []; words = [] }
 
 infixr 20 ◌then◌
 abbrev pub ◌then◌ : Told → Told → Told
-a then b = record { arrivals = a.arrivals ++ b.arrivals; puts = a.puts ++ b.puts; moments = a.moments ++ b.moments; words = a.words ++ b.words }
+a then b = record {
+  arrivals = a.arrivals ++ b.arrivals;
+  puts = a.puts ++ b.puts;
+  moments = a.moments ++ b.moments;
+  words = a.words ++ b.words;
+}
 
 abbrev pub arrived : Option Arrival → Told
 arrived a = record silence { arrivals = a ∷ [] }
@@ -67,4 +73,5 @@ words_were words = record silence { words = words ∷ [] }
 
 -- A wire that still tells told before what it tells now, but for this.
 abbrev pub TellsMore : Option Told → Told → Option Told → Type 0
-TellsMore old more new = (now : Told) → new ≡ Some now → (before : Told) × (old ≡ Some before) × (now ≡ before then more)
+TellsMore old more new = (now : Told) → new ≡ Some now → (before : Told) × (old ≡ Some before)
+    × (now ≡ before then more)

@@ -1,7 +1,8 @@
 //! What was decided is put in place. All memory is taken before anything changes.
 
 ghost use Rattle.outstanding.specs.Lists.{MayBegin, on_path as ask_on, without_path};
-ghost use Rattle.std.specs.Prelude.{◌≡◌, ◌^◌, ◌<◌, ◌≤◌, ◌+◌, ◌∷◌, ◌++◌, [], Bool, List, drop, slice_set, length, nat_le, IfOk, OnOk, OnErr, IsOk, IsSome, Some};
+ghost use Rattle.std.specs.Prelude.{◌≡◌, ◌^◌, ◌<◌, ◌≤◌, ◌+◌, ◌∷◌, ◌++◌, [], Bool, List, drop, slice_set, length};
+ghost use Rattle.std.specs.Prelude.{nat_le, IfOk, OnOk, OnErr, IsOk, IsSome, Some};
 ghost use Rattle.std.specs.List.{AllByRecursion, list_any};
 ghost use Rattle.alias_chains.specs.LookingUp.{promoted_all};
 ghost use Rattle.alias_chains.specs.Offering.{put_all, unkept_of, pieces_of};
@@ -9,19 +10,21 @@ ghost use Rattle.step_table.specs.Steps.{ask_list, tcp_count, with_entries};
 ghost use Rattle.step_table.specs.Row.{is_due_at};
 ghost use Rattle.step_table.specs.Ticks.{deadline_of};
 ghost use Rattle.step_table.specs.Replies.{timeout_of};
-ghost use Rattle.step_actions.specs.Decision.{tcp_count_of, left_or_sent, left_waiting, with_preferred, without_closed, changed, next_of, IsOutcome, IsRouted, CanWait, CanFollow, CanSendOn, CanChange, FitsChange, IsServed};
+ghost use Rattle.step_actions.specs.Decision.{tcp_count_of, left_or_sent, left_waiting, with_preferred, without_closed};
+ghost use Rattle.step_actions.specs.Decision.{changed, next_of, IsOutcome, IsRouted, CanWait, CanFollow, CanSendOn};
+ghost use Rattle.step_actions.specs.Decision.{CanChange, FitsChange, IsServed};
 
 use crate::forwarder::Forwarder;
 use crate::lists::{close_inquiry, end_closed, list_ask, send_on};
 use alias_chains::{Slots, offer_all, promote_all};
-use outstanding::{Ask, Path};
+use outstanding::{Ask, KeyedAsk, Path};
 use plain_list::PlainList;
 use record_cache::Held;
 use std::alloc::{AllocError, Allocator};
 use std::hash::BuildHasher;
 use step_actions::{Change, Opening, Preferred, Sending, is_late, is_overdue};
 use step_values::{Action, Outcome};
-use waiting_questions::Waiting;
+use waiting_questions::KeyedWaiting;
 
 /// One more ask by TCP, where the path is a connection.
 fn count_tcp(count: u64, path: Path) -> u64
@@ -74,7 +77,7 @@ impl<H: BuildHasher + Drop, A: Allocator + Copy> Forwarder<H, A> {
     }
 
     /// The question waits for an ask that is listed already. An `Err` changes nothing.
-    fn put_waiting(&mut self, moment: u64, waiting: Waiting<A>) -> Result<(), AllocError>
+    fn put_waiting(&mut self, moment: u64, waiting: KeyedWaiting<A>) -> Result<(), AllocError>
         requires later { self.old.state.moment ≤ moment }
         requires in_time { moment ≤ 2 ^ 62 }
         requires fits { CanWait self.old.config moment self.old.state waiting }
@@ -90,7 +93,12 @@ impl<H: BuildHasher + Drop, A: Allocator + Copy> Forwarder<H, A> {
     }
 
     /// The question waits, and its ask is listed. An `Err` changes nothing.
-    fn put_ask(&mut self, moment: u64, waiting: Waiting<A>, ask: Ask<A>) -> Result<(), AllocError>
+    fn put_ask(
+        &mut self,
+        moment: u64,
+        waiting: KeyedWaiting<A>,
+        ask: KeyedAsk<A>,
+    ) -> Result<(), AllocError>
         requires later { self.old.state.moment ≤ moment }
         requires in_time { moment ≤ 2 ^ 62 }
         requires waits { CanWait self.old.config moment self.old.state waiting }
@@ -106,7 +114,7 @@ impl<H: BuildHasher + Drop, A: Allocator + Copy> Forwarder<H, A> {
         }) }
         ensures err { OnErr result (self.new ≡ self.old) }
     {
-        let count = count_tcp(self.tcp_asks, ask.path);
+        let count = count_tcp(self.tcp_asks, ask.ask().path);
         self.waiting.reserve_one()?;
         list_ask(&mut self.inquiries, ask)?;
         self.waiting.push_reserved(waiting);
@@ -140,13 +148,15 @@ impl<H: BuildHasher + Drop, A: Allocator + Copy> Forwarder<H, A> {
     fn send_all_on(&mut self, moment: u64, sending: Sending<A>)
         requires later { self.old.state.moment ≤ moment }
         requires in_time { moment ≤ 2 ^ 62 }
-        requires fits { CanSendOn self.old.config moment self.old.state sending.path sending.preferred sending.onward.items sending.ask }
+        requires fits { CanSendOn self.old.config moment self.old.state sending.path sending.preferred
+            sending.onward.items sending.ask }
         ensures { self.new ≡ record {
           config = self.old.config;
           state = record self.old.state {
             asks = without_path sending.path self.old.state.asks
                 ++ ask_list sending.ask;
-            waiting = left_or_sent (ask_on sending.path self.old.state.asks) sending.onward.items self.old.state.waiting;
+            waiting = left_or_sent (ask_on sending.path self.old.state.asks) sending.onward.items
+                self.old.state.waiting;
             preferred = with_preferred (Some sending.preferred) self.old.state.preferred;
             moment = moment;
             tcp_asks = self.old.state.tcp_asks + tcp_count sending.ask;
@@ -243,14 +253,17 @@ impl<H: BuildHasher + Drop, A: Allocator + Copy> Forwarder<H, A> {
     }
 
     /// Promotes the entries that a look-up used, then offers what an accepted reply carries, and tells how many of
-    /// its pieces
-    /// found no memory.
+    /// its pieces found no memory.
     fn keep(&mut self, used: &Slots<A>, carried: Vec<Held<A>, A>) -> u32
         requires few { length (pieces_of carried.items) < 2 ^ 32 }
         requires routed { AllByRecursion (IsRouted self.old.config) (pieces_of carried.items) }
         ensures { (rooms : List Bool) × (self.new
-            ≡ record self.old { state = with_entries (put_all self.old.state.cache.capacity self.old.state.moment rooms (pieces_of carried.items) (promoted_all used.now self.old.state.cache.entries)) self.old.state })
-            × (result ≡ unkept_of self.old.state.cache.capacity self.old.state.moment rooms (pieces_of carried.items) (promoted_all used.now self.old.state.cache.entries)) }
+            ≡ record self.old {
+              state = with_entries (put_all self.old.state.cache.capacity self.old.state.moment rooms
+                  (pieces_of carried.items) (promoted_all used.now self.old.state.cache.entries)) self.old.state;
+            })
+            × (result ≡ unkept_of self.old.state.cache.capacity self.old.state.moment rooms (pieces_of carried.items)
+            (promoted_all used.now self.old.state.cache.entries)) }
     {
         promote_all(&mut self.cache, used);
         offer_all(&mut self.cache, carried, self.moment)

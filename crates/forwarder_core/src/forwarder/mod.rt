@@ -3,10 +3,9 @@
 ghost use Rattle.std.specs.Prelude.{◌≡◌, ◌^◌, ◌≤◌, ◌<◌, ◌+◌, ◌*◌, [], ◌∷◌, false, IfOk, IfSome, OnErr, IsOk, map};
 ghost use Rattle.suffix_routes.specs.Values.{IsConfig};
 ghost use Rattle.step_values.specs.Values.{event_of};
-ghost use Rattle.plain_list.specs.Octets.{AreOctets};
 ghost use Rattle.step_table.specs.State.{turn};
 ghost use Rattle.step_table.specs.Steps.{start};
-ghost use Rattle.step_table.specs.Row.{HandsOctets, TakesNoMemory, effective, Row, is_due_at};
+ghost use Rattle.step_table.specs.Row.{TakesNoMemory, effective, Row, is_due_at};
 ghost use Rattle.step_table.specs.Progress.{left_to_do, ServesSomething, next_due, IsInOrder};
 ghost use Rattle.theorem_sound.specs.Runs.{StaysExplained};
 ghost use Rattle.theorem_sound.specs.Explains.{Explains};
@@ -31,26 +30,6 @@ use waiting_questions::WaitingQuestions;
 
 /// The greatest effective moment, in milliseconds.
 const LATEST: u64 = 1 << 62;
-
-/// Each octet of an event is below 256.
-fn check_octets<A: Allocator>(event: &Event<A>)
-    ensures { HandsOctets (event_of event.now) }
-{
-    match event {
-        Event::Client { bytes, .. } | Event::Delivery { bytes, .. } => {
-            let _bytes = octets_of(bytes.as_slice());
-        }
-        Event::PathFailed { .. } | Event::Tick | Event::Restart => {}
-    }
-}
-
-/// Each octet is below 256.
-fn octets_of(bytes: &[u8]) -> &[u8]
-    ensures same { result.now ≡ bytes.now }
-    ensures octets { AreOctets bytes.now }
-{
-    bytes
-}
 
 /// For each route the place of the server that is asked first: at the beginning the first of its group.
 fn first_places<A: Allocator>(alloc: A, routes: &[Route<A>]) -> Result<Vec<usize, A>, AllocError>
@@ -109,18 +88,13 @@ impl<H: BuildHasher, A: Allocator> Model for Forwarder<H, A> {
 }
 
 impl<H: BuildHasher + Drop, A: Allocator + Copy> Forwarder<H, A> {
-    /// Both lists are in the order of time and within their limits.
-    fn check_order(&self)
-        ensures { IsInOrder self.now.config self.now.state }
-    {
-        let _asks = self.inquiries.len();
-    }
-
-    /// The greatest moment handed in so far, at most 2^62.
+    /// The greatest moment handed in so far, at most 2^62. `in_order` says what holds of each forwarder: both lists are
+    /// in the order of time and within their limits.
     fn effective(&self, now: u64) -> u64
         ensures value { result ≡ effective now self.now.state }
         ensures later { self.now.state.moment ≤ result }
         ensures in_time { result ≤ 2 ^ 62 }
+        ensures in_order { IsInOrder self.now.config self.now.state }
     {
         now.min(LATEST).max(self.moment)
     }
@@ -163,7 +137,6 @@ impl<H: BuildHasher + Drop, A: Allocator + Copy> Forwarder<H, A> {
         words: [u32; 8],
         event: &Event<A>,
     ) -> Result<Outcome<A>, AllocError>
-        requires { HandsOctets (event_of event.now) }
         ensures row { IfOk result (λ outcome. Row self.old.config self.old.state
             (record { now = now; words = words; event = event_of event.now }) outcome self.new.state) }
         ensures config { self.new.config ≡ self.old.config }
@@ -188,20 +161,20 @@ impl<H: BuildHasher + Drop, A: Allocator + Copy> Forwarder<H, A> {
         self.carry_out(moment, actions, &used, change, carried)
     }
 
-    /// One step over octets that were looked at.
+    /// One step over an event that is lent.
     fn take(
         &mut self,
         now: u64,
         words: [u32; 8],
         event: &Event<A>,
     ) -> Result<Outcome<A>, AllocError>
-        requires { HandsOctets (event_of event.now) }
         ensures row { IfOk result (λ outcome. Row self.old.config self.old.state
             (record { now = now; words = words; event = event_of event.now }) outcome self.new.state) }
         ensures config { self.new.config ≡ self.old.config }
         ensures no_memory { TakesNoMemory self.old.config (effective now self.old.state) self.old.state
             (event_of event.now) → IsOk result }
         ensures err { OnErr result (self.new ≡ self.old) }
+        ensures in_order { IsInOrder self.old.config self.old.state }
     {
         let moment = self.effective(now);
         if self.is_idle_tick(moment, event) {
@@ -280,8 +253,6 @@ impl<H: BuildHasher + Drop, A: Allocator + Copy> Forwarder<H, A> {
             → IfOk result (λ outcome. left_to_do self.old.config self.new.state < left_to_do self.old.config
             self.old.state) }
     {
-        check_octets(&event);
-        self.check_order();
         self.take(now, words, &event)
     }
 

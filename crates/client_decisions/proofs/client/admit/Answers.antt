@@ -1,19 +1,18 @@
 use Rattle.std.proofs.Common.{◌∙◌, sym, ap, refl}
 use Rattle.outstanding.specs.Lists.{of_question}
-use Rattle.dns_message.specs.Values.{Question}
 use Rattle.step_table.specs.State.{Turn}
 use Rattle.step_table.specs.Steps.{with_promoted}
 use Rattle.client_decisions.proofs.Clients.{joined_row, new_row}
 use Rattle.step_actions.proofs.CallerLemmas.{decides_by}
 use Rattle.client_decisions.proofs.client.admit.Goals as goal
 
-pub join-requires : goal.join-requires
-join-requires g c = record { room = c.requires.room; taken = c.requires.taken; aliases = c.requires.aliases }
+pub join-requires-clause-waits : goal.join-requires-clause-waits
+join-requires-clause-waits g c = record { room = c.requires.room; taken = c.requires.taken; aliases = c.requires.aliases }
 
 pub ask_anew-requires-clause-new : goal.ask_anew-requires-clause-new
 ask_anew-requires-clause-new g c =
-    ap (λ (q : Question). of_question q c.args.turn.now.state.asks) (sym c.wanted.ensures)
-    ∙ ap (λ (r : Turn). of_question c.wanted.result.now r.state.asks) (sym c.turn.view_is) ∙ c.in-None.ensures.found
+    ap (λ (r : Turn). of_question c.args.waiting.wanted r.state.asks) (sym c.turn.view_is)
+    ∙ c.in-None.ensures.found c.args.waiting.wanted c.requires.keyed
 
 pub returns-in-Some : goal.returns-in-Some
 returns-in-Some g c = record {
@@ -22,8 +21,8 @@ returns-in-Some g c = record {
       joined_row c.args.turn.now.config c.args.turn.now.moment c.args.turn.now.words c.args.waiting
       (with_promoted c.args.used c.args.turn.now.state) (of_question c.args.waiting.wanted c.args.turn.now.state.asks) _
       _
-      (ap (λ (q : Question). of_question q c.args.turn.now.state.asks) (sym c.wanted.ensures)
-      ∙ ap (λ (r : Turn). of_question c.wanted.result.now r.state.asks) (sym c.turn.view_is) ∙ c.in-Some.ensures.found)
+      (ap (λ (r : Turn). of_question c.args.waiting.wanted r.state.asks) (sym c.turn.view_is)
+      ∙ c.in-Some.ensures.found c.args.waiting.wanted c.requires.keyed)
       refl);
 }
 
@@ -33,7 +32,7 @@ returns-in-None g c = record {
       decides_by c.ask_anew.result _ _ _ c.ask_anew.ensures.decides (λ rooms.
       new_row c.args.turn.now.config c.args.turn.now.moment c.args.turn.now.words c.args.waiting
       (with_promoted c.args.used c.args.turn.now.state) (of_question c.args.waiting.wanted c.args.turn.now.state.asks) _
-      (ap (λ (q : Question). of_question q c.args.turn.now.state.asks) (sym c.wanted.ensures)
-      ∙ ap (λ (r : Turn). of_question c.wanted.result.now r.state.asks) (sym c.turn.view_is) ∙ c.in-None.ensures.found)
+      (ap (λ (r : Turn). of_question c.args.waiting.wanted r.state.asks) (sym c.turn.view_is)
+      ∙ c.in-None.ensures.found c.args.waiting.wanted c.requires.keyed)
       refl);
 }

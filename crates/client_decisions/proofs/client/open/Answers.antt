@@ -1,22 +1,44 @@
-use Rattle.std.proofs.Common.{ap, sym, subst, arith}
-use Rattle.std.proofs.lemmas.Grind.{common_steps}
+use Rattle.std.proofs.Common.{ap, sym, subst, refl, ◌∙◌, ◌++◌, ◌∷◌, []}
 use Rattle.std.specs.Prelude.{map}
 use Rattle.record_cache.specs.Values.{Held}
+use Rattle.step_values.specs.Values.{actions_of}
+use Rattle.step_table.specs.Steps.{with_promoted}
+use Rattle.step_actions.specs.declared.decision.Change.TheVariants.{Open}
 use Rattle.step_actions.specs.declared.decision.Opening.{Opening}
 use Rattle.step_actions.specs.Decision.{CanWait, CanFollow}
-use Rattle.step_actions.proofs.CallerLemmas.{carries_nothing}
+use Rattle.step_actions.proofs.CallerLemmas.{carries_nothing, next_is}
+use Rattle.client_decisions.proofs.Clients.{opened_is}
 use Rattle.client_decisions.proofs.client.open.Goals as goal
 
 pub returns : goal.returns
 returns g c = record {
   decides = record {
-    row = λ rooms. grind (arith, common_steps);
+    row = λ rooms.
+        next_is {A = g.row.A.Denot} c.args.turn.now.moment rooms c.args.turn.now.state (record {
+          actions = c.push.new.self;
+          used = c.args.used;
+          change = Open c.in_ok-opening.opening;
+          carried = c.new-4.result;
+        }) c.args.used (Open c.in_ok-opening.opening) refl refl
+        (ap (map (λ (h : Held). h.piece)) c.new-4.ensures.items)
+        ∙ opened_is g.row.A.Denot c.args.turn.now.moment (with_promoted c.args.used c.args.turn.now.state)
+        c.args.waiting c.args.ask c.in_ok-opening.opening _
+        (ap (λ (o : Opening g.row.A.Denot). o.waiting) c.in_ok-opening.ensures.ok ∙ c.new.ensures)
+        (ap (λ (o : Opening g.row.A.Denot). o.ask) c.in_ok-opening.ensures.ok ∙ c.new-2.ensures)
+        (ap (λ xs. actions_of {A = g.row.A.Denot} xs) (c.in_ok-push.ensures.ok
+        ∙ ap (λ xs. xs ++ c.in_ok-action.action ∷ []) c.new-actions.ensures)
+        ∙ (λ i. c.in_ok-action.ensures i ∷ []));
     fits =
         carries_nothing c.args.turn.now.config c.args.turn.now.moment c.args.turn.now.state _
-        (ap (map (λ (h : Held). h.piece)) c.new-2.ensures.items)
+        (ap (map (λ (h : Held). h.piece)) c.new-4.ensures.items)
         (subst (λ (o : Opening g.row.A.Denot). CanWait c.args.turn.now.config c.args.turn.now.moment
         c.args.turn.now.state o.waiting × CanFollow c.args.turn.now.config c.args.turn.now.moment c.args.turn.now.state
         c.args.turn.now.state.asks o.ask)
-        (sym c.in_ok-opening.ensures.ok) (c.requires.waits, c.requires.follows));
+        (sym c.in_ok-opening.ensures.ok) (
+          subst (CanWait c.args.turn.now.config c.args.turn.now.moment c.args.turn.now.state) (sym c.new.ensures)
+              c.requires.waits,
+          subst (CanFollow c.args.turn.now.config c.args.turn.now.moment c.args.turn.now.state
+              c.args.turn.now.state.asks) (sym c.new-2.ensures) c.requires.follows,
+        ));
   };
 }

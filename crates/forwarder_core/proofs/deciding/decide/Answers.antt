@@ -15,7 +15,7 @@ returns-in_ok-next-in-Client-clause-row g c = λ rooms.
     subst (λ (e : OwnedEvent g.row.A.Denot). Happens c.args.turn.now (event_of e)
     (next_of c.args.turn.now.moment rooms c.args.turn.now.state c.in_ok-next-in-Client.next)) (sym c.in-Client.is)
     (c.in_ok-next-in-Client.ensures.decides.row rooms ∙ ap
-    (λ (octets : List ℕ). row_of_request c.args.turn.now c.in-Client.client octets) c.as_slice.ensures)
+    (λ (octets : List ℕ). row_of_request c.args.turn.now c.in-Client.client octets) c.as_slice-octets.ensures)
 
 pub returns-in_ok-next-in-Delivery-clause-row : goal.returns-in_ok-next-in-Delivery-clause-row
 returns-in_ok-next-in-Delivery-clause-row g c = λ rooms.
@@ -24,7 +24,7 @@ returns-in_ok-next-in-Delivery-clause-row g c = λ rooms.
       rooms,
       c.in_ok-next-in-Delivery.ensures.decides.row rooms
           ∙ ap (λ (octets : List ℕ). row_of_delivery c.args.turn.now rooms c.in-Delivery.from octets
-          (ask_on c.in-Delivery.path c.args.turn.now.state.asks)) c.as_slice-in-Delivery.ensures,
+          (ask_on c.in-Delivery.path c.args.turn.now.state.asks)) c.as_slice-octets-in-Delivery.ensures,
     )
 
 pub returns-in_ok-next-in-PathFailed-clause-row : goal.returns-in_ok-next-in-PathFailed-clause-row
@@ -54,7 +54,7 @@ returns-in_ok-next-in-PathFailed-clause-no_memory g c = λ quiet.
 pub returns-in_ok-next-in-Client-clause-no_memory : goal.returns-in_ok-next-in-Client-clause-no_memory
 returns-in_ok-next-in-Client-clause-no_memory g c = λ quiet.
     c.in_ok-next-in-Client.ensures.dropped
-    (subst (λ (octets : List ℕ). is_taken octets ≡ false) (sym c.as_slice.ensures)
+    (subst (λ (octets : List ℕ). is_taken octets ≡ false) (sym c.as_slice-octets.ensures)
     (subst (λ (e : OwnedEvent g.row.A.Denot). TakesNoMemory c.args.turn.now.config c.args.turn.now.moment
     c.args.turn.now.state (event_of e)) c.in-Client.is quiet))
 
@@ -62,7 +62,7 @@ pub returns-in_ok-next-in-Delivery-clause-no_memory : goal.returns-in_ok-next-in
 returns-in_ok-next-in-Delivery-clause-no_memory g c = λ quiet.
     c.in_ok-next-in-Delivery.ensures.unmatched
     (subst (λ (octets : List ℕ). verdict_on c.args.turn.now.config c.args.turn.now.moment c.in-Delivery.from octets
-    (ask_on c.in-Delivery.path c.args.turn.now.state.asks) ≡ Stranger) (sym c.as_slice-in-Delivery.ensures)
+    (ask_on c.in-Delivery.path c.args.turn.now.state.asks) ≡ Stranger) (sym c.as_slice-octets-in-Delivery.ensures)
     (subst (λ (e : OwnedEvent g.row.A.Denot). TakesNoMemory c.args.turn.now.config c.args.turn.now.moment
     c.args.turn.now.state (event_of e)) c.in-Delivery.is quiet))
 

@@ -1,4 +1,4 @@
-use Rattle.std.proofs.Common.{◌≡◌, ◌∙◌, ℕ, ◌+◌, ◌≤◌, ◌<◌, ap, sym, subst, Option, Some, arith}
+use Rattle.std.proofs.Common.{◌≡◌, ◌∙◌, ℕ, ◌+◌, ◌<◌, ap, sym, subst, Option, Some, arith}
 use Rattle.outstanding.specs.declared.ask.Path.{Path}
 use Rattle.outstanding.specs.Draws.{drawn_by_tcp, udp_draw}
 use Rattle.step_table.specs.Failures.{row_of_attempt, row_of_next}
@@ -6,7 +6,7 @@ use Rattle.retry_failover.specs.declared.Plan.{Plan}
 use Rattle.retry_failover.specs.Table.{after_failure}
 use Rattle.outstanding.specs.Lists.{on_path as ask_on, without_path}
 use Rattle.outstanding.specs.Values.{Ask}
-use Rattle.step_table.specs.State.{Turn, turn}
+use Rattle.step_table.specs.State.{Turn}
 use Rattle.step_table.specs.Attempts.{ask_by, peer_at, over_udp, over_tcp, freed_by, plan_of}
 use Rattle.step_actions.specs.Decision.{CanFollow}
 use Rattle.step_actions.proofs.CallerLemmas.{server_within, more_left, udp_goes_on, tcp_goes_on, next_by_udp, next_by_tcp, decides_by}
@@ -42,7 +42,6 @@ retry-requires-clause-follows g c =
     (next_by_udp c.turn.inside.config.now c.turn.inside.cache.now c.turn.inside.inquiries.now
     c.turn.inside.waiting.now.items c.turn.inside.preferred.now c.turn.inside.before c.turn.inside.tcp_asks
     c.turn.inside.moment c.turn.inside.words c.args.path c.args.ask.now c.args.failure c.turn.invariant.0
-    c.by_path-listed.ensures.listed
     c.turn.invariant.1 c.turn.invariant.2
     (subst (λ (r : Turn). ask_on c.args.path r.state.asks ≡ Some c.args.ask.now) (sym c.turn.view_is) c.requires.on)
     c.in-AskUdp.server (ap (λ (p : Plan). after_failure p c.args.failure) (sym c.plan-plan.ensures)
@@ -70,7 +69,6 @@ retry-requires-in-AskTcp-clause-follows g c =
     (next_by_tcp c.turn.inside.config.now c.turn.inside.cache.now c.turn.inside.inquiries.now
     c.turn.inside.waiting.now.items c.turn.inside.preferred.now c.turn.inside.before c.turn.inside.tcp_asks
     c.turn.inside.moment c.turn.inside.words c.args.path c.args.ask.now c.args.failure c.turn.invariant.0
-    c.by_path-listed.ensures.listed
     c.turn.invariant.1 c.turn.invariant.2
     (subst (λ (r : Turn). ask_on c.args.path r.state.asks ≡ Some c.args.ask.now) (sym c.turn.view_is) c.requires.on)
     c.in-AskTcp.server (ap (λ (p : Plan). after_failure p c.args.failure) (sym c.plan-plan.ensures)

@@ -1,6 +1,6 @@
 use Rattle.std.proofs.Common.{◌∙◌, ap, sym}
 use Rattle.outstanding.specs.Lists.{on_path as ask_on}
-use Rattle.step_table.specs.State.{Turn, turn}
+use Rattle.step_table.specs.State.{Turn}
 use Rattle.step_table.specs.Failures.{row_of_failed_path}
 use Rattle.step_actions.proofs.CallerLemmas.{decides_as, decides_by}
 use Rattle.reply_decisions.proofs.attempt.on_failed_path.Goals as goal

@@ -1,4 +1,4 @@
-use Rattle.std.proofs.Common.{◌∙◌, ◌≤◌, ap, sym, subst, [], ◌∷◌, None}
+use Rattle.std.proofs.Common.{◌∙◌, ap, [], ◌∷◌, None}
 use Rattle.step_table.specs.State.{Turn}
 use Rattle.step_table.specs.Steps.{closes}
 use Rattle.step_table.specs.Failures.{runs_out}

@@ -1,4 +1,4 @@
-use Rattle.std.proofs.Common.{◌∙◌, ap, take, [], ◌∷◌, ◌++◌, List, Some, sym, subst, ◌<◌, ◌≤◌, ◌^◌, length, ◌≡◌}
+use Rattle.std.proofs.Common.{◌∙◌, ap, take, [], ◌∷◌, ◌++◌, List, Some, sym, subst, ◌<◌, ◌^◌, length, ◌≡◌}
 use Rattle.std.specs.Prelude.{map}
 use Rattle.std.specs.List.{AllByRecursion}
 use Rattle.std.proofs.lemmas.List.{length-map}

@@ -1,9 +1,8 @@
-use Rattle.std.proofs.Common.{◌∙◌, ap, sym}
+use Rattle.std.proofs.Common.{ap, sym}
 use Rattle.step_table.specs.Replies.{row_of_verdict}
 use Rattle.reply_match.specs.Judged.{verdict_of}
 use Rattle.step_actions.proofs.CallerLemmas.{decides_as}
 use Rattle.reply_decisions.proofs.delivery.on_verdict.Goals as goal
-use Rattle.step_table.specs.State.{turn}
 
 pub returns-in-Stranger-clause-decides : goal.returns-in-Stranger-clause-decides
 returns-in-Stranger-clause-decides g c octets view =

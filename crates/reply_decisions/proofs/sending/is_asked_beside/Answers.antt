@@ -9,13 +9,14 @@ pub returns-in-Some : goal.returns-in-Some
 returns-in-Some g c =
     ap not (c.is_same.ensures ∙ (λ i. same_path (c.open.view_is i).path (c.answered.view_is i).path))
     ∙ sym (asked_beside c.args.question.now c.args.answered.now.path c.turn.inside.inquiries.now.asks
-    (Some c.in-Some.open.now) c.by_question.ensures.listed.in_turn c.in-Some.ensures.found)
+    (Some c.in-Some.open.now) c.turn.invariant.0.listed.in_turn
+    (c.in-Some.ensures.found c.args.question.now c.of-key.ensures))
     ∙ ap (λ (r : Turn). is_some (of_question c.args.question.now
     (without_path c.args.answered.now.path r.state.asks))) c.turn.view_is
 
 pub returns-in-None : goal.returns-in-None
 returns-in-None g c =
     sym (asked_beside c.args.question.now c.args.answered.now.path c.turn.inside.inquiries.now.asks None
-    c.by_question.ensures.listed.in_turn c.in-None.ensures.found)
+    c.turn.invariant.0.listed.in_turn (c.in-None.ensures.found c.args.question.now c.of-key.ensures))
     ∙ ap (λ (r : Turn). is_some (of_question c.args.question.now
     (without_path c.args.answered.now.path r.state.asks))) c.turn.view_is

@@ -1,4 +1,4 @@
-use Rattle.std.proofs.Common.{◌≡◌, ◌∙◌, ◌^◌, ◌<◌, ◌≤◌, List, length, take, Some, refl, sym, ap, subst}
+use Rattle.std.proofs.Common.{◌≡◌, ◌∙◌, ◌^◌, ◌<◌, List, length, take, Some, refl, sym, ap, subst}
 use Rattle.std.specs.Prelude.{map, filter}
 use Rattle.std.specs.List.{AllByRecursion}
 use Rattle.std.proofs.lemmas.List.{length-map}
@@ -91,7 +91,7 @@ close_and_send_on-requires-clause-follows g c =
     (next_follows c.turn.inside.config.now c.turn.inside.moment c.turn.inside.words c.args.answered.now
     c.turn.inside.cache.now c.turn.inside.inquiries.now c.turn.inside.waiting.now.items c.turn.inside.preferred.now
     c.turn.inside.before c.turn.inside.tcp_asks
-    c.turn.invariant.0 c.by_path-listed.ensures.listed c.turn.invariant.1 c.turn.invariant.2
+    c.turn.invariant.0 c.turn.invariant.1 c.turn.invariant.2
     (subst (λ (r : Turn). ask_on c.args.answered.now.path r.state.asks ≡ Some c.args.answered.now)
     (sym c.turn.view_is) c.requires.on)
     (fates_in c.for_question-those.result c.in_ok-fates.fates.each) c.in_ok-fates-2.next

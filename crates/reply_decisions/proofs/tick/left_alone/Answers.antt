@@ -18,7 +18,7 @@ returns-in-Some g c =
     ∙ sym c.is_any_other_for.ensures ∙ c.if-is_any_other_for.false)
     (ap (λ (q : Question). of_question q c.args.turn.now.state.asks) (sym c.wanted-2.ensures)
     ∙ ap (λ (r : Turn). of_question c.wanted-2.result.now r.state.asks) (sym c.turn.view_is)
-    ∙ c.in-Some.ensures.found)
+    ∙ c.in-Some.ensures.found c.wanted-2.result.now c.of-key.ensures)
 
 pub returns-in-None : goal.returns-in-None
 returns-in-None g c =
@@ -28,4 +28,4 @@ returns-in-None g c =
     ∙ sym c.is_any_other_for.ensures ∙ c.if-is_any_other_for.false)
     (ap (λ (q : Question). of_question q c.args.turn.now.state.asks) (sym c.wanted-2.ensures)
     ∙ ap (λ (r : Turn). of_question c.wanted-2.result.now r.state.asks) (sym c.turn.view_is)
-    ∙ c.in-None.ensures.found)
+    ∙ c.in-None.ensures.found c.wanted-2.result.now c.of-key.ensures)

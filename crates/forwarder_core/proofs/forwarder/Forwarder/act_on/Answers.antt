@@ -31,7 +31,7 @@ returns-clause-row g c =
     c.in_ok-actions.ensures.row in
     IfOk-weaker c.carry_out.result _ _
     (λ o done. row_is c.args.self.now.config c.args.self.now.state _ c.args.now c.effective-moment.result c.args.words
-    (event_of c.args.event.now) _ own o c.effective-moment.ensures.value c.requires decided
+    (event_of c.args.event.now) _ own o c.effective-moment.ensures.value c.in_ok-actions.ensures.octets decided
     (c.in-Some.is ∙ ap (λ (n : Decision g.row.A.Denot). Some n) own_is) done)
     c.carry_out.ensures.ok
 

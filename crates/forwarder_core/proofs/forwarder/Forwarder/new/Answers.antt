@@ -15,7 +15,7 @@ pub invariant_of-result : goal.invariant_of-result
 invariant_of-result g c =
     kept_first c.args.config c.in_ok-cache.cache c.new-2.result c.new-3.result.items c.in_ok-preferred.preferred.items c.routes.ensures.accepted
     (cache_is c.in_ok-cache.cache c.config.inside.limits.cache c.args.config.limits.cache c.in_ok-cache.ensures (ap (λ (k : Config). k.limits.cache) c.config.view_is))
-    (room_is c.new-2.result c.config.inside.limits.inquiries c.args.config.limits.inquiries c.new-2.ensures (ap (λ (k : Config). k.limits.inquiries) c.config.view_is))
+    (room_is c.new-2.result c.config.inside.limits.inquiries c.args.config.limits.inquiries c.new-2.ensures.new (ap (λ (k : Config). k.limits.inquiries) c.config.view_is))
     c.new-3.ensures
     (c.in_ok-preferred.ensures ∙ ap (λ (routes : List Route). map {B = ℕ} (λ (r : Route). 0) routes) c.routes.ensures.routes)
 
@@ -24,7 +24,7 @@ returns-clause-new g c = λ i. record {
   config = c.args.config;
   state = record {
     cache = cache_is c.in_ok-cache.cache c.config.inside.limits.cache c.args.config.limits.cache c.in_ok-cache.ensures (ap (λ (k : Config). k.limits.cache) c.config.view_is) i;
-    asks = (ap (λ (q : Inquiries). q.asks) c.new-2.ensures) i;
+    asks = (ap (λ (q : Inquiries). q.asks) c.new-2.ensures.new) i;
     waiting = c.new-3.ensures i;
     preferred = (c.in_ok-preferred.ensures ∙ ap (λ (routes : List Route). map {B = ℕ} (λ (r : Route). 0) routes) c.routes.ensures.routes) i;
     moment = 0;

@@ -23,6 +23,6 @@ invariant_of-self-2 g c =
     (subst (λ (r : Running). length r.state.waiting < r.config.limits.questions) (sym c.self.view_is) c.requires.waits.room) c.requires.waits.taken c.requires.waits.aliases
     (c.push_reserved.ensures ∙ ap (λ (xs : List Waiting). xs ++ c.args.waiting ∷ []) c.in_ok-reserve_one.ensures.same) in
     subst (λ (k : ℕ). IsKeptForwarder c.self.inside.config c.self.inside.cache c.list_ask.new.inquiries c.push_reserved.new.self.items c.self.inside.preferred.items c.args.moment k) (sym c.count_tcp-count.ensures)
-    (subst (λ (a : Ask). IsKeptForwarder c.self.inside.config c.self.inside.cache c.list_ask.new.inquiries c.push_reserved.new.self.items c.self.inside.preferred.items c.args.moment (c.self.inside.tcp_asks + tcp_count_of a.path)) (sym c.ask.view_is)
+    (subst (λ (a : Ask). IsKeptForwarder c.self.inside.config c.self.inside.cache c.list_ask.new.inquiries c.push_reserved.new.self.items c.self.inside.preferred.items c.args.moment (c.self.inside.tcp_asks + tcp_count_of a.path)) (sym (c.behind-ask.view_is ∙ c.ask-2.ensures))
     (kept_asked c.self.inside.config c.self.inside.cache c.self.inside.inquiries c.list_ask.new.inquiries c.push_reserved.new.self.items c.self.inside.preferred.items c.args.moment c.args.moment c.self.inside.tcp_asks (tcp_count_of c.args.ask.path) c.self.inside.inquiries.asks c.args.ask joined
-    (omega arith) c.requires.in_time joined.asks one (subst (λ (r : Running). r.state.tcp_asks + tcp_count_of c.args.ask.path < 2 ^ 64) (sym c.self.view_is) c.requires.follows.counted) c.in_ok-list_ask.ensures.ok))
+    (omega arith) c.requires.in_time joined.asks one (subst (λ (r : Running). r.state.tcp_asks + tcp_count_of c.args.ask.path < 2 ^ 64) (sym c.self.view_is) c.requires.follows.counted) c.in_ok-list_ask.ensures.ok c.in_ok-list_ask.ensures.listed))

@@ -27,7 +27,7 @@ invariant_of-self g c =
     let places = kept_preferred c.self.inside.config c.self.inside.cache c.self.inside.inquiries c.send_on.new.waiting.items c.self.inside.preferred.items (with_items c.self.inside.preferred c.prefer.new.places).items c.args.moment c.self.inside.tcp_asks (Some c.args.sending.preferred) waiting fits.served
     (put_back c.self.inside.preferred c.prefer.new.places (with_preferred (Some c.args.sending.preferred) c.self.inside.preferred.items) (c.prefer.ensures ∙ ap (with_preferred (Some c.args.sending.preferred)) c.deref_mut.ensures.value) (preferred_length (Some c.args.sending.preferred) c.self.inside.preferred.items)) in
     subst (λ (k : ℕ). IsKeptForwarder c.self.inside.config c.self.inside.cache c.send_on.new.inquiries c.send_on.new.waiting.items (with_items c.self.inside.preferred c.prefer.new.places).items c.args.moment k) (sym c.count_next-self-inside.ensures)
-    (kept_next c.self.inside.config c.self.inside.cache c.self.inside.inquiries c.send_on.new.inquiries c.send_on.new.waiting.items (with_items c.self.inside.preferred c.prefer.new.places).items c.args.moment c.args.moment c.self.inside.tcp_asks c.args.sending.path _ _ c.args.sending.ask places (omega arith) c.requires.in_time refl fits.follows c.send_on.ensures.asks)
+    (kept_next c.self.inside.config c.self.inside.cache c.self.inside.inquiries c.send_on.new.inquiries c.send_on.new.waiting.items (with_items c.self.inside.preferred c.prefer.new.places).items c.args.moment c.args.moment c.self.inside.tcp_asks c.args.sending.path _ _ c.args.sending.ask places (omega arith) c.requires.in_time refl fits.follows c.send_on.ensures.asks c.send_on.ensures.listed)
 
 pub returns : goal.returns
 returns g c =

@@ -9,4 +9,4 @@ pub returns-then-is_idle_tick-clause-row : goal.returns-then-is_idle_tick-clause
 returns-then-is_idle_tick-clause-row g c =
     let idle = c.is_idle_tick.ensures c.if-is_idle_tick.true in
     idle_row c.args.self.now.config c.args.self.now.state c.pass.new.self.state c.args.now c.effective-moment.result c.args.words (event_of c.args.event.now) c.nothing_done.result c.effective-moment.ensures.value idle.0 idle.1 c.nothing_done.ensures
-    (ap (λ (r : Running). r.state) c.pass.ensures) c.requires
+    (ap (λ (r : Running). r.state) c.pass.ensures)

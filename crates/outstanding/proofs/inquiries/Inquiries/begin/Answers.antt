@@ -15,3 +15,6 @@ invariant_of-self-2 g c =
       subst (λ (xs : List Ask). AreListed (record { capacity = c.self.inside.capacity; asks = xs })) (sym list)
           (put c.self.inside.capacity old c.args.ask c.self.invariant.1.in_turn c.self.invariant.1.in_time may room),
     )
+
+pub returns-clause-listed : goal.returns-clause-listed
+returns-clause-listed g c = (invariant_of-self-2 g c).1

@@ -14,3 +14,6 @@ invariant_of-self g c = (
 
 pub returns-clause-ended : goal.returns-clause-ended
 returns-clause-ended g c = search rules
+
+pub returns-clause-listed : goal.returns-clause-listed
+returns-clause-listed g c = (invariant_of-self g c).1

@@ -8,10 +8,13 @@ use Rattle.outstanding.proofs.inquiries.Inquiries.replace.Goals as goal
 pub invariant_of-self : goal.invariant_of-self
 invariant_of-self g c =
     let old : List Ask = asks_of c.self.inside.table in
-    let list : asks_of c.put.new.self ≡ without_path c.args.path old ++ c.args.ask ∷ [] = c.put.ensures.list ∙ ap (λ (xs : List Ask). xs ++ c.args.ask ∷ []) c.take.ensures.list in
+    let list : asks_of c.put.new.self ≡ without_path c.args.path old ++ c.args.ask ∷ [] = c.put.ensures.list ∙ (λ i. c.take.ensures.list i ++ c.of.ensures i ∷ []) in
     let len : length (asks_of c.put.new.self) ≡ length old =
-    omega (arith, ap length {x = asks_of c.put.new.self} c.put.ensures.list, length-append (asks_of c.take.new.self) (c.args.ask ∷ []), c.in-Some.ensures.len) in (
+    omega (arith, ap length {x = asks_of c.put.new.self} c.put.ensures.list, length-append (asks_of c.take.new.self) (c.of.result ∷ []), c.in-Some.ensures.len) in (
       c.put.ensures.indexed,
       replaced c.args.path c.self.inside.capacity old (asks_of c.put.new.self) c.args.ask list len c.self.invariant.1
           (subst (λ (inquiries : Inquiries). MayBegin c.args.ask (without_path c.args.path inquiries.asks)) (sym c.self.view_is) c.requires.begins),
     )
+
+pub returns-clause-listed : goal.returns-clause-listed
+returns-clause-listed g c = (invariant_of-self g c).1

@@ -1,10 +1,10 @@
 use Rattle.std.proofs.Common.{◌∙◌, ◌++◌, ◌∷◌, [], ap, sym, refl}
 use Rattle.std.specs.Prelude.{map, None, Some}
 use Rattle.std.specs.List.{filter_map}
-use Rattle.std.proofs.lemmas.List.{append-nil, map-append}
+use Rattle.std.proofs.lemmas.List.{append-nil, map-append, nil_from_length}
 use Rattle.step_values.specs.Values.{action_of, actions_of}
 use Rattle.reply_decisions.specs.Fates.{Fates, becomes, onward_in, reply_of}
-use Rattle.reply_decisions.proofs.Parts.{next_reply, no_reply, next_onward, nothing_in}
+use Rattle.reply_decisions.proofs.Parts.{next_reply, no_reply, next_onward}
 use Rattle.reply_decisions.proofs.fates.Fates.into_parts.Goals as goal
 
 pub loop-fate-init : goal.loop-fate-init
@@ -48,11 +48,11 @@ loop-fate-preserved g c = record {
 pub returns-clause-replies : goal.returns-clause-replies
 returns-clause-replies g c =
     sym (append-nil (actions_of c.loop-fate.actions))
-    ∙ ap (λ bs. actions_of c.loop-fate.actions ++ filter_map reply_of (map becomes bs)) (sym (nothing_in c.loop-fate.fate-iterator.rest.items (sym c.loop-fate.fate-iterator.rest.ok.0 ∙ c.in-None.ensures.steps.0)))
+    ∙ ap (λ bs. actions_of c.loop-fate.actions ++ filter_map reply_of (map becomes bs)) (sym (nil_from_length c.loop-fate.fate-iterator.rest.items (sym c.loop-fate.fate-iterator.rest.ok.0 ∙ c.in-None.ensures.steps.0)))
     ∙ c.loop-fate.invariant.actions
 
 pub returns-clause-onward : goal.returns-clause-onward
 returns-clause-onward g c =
     sym (append-nil c.loop-fate.onward.items)
-    ∙ ap (λ bs. c.loop-fate.onward.items ++ map onward_in (map becomes bs)) (sym (nothing_in c.loop-fate.fate-iterator.rest.items (sym c.loop-fate.fate-iterator.rest.ok.0 ∙ c.in-None.ensures.steps.0)))
+    ∙ ap (λ bs. c.loop-fate.onward.items ++ map onward_in (map becomes bs)) (sym (nil_from_length c.loop-fate.fate-iterator.rest.items (sym c.loop-fate.fate-iterator.rest.ok.0 ∙ c.in-None.ensures.steps.0)))
     ∙ c.loop-fate.invariant.onward

@@ -1,9 +1,9 @@
 use Rattle.std.proofs.Common.{◌≡◌, ◌∙◌, ◌+◌, ◌∷◌, [], length, slice_get, ap, sym, arith}
 use Rattle.std.specs.Prelude.{map}
-use Rattle.std.proofs.lemmas.List.{length-append, length-map, map-append}
+use Rattle.std.proofs.lemmas.List.{length-append, length-map, map-append, nil_from_length}
 use Rattle.step_table.specs.Replies.{without_port}
 use Rattle.reply_decisions.specs.Fates.{Fates, becomes, fates_in}
-use Rattle.reply_decisions.proofs.Parts.{next_told, none_left, none_told, nothing_in}
+use Rattle.reply_decisions.proofs.Parts.{next_told, none_left, none_told}
 use Rattle.reply_decisions.proofs.fates.Fates.without_port.Goals as goal
 
 pub loop-fate-init : goal.loop-fate-init
@@ -42,7 +42,7 @@ loop-fate-preserved g c = record {
 pub returns-clause-fates : goal.returns-clause-fates
 returns-clause-fates g c =
     sym (none_left c.args.those.now (map becomes c.loop-fate.told.items) (map becomes c.loop-fate.fate-iterator.rest.items)
-    (ap (map becomes) (nothing_in c.loop-fate.fate-iterator.rest.items (sym c.loop-fate.fate-iterator.rest.ok.0 ∙ c.in-None.ensures.steps.0))))
+    (ap (map becomes) (nil_from_length c.loop-fate.fate-iterator.rest.items (sym c.loop-fate.fate-iterator.rest.ok.0 ∙ c.in-None.ensures.steps.0))))
     ∙ c.loop-fate.invariant.fates
 
 pub returns-clause-count : goal.returns-clause-count
