@@ -53,7 +53,9 @@ def statuses_of_check(program):
         refused.flush()
         said = b"the text is no TOML: see line 2, column 5: invalid UTF-8\n"
         expect(run_of(program, "check", refused.name), (said, b"fault 1\n", 2))
-    for words in ([], ["check"], ["check", office, office], ["replay", office], ["serve", office], ["other"], [b"\xff", office], ["serve", office, b"\xff"]):
+    for words in (
+            [], ["check"], ["check", office, office], ["replay", office], ["serve", office], ["other"],
+            [b"\xff", office], ["serve", office, b"\xff"]):
         expect(run_of(program, *words), (b"", b"usage: forwarder check FILE, replay, or serve FILE TURNS\n", 1))
 
 
@@ -89,7 +91,8 @@ def what_is_said_where_the_system_refuses(program):
             file.write(b"#" * (2**24 - 12) + b"\nversion = 1")
         expect(run_of(program, "check", large)[1:], (b"fault 3\n", 2))
         elsewhere = pathlib.Path(folder, "elsewhere.toml")
-        elsewhere.write_text((TOP / "examples" / "smallest.toml").read_text().replace("version = 1", 'version = 1\nlisten = "192.0.2.1:53"'))
+        smallest = (TOP / "examples" / "smallest.toml").read_text()
+        elsewhere.write_text(smallest.replace("version = 1", 'version = 1\nlisten = "192.0.2.1:53"'))
         reason = "Cannot assign requested address (os error 99)"
         expect(run_of(program, "serve", elsewhere, "1"), said("192.0.2.1:53", reason))
 
@@ -135,7 +138,7 @@ def what_the_page_for_administrators_shows(program):
 
 @case
 def why_a_text_is_no_configuration(program):
-    """Where the reader of TOML stopped it says why; a missing `version` is told with the key below which there is one."""
+    """Where the reader of TOML stopped it says why; a missing `version` is told with the key below which one stands."""
     missing = "`version` is missing, and has to be the integer 1 or 2"
     rows = [
         ("version = 1\nversion = 1\n", "the text is no TOML: see line 2, column 1: duplicate key", 1),
