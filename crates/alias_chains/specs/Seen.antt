@@ -1,5 +1,6 @@
 -- What a look-up's caller sees of it.
 use Rattle.std.specs.Prelude.{◌≡◌, ℕ, zero, suc, ◌+◌, ◌<◌, ◌≤◌, List, [], ◌∷◌, ◌++◌, length, Option, Some, None}
+use denote.Ref.{Bor}
 use Rattle.suffix_routes.specs.Values.{Route}
 use Rattle.trust_rank.specs.declared.slot.Slot.{Slot}
 use Rattle.trust_rank.specs.Walks.{target_of}
@@ -25,8 +26,13 @@ seen_at held rules.too_long = record { used = held; met = TooLong }
 seen_at held rules.missed = record { used = held; met = Missed }
 
 abbrev pub entries_of : {A : Type 0} → UsedEntries A → List Held
-entries_of (One held) = held.now ∷ []
+entries_of (One held slot) = held.now ∷ []
 entries_of (More refs) = lent refs.items
+
+-- where it used one alone, the slot beside it is that one's
+abbrev pub HasItsSlot : {A : Type 0} → UsedEntries A → Type 0
+HasItsSlot (One held slot) = slot.now ≡ held.now.piece.slot
+HasItsSlot (More refs) = Unit {0}
 
 -- an alias is found
 abbrev pub IsAlias : Found → Type 0
@@ -56,10 +62,10 @@ last_target [] = None
 last_target (e ∷ []) = target_of e.piece.body
 last_target (e ∷ f ∷ held) = last_target (f ∷ held)
 
--- the first of a list where there is one, and the others
-abbrev pub first_and_others : Option Slot → List Slot → List Slot
-first_and_others None others = []
-first_and_others (Some first) others = first ∷ others
+-- the one that is lent, where there is one, and the others
+abbrev pub lent_and_others : Option (Bor Slot) → List Slot → List Slot
+lent_and_others None others = others
+lent_and_others (Some slot) others = slot.now ∷ others
 
 -- ---- the same, from what is found at a name: the name itself is in no look-up's sight
 

@@ -26,20 +26,22 @@ pub enum LookUpEnd {
 /// The entries that a look-up used, in order, and how it ended: where it came to an end the last of them is that end,
 /// and all others are aliases.
 #[derive(Drop)]
-pub struct LookUp<'a, A: Allocator = Global> {
-    pub(crate) used: UsedEntries<'a, A>,
+pub struct LookUp<'a, 's, A: Allocator = Global> {
+    pub(crate) used: UsedEntries<'a, 's, A>,
     pub(crate) met: LookUpEnd,
 }
 
-impl<'a, A: Allocator> Model for LookUp<'a, A> {
-    ghost use Rattle.alias_chains.specs.Seen.{Seen, entries_of};
+impl<'a, 's, A: Allocator> Model for LookUp<'a, 's, A> {
+    ghost use Rattle.alias_chains.specs.Seen.{Seen, entries_of, HasItsSlot};
 
     ghost Value = { Seen };
 
     ghost view = { λ l. record { used = entries_of l.used; met = l.met } };
+
+    ghost invariant = { λ l. HasItsSlot l.used };
 }
 
-impl<'a, A: Allocator + Copy> LookUp<'a, A> {
+impl<'a, 's, A: Allocator + Copy> LookUp<'a, 's, A> {
     /// How it ended.
     pub fn met(&self) -> LookUpEnd
         ensures { result ≡ self.now.met }
@@ -67,7 +69,7 @@ impl<'a, A: Allocator + Copy> LookUp<'a, A> {
     }
 
     /// The slots of the entries that it used, in order.
-    pub fn into_slots(self) -> SlotsRef<'a, A>
+    pub fn into_slots(self) -> SlotsRef<'a, 's, A>
         ensures { result ≡ map (λ h. h.piece.slot) self.entry.used }
     {
         let LookUp { used, met: _ } = self;

@@ -25,7 +25,7 @@ use trust_rank::{Body, Slot};
 
 /// A slot that serves look-ups one after another.
 #[tactic(auto, using(dns_name::proofs::CallerLemmas::no_octets_are_laid_out))]
-pub(crate) fn slot_for_look_ups() -> Slot {
+pub fn slot_for_look_ups() -> Slot {
     Slot {
         class: 0,
         kind: None,
@@ -37,17 +37,19 @@ pub(crate) fn slot_for_look_ups() -> Slot {
 /// milliseconds: what is found at the name, and where that is an alias, what is found at the name that it leads to, and
 /// so on, until a set or a denial, one alias more than may be taken, or a name of which nothing is known. A question
 /// that holds aliases already may take fewer. Only aliases take memory; `Err` where it ran out. All that is used lies
-/// in the cache.
-pub fn look_up<'a, H: BuildHasher + Drop, A: Allocator + Copy>(
+/// in the cache. The slot, whatever it was, serves the look-up: where one entry alone is used and ends it, it becomes
+/// that entry's, and is lent on.
+pub fn look_up<'a, 's, H: BuildHasher + Drop, A: Allocator + Copy>(
     alloc: A,
     cache: &'a Cache<H, A>,
+    slot: &'s mut Slot,
     octets: &[u8],
     class: u16,
     kind: u16,
     moment: u64,
     config: &Config<A>,
     most: usize,
-) -> Result<LookUp<'a, A>, AllocError>
+) -> Result<LookUp<'a, 's, A>, AllocError>
     requires { IsLaidOut octets.now }
     ensures exact { IfOk result (λ looked. looked
         ≡ seen_of (look_up config.now.routes moment cache.now.entries most []
@@ -58,15 +60,12 @@ pub fn look_up<'a, H: BuildHasher + Drop, A: Allocator + Copy>(
         (IsAlias (found config.now.routes moment cache.now.entries
         (record { name = labels_of octets.now; kind = kind; class = class }))) }
 {
-    let mut slot = slot_for_look_ups();
-    match find_by_octets(cache, &mut slot, octets, class, kind, moment, config) {
+    match find_by_octets(cache, slot, octets, class, kind, moment, config) {
         Found::Rows(held) | Found::NoData(held) | Found::Denied(held) => Ok(LookUp {
-            used: UsedEntries::One(held),
+            used: UsedEntries::One(held, slot),
             met: LookUpEnd::Ends,
         }),
-        Found::Alias(held) => follow(
-            alloc, cache, &mut slot, held, class, kind, moment, config, most,
-        ),
+        Found::Alias(held) => follow(alloc, cache, slot, held, class, kind, moment, config, most),
         Found::Local | Found::Miss => Ok(LookUp {
             used: UsedEntries::none(alloc),
             met: LookUpEnd::Missed,
@@ -75,7 +74,7 @@ pub fn look_up<'a, H: BuildHasher + Drop, A: Allocator + Copy>(
 }
 
 /// The look-up that meets this alias first and may take so many.
-fn follow<'a, H: BuildHasher + Drop, A: Allocator + Copy>(
+fn follow<'a, 's, H: BuildHasher + Drop, A: Allocator + Copy>(
     alloc: A,
     cache: &'a Cache<H, A>,
     slot: &mut Slot,
@@ -85,7 +84,7 @@ fn follow<'a, H: BuildHasher + Drop, A: Allocator + Copy>(
     moment: u64,
     config: &Config<A>,
     most: usize,
-) -> Result<LookUp<'a, A>, AllocError>
+) -> Result<LookUp<'a, 's, A>, AllocError>
     ensures { IfOk result (λ looked. looked
         ≡ seen_from config.now.routes moment cache.now.entries class kind most [] (alias_found first.now)) }
 {
@@ -111,7 +110,7 @@ fn follow<'a, H: BuildHasher + Drop, A: Allocator + Copy>(
 }
 
 /// A look-up that used these entries and ended so.
-fn ended<A: Allocator>(used: Vec<&Held<A>, A>, met: LookUpEnd) -> LookUp<'_, A>
+fn ended<'a, 's, A: Allocator>(used: Vec<&'a Held<A>, A>, met: LookUpEnd) -> LookUp<'a, 's, A>
     ensures { result ≡ record { used = lent used.entry.items; met = met } }
 {
     LookUp {

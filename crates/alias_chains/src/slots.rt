@@ -3,6 +3,7 @@
 ghost use Rattle.std.specs.Prelude.{◌≡◌, [], map, IfOk, IsOk};
 ghost use Rattle.plain_list.specs.Borrowed.{lent};
 ghost use Rattle.alias_chains.specs.LookingUp.{promoted_all};
+ghost use Rattle.alias_chains.specs.Seen.{entries_of, HasItsSlot};
 
 use crate::used::UsedEntries;
 use record_cache::{Cache, Held};
@@ -13,23 +14,25 @@ use trust_rank::Slot;
 
 /// The slots of the entries that a look-up used, in order, where they lie.
 #[derive(Drop)]
-pub struct SlotsRef<'a, A: Allocator = Global> {
-    pub(crate) entries: UsedEntries<'a, A>,
+pub struct SlotsRef<'a, 's, A: Allocator = Global> {
+    pub(crate) entries: UsedEntries<'a, 's, A>,
 }
 
-impl<'a, A: Allocator> Model for SlotsRef<'a, A> {
+impl<'a, 's, A: Allocator> Model for SlotsRef<'a, 's, A> {
     ghost use Rattle.std.specs.Prelude.{List, map};
     ghost use Rattle.trust_rank.specs.declared.slot.Slot.{Slot};
-    ghost use Rattle.alias_chains.specs.Seen.{entries_of};
+    ghost use Rattle.alias_chains.specs.Seen.{entries_of, HasItsSlot};
 
     ghost Value = { List Slot };
 
     ghost view = { λ s. map (λ h. h.piece.slot) (entries_of s.entries) };
+
+    ghost invariant = { λ s. HasItsSlot s.entries };
 }
 
-impl<'a, A: Allocator + Copy> SlotsRef<'a, A> {
+impl<'a, 's, A: Allocator + Copy> SlotsRef<'a, 's, A> {
     /// No slot; it takes no memory.
-    pub fn none(alloc: A) -> SlotsRef<'a, A>
+    pub fn none(alloc: A) -> SlotsRef<'a, 's, A>
         ensures { result ≡ [] }
     {
         SlotsRef {
@@ -38,7 +41,7 @@ impl<'a, A: Allocator + Copy> SlotsRef<'a, A> {
     }
 
     /// The slots of these entries. It takes no memory.
-    pub fn of(entries: Vec<&'a Held<A>, A>) -> SlotsRef<'a, A>
+    pub fn of(entries: Vec<&'a Held<A>, A>) -> SlotsRef<'a, 's, A>
         ensures { result ≡ map (λ h. h.piece.slot) (lent entries.entry.items) }
     {
         SlotsRef {
@@ -46,61 +49,70 @@ impl<'a, A: Allocator + Copy> SlotsRef<'a, A> {
         }
     }
 
-    /// A copy that stands on its own. Only where there are more than one does it take memory; `Err` where that ran out.
-    // A slot is large: called, it would be moved on its way out.
-    #[inline(always)]
-    pub fn copied(self, alloc: A) -> Result<Slots<A>, AllocError>
+    /// The same without the cache: the slot that a look-up filled is lent on, and others are copied. Only copies take
+    /// memory; `Err` where that ran out.
+    pub fn copied(self, alloc: A) -> Result<Slots<'s, A>, AllocError>
         ensures slots { IfOk result (λ slots. slots ≡ self.entry) }
         ensures none { self.entry ≡ [] → IsOk result }
     {
-        Slots::of(alloc, self.entries.as_slice())
+        Slots::of(alloc, self.entries)
     }
 }
 
-/// Slots in order, of which the first takes no memory.
+/// Slots in order, apart from the cache. One may be lent, and comes first.
 #[derive(Drop)]
-pub struct Slots<A: Allocator = Global> {
-    first: Option<Slot>,
+pub struct Slots<'s, A: Allocator = Global> {
+    lent: Option<&'s Slot>,
     others: Vec<Slot, A>,
 }
 
-impl<A: Allocator> Model for Slots<A> {
+impl<'s, A: Allocator> Model for Slots<'s, A> {
     ghost use Rattle.std.specs.Prelude.{List};
     ghost use Rattle.trust_rank.specs.declared.slot.Slot.{Slot};
-    ghost use Rattle.alias_chains.specs.Seen.{first_and_others};
+    ghost use Rattle.alias_chains.specs.Seen.{lent_and_others};
 
     ghost Value = { List Slot };
 
-    ghost view = { λ s. first_and_others s.first s.others.items };
-
-    ghost use Rattle.std.specs.Prelude.{◌≡◌, [], None};
-
-    ghost invariant = { λ s. s.first ≡ None → s.others.items ≡ [] };
+    ghost view = { λ s. lent_and_others s.lent s.others.items };
 }
 
-impl<A: Allocator> Slots<A> {
+impl<'s, A: Allocator> Slots<'s, A> {
     /// No slot; it takes no memory.
-    pub fn none(alloc: A) -> Slots<A>
+    pub fn none(alloc: A) -> Slots<'s, A>
         ensures { result ≡ [] }
     {
         Slots {
-            first: None,
+            lent: None,
             others: Vec::new(alloc),
         }
     }
 
     /// The slots of these entries.
-    #[inline(always)]
-    fn of(alloc: A, entries: &[&Held<A>]) -> Result<Slots<A>, AllocError>
+    fn of(alloc: A, entries: UsedEntries<'_, 's, A>) -> Result<Slots<'s, A>, AllocError>
+        requires { HasItsSlot entries }
+        ensures slots { IfOk result (λ slots. slots ≡ map (λ h. h.piece.slot) (entries_of entries.entry)) }
+        ensures none { entries_of entries.entry ≡ [] → IsOk result }
+    {
+        match entries {
+            UsedEntries::One(_, slot) => Ok(Slots {
+                lent: Some(slot),
+                others: Vec::new(alloc),
+            }),
+            UsedEntries::More(entries) => Slots::copied(alloc, entries.as_slice()),
+        }
+    }
+
+    /// Copies of the slots of these entries.
+    fn copied(alloc: A, entries: &[&Held<A>]) -> Result<Slots<'s, A>, AllocError>
         ensures slots { IfOk result (λ slots. slots ≡ map (λ h. h.piece.slot) (lent entries.now)) }
         ensures none { lent entries.now ≡ [] → IsOk result }
     {
-        let Some((first, more)) = entries.split_first() else {
+        if entries.is_empty() {
             return Ok(Slots::none(alloc));
-        };
+        }
         Ok(Slots {
-            first: Some(first.piece.slot()),
-            others: slots_of(alloc, more)?,
+            lent: None,
+            others: slots_of(alloc, entries)?,
         })
     }
 }
@@ -119,12 +131,12 @@ fn slots_of<A: Allocator>(alloc: A, entries: &[&Held<A>]) -> Result<Vec<Slot, A>
 /// Makes the entries of these slots the most recently used, one after another. It takes no memory.
 pub fn promote_all<H: BuildHasher + Drop, A: Allocator + Copy>(
     cache: &mut Cache<H, A>,
-    slots: &Slots<A>,
+    slots: &Slots<'_, A>,
 )
     ensures { cache.new ≡ record cache.old { entries = promoted_all slots.now cache.old.entries } }
 {
-    if let Some(first) = &slots.first {
-        cache.promote(first);
+    if let Some(slot) = slots.lent {
+        cache.promote(slot);
     }
     for slot in &slots.others {
         cache.promote(slot);

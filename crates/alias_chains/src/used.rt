@@ -2,23 +2,25 @@
 
 ghost use Rattle.std.specs.Prelude.{◌≡◌, []};
 ghost use Rattle.plain_list.specs.Borrowed.{lent};
-ghost use Rattle.alias_chains.specs.Seen.{entries_of};
+ghost use Rattle.alias_chains.specs.Seen.{entries_of, HasItsSlot};
 
 use record_cache::Held;
 use std::alloc::Allocator;
 use std::slice;
+use trust_rank::Slot;
 
-/// Entries in order, of which one alone takes no memory.
+/// Entries in order. One alone takes no memory, and has its slot beside it, which the look-up has filled.
 #[derive(Drop)]
-pub(crate) enum UsedEntries<'a, A: Allocator> {
-    One(&'a Held<A>),
+pub(crate) enum UsedEntries<'a, 's, A: Allocator> {
+    One(&'a Held<A>, &'s Slot),
     More(Vec<&'a Held<A>, A>),
 }
 
-impl<'a, A: Allocator> UsedEntries<'a, A> {
+impl<'a, 's, A: Allocator> UsedEntries<'a, 's, A> {
     /// No entry; it takes no memory.
-    pub(crate) fn none(alloc: A) -> UsedEntries<'a, A>
-        ensures { entries_of result ≡ [] }
+    pub(crate) fn none(alloc: A) -> UsedEntries<'a, 's, A>
+        ensures entries { entries_of result ≡ [] }
+        ensures slot { HasItsSlot result }
     {
         UsedEntries::More(Vec::new(alloc))
     }
@@ -28,7 +30,7 @@ impl<'a, A: Allocator> UsedEntries<'a, A> {
         ensures { lent result.now ≡ entries_of self.now }
     {
         match self {
-            UsedEntries::One(held) => slice::from_ref(held),
+            UsedEntries::One(held, _) => slice::from_ref(held),
             UsedEntries::More(entries) => entries,
         }
     }

@@ -41,15 +41,15 @@ use step_actions::{
 };
 use step_values::{Action, Client, Why};
 use suffix_routes::RouteId;
-use trust_rank::MOST_ALIASES;
+use trust_rank::{MOST_ALIASES, Slot};
 use waiting_questions::{KeyedWaiting, Request, SentOn, Waiting};
 
 /// One reply, and the promotion of what a look-up used.
-fn reply<'a, H: BuildHasher + Drop, A: Allocator + Copy>(
+fn reply<'a, 's, H: BuildHasher + Drop, A: Allocator + Copy>(
     turn: &TurnRef<'a, H, A>,
     action: Action<A>,
-    used: SlotsRef<'a, A>,
-) -> Result<Decision<'a, A>, AllocError>
+    used: SlotsRef<'a, 's, A>,
+) -> Result<Decision<'a, 's, A>, AllocError>
     ensures decides { IfOk result (MeetsRow turn.now (λ _. reply_step turn.now.moment (action_of action)
         (with_promoted used.entry turn.now.state))) }
 {
@@ -64,12 +64,12 @@ fn reply<'a, H: BuildHasher + Drop, A: Allocator + Copy>(
 }
 
 /// The question fails at once.
-fn refuse<'a, H: BuildHasher + Drop, A: Allocator + Copy>(
+fn refuse<'a, 's, H: BuildHasher + Drop, A: Allocator + Copy>(
     turn: &TurnRef<'a, H, A>,
     request: &Request<'_>,
     why: Why,
-    used: SlotsRef<'a, A>,
-) -> Result<Decision<'a, A>, AllocError>
+    used: SlotsRef<'a, 's, A>,
+) -> Result<Decision<'a, 's, A>, AllocError>
     ensures decides { IfOk result (MeetsRow turn.now (λ _. reply_step turn.now.moment (gives_up why request.now)
         (with_promoted used.entry turn.now.state))) }
 {
@@ -78,13 +78,13 @@ fn refuse<'a, H: BuildHasher + Drop, A: Allocator + Copy>(
 }
 
 /// The question waits, and its ask goes out. Both have this key.
-fn open<'a, H: BuildHasher + Drop, A: Allocator + Copy>(
+fn open<'a, 's, H: BuildHasher + Drop, A: Allocator + Copy>(
     turn: &TurnRef<'a, H, A>,
     waiting: Waiting<A>,
     ask: Ask<A>,
     key: &QuestionKey,
-    used: SlotsRef<'a, A>,
-) -> Result<Decision<'a, A>, AllocError>
+    used: SlotsRef<'a, 's, A>,
+) -> Result<Decision<'a, 's, A>, AllocError>
     requires keyed { key.now ≡ question_key waiting.wanted }
     requires same { ask.question ≡ waiting.wanted }
     requires waits { CanWait turn.now.config turn.now.moment turn.now.state waiting }
@@ -109,12 +109,12 @@ fn open<'a, H: BuildHasher + Drop, A: Allocator + Copy>(
 }
 
 /// The question waits for the ask that is listed already. Both have this key.
-fn join<'a, H: BuildHasher + Drop, A: Allocator + Copy>(
+fn join<'a, 's, H: BuildHasher + Drop, A: Allocator + Copy>(
     turn: &TurnRef<'a, H, A>,
     waiting: Waiting<A>,
     key: &QuestionKey,
-    used: SlotsRef<'a, A>,
-) -> Result<Decision<'a, A>, AllocError>
+    used: SlotsRef<'a, 's, A>,
+) -> Result<Decision<'a, 's, A>, AllocError>
     requires keyed { key.now ≡ question_key waiting.wanted }
     requires waits { CanWait turn.now.config turn.now.moment turn.now.state waiting }
     ensures decides { IfOk result (MeetsRow turn.now (λ _. taking_step turn.now.moment waiting None
@@ -162,12 +162,12 @@ fn asks_under_way<'a, H: BuildHasher + Drop, A: Allocator + Copy>(turn: &TurnRef
 }
 
 /// A question of which no ask is listed.
-fn ask_anew<'a, H: BuildHasher + Drop, A: Allocator + Copy>(
+fn ask_anew<'a, 's, H: BuildHasher + Drop, A: Allocator + Copy>(
     turn: &TurnRef<'a, H, A>,
     waiting: Waiting<A>,
     wanted: &Wanted,
-    used: SlotsRef<'a, A>,
-) -> Result<Decision<'a, A>, AllocError>
+    used: SlotsRef<'a, 's, A>,
+) -> Result<Decision<'a, 's, A>, AllocError>
     requires new { of_question waiting.wanted turn.now.state.asks ≡ None }
     requires on { route_of turn.now.config waiting.wanted.name ≡ Some wanted.now.route }
     requires keyed { wanted.now.key ≡ question_key waiting.wanted }
@@ -188,12 +188,12 @@ fn ask_anew<'a, H: BuildHasher + Drop, A: Allocator + Copy>(
 }
 
 /// A question for which there is room: where its ask is listed already, none goes out.
-fn admit<'a, H: BuildHasher + Drop, A: Allocator + Copy>(
+fn admit<'a, 's, H: BuildHasher + Drop, A: Allocator + Copy>(
     turn: &TurnRef<'a, H, A>,
     waiting: Waiting<A>,
     wanted: &Wanted,
-    used: SlotsRef<'a, A>,
-) -> Result<Decision<'a, A>, AllocError>
+    used: SlotsRef<'a, 's, A>,
+) -> Result<Decision<'a, 's, A>, AllocError>
     requires on { route_of turn.now.config waiting.wanted.name ≡ Some wanted.now.route }
     requires keyed { wanted.now.key ≡ question_key waiting.wanted }
     requires taken { waiting.taken ≡ turn.now.moment }
@@ -211,13 +211,13 @@ fn admit<'a, H: BuildHasher + Drop, A: Allocator + Copy>(
 
 /// A question of which the cache has no answer, and which wants to know what has a route: its own, or what it is
 /// sent on to.
-fn wait<'a, H: BuildHasher + Drop, A: Allocator + Copy>(
+fn wait<'a, 's, H: BuildHasher + Drop, A: Allocator + Copy>(
     turn: &TurnRef<'a, H, A>,
     request: &Request<'_>,
     sent_on: Option<SentOn<A>>,
     wanted: &Wanted,
-    used: SlotsRef<'a, A>,
-) -> Result<Decision<'a, A>, AllocError>
+    used: SlotsRef<'a, 's, A>,
+) -> Result<Decision<'a, 's, A>, AllocError>
     requires on { route_of turn.now.config (waits_on sent_on request.now).wanted.name ≡ Some wanted.now.route }
     requires keyed { wanted.now.key ≡ question_key (waits_on sent_on request.now).wanted }
     requires aliases { HoldsEarlier turn.now.moment (waits_on sent_on request.now) }
@@ -234,11 +234,11 @@ fn wait<'a, H: BuildHasher + Drop, A: Allocator + Copy>(
 }
 
 /// A question to which the cache has the answer.
-fn hit<'a, H: BuildHasher + Drop, A: Allocator + Copy>(
+fn hit<'a, 's, H: BuildHasher + Drop, A: Allocator + Copy>(
     turn: &TurnRef<'a, H, A>,
     request: &Request<'_>,
-    looked: LookUp<'a, A>,
-) -> Result<Decision<'a, A>, AllocError>
+    looked: LookUp<'a, 's, A>,
+) -> Result<Decision<'a, 's, A>, AllocError>
     requires ended { looked.met ≡ LookUpEnd.Ends }
     requires earlier { AllByRecursion (IsEarlier turn.now.moment) looked.used }
     requires found { looked ≡ seen_of (look_up turn.now.config.routes turn.now.moment turn.now.state.cache.entries
@@ -265,7 +265,7 @@ fn asked_at<A: Allocator>(request: &Request<'_>, name: Name<A>) -> Question<A>
 /// What a question is sent on with whose look-up missed behind these aliases.
 fn onward<'a, H: BuildHasher + Drop, A: Allocator + Copy>(
     turn: &TurnRef<'a, H, A>,
-    looked: &LookUp<'_, A>,
+    looked: &LookUp<'_, '_, A>,
     wanted: Question<A>,
 ) -> Result<SentOn<A>, AllocError>
     requires few { length looked.now.used ≤ 8 }
@@ -276,12 +276,12 @@ fn onward<'a, H: BuildHasher + Drop, A: Allocator + Copy>(
 }
 
 /// A question whose look-up missed behind aliases, at this name, which no route serves.
-fn end_behind<'a, H: BuildHasher + Drop, A: Allocator + Copy>(
+fn end_behind<'a, 's, H: BuildHasher + Drop, A: Allocator + Copy>(
     turn: &TurnRef<'a, H, A>,
     request: &Request<'_>,
-    looked: LookUp<'a, A>,
+    looked: LookUp<'a, 's, A>,
     name: &Name<A>,
-) -> Result<Decision<'a, A>, AllocError>
+) -> Result<Decision<'a, 's, A>, AllocError>
     requires earlier { AllByRecursion (IsEarlier turn.now.moment) looked.used }
     ensures decides { IfOk result (MeetsRow turn.now (λ _. reply_step turn.now.moment
         (without_server turn.now.config turn.now.moment request.now looked.entry.used name.now)
@@ -293,11 +293,11 @@ fn end_behind<'a, H: BuildHasher + Drop, A: Allocator + Copy>(
 }
 
 /// A question of whose own name nothing is known, and which no route serves.
-fn end<'a, H: BuildHasher + Drop, A: Allocator + Copy>(
+fn end<'a, 's, H: BuildHasher + Drop, A: Allocator + Copy>(
     turn: &TurnRef<'a, H, A>,
     request: &Request<'_>,
-    used: SlotsRef<'a, A>,
-) -> Result<Decision<'a, A>, AllocError>
+    used: SlotsRef<'a, 's, A>,
+) -> Result<Decision<'a, 's, A>, AllocError>
     ensures decides { IfOk result (MeetsRow turn.now (λ _. reply_step turn.now.moment
         (without_server turn.now.config turn.now.moment request.now [] request.now.wanted.name)
         (with_promoted used.entry turn.now.state))) }
@@ -308,12 +308,12 @@ fn end<'a, H: BuildHasher + Drop, A: Allocator + Copy>(
 }
 
 /// A question whose look-up missed behind aliases, at this name.
-fn miss_behind<'a, H: BuildHasher + Drop, A: Allocator + Copy>(
+fn miss_behind<'a, 's, H: BuildHasher + Drop, A: Allocator + Copy>(
     turn: &TurnRef<'a, H, A>,
     request: &Request<'_>,
-    looked: LookUp<'a, A>,
+    looked: LookUp<'a, 's, A>,
     name: Name<A>,
-) -> Result<Decision<'a, A>, AllocError>
+) -> Result<Decision<'a, 's, A>, AllocError>
     requires few { length looked.used ≤ 8 }
     requires earlier { AllByRecursion (IsEarlier turn.now.moment) looked.used }
     requires taken { request.now.taken ≡ turn.now.moment }
@@ -334,11 +334,11 @@ fn miss_behind<'a, H: BuildHasher + Drop, A: Allocator + Copy>(
 }
 
 /// A question of whose own name nothing is known.
-fn miss<'a, H: BuildHasher + Drop, A: Allocator + Copy>(
+fn miss<'a, 's, H: BuildHasher + Drop, A: Allocator + Copy>(
     turn: &TurnRef<'a, H, A>,
     request: &Request<'_>,
-    used: SlotsRef<'a, A>,
-) -> Result<Decision<'a, A>, AllocError>
+    used: SlotsRef<'a, 's, A>,
+) -> Result<Decision<'a, 's, A>, AllocError>
     requires taken { request.now.taken ≡ turn.now.moment }
     ensures decides { IfOk result (MeetsRow turn.now (λ _. row_of_look_up turn.now request.now
         (record { held = []; wanted = request.now.wanted; met = missed; used = used.entry }))) }
@@ -350,11 +350,11 @@ fn miss<'a, H: BuildHasher + Drop, A: Allocator + Copy>(
 }
 
 /// What becomes of a question by its look-up.
-fn decide_look_up<'a, H: BuildHasher + Drop, A: Allocator + Copy>(
+fn decide_look_up<'a, 's, H: BuildHasher + Drop, A: Allocator + Copy>(
     turn: &TurnRef<'a, H, A>,
     request: &Request<'_>,
-    looked: LookUp<'a, A>,
-) -> Result<Decision<'a, A>, AllocError>
+    looked: LookUp<'a, 's, A>,
+) -> Result<Decision<'a, 's, A>, AllocError>
     requires found { looked ≡ seen_of (look_up turn.now.config.routes turn.now.moment turn.now.state.cache.entries
         most_aliases [] request.now.wanted) }
     requires few { UsesFew 8 looked }
@@ -375,10 +375,11 @@ fn decide_look_up<'a, H: BuildHasher + Drop, A: Allocator + Copy>(
 }
 
 /// A question that is served. No route is looked up where the cache has an answer: its entries are on their routes.
-fn look<'a, H: BuildHasher + Drop, A: Allocator + Copy>(
+fn look<'a, 's, H: BuildHasher + Drop, A: Allocator + Copy>(
     turn: &TurnRef<'a, H, A>,
+    slot: &'s mut Slot,
     request: &Request<'_>,
-) -> Result<Decision<'a, A>, AllocError>
+) -> Result<Decision<'a, 's, A>, AllocError>
     requires taken { request.now.taken ≡ turn.now.moment }
     ensures decides { IfOk result (MeetsRow turn.now (λ _. row_of_route turn.now request.now
         (route_of turn.now.config request.now.wanted.name))) }
@@ -387,6 +388,7 @@ fn look<'a, H: BuildHasher + Drop, A: Allocator + Copy>(
     let looked = look_up(
         turn.alloc,
         turn.cache,
+        slot,
         question.name(),
         question.class(),
         question.kind(),
@@ -398,26 +400,27 @@ fn look<'a, H: BuildHasher + Drop, A: Allocator + Copy>(
 }
 
 /// A question that was read.
-fn serve<'a, H: BuildHasher + Drop, A: Allocator + Copy>(
+fn serve<'a, 's, H: BuildHasher + Drop, A: Allocator + Copy>(
     turn: &TurnRef<'a, H, A>,
+    slot: &'s mut Slot,
     request: &Request<'_>,
-) -> Result<Decision<'a, A>, AllocError>
+) -> Result<Decision<'a, 's, A>, AllocError>
     requires taken { request.now.taken ≡ turn.now.moment }
     ensures decides { IfOk result (MeetsRow turn.now (λ _. row_of_service turn.now request.now)) }
 {
     if is_not_served(&request.question) {
         return refuse(turn, request, Why::NotServed, SlotsRef::none(turn.alloc));
     }
-    look(turn, request)
+    look(turn, slot, request)
 }
 
 /// A message without a question that can be served.
-fn refuse_message<'a, H: BuildHasher + Drop, A: Allocator + Copy>(
+fn refuse_message<'a, 's, H: BuildHasher + Drop, A: Allocator + Copy>(
     turn: &TurnRef<'a, H, A>,
     client: Client,
     header: &Header,
     why: Why,
-) -> Result<Decision<'a, A>, AllocError>
+) -> Result<Decision<'a, 's, A>, AllocError>
     requires { header.now.opcode < 16 }
     ensures decides { IfOk result (MeetsRow turn.now (λ _. reply_step turn.now.moment
         (failed client (asked_in header.now None) why) turn.now.state)) }
@@ -427,12 +430,13 @@ fn refuse_message<'a, H: BuildHasher + Drop, A: Allocator + Copy>(
 }
 
 /// A message with one question. Its name is read into memory only where it has a pointer.
-fn serve_message<'a, H: BuildHasher + Drop, A: Allocator + Copy>(
+fn serve_message<'a, 's, H: BuildHasher + Drop, A: Allocator + Copy>(
     turn: &TurnRef<'a, H, A>,
+    slot: &'s mut Slot,
     client: Client,
     header: Header,
     message: &MessageRef<'_>,
-) -> Result<Decision<'a, A>, AllocError>
+) -> Result<Decision<'a, 's, A>, AllocError>
     requires opcode { header.opcode < 16 }
     ensures decides { IfOk result (MeetsRow turn.now (λ _. row_of_question turn.now client header
         (question_read (first_question message.now)))) }
@@ -445,7 +449,7 @@ fn serve_message<'a, H: BuildHasher + Drop, A: Allocator + Copy>(
             question,
             taken,
         };
-        return serve(turn, &request);
+        return serve(turn, slot, &request);
     }
     let owned = owned_question(turn.alloc, message)?;
     let question = QuestionRef::of(&owned);
@@ -455,15 +459,16 @@ fn serve_message<'a, H: BuildHasher + Drop, A: Allocator + Copy>(
         question,
         taken,
     };
-    serve(turn, &request)
+    serve(turn, slot, &request)
 }
 
-/// A message of a client.
-pub fn on_client<'a, H: BuildHasher + Drop, A: Allocator + Copy>(
+/// A message of a client. The slot, whatever it was, serves the look-up, which may lend it on.
+pub fn on_client<'a, 's, H: BuildHasher + Drop, A: Allocator + Copy>(
     turn: &TurnRef<'a, H, A>,
+    slot: &'s mut Slot,
     client: Client,
     bytes: &[u8],
-) -> Result<Decision<'a, A>, AllocError>
+) -> Result<Decision<'a, 's, A>, AllocError>
     ensures decides { IfOk result (MeetsRow turn.now (λ _. row_of_request turn.now client bytes.now)) }
     ensures dropped { is_taken bytes.now ≡ false → IsQuiet result }
 {
@@ -476,5 +481,5 @@ pub fn on_client<'a, H: BuildHasher + Drop, A: Allocator + Copy>(
     let Some(message) = with_one_question(bytes, &header) else {
         return refuse_message(turn, client, &header, Why::BadFormat);
     };
-    serve_message(turn, client, header, &message)
+    serve_message(turn, slot, client, header, &message)
 }

@@ -80,8 +80,9 @@ pub(crate) fn wanted_by<A: Allocator>(
         (λ wanted. (route_of config.now question.now.name ≡ Some wanted.route)
         × (wanted.key ≡ question_key question.now)) }
 {
-    let key = QuestionKey::of_ref(question);
-    let route = config.serving_route_of_key(key.name())?;
+    let name = question.key();
+    let route = config.serving_route_of_key(&name)?;
+    let key = QuestionKey::of_name(name, question.kind(), question.class());
     Some(Wanted { key, route })
 }
 

@@ -11,12 +11,15 @@ use std::alloc::{AllocError, Allocator};
 use std::hash::BuildHasher;
 use step_actions::{Decision, TurnRef};
 use step_values::Event;
+use trust_rank::Slot;
 
-/// What an event calls for; nothing where it is a restart.
-pub(crate) fn decide<'a, H: BuildHasher + Drop, A: Allocator + Copy>(
+/// What an event calls for; nothing where it is a restart. The slot, whatever it was, serves a look-up, which may lend
+/// it on.
+pub(crate) fn decide<'a, 's, H: BuildHasher + Drop, A: Allocator + Copy>(
     turn: &TurnRef<'a, H, A>,
+    slot: &'s mut Slot,
     event: &Event<A>,
-) -> Result<Option<Decision<'a, A>>, AllocError>
+) -> Result<Option<Decision<'a, 's, A>>, AllocError>
     ensures row { IfOk result (λ next. IsDecided turn.now (event_of event.now) next) }
     ensures no_memory { TakesNoMemory turn.now.config turn.now.moment turn.now.state (event_of event.now)
         → IsDecidedQuietly result }
@@ -27,7 +30,7 @@ pub(crate) fn decide<'a, H: BuildHasher + Drop, A: Allocator + Copy>(
     match event {
         Event::Client { client, bytes } => {
             let octets = bytes.as_slice();
-            let next = on_client(turn, *client, octets)?;
+            let next = on_client(turn, slot, *client, octets)?;
             Ok(Some(next))
         }
         Event::Delivery { path, from, bytes } => {

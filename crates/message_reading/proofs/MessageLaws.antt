@@ -1,5 +1,5 @@
 -- What stands in a message as a whole.
-use Rattle.std.proofs.Common.{◌≡◌, ℕ, ◌≤◌, List, length, Result, Ok, Err, refl, ◌∙◌, arith}
+use Rattle.std.proofs.Common.{◌≡◌, ℕ, ◌-◌, ◌≤◌, List, length, Result, Ok, Err, refl, sym, ◌∙◌, arith}
 use Rattle.std.specs.Prelude.{IsOk}
 use Rattle.message_names.specs.declared.fault.Fault.{Fault}
 use Rattle.message_reading.specs.Values.{Question}
@@ -7,7 +7,8 @@ use Rattle.message_names.specs.Reading.{◌>>=◌, behind}
 use Rattle.message_names.specs.Numbers.{number16}
 use Rattle.message_reading.specs.Header.{header_in, header_of}
 use Rattle.message_reading.specs.Records.{question_at, record_at, counted}
-use Rattle.message_reading.specs.Messages.{or_short, read_of, message_at, first_question, IsViewed}
+use Rattle.message_reading.specs.Messages.{or_short, read_of, message_at, first_question, IsViewed, IsViewedTo}
+use Rattle.message_reading.proofs.Counting.{skip_more}
 use Rattle.message_reading.proofs.RecordLaws.{behind_bind}
 
 pub question_read : (bytes : List ℕ) (o e : ℕ) → behind (question_at bytes o) ≡ Ok e → IsOk (read_of (question_at bytes o))
@@ -50,3 +51,14 @@ message_behind bytes le =
 pub viewed_long : (bytes : List ℕ) → IsViewed bytes → 12 ≤ length bytes
 unfolding first_question
 viewed_long bytes v = let is = v.is in grind (arith, is)
+
+pub viewed_counts : (bytes : List ℕ) → IsViewed bytes → 1 ≤ number16 bytes 4
+unfolding first_question
+viewed_counts bytes v = let is = v.is in grind (arith, is)
+
+-- where the first question ends, the others begin
+pub others_behind : (bytes : List ℕ) (end : ℕ) → IsViewedTo bytes end
+    → behind (counted (question_at bytes) (number16 bytes 4 - 1) end) ≡ behind (counted (question_at bytes) (number16 bytes 4) 12)
+others_behind bytes end view =
+    let all : number16 bytes 4 - 0 ≡ number16 bytes 4 = omega arith in
+    sym (rw all at (skip_more (question_at bytes) (number16 bytes 4) 0 12 end (viewed_counts bytes view.viewed) view.ends))

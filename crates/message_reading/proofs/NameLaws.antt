@@ -1,6 +1,6 @@
 -- A name that stands without a pointer is its own octets, and the zero octet behind them.
 use Rattle.std.proofs.Common.{◌≡◌, ℕ, suc, ◌+◌, ◌-◌, ◌<◌, ◌≤◌, List, [], ◌∷◌, ◌++◌, length, take, drop, get_or, Option, Some, None, Result, Ok, Err, refl, sym, ap, subst, ◌∙◌, append_assoc, arith}
-use Rattle.std.specs.Prelude.{IsOk, IfOk, MatchOption}
+use Rattle.std.specs.Prelude.{IfOk, MatchOption}
 use Rattle.std.specs.List.{AllByRecursion}
 use Rattle.std.proofs.lemmas.List.{length-take, length-drop, length-append, drop-drop, drop_at, append-nil}
 use Rattle.std.proofs.Math.Seq.{take-add, drop-cons}
@@ -8,6 +8,7 @@ use Rattle.dns_name.specs.Labels.{label_octets, octets_of, size_of, labels_of, I
 use Rattle.dns_name.proofs.CallerLemmas.{labels_of_octets, octets_are_laid_out, octets_joined}
 use Rattle.message_names.specs.declared.fault.Fault.{Fault}
 use Rattle.message_names.specs.Names.{NameAt, at_root, at_label, at_pointer, name_at}
+use Rattle.message_names.specs.Reading.{behind}
 use Rattle.message_names.proofs.CallerLemmas.{name_read_stands}
 use Rattle.message_reading.specs.Values.{Question}
 use Rattle.message_reading.specs.Messages.{IsUncompressed, IsViewedTo, first_question}
@@ -25,8 +26,8 @@ pub record GoesOn (bytes : List ℕ) (o p : ℕ) : Type 0 where
   pub after : o ≤ p
   pub octets : take (p - o) (drop o bytes) ≡ octets_of front
 
-begins_by : (bytes : List ℕ) (o : ℕ) (r : Result (List (List ℕ) × ℕ) Fault) → name_at bytes o ≡ r → IsOk r → GoesOn bytes o o
-begins_by bytes o (Ok n) is ok =
+begins_by : (bytes : List ℕ) (o e : ℕ) (r : Result (List (List ℕ) × ℕ) Fault) → name_at bytes o ≡ r → behind r ≡ Ok e → GoesOn bytes o o
+begins_by bytes o e (Ok n) is ends =
     let stands = name_read_stands bytes o n.0 n.1 is in
     let none : o - o ≡ 0 = omega arith in
     record {
@@ -39,10 +40,10 @@ begins_by bytes o (Ok n) is ok =
       after = omega arith;
       octets = rw none refl;
     }
-begins_by bytes o (Err fault) is ok = absurd cc
+begins_by bytes o e (Err fault) is ends = absurd cc
 
-pub name_begins : (bytes : List ℕ) (o : ℕ) → IsOk (name_at bytes o) → GoesOn bytes o o
-name_begins bytes o ok = begins_by bytes o (name_at bytes o) refl ok
+pub name_begins : (bytes : List ℕ) (o e : ℕ) → behind (name_at bytes o) ≡ Ok e → GoesOn bytes o o
+name_begins bytes o e ends = begins_by bytes o e (name_at bytes o) refl ends
 
 -- it ends with these octets, and without a pointer
 abbrev pub EndsPlain : List ℕ → ℕ → List ℕ → Type 0
@@ -159,6 +160,48 @@ stands_by bytes o p e front rest (at_pointer {e' = e'} high inside back far here
 pub goes_on : (bytes : List ℕ) (o p : ℕ) → GoesOn bytes o p → Stands bytes o p
 goes_on bytes o p g = stands_by bytes o p g.e g.front g.rest g.at g.read g.name g.after g.octets
 
+-- ---- where it ends
+
+-- the octet before the last tells a name without a pointer
+pub record Ends (bytes : List ℕ) (o e : ℕ) : Type 0 where
+  pub some : o < e
+  pub there : e ≤ length bytes
+  pub plain : (o + 2 ≤ e → get_or bytes (e - 2) 0 < 192) → EndsPlain bytes o (take (e - o - 1) (drop o bytes))
+
+ends_by : (bytes : List ℕ) (o p e : ℕ) (front rest : List (List ℕ)) → NameAt bytes p o rest e → name_at bytes o ≡ Ok (front ++ rest, e) → IsName (front ++ rest) → o ≤ p
+    → take (p - o) (drop o bytes) ≡ octets_of front → Ends bytes o e
+ends_by bytes o p e front [] (at_root inside none here) read name le octets =
+    let all : front ++ [] ≡ front = append-nil front in
+    let last : e - o - 1 ≡ p - o = omega (arith, here, le) in
+    record {
+      some = omega (arith, here, le);
+      there = omega (arith, here, inside);
+      plain = λ low. rw last (ends_here bytes o p front e (rw all at read) (rw all at name) le inside none octets);
+    }
+ends_by bytes o p e front (l ∷ ls) (at_label some short inside l-is rest) read name le octets =
+    let on : p + 1 + get_or bytes p 0 ≡ p + (get_or bytes p 0 + 1) = omega arith in
+    let same : (front ++ l ∷ []) ++ ls ≡ front ++ l ∷ ls = append_assoc front (l ∷ []) ls in
+    ends_by bytes o (p + 1 + get_or bytes p 0) e (front ++ l ∷ []) ls rest (rw same read) (rw same name) (omega (arith, le)) (rw on (one_more bytes o p front l le inside l-is octets))
+ends_by bytes o p e front rest (at_pointer {e' = e'} high inside back far here) read name le octets =
+    let two : e - 2 ≡ p = omega (arith, here) in
+    record {
+      some = omega (arith, here, le);
+      there = omega (arith, here, inside);
+      plain = λ low. let octet = rw two at low (omega (arith, here, le)) in absurd (omega (arith, octet, high));
+    }
+
+pub name_ends : (bytes : List ℕ) (o e : ℕ) → behind (name_at bytes o) ≡ Ok e → Ends bytes o e
+name_ends bytes o e ends =
+    let g = name_begins bytes o e ends in
+    let own = ap behind g.read in
+    let same : g.e ≡ e = cc in
+    subst (λ (x : ℕ). Ends bytes o x) same (ends_by bytes o o g.e g.front g.rest g.at g.read g.name g.after g.octets)
+
+pub name_lies : (bytes : List ℕ) (o e : ℕ) → behind (name_at bytes o) ≡ Ok e → (o < e) × (e ≤ length bytes)
+name_lies bytes o e ends =
+    let here = name_ends bytes o e ends in
+    (here.some, here.there)
+
 -- ---- the first question, borrowed
 
 -- what is told of its name is told of it
@@ -178,8 +221,8 @@ first_borrowed bytes end kind class (Some b) view kind_is class_is given =
     let same : b ≡ v.question = here.0 ∙ (λ i. record { name = v.question.name; kind = kind_there i; class = class_there i }) in
     (v.is ∙ ap (λ (q : Question). Ok q) (sym same), subst (λ (q : Question). IsUncompressed bytes 12 q.name) (sym same) here.1)
 
--- and its name can be read
-pub first_name_read : (bytes : List ℕ) (end : ℕ) → IsViewedTo bytes end → IsOk (name_at bytes 12)
-first_name_read bytes end view =
+-- and its name ends before type and class
+pub first_name_ends : (bytes : List ℕ) (end : ℕ) → IsViewedTo bytes end → behind (name_at bytes 12) ≡ Ok (end - 4)
+first_name_ends bytes end view =
     let name = rw view.viewed.is at (asked bytes end view).name in
     rw name refl

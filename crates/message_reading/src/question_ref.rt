@@ -1,8 +1,9 @@
 //! A question that is looked at where it lies.
 
-ghost use Rattle.std.specs.Prelude.{◌≡◌, IsOk, IfOk, MatchOption, length};
+ghost use Rattle.std.specs.Prelude.{◌≡◌, Ok, IfOk, MatchOption, length};
 ghost use Rattle.dns_name.specs.Labels.{labels_of, lowered, IsLaidOut};
 ghost use Rattle.message_names.specs.Names.{name_at};
+ghost use Rattle.message_names.specs.Reading.{behind};
 ghost use Rattle.message_reading.specs.Messages.{IsUncompressed};
 
 use crate::message::Question;
@@ -11,15 +12,19 @@ use message_names::part;
 use std::alloc::{AllocError, Allocator};
 use std::marker::Model;
 
-/// The octets of the name at a place, which can be read, without the zero octet at its end; `None` where it has a
-/// pointer.
-#[tactic(auto, using(crate::proofs::NameLaws::name_begins, crate::proofs::NameLaws::goes_on))]
-fn uncompressed_name(bytes: &[u8], offset: usize) -> Option<&[u8]>
-    requires { IsOk (name_at bytes.now offset) }
+/// The octets of the name at a place, which can be read and ends before `end`, without the zero octet at its end.
+/// `None` where it has a pointer. The first octet of a pointer is above 191: where the octet before the name's last is
+/// not, the last is the zero octet of a name without a pointer.
+#[tactic(auto, using(crate::proofs::NameLaws::name_begins, crate::proofs::NameLaws::goes_on, crate::proofs::NameLaws::name_lies))]
+fn uncompressed_name(bytes: &[u8], offset: usize, end: usize) -> Option<&[u8]>
+    requires { behind (name_at bytes.now offset) ≡ Ok end }
     ensures { MatchOption result (IfOk (name_at bytes.now offset) (λ n. IsUncompressed bytes.now offset n.0 → ⊥))
         (λ octets. IsLaidOut octets.now × IfOk (name_at bytes.now offset) (λ n. (n.0 ≡ labels_of octets.now)
         × IsUncompressed bytes.now offset n.0)) }
 {
+    if end - offset == 1 || bytes[end - 2] < 192 {
+        return Some(part(bytes, offset, end - offset - 1));
+    }
     let mut at = offset;
     loop {
         let first = bytes[at];
@@ -65,19 +70,21 @@ impl<'a> QuestionRef<'a> {
         }
     }
 
-    /// The question of this type and class whose name stands at a place without a pointer; `None` where it has one.
+    /// The question of this type and class whose name stands at a place without a pointer, and ends before `end`;
+    /// `None` where it has one.
     pub(crate) fn at(
         bytes: &'a [u8],
         offset: usize,
+        end: usize,
         kind: u16,
         class: u16,
     ) -> Option<QuestionRef<'a>>
-        requires { IsOk (name_at bytes.now offset) }
+        requires { behind (name_at bytes.now offset) ≡ Ok end }
         ensures { MatchOption result (IfOk (name_at bytes.now offset) (λ n. IsUncompressed bytes.now offset n.0 → ⊥))
             (λ question. IfOk (name_at bytes.now offset) (λ n. (question
             ≡ record { name = n.0; kind = kind; class = class }) × IsUncompressed bytes.now offset n.0)) }
     {
-        let name = uncompressed_name(bytes, offset)?;
+        let name = uncompressed_name(bytes, offset, end)?;
         Some(QuestionRef { name, kind, class })
     }
 

@@ -1,6 +1,6 @@
 //! A message that is looked at where it lies. Nothing here takes memory but what makes a value.
 
-ghost use Rattle.std.specs.Prelude.{◌≡◌, ◌↔◌, ◌≤◌, IsTrue, IsOk, Ok, Err, Some, length, MatchResult, MatchOption, IfOk};
+ghost use Rattle.std.specs.Prelude.{◌≡◌, ◌↔◌, IsTrue, IsOk, Ok, Err, Some, MatchResult, MatchOption, IfOk};
 ghost use Rattle.message_names.specs.Reading.{Gives, behind};
 ghost use Rattle.dns_name.specs.Labels.{lowered};
 ghost use Rattle.message_reading.specs.Header.{FitsBits, header_of};
@@ -8,7 +8,7 @@ ghost use Rattle.message_reading.specs.Records.{question_at};
 ghost use Rattle.message_names.specs.Shortcuts.{AreShortcuts};
 ghost use Rattle.message_names.specs.Sizes.{AreSizes};
 ghost use Rattle.message_reading.specs.Messages.{IsWhole, HasShapes, first_question, message_at, message_of};
-ghost use Rattle.message_reading.specs.Messages.{QuestionIs, IsUncompressed, IsViewed};
+ghost use Rattle.message_reading.specs.Messages.{QuestionIs, IsUncompressed, IsViewed, IsViewedTo};
 ghost use Rattle.message_reading.specs.Spans.{spans_of};
 ghost use Rattle.message_names.specs.declared.fault.Fault.TheVariants.{Memory};
 
@@ -58,13 +58,14 @@ fn first_question_is<A: Allocator>(bytes: &[u8], question: &Question<A>) -> bool
 }
 
 /// The place behind the last counted record, with the octets of the names that pointers lead to remembered in `sizes`.
-#[tactic(auto, using(crate::proofs::MessageLaws::message_behind))]
-fn skip_sections(bytes: &[u8], sizes: &mut [u8]) -> Result<usize, Fault>
-    requires header { 12 ≤ length bytes.now }
+/// The first question was read before: it begins behind that.
+#[tactic(auto, using(crate::proofs::MessageLaws::message_behind, crate::proofs::MessageLaws::others_behind, crate::proofs::MessageLaws::viewed_long, crate::proofs::MessageLaws::viewed_counts))]
+fn skip_sections(bytes: &[u8], sizes: &mut [u8], question_end: usize) -> Result<usize, Fault>
+    requires viewed { IsViewedTo bytes.now question_end }
     requires known { AreSizes bytes.now sizes.old }
     ensures { result ≡ behind (message_at bytes.now) }
 {
-    let at = skip_questions(bytes, sizes, 12, number16(bytes, 4))?;
+    let at = skip_questions(bytes, sizes, question_end, number16(bytes, 4) - 1)?;
     let at = skip_records(bytes, sizes, at, number16(bytes, 6))?;
     let at = skip_records(bytes, sizes, at, number16(bytes, 8))?;
     skip_records(bytes, sizes, at, number16(bytes, 10))
@@ -72,24 +73,24 @@ fn skip_sections(bytes: &[u8], sizes: &mut [u8]) -> Result<usize, Fault>
 
 /// `skip_sections` of a message that may have many pointers to one name.
 #[tactic(auto, using(message_names::proofs::CallerLemmas::zeros_are_sizes))]
-fn skip_large_message(bytes: &[u8]) -> Result<usize, Fault>
-    requires { 12 ≤ length bytes.now }
+fn skip_large_message(bytes: &[u8], question_end: usize) -> Result<usize, Fault>
+    requires { IsViewedTo bytes.now question_end }
     ensures { result ≡ behind (message_at bytes.now) }
 {
     let mut sizes = [0u8; PLACES];
-    skip_sections(bytes, &mut sizes)
+    skip_sections(bytes, &mut sizes, question_end)
 }
 
 /// The place behind the last counted record.
 #[tactic(auto, using(message_names::proofs::CallerLemmas::no_table_is_sizes))]
-fn skip_message(bytes: &[u8]) -> Result<usize, Fault>
-    requires { 12 ≤ length bytes.now }
+fn skip_message(bytes: &[u8], question_end: usize) -> Result<usize, Fault>
+    requires { IsViewedTo bytes.now question_end }
     ensures { result ≡ behind (message_at bytes.now) }
 {
     if bytes.len() > SMALL {
-        return skip_large_message(bytes);
+        return skip_large_message(bytes, question_end);
     }
-    skip_sections(bytes, &mut [])
+    skip_sections(bytes, &mut [], question_end)
 }
 
 /// The message that the octets spell, where pointers lead remembered in `ends`.
@@ -231,15 +232,16 @@ impl<'a> MessageRef<'a> {
             (λ question. IsUncompressed self.now 12 question.name → ⊥))
             (λ question. (first_question self.now ≡ Ok question) × IsUncompressed self.now 12 question.name) }
     {
-        QuestionRef::at(self.bytes, 12, self.kind(), self.class())
+        let name_end = self.question_end - 4;
+        QuestionRef::at(self.bytes, 12, name_end, self.kind(), self.class())
     }
 
     /// Header, counted questions and counted records can be read. It takes no memory.
-    #[tactic(auto, using(crate::proofs::MessageLaws::viewed_long, crate::proofs::WholeLaws::whole_where_read, crate::proofs::WholeLaws::read_where_whole))]
+    #[tactic(auto, using(crate::proofs::WholeLaws::whole_where_read, crate::proofs::WholeLaws::read_where_whole))]
     pub fn is_whole(&self) -> bool
         ensures { IsTrue result ↔ IsWhole self.now }
     {
-        skip_message(self.bytes).is_ok()
+        skip_message(self.bytes, self.question_end).is_ok()
     }
 
     /// The spans of the records that can be read, in order. It takes no memory, and with all of them about the time of

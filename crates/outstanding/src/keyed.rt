@@ -1,7 +1,7 @@
 //! An ask as it is kept, with the key of its question.
 
 ghost use Rattle.std.specs.Prelude.{◌≡◌};
-ghost use Rattle.outstanding.specs.Orders.{key_cmp, octets_number, path_cmp, question_key};
+ghost use Rattle.outstanding.specs.Orders.{key_cmp, name_number, octets_number, path_cmp, question_key};
 
 use crate::ask::{Ask, Path};
 use dns_message::{Question, QuestionRef};
@@ -35,12 +35,18 @@ impl QuestionKey {
     pub fn of_ref(question: &QuestionRef<'_>) -> QuestionKey
         ensures { result ≡ question_key question.now }
     {
-        let name = question.key();
+        QuestionKey::of_name(question.key(), question.kind(), question.class())
+    }
+
+    /// The key of the question of this type and class for a name, by the key of the name. It takes no memory.
+    pub fn of_name(name: NameKey, kind: u16, class: u16) -> QuestionKey
+        ensures { result ≡ record { number = name_number name; name = name; kind = kind; class = class } }
+    {
         QuestionKey {
             number: number_of(name.octets()),
             name,
-            kind: question.kind(),
-            class: question.class(),
+            kind,
+            class,
         }
     }
 

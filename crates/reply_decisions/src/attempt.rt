@@ -21,12 +21,12 @@ use step_actions::{
 use step_values::Why;
 
 /// The ask on a path is closed, and those that wait for it are told why.
-pub(crate) fn give_up<'a, H: BuildHasher + Drop, A: Allocator + Copy>(
+pub(crate) fn give_up<'a, 's, H: BuildHasher + Drop, A: Allocator + Copy>(
     turn: &TurnRef<'a, H, A>,
     path: Path,
     ask: &Ask<A>,
     why: Why,
-) -> Result<Decision<'a, A>, AllocError>
+) -> Result<Decision<'a, 's, A>, AllocError>
     requires { ask_on path turn.now.state.asks ≡ Some ask.now }
     ensures decides { IfOk result (MeetsRow turn.now (λ _. closing_step turn.now.moment ask.now
         (fails why ask.now.question) None turn.now.state)) }
@@ -37,11 +37,11 @@ pub(crate) fn give_up<'a, H: BuildHasher + Drop, A: Allocator + Copy>(
 
 /// The ask on a path is closed, whose question has no try left: those that wait for it get the last that can be
 /// told.
-fn run_out<'a, H: BuildHasher + Drop, A: Allocator + Copy>(
+fn run_out<'a, 's, H: BuildHasher + Drop, A: Allocator + Copy>(
     turn: &TurnRef<'a, H, A>,
     path: Path,
     ask: &Ask<A>,
-) -> Result<Decision<'a, A>, AllocError>
+) -> Result<Decision<'a, 's, A>, AllocError>
     requires on { ask_on path turn.now.state.asks ≡ Some ask.now }
     ensures decides { IfOk result (MeetsRow turn.now (λ _. closing_step turn.now.moment ask.now
         (runs_out turn.now.config turn.now.moment turn.now.state.cache.entries ask.now.question) None
@@ -59,12 +59,12 @@ fn run_out<'a, H: BuildHasher + Drop, A: Allocator + Copy>(
 }
 
 /// The ask on a path is closed, and the next one goes out.
-fn ask_again<'a, H: BuildHasher + Drop, A: Allocator + Copy>(
+fn ask_again<'a, 's, H: BuildHasher + Drop, A: Allocator + Copy>(
     turn: &TurnRef<'a, H, A>,
     path: Path,
     ask: &Ask<A>,
     next: Ask<A>,
-) -> Result<Decision<'a, A>, AllocError>
+) -> Result<Decision<'a, 's, A>, AllocError>
     requires on { ask_on path turn.now.state.asks ≡ Some ask.now }
     requires follows { CanFollow turn.now.config turn.now.moment turn.now.state
         (without_path path turn.now.state.asks) next }
@@ -80,13 +80,13 @@ fn ask_again<'a, H: BuildHasher + Drop, A: Allocator + Copy>(
 }
 
 /// The ask on a path is closed. Another server is asked over what was drawn; without a path those that wait fail.
-fn retry<'a, H: BuildHasher + Drop, A: Allocator + Copy>(
+fn retry<'a, 's, H: BuildHasher + Drop, A: Allocator + Copy>(
     turn: &TurnRef<'a, H, A>,
     path: Path,
     ask: &Ask<A>,
     server: u8,
     drawn: Option<(u16, Path)>,
-) -> Result<Decision<'a, A>, AllocError>
+) -> Result<Decision<'a, 's, A>, AllocError>
     requires on { ask_on path turn.now.state.asks ≡ Some ask.now }
     requires tries { ask.now.used < 255 }
     requires follows { (next : AskValue) → ask_by turn.now.moment ask.now.question ask.now.route server
@@ -115,12 +115,12 @@ fn retry<'a, H: BuildHasher + Drop, A: Allocator + Copy>(
 }
 
 /// An attempt failed: its ask is closed; then the next one goes out, or those that wait for it are told why not.
-pub(crate) fn fail<'a, H: BuildHasher + Drop, A: Allocator + Copy>(
+pub(crate) fn fail<'a, 's, H: BuildHasher + Drop, A: Allocator + Copy>(
     turn: &TurnRef<'a, H, A>,
     path: Path,
     ask: &Ask<A>,
     failure: Failure,
-) -> Result<Decision<'a, A>, AllocError>
+) -> Result<Decision<'a, 's, A>, AllocError>
     requires on { ask_on path turn.now.state.asks ≡ Some ask.now }
     ensures decides { IfOk result (MeetsRow turn.now (λ _. row_of_failure turn.now ask.now failure)) }
 {
@@ -139,10 +139,10 @@ pub(crate) fn fail<'a, H: BuildHasher + Drop, A: Allocator + Copy>(
 }
 
 /// A path can't be used any more.
-pub fn on_failed_path<'a, H: BuildHasher + Drop, A: Allocator + Copy>(
+pub fn on_failed_path<'a, 's, H: BuildHasher + Drop, A: Allocator + Copy>(
     turn: &TurnRef<'a, H, A>,
     path: Path,
-) -> Result<Decision<'a, A>, AllocError>
+) -> Result<Decision<'a, 's, A>, AllocError>
     ensures decides { IfOk result (MeetsRow turn.now (λ _. row_of_failed_path turn.now
         (ask_on path turn.now.state.asks))) }
     ensures unlisted { ask_on path turn.now.state.asks ≡ None → IsQuiet result }

@@ -52,12 +52,12 @@ use crate::sending::send_on;
 use step_actions::nothing;
 
 /// A reply is accepted that answers: all that wait for it are answered, and what it carries is kept.
-fn accept<'a, H: BuildHasher + Drop, A: Allocator + Copy>(
+fn accept<'a, 's, H: BuildHasher + Drop, A: Allocator + Copy>(
     turn: &TurnRef<'a, H, A>,
     path: Path,
     ask: &Ask<A>,
     walk: Walk<A>,
-) -> Result<Decision<'a, A>, AllocError>
+) -> Result<Decision<'a, 's, A>, AllocError>
     requires on { ask_on path turn.now.state.asks ≡ Some ask.now }
     requires ends { has_last walk.end ≡ true }
     requires carried { IsWalkFor turn.now.config ask.now walk }
@@ -84,12 +84,12 @@ fn accept<'a, H: BuildHasher + Drop, A: Allocator + Copy>(
 }
 
 /// A message that matches the ask.
-fn on_message<'a, H: BuildHasher + Drop, A: Allocator + Copy>(
+fn on_message<'a, 's, H: BuildHasher + Drop, A: Allocator + Copy>(
     turn: &TurnRef<'a, H, A>,
     path: Path,
     ask: &Ask<A>,
     message: &Message<A>,
-) -> Result<Decision<'a, A>, AllocError>
+) -> Result<Decision<'a, 's, A>, AllocError>
     requires on { ask_on path turn.now.state.asks ≡ Some ask.now }
     requires read { IsRead message.now }
     ensures decides { IfOk result (MeetsRow turn.now (λ rooms. row_of_walk turn.now rooms ask.now
@@ -106,12 +106,12 @@ fn on_message<'a, H: BuildHasher + Drop, A: Allocator + Copy>(
 }
 
 /// A whole message that matches the ask.
-fn on_whole<'a, H: BuildHasher + Drop, A: Allocator + Copy>(
+fn on_whole<'a, 's, H: BuildHasher + Drop, A: Allocator + Copy>(
     turn: &TurnRef<'a, H, A>,
     path: Path,
     ask: &Ask<A>,
     view: &MessageRef<'_>,
-) -> Result<Decision<'a, A>, AllocError>
+) -> Result<Decision<'a, 's, A>, AllocError>
     requires on { ask_on path turn.now.state.asks ≡ Some ask.now }
     requires octets { AreOctets view.now }
     ensures decides { IfOk result (MeetsRow turn.now (λ rooms. row_of_message turn.now rooms ask.now
@@ -125,12 +125,12 @@ fn on_whole<'a, H: BuildHasher + Drop, A: Allocator + Copy>(
 }
 
 /// A delivery that was judged.
-fn on_verdict<'a, H: BuildHasher + Drop, A: Allocator + Copy>(
+fn on_verdict<'a, 's, H: BuildHasher + Drop, A: Allocator + Copy>(
     turn: &TurnRef<'a, H, A>,
     path: Path,
     ask: &Ask<A>,
     judged: Judged<'_>,
-) -> Result<Decision<'a, A>, AllocError>
+) -> Result<Decision<'a, 's, A>, AllocError>
     requires on { ask_on path turn.now.state.asks ≡ Some ask.now }
     requires octets { ShowsOctets judged }
     ensures decides { (octets : List ℕ) → IsViewOf octets judged.entry
@@ -150,12 +150,12 @@ fn on_verdict<'a, H: BuildHasher + Drop, A: Allocator + Copy>(
 /// A delivery on a path to a server. It stands by itself, so that a client's question does without the room on
 /// the stack that reading a reply takes.
 #[inline(never)]
-pub fn on_delivery<'a, H: BuildHasher + Drop, A: Allocator + Copy>(
+pub fn on_delivery<'a, 's, H: BuildHasher + Drop, A: Allocator + Copy>(
     turn: &TurnRef<'a, H, A>,
     path: Path,
     from: Peer,
     bytes: &[u8],
-) -> Result<Decision<'a, A>, AllocError>
+) -> Result<Decision<'a, 's, A>, AllocError>
     ensures decides { IfOk result (MeetsRow turn.now (λ rooms. row_of_delivery turn.now rooms from bytes.now
         (ask_on path turn.now.state.asks))) }
     ensures unmatched { verdict_on turn.now.config turn.now.moment from bytes.now

@@ -140,7 +140,7 @@ fn waits_on<A: Allocator + Copy>(
 /// The name at which a look-up missed that began at this one.
 fn missed_name<A: Allocator + Copy>(
     alloc: A,
-    looked: &LookUp<'_, A>,
+    looked: &LookUp<'_, '_, A>,
     name: &Name<A>,
 ) -> Result<Name<A>, AllocError>
     ensures { IfOk result (λ missed. missed ≡ name_behind looked.now.used name.now) }
@@ -158,7 +158,7 @@ pub(crate) fn fate_of<A: Allocator + Copy>(
     moment: u64,
     lead: &AliasLead<'_, A>,
     waiting: &Waiting<A>,
-    looked: &LookUp<'_, A>,
+    looked: &LookUp<'_, '_, A>,
 ) -> Result<Fate<A>, AllocError>
     requires own { AllByRecursion (IsEarlier moment) waiting.now.held }
     requires aliases { AllByRecursion (IsEarlier moment) lead.now.aliases.now }

@@ -16,7 +16,7 @@ ghost use Rattle.reply_decisions.specs.Fates.{reply_of, OneMore};
 
 use crate::fate::{AliasLead, Fate, fails, fate_of, unless_sent};
 use crate::looking_on::look_on;
-use alias_chains::{LookUp, SlotsRef};
+use alias_chains::{LookUp, SlotsRef, slot_for_look_ups};
 use dns_message::Question;
 use plain_list::PlainList;
 use record_cache::{Cache, Held};
@@ -83,7 +83,7 @@ impl<'a, A: Allocator + Copy> Fates<'a, A> {
         moment: u64,
         lead: &AliasLead<'_, A>,
         waiting: &Waiting<A>,
-        looked: &LookUp<'a, A>,
+        looked: &LookUp<'a, '_, A>,
     ) -> Result<(), AllocError>
         requires own { AllByRecursion (IsEarlier moment) waiting.now.held }
         requires aliases { AllByRecursion (IsEarlier moment) lead.now.aliases.now }
@@ -124,7 +124,8 @@ impl<'a, A: Allocator + Copy> Fates<'a, A> {
             ++ (looked_behind config.now moment cache.now.entries lead.now.aliases.now lead.now.name.now
             waiting.now).used) }
     {
-        match look_on(alloc, cache, config, moment, lead, waiting)? {
+        let mut slot = slot_for_look_ups();
+        match look_on(alloc, cache, &mut slot, config, moment, lead, waiting)? {
             None => {
                 let fate = fails(alloc, waiting, Why::ChainLong)?;
                 self.put(fate)
@@ -179,11 +180,11 @@ impl<'a, A: Allocator + Copy> Fates<'a, A> {
 
     /// Puts the replies last, and gives what each question is sent on with, if it is, and the slots that look-ups used,
     /// in order. `Err` where memory ran out.
-    pub fn into_parts(
+    pub fn into_parts<'s>(
         self,
         alloc: A,
         actions: &mut PlainList<Action<A>, A>,
-    ) -> Result<(Vec<Option<SentOn<A>>, A>, SlotsRef<'a, A>), AllocError>
+    ) -> Result<(Vec<Option<SentOn<A>>, A>, SlotsRef<'a, 's, A>), AllocError>
         ensures replies { IfOk result (λ parts. actions_of actions.new
             ≡ actions_of actions.old ++ filter_map reply_of self.entry.each) }
         ensures onward { IfOk result (λ parts. parts.0.items ≡ map onward_in self.entry.each) }

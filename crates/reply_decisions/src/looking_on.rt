@@ -9,19 +9,20 @@ use record_cache::Cache;
 use std::alloc::{AllocError, Allocator};
 use std::hash::BuildHasher;
 use suffix_routes::Config;
-use trust_rank::MOST_ALIASES;
+use trust_rank::{MOST_ALIASES, Slot};
 use waiting_questions::Waiting;
 
 /// The look-up of what a question wants at the name that a reply leads on to, once it holds the aliases of the reply
-/// too; `None` where these are too many.
-pub(crate) fn look_on<'a, H: BuildHasher + Drop, A: Allocator + Copy>(
+/// too; `None` where these are too many. The slot, whatever it was, serves the look-up.
+pub(crate) fn look_on<'a, 's, H: BuildHasher + Drop, A: Allocator + Copy>(
     alloc: A,
     cache: &'a Cache<H, A>,
+    slot: &'s mut Slot,
     config: &Config<A>,
     moment: u64,
     lead: &AliasLead<'_, A>,
     waiting: &Waiting<A>,
-) -> Result<Option<LookUp<'a, A>>, AllocError>
+) -> Result<Option<LookUp<'a, 's, A>>, AllocError>
     ensures { IfOk result (λ looked. IfLooksOn config.now moment cache.now.entries lead.now.aliases.now
         lead.now.name.now waiting.now looked) }
 {
@@ -33,6 +34,7 @@ pub(crate) fn look_on<'a, H: BuildHasher + Drop, A: Allocator + Copy>(
     let looked = look_up(
         alloc,
         cache,
+        slot,
         lead.name.octets(),
         question.class,
         question.kind,

@@ -145,13 +145,13 @@ fn ask_for_those<'a, H: BuildHasher + Drop, A: Allocator + Copy>(
 }
 
 /// The ask is closed, replies are given, and the next ask goes out.
-fn close_and_send_on<'a, H: BuildHasher + Drop, A: Allocator + Copy>(
+fn close_and_send_on<'a, 's, H: BuildHasher + Drop, A: Allocator + Copy>(
     turn: &TurnRef<'a, H, A>,
     answered: &Ask<A>,
     fates: Fates<'a, A>,
     next: Option<Ask<A>>,
     carried: Vec<Held<A>, A>,
-) -> Result<Decision<'a, A>, AllocError>
+) -> Result<Decision<'a, 's, A>, AllocError>
     requires on { ask_on answered.now.path turn.now.state.asks ≡ Some answered.now }
     requires count { length fates.each ≡ length (filter (waits_for answered.now.question) turn.now.state.waiting) }
     requires earlier { AllByRecursion (λ b. IsSentEarlier turn.now.moment (onward_in b)) fates.each }
@@ -191,11 +191,11 @@ fn close_and_send_on<'a, H: BuildHasher + Drop, A: Allocator + Copy>(
 
 /// A reply is accepted that leads on to a name: each question that waits for it looks on there, and gets its
 /// reply or waits on; what the reply carries is kept.
-pub(crate) fn send_on<'a, H: BuildHasher + Drop, A: Allocator + Copy>(
+pub(crate) fn send_on<'a, 's, H: BuildHasher + Drop, A: Allocator + Copy>(
     turn: &TurnRef<'a, H, A>,
     answered: &Ask<A>,
     walk: Walk<A>,
-) -> Result<Decision<'a, A>, AllocError>
+) -> Result<Decision<'a, 's, A>, AllocError>
     requires on { ask_on answered.now.path turn.now.state.asks ≡ Some answered.now }
     requires leads { leads_on walk.end ≡ true }
     requires carried { IsWalkFor turn.now.config answered.now walk }

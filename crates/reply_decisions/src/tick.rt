@@ -36,10 +36,10 @@ fn left_alone<'a, H: BuildHasher + Drop, A: Allocator + Copy>(
 }
 
 /// The oldest question has waited as long as it may. With the last one that waits for it, an ask is closed.
-fn expire<'a, H: BuildHasher + Drop, A: Allocator + Copy>(
+fn expire<'a, 's, H: BuildHasher + Drop, A: Allocator + Copy>(
     turn: &TurnRef<'a, H, A>,
     oldest: &Waiting<A>,
-) -> Result<Decision<'a, A>, AllocError>
+) -> Result<Decision<'a, 's, A>, AllocError>
     requires { slice_get turn.now.state.waiting 0 ≡ Some oldest.now }
     ensures decides { IfOk result (MeetsRow turn.now (λ _. expiry_step turn.now.moment oldest.now
         (drop 1 turn.now.state.waiting) (left_alone oldest.now.wanted
@@ -53,10 +53,10 @@ fn expire<'a, H: BuildHasher + Drop, A: Allocator + Copy>(
 }
 
 /// The oldest question comes first.
-fn on_question<'a, H: BuildHasher + Drop, A: Allocator + Copy>(
+fn on_question<'a, 's, H: BuildHasher + Drop, A: Allocator + Copy>(
     turn: &TurnRef<'a, H, A>,
     oldest: &Waiting<A>,
-) -> Result<Decision<'a, A>, AllocError>
+) -> Result<Decision<'a, 's, A>, AllocError>
     requires { slice_get turn.now.state.waiting 0 ≡ Some oldest.now }
     ensures decides { IfOk result (MeetsRow turn.now (λ _. row_of_item turn.now
         (question oldest.now (drop 1 turn.now.state.waiting)))) }
@@ -69,10 +69,10 @@ fn on_question<'a, H: BuildHasher + Drop, A: Allocator + Copy>(
 }
 
 /// The oldest ask comes first.
-fn on_attempt<'a, H: BuildHasher + Drop, A: Allocator + Copy>(
+fn on_attempt<'a, 's, H: BuildHasher + Drop, A: Allocator + Copy>(
     turn: &TurnRef<'a, H, A>,
     oldest: &Ask<A>,
-) -> Result<Decision<'a, A>, AllocError>
+) -> Result<Decision<'a, 's, A>, AllocError>
     requires first { slice_get turn.now.state.asks 0 ≡ Some oldest.now }
     ensures decides { IfOk result (MeetsRow turn.now (λ _. row_of_item turn.now (attempt oldest.now))) }
     ensures early { is_due_at turn.now.config turn.now.moment turn.now.state ≡ false → IsQuiet result }
@@ -84,9 +84,9 @@ fn on_attempt<'a, H: BuildHasher + Drop, A: Allocator + Copy>(
 }
 
 /// Time has passed.
-pub fn on_tick<'a, H: BuildHasher + Drop, A: Allocator + Copy>(
+pub fn on_tick<'a, 's, H: BuildHasher + Drop, A: Allocator + Copy>(
     turn: &TurnRef<'a, H, A>,
-) -> Result<Decision<'a, A>, AllocError>
+) -> Result<Decision<'a, 's, A>, AllocError>
     ensures decides { IfOk result (MeetsRow turn.now (λ _. row_of_tick turn.now)) }
     ensures early { is_due_at turn.now.config turn.now.moment turn.now.state ≡ false → IsQuiet result }
 {

@@ -1,8 +1,11 @@
 -- The turns of sockets that may be ready.
-use Rattle.std.proofs.Common.{◌≡◌, ℕ, suc, ◌+◌, ◌-◌, ◌%◌, ◌<◌, inl, inr, subst, sym, true, false, is_some, Option, Some, None, arith}
+use Rattle.std.proofs.Common.{◌≡◌, ℕ, zero, suc, ◌+◌, ◌-◌, ◌%◌, ◌<◌, List, [], ◌∷◌, length, inl, inr, subst, sym, refl, true, false, is_some, Option, Some, None, arith}
+use Rattle.std.specs.BTreeSet.{btree_set_len}
 use Rattle.socket_wire.specs.declared.origin.Origin.{Origin}
+use Rattle.socket_wire.specs.declared.origin.Origin.TheVariants.{Datagrams}
+use Rattle.socket_wire.specs.declared.readiness.Round.{Round}
 use Rattle.socket_wire.specs.declared.readiness.Ready.{Ready}
-use Rattle.socket_wire.specs.Rounds.{Finds, FindsNow, GivesOnTurn}
+use Rattle.socket_wire.specs.Rounds.{Finds, FindsNow, Gives, GivesOnTurn, HasDatagramsAlone}
 
 -- What is found behind so many turns of four is what is found from the first.
 pub record FindsAll {A : Type 0} (tried first turn : ℕ) (begun ready : Ready A) : Type 0 where
@@ -35,3 +38,44 @@ found_later {A} tried first turn turn' None begun before between h all turns giv
       finds = λ given turn' after f. all.finds given turn' after (left_later tried given turn turn' before between after h gives f);
     } in
     subst (λ t. FindsAll (tried + 1) first t begun between) (sym turns) all
+
+-- ---- where only datagrams may be ready, each turn but theirs gives none
+
+no_tokens : (tokens : List ℕ) → length tokens ≡ 0 → tokens ≡ []
+no_tokens [] is = refl
+no_tokens (t ∷ ts) is = absurd (omega (arith, is))
+
+gives_none : {A : Type 0} (round : Round A) → btree_set_len round.tokens ≡ 0 → Gives None round round
+gives_none round is =
+    let none : round.tokens.keys ≡ [] = no_tokens round.tokens.keys is in
+    record {
+      tried = rw none refl;
+      next = λ origin has token. let there : None ≡ Some _ = rw none at token in absurd cc;
+      none = λ token. refl;
+    }
+
+module _ {A : Type 0} (ready : Ready A) (alone : HasDatagramsAlone ready) where
+  other_turn : (turn : ℕ) → (turn ≡ 1 → ⊥) → GivesOnTurn turn None ready ready
+  other_turn turn other = record {
+    datagrams = λ one. absurd (other one);
+    streams = λ three. (gives_none ready.streams alone.1, refl, refl);
+    servers = λ even. (gives_none ready.servers alone.2, refl, refl);
+  }
+
+  own_turn : GivesOnTurn 1 (Some Datagrams) ready ready
+  own_turn = record {
+    datagrams = λ one. (rw alone.0 refl, refl);
+    streams = λ three. absurd (omega (arith, three));
+    servers = λ even. absurd (omega (arith, even));
+  }
+
+  -- so many turns before theirs
+  found_after : (tries turn before : ℕ) → (turn + before) % 4 ≡ 0 → before < 4 → before < tries → Finds tries (Some Datagrams) turn 1 ready ready
+  found_after zero turn before is few lt = absurd (omega (arith, lt))
+  found_after (suc tries) turn zero is few lt = inl (record { turns = omega (arith, is); gives = own_turn; some = refl })
+  found_after (suc tries) turn (suc before) is few lt =
+      let other : turn % 4 + 1 ≡ 1 → ⊥ = λ one. omega (arith, one, is, few) in
+      inr (ready, (other_turn (turn % 4 + 1) other, found_after tries (turn % 4 + 1) before (omega (arith, is)) (omega (arith, few)) (omega (arith, lt))))
+
+  pub datagrams_are_found : (turn : ℕ) → Finds 4 (Some Datagrams) turn 1 ready ready
+  datagrams_are_found turn = found_after 4 turn ((4 - turn % 4) % 4) (omega arith) (omega arith) (omega arith)

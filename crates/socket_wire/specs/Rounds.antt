@@ -59,6 +59,11 @@ abbrev pub IsNothing : {A : Type 0} → Ready A → Type 0
 IsNothing ready = (ready.datagrams ≡ false) × (btree_set_len ready.streams.tokens ≡ 0)
     × (btree_set_len ready.servers.tokens ≡ 0)
 
+-- The socket for datagrams may be ready, and nothing else.
+abbrev pub HasDatagramsAlone : {A : Type 0} → Ready A → Type 0
+HasDatagramsAlone ready = (ready.datagrams ≡ true) × (btree_set_len ready.streams.tokens ≡ 0)
+    × (btree_set_len ready.servers.tokens ≡ 0)
+
 -- As it begins only the socket for datagrams may be ready.
 pub record IsBegun {A : Type 0} (ready : Ready A) : Type 0 where
   pub datagrams : ready.datagrams ≡ true

@@ -2,7 +2,8 @@
 
 ghost use Rattle.std.specs.Prelude.{◌≡◌, ◌≤◌, ◌+◌, ◌%◌, [], IsTrue, IfOk, ◌↔◌};
 ghost use Rattle.std.specs.BTreeSet.{btree_set_len};
-ghost use Rattle.socket_wire.specs.Rounds.{Dropped, Finds, Gives, GivesOnTurn, IsBegun, IsNothing, Noted, NotedStay};
+ghost use Rattle.socket_wire.specs.Rounds.{Dropped, Finds, Gives, GivesOnTurn, HasDatagramsAlone, IsBegun};
+ghost use Rattle.socket_wire.specs.Rounds.{IsNothing, Noted, NotedStay};
 
 use crate::origin::Origin;
 use mio::event::Source;
@@ -89,6 +90,13 @@ impl<A: Allocator + Copy> Ready<A> {
                 self.add(origin);
             }
         }
+    }
+
+    /// The socket for datagrams may be ready, and nothing else.
+    fn has_datagrams_alone(&self) -> bool
+        ensures { IsTrue result ↔ HasDatagramsAlone self.now }
+    {
+        self.datagrams && self.streams.tokens.is_empty() && self.servers.tokens.is_empty()
     }
 
     fn remove(&mut self, origin: Origin)
@@ -191,10 +199,15 @@ impl<A: Allocator + Copy> Readiness<A> {
     }
 
     /// The next one to be tried: of clients and of asks alternately, of clients' datagrams and streams alternately.
+    /// Mostly only datagrams may be ready, and then no turn of the others is gone through.
     pub fn next(&mut self) -> Option<Origin>
         ensures finds { Finds 4 result self.old.turn self.new.turn self.old.ready self.new.ready }
         ensures rest { self.new ≡ record self.old { turn = self.new.turn; ready = self.new.ready } }
     {
+        if self.ready.has_datagrams_alone() {
+            self.turn = 1;
+            return Some(Origin::Datagrams);
+        }
         for _tried in 0..4u8 {
             let next = self.next_on_turn();
             if next.is_some() {

@@ -60,21 +60,21 @@ pub enum Change<A: Allocator = Global> {
 /// The actions of a step, and what it changes: the entries of the slots that a look-up used are promoted, and the
 /// pieces that an accepted reply carries are offered to the cache, last.
 #[derive(Drop)]
-pub struct Decision<'a, A: Allocator = Global> {
+pub struct Decision<'a, 's, A: Allocator = Global> {
     pub actions: PlainList<Action<A>, A>,
-    pub used: SlotsRef<'a, A>,
+    pub used: SlotsRef<'a, 's, A>,
     pub change: Change<A>,
     /// In the order in which they are offered.
     pub carried: Vec<Held<A>, A>,
 }
 
-impl<'a, A: Allocator + Copy> Decision<'a, A> {
+impl<'a, 's, A: Allocator + Copy> Decision<'a, 's, A> {
     /// These actions and this change, with no look-up and no accepted reply. It takes no memory.
     pub fn without_cache(
         alloc: A,
         actions: PlainList<Action<A>, A>,
         change: Change<A>,
-    ) -> Decision<'a, A>
+    ) -> Decision<'a, 's, A>
         ensures actions { actions_of result.actions ≡ actions_of actions }
         ensures used { result.used ≡ [] }
         ensures change { result.change ≡ change }

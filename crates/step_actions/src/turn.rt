@@ -61,9 +61,9 @@ impl<'a, H: BuildHasher, A: Allocator> Model for TurnRef<'a, H, A> {
 }
 
 /// Nothing is done.
-pub fn nothing<'a, H: BuildHasher + Drop, A: Allocator + Copy>(
+pub fn nothing<'a, 's, H: BuildHasher + Drop, A: Allocator + Copy>(
     turn: &TurnRef<'a, H, A>,
-) -> Decision<'a, A>
+) -> Decision<'a, 's, A>
     ensures decides { MeetsRow turn.now (λ _. idle_step turn.now.moment turn.now.state) result }
     ensures quiet { (result.used ≡ []) × (result.change ≡ Change.Nothing) }
 {

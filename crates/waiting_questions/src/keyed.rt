@@ -32,7 +32,8 @@ impl<A: Allocator> Model for KeyedWaiting<A> {
 }
 
 impl<A: Allocator> KeyedWaiting<A> {
-    /// A waiting question with the key of the question that it wants to know, which was made before. It takes no memory.
+    /// A waiting question with the key of the question that it wants to know, which was made before. It takes no
+    /// memory.
     pub fn new(waiting: Waiting<A>, key: QuestionKey) -> KeyedWaiting<A>
         requires { key ≡ question_key waiting.wanted }
         ensures { result ≡ waiting }

@@ -254,7 +254,7 @@ impl<H: BuildHasher + Drop, A: Allocator + Copy> Forwarder<H, A> {
 
     /// Promotes the entries that a look-up used, then offers what an accepted reply carries, and tells how many of
     /// its pieces found no memory.
-    fn keep(&mut self, used: &Slots<A>, carried: Vec<Held<A>, A>) -> u32
+    fn keep(&mut self, used: &Slots<'_, A>, carried: Vec<Held<A>, A>) -> u32
         requires few { length (pieces_of carried.items) < 2 ^ 32 }
         requires routed { AllByRecursion (IsRouted self.old.config) (pieces_of carried.items) }
         ensures { (rooms : List Bool) × (self.new
@@ -308,7 +308,7 @@ impl<H: BuildHasher + Drop, A: Allocator + Copy> Forwarder<H, A> {
         &mut self,
         moment: u64,
         actions: PlainList<Action<A>, A>,
-        used: &Slots<A>,
+        used: &Slots<'_, A>,
         change: Change<A>,
         carried: Vec<Held<A>, A>,
     ) -> Result<Outcome<A>, AllocError>

@@ -17,6 +17,7 @@ mod tick;
 
 use crate::deciding::decide;
 use crate::lists::forget_all;
+use alias_chains::slot_for_look_ups;
 use outstanding::Inquiries;
 use plain_list::PlainList;
 use record_cache::Cache;
@@ -145,6 +146,7 @@ impl<H: BuildHasher + Drop, A: Allocator + Copy> Forwarder<H, A> {
         ensures err { OnErr result (self.new ≡ self.old) }
     {
         let moment = self.effective(now);
+        let mut slot = slot_for_look_ups();
         let Some(
             Decision {
                 actions,
@@ -152,7 +154,7 @@ impl<H: BuildHasher + Drop, A: Allocator + Copy> Forwarder<H, A> {
                 change,
                 carried,
             },
-        ) = decide(&self.turn(now, words), event)?
+        ) = decide(&self.turn(now, words), &mut slot, event)?
         else {
             self.restart();
             return Ok(self.nothing_done());

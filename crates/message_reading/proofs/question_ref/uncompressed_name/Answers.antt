@@ -1,11 +1,14 @@
 use Rattle.std.proofs.Common.{arith}
-use Rattle.message_reading.proofs.NameLaws.{goes_on}
+use Rattle.message_reading.proofs.NameLaws.{goes_on, name_ends}
 use Rattle.message_reading.proofs.question_ref.uncompressed_name.Goals as goal
+
+pub returns-then-end-offset-eq1 : goal.returns-then-end-offset-eq1
+returns-then-end-offset-eq1 c = rw c.part.ensures ((name_ends c.args.bytes.now c.args.offset c.args.end c.requires).plain (grind arith))
 
 pub returns-then-first-eq0 : goal.returns-then-first-eq0
 returns-then-first-eq0 c =
     let here = goes_on c.args.bytes.now c.args.offset c.loop-offset.at c.loop-offset.invariant in
-    rw c.part.ensures (here.zero_octet c.if-first-eq0.true)
+    rw c.part-then-first-eq0.ensures (here.zero_octet c.if-first-eq0.true)
 
 pub returns-then-first-ge192 : goal.returns-then-first-ge192
 returns-then-first-ge192 c =

@@ -1,8 +1,12 @@
-use Rattle.message_reading.proofs.NameLaws.{first_borrowed, first_name_read}
+use Rattle.message_reading.proofs.NameLaws.{first_borrowed, first_name_ends}
+use Rattle.message_reading.proofs.WholeLaws.{asked}
 use Rattle.message_reading.proofs.view.MessageRef.question_ref.Goals as goal
 
+pub overflow_sub-name_end : goal.overflow_sub-name_end
+overflow_sub-name_end c = (asked c.self.inside.bytes.now c.self.inside.question_end c.self.invariant).back
+
 pub at-requires : goal.at-requires
-at-requires c = first_name_read c.self.inside.bytes.now c.self.inside.question_end c.self.invariant
+at-requires c = first_name_ends c.self.inside.bytes.now c.self.inside.question_end c.self.invariant
 
 pub returns : goal.returns
 returns c =

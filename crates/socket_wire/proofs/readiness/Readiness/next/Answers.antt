@@ -1,6 +1,9 @@
 use Rattle.std.proofs.Common.{rules, ◌≡◌, true, false, is_some, arith}
-use Rattle.socket_wire.proofs.Turns.{found_later, found_now}
+use Rattle.socket_wire.proofs.Turns.{datagrams_are_found, found_later, found_now}
 use Rattle.socket_wire.proofs.readiness.Readiness.next.Goals as goal
+
+pub returns-then-has_datagrams_alone-clause-finds : goal.returns-then-has_datagrams_alone-clause-finds
+returns-then-has_datagrams_alone-clause-finds g c = datagrams_are_found c.args.self.now.ready (search rules) c.args.self.now.turn
 
 pub returns-then-is_some-clause-finds : goal.returns-then-is_some-clause-finds
 returns-then-is_some-clause-finds g c =
