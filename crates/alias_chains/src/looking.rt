@@ -23,9 +23,11 @@ use std::hash::BuildHasher;
 use suffix_routes::Config;
 use trust_rank::{Body, Slot};
 
-/// A slot that serves look-ups one after another.
+/// A slot that serves look-ups one after another: that of the root, of no class and no type. It takes no memory.
 #[tactic(auto, using(dns_name::proofs::CallerLemmas::no_octets_are_laid_out))]
-pub fn slot_for_look_ups() -> Slot {
+pub fn slot_for_look_ups() -> Slot
+    ensures { result ≡ record { class = 0; kind = None; key = [] } }
+{
     Slot {
         class: 0,
         kind: None,

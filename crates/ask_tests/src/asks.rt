@@ -62,7 +62,10 @@ fn a_listed_ask_is_found(rt: HostRuntime) -> Result<(), Fail> {
     let ask = ask_for(&heap, "a.example", Path::Udp(1032), 1000)?;
     let mut inquiries = Inquiries::new(&heap, 1);
     let is_begun = inquiries.begin(KeyedAsk::of(ask)).is_ok();
-    let is_found = inquiries.by_path(Path::Udp(1032)).is_some_and(is_worked);
+    let is_found = match inquiries.by_path(Path::Udp(1032)) {
+        Some(found) => is_worked(found.ask()),
+        None => false,
+    };
     let is_elsewhere = inquiries.by_path(Path::Udp(1033)).is_some();
     assert!(rt; is_begun && is_found && !is_elsewhere);
     Ok(())
@@ -142,7 +145,7 @@ fn only_begin_takes_memory(rt: HostRuntime) -> Result<(), Fail> {
     let are_found = are_found(&inquiries, &second.question);
     let _ended = inquiries.replace(Path::Udp(1024), second);
     let is_begun_again = match inquiries.end(Path::Tcp(0)) {
-        Some(ended) => inquiries.begin(KeyedAsk::of(ended)).is_ok(),
+        Some(ended) => inquiries.begin(ended).is_ok(),
         None => false,
     };
     inquiries.clear();

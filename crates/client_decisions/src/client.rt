@@ -5,6 +5,7 @@ ghost use Rattle.std.specs.List.{AllByRecursion};
 ghost use Rattle.answer_builder.specs.Answers.{IsEarlier};
 ghost use Rattle.dns_message.specs.Messages.{first_question};
 ghost use Rattle.dns_message.specs.Questions.{question_read, asked_at};
+ghost use Rattle.dns_name.specs.Labels.{lowered};
 ghost use Rattle.outstanding.specs.Lists.{of_question};
 ghost use Rattle.outstanding.specs.Orders.{question_key};
 ghost use Rattle.suffix_routes.specs.Serving.{route_of};
@@ -30,16 +31,15 @@ use crate::request::{
 };
 use alias_chains::{LookUp, LookUpEnd, SlotsRef, copies, look_up};
 use dns_message::{Header, MessageRef, Question, QuestionRef};
-use dns_name::Name;
+use dns_name::{Name, NameKey};
 use outstanding::{Ask, KeyedAsk, QuestionKey, draw};
-use plain_list::PlainList;
 use std::alloc::{AllocError, Allocator};
 use std::hash::BuildHasher;
 use step_actions::{
     Attempt, Change, Decision, Opening, TurnRef, answer, ask as ask_action, by_udp, failure,
     new_ask, nothing, refusal, without_server,
 };
-use step_values::{Action, Client, Why};
+use step_values::{Action, Actions, Client, Why};
 use suffix_routes::RouteId;
 use trust_rank::{MOST_ALIASES, Slot};
 use waiting_questions::{KeyedWaiting, Request, SentOn, Waiting};
@@ -53,7 +53,7 @@ fn reply<'a, 's, H: BuildHasher + Drop, A: Allocator + Copy>(
     ensures decides { IfOk result (MeetsRow turn.now (λ _. reply_step turn.now.moment (action_of action)
         (with_promoted used.entry turn.now.state))) }
 {
-    let mut actions = PlainList::new(turn.alloc);
+    let mut actions = Actions::new(turn.alloc);
     actions.push(action)?;
     Ok(Decision {
         actions,
@@ -92,7 +92,7 @@ fn open<'a, 's, H: BuildHasher + Drop, A: Allocator + Copy>(
     ensures decides { IfOk result (MeetsRow turn.now (λ _. row_of_opening turn.now.moment waiting
         (with_promoted used.entry turn.now.state) (Some ask))) }
 {
-    let mut actions = PlainList::new(turn.alloc);
+    let mut actions = Actions::new(turn.alloc);
     let action = ask_action(turn.alloc, &ask)?;
     actions.push(action)?;
     let opening = Opening {
@@ -122,7 +122,7 @@ fn join<'a, 's, H: BuildHasher + Drop, A: Allocator + Copy>(
 {
     let joined = Box::new(turn.alloc, KeyedWaiting::new(waiting, *key))?;
     Ok(Decision {
-        actions: PlainList::new(turn.alloc),
+        actions: Actions::new(turn.alloc),
         used,
         change: Change::Join(joined),
         carried: Vec::new(turn.alloc),
@@ -292,17 +292,19 @@ fn end_behind<'a, 's, H: BuildHasher + Drop, A: Allocator + Copy>(
     reply(turn, action, looked.into_slots())
 }
 
-/// A question of whose own name nothing is known, and which no route serves.
+/// A question of whose own name, which has this key, nothing is known, and which no route serves.
 fn end<'a, 's, H: BuildHasher + Drop, A: Allocator + Copy>(
     turn: &TurnRef<'a, H, A>,
     request: &Request<'_>,
+    name: &NameKey,
     used: SlotsRef<'a, 's, A>,
 ) -> Result<Decision<'a, 's, A>, AllocError>
+    requires { name.now ≡ lowered request.now.wanted.name }
     ensures decides { IfOk result (MeetsRow turn.now (λ _. reply_step turn.now.moment
         (without_server turn.now.config turn.now.moment request.now [] request.now.wanted.name)
         (with_promoted used.entry turn.now.state))) }
 {
-    let is_denied = is_denied(turn.config, &request.question);
+    let is_denied = is_denied(turn.config, &request.question, name);
     let action = without_server(turn.alloc, request, &[], is_denied, turn.moment)?;
     reply(turn, action, used)
 }
@@ -326,7 +328,8 @@ fn miss_behind<'a, 's, H: BuildHasher + Drop, A: Allocator + Copy>(
         }))) }
 {
     let question = asked_at(request, name);
-    let Some(wanted) = wanted_by(turn.config, &QuestionRef::of(&question)) else {
+    let asked = QuestionRef::of(&question);
+    let Some(wanted) = wanted_by(turn.config, &asked, &asked.key()) else {
         return end_behind(turn, request, looked, &question.name);
     };
     let sent_on = onward(turn, &looked, question)?;
@@ -343,9 +346,10 @@ fn miss<'a, 's, H: BuildHasher + Drop, A: Allocator + Copy>(
     ensures decides { IfOk result (MeetsRow turn.now (λ _. row_of_look_up turn.now request.now
         (record { held = []; wanted = request.now.wanted; met = missed; used = used.entry }))) }
 {
-    match wanted_by(turn.config, &request.question) {
+    let name = request.question.key();
+    match wanted_by(turn.config, &request.question, &name) {
         Some(wanted) => wait(turn, request, None, &wanted, used),
-        None => end(turn, request, used),
+        None => end(turn, request, &name, used),
     }
 }
 

@@ -5,10 +5,12 @@ ghost use Rattle.dns_message.specs.Header.{header_in};
 ghost use Rattle.dns_message.specs.Messages.{first_question};
 ghost use Rattle.dns_message.specs.Questions.{one_question, question_read, is_unserved};
 ghost use Rattle.step_values.specs.Requests.{is_taken};
+ghost use Rattle.dns_name.specs.Labels.{lowered};
 ghost use Rattle.outstanding.specs.Orders.{question_key};
 ghost use Rattle.suffix_routes.specs.Serving.{is_local, route_of};
 
 use dns_message::{Header, MessageRef, Question, QuestionRef};
+use dns_name::NameKey;
 use outstanding::QuestionKey;
 use std::alloc::{AllocError, Allocator};
 use suffix_routes::{Config, RouteId};
@@ -70,26 +72,33 @@ pub(crate) struct Wanted {
     pub(crate) route: RouteId,
 }
 
-/// What a question wants to know; `None` exactly where no route serves its name. It takes no memory.
+/// What a question wants to know whose name has this key; `None` exactly where no route serves the name. It takes no
+/// memory.
 #[tactic(auto, using(suffix_routes::proofs::CallerLemmas::serving_respects_same, dns_name::proofs::CallerLemmas::lowered_is_same))]
 pub(crate) fn wanted_by<A: Allocator>(
     config: &Config<A>,
     question: &QuestionRef<'_>,
+    name: &NameKey,
 ) -> Option<Wanted>
+    requires { name.now ≡ lowered question.now.name }
     ensures { MatchOption result (route_of config.now question.now.name ≡ None)
         (λ wanted. (route_of config.now question.now.name ≡ Some wanted.route)
         × (wanted.key ≡ question_key question.now)) }
 {
-    let name = question.key();
-    let route = config.serving_route_of_key(&name)?;
-    let key = QuestionKey::of_name(name, question.kind(), question.class());
+    let route = config.serving_route_of_key(name)?;
+    let key = QuestionKey::of_name(*name, question.kind(), question.class());
     Some(Wanted { key, route })
 }
 
-/// Whether the route of a question's name denies it. It takes no memory.
+/// Whether the route of a question's name, which has this key, denies it. It takes no memory.
 #[tactic(auto, using(suffix_routes::proofs::CallerLemmas::denied_respects_same, dns_name::proofs::CallerLemmas::lowered_is_same))]
-pub(crate) fn is_denied<A: Allocator>(config: &Config<A>, question: &QuestionRef<'_>) -> bool
+pub(crate) fn is_denied<A: Allocator>(
+    config: &Config<A>,
+    question: &QuestionRef<'_>,
+    name: &NameKey,
+) -> bool
+    requires { name.now ≡ lowered question.now.name }
     ensures { result ≡ is_local config.now question.now.name }
 {
-    config.denies_key(&question.key())
+    config.denies_key(name)
 }

@@ -41,16 +41,17 @@ pub fn close_inquiry<A: Allocator>(
     ensures waiting { waiting.new.items ≡ left_waiting (ask_on path inquiries.old.asks) waiting.old.items }
 {
     if let Some(ask) = inquiries.end(path) {
-        waiting.end(&ask.question);
+        waiting.end(&ask);
     }
 }
 
-/// Ends the ask on a path, and lists another one, where there is one; the ended ask is the answer.
+/// Ends the ask on a path, and lists another one, where there is one; the ended ask is the answer, with the key of its
+/// question.
 fn end_or_replace<A: Allocator>(
     inquiries: &mut Inquiries<A>,
     path: Path,
     next: Option<Ask<A>>,
-) -> Option<Ask<A>>
+) -> Option<KeyedAsk<A>>
     requires listed { IsSome (ask_on path inquiries.old.asks) }
     requires begins { IfSome next (λ ask. MayBegin ask (without_path path inquiries.old.asks)) }
     ensures ended { result ≡ ask_on path inquiries.old.asks }
@@ -85,7 +86,7 @@ pub fn send_on<A: Allocator>(
     ensures waiting { waiting.new.items ≡ left_or_sent (ask_on path inquiries.old.asks) onward.items waiting.old.items }
 {
     if let Some(ended) = end_or_replace(inquiries, path, next) {
-        waiting.send_on(&ended.question, onward);
+        waiting.send_on(&ended, onward);
     }
 }
 

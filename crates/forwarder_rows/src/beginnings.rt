@@ -69,8 +69,8 @@ fn is_idle_at<'a>(
     end: usize,
 ) -> Result<bool, ReplayFault> {
     let event = cut_to(heap, &handed.event, end)?;
-    let outcome = forwarder.step(handed.now, handed.words, event)?;
-    Ok(outcome.actions.as_slice().is_empty())
+    let outcome = forwarder.step(handed.now, handed.words, &event)?;
+    Ok(outcome.actions.is_empty())
 }
 
 /// An event with the first so many octets alone.

@@ -31,8 +31,8 @@ fn tell_deed<W: Write>(
     number: u32,
     writer: &mut W,
 ) -> Result<(), ReplayFault> {
-    let outcome = forwarder.step(u64::MAX, [u32::MAX; 8], Event::Restart)?;
-    let is_idle = outcome.actions.as_slice().is_empty();
+    let outcome = forwarder.step(u64::MAX, [u32::MAX; 8], &Event::Restart)?;
+    let is_idle = outcome.actions.is_empty();
     if !is_idle || outcome.unkept > 0 || outcome.more {
         writeln!(writer, "{number} a restart does something")?;
     }
@@ -123,7 +123,7 @@ fn done_at<'a>(
     requires { number ≤ MOST_LINES }
 {
     let handed = handed_in(heap, script, number, line)?;
-    let outcome = forwarder.step(handed.now, handed.words, handed.event)?;
+    let outcome = forwarder.step(handed.now, handed.words, &handed.event)?;
     told_of(alloc, heap, script, number, &outcome)
 }
 

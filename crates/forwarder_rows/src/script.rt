@@ -105,7 +105,7 @@ pub(crate) fn run_again<'a>(
             return Ok(());
         };
         let handed = handed_in(heap, script, before + 1, line)?;
-        let _outcome = forwarder.step(handed.now, handed.words, handed.event)?;
+        let _outcome = forwarder.step(handed.now, handed.words, &handed.event)?;
     }
     Ok(())
 }
@@ -133,8 +133,10 @@ pub(crate) fn lines_of<'a>(
     outcome: &Outcome<Heap<'a>>,
 ) -> Result<Vec<u8>, ReplayFault> {
     let mut lines = Vec::new(alloc);
-    for action in outcome.actions.as_slice() {
-        print(heap, &mut lines, number, action)?;
+    for place in 0..outcome.actions.len() {
+        if let Some(action) = outcome.actions.get(place) {
+            print(heap, &mut lines, number, action)?;
+        }
     }
     if outcome.more && script.words.is_some() {
         writeln!(lines, "{number} more")?;

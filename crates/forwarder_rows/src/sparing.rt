@@ -215,9 +215,8 @@ fn made_with<'a>(
     refused: Refused,
 ) -> Result<Made, ReplayFault> {
     let handed = trial.handed;
-    let event = handed.event.copy(trial.heap)?;
     refused.begin(trial.heap);
-    let outcome = forwarder.step(handed.now, handed.words, event);
+    let outcome = forwarder.step(handed.now, handed.words, &handed.event);
     let is_spared = refused.end(trial.heap);
     match outcome {
         Ok(outcome) if is_spared => made_of(trial, End::Spared, &outcome),
@@ -232,8 +231,7 @@ fn made_again<'a>(
     forwarder: &mut Runner<'a>,
 ) -> Result<Made, ReplayFault> {
     let handed = trial.handed;
-    let event = handed.event.copy(trial.heap)?;
-    let outcome = forwarder.step(handed.now, handed.words, event)?;
+    let outcome = forwarder.step(handed.now, handed.words, &handed.event)?;
     made_of(trial, End::Again, &outcome)
 }
 
@@ -246,7 +244,7 @@ fn made_of<'a>(
     let lines = lines_of(trial.alloc, trial.heap, trial.script, trial.number, outcome)?;
     Ok(Made {
         end,
-        is_idle: outcome.actions.as_slice().is_empty(),
+        is_idle: outcome.actions.is_empty(),
         lines,
         unkept: outcome.unkept,
     })

@@ -9,7 +9,7 @@ use crate::counts::Served;
 use forwarder_core::Forwarder;
 use std::alloc::Allocator;
 use std::hash::BuildHasher;
-use step_values::{Action, Event, Path};
+use step_values::{Action, Actions, Event, Path};
 use wires::Wire;
 
 /// What came of one event.
@@ -54,15 +54,18 @@ fn put<A: Allocator, W: Wire<A>>(
 }
 
 /// Puts actions in order. The answer is the path of the ask that was refused, if one was.
-fn put_all<A: Allocator, W: Wire<A>>(
+fn put_all<A: Allocator + Copy, W: Wire<A>>(
     wire: &mut W,
     counts: &mut Served,
-    actions: &[Action<A>],
+    actions: &Actions<A>,
 ) -> Option<Path>
     ensures { Puts None (actions_of actions.now) result (W.told wire.old) (W.told wire.new) counts.old counts.new }
 {
     let mut failed = None;
-    for action in actions {
+    for place in 0..actions.len() {
+        let Some(action) = actions.get(place) else {
+            unreachable!();
+        };
         failed = put(wire, counts, action, failed);
     }
     failed
@@ -73,16 +76,16 @@ fn hand<H: BuildHasher + Drop, A: Allocator + Copy, W: Wire<A>>(
     wire: &mut W,
     forwarder: &mut Forwarder<H, A>,
     counts: &mut Served,
-    event: Event<A>,
+    event: &Event<A>,
 ) -> Handled
-    ensures { Hands (event_of event) result.failed result.more (standing forwarder.old (W.told wire.old) counts.old)
+    ensures { Hands (event_of event.now) result.failed result.more (standing forwarder.old (W.told wire.old) counts.old)
         (standing forwarder.new (W.told wire.new) counts.new) }
 {
     let now = wire.moment();
     let words = wire.words();
     match forwarder.step(now, words, event) {
         Ok(outcome) => Handled {
-            failed: put_all(wire, counts, outcome.actions.as_slice()),
+            failed: put_all(wire, counts, &outcome.actions),
             more: outcome.more,
         },
         Err(_) => {
@@ -101,17 +104,36 @@ pub(crate) fn hand_on<H: BuildHasher + Drop, A: Allocator + Copy, W: Wire<A>>(
     wire: &mut W,
     forwarder: &mut Forwarder<H, A>,
     counts: &mut Served,
-    event: Event<A>,
+    event: &Event<A>,
 ) -> bool
-    ensures { HandsOn (event_of event) result (standing forwarder.old (W.told wire.old) counts.old)
+    ensures { HandsOn (event_of event.now) result (standing forwarder.old (W.told wire.old) counts.old)
         (standing forwarder.new (W.told wire.new) counts.new) }
 {
     let handled = hand(wire, forwarder, counts, event);
     let mut failed = handled.failed;
     while let Some(path) = failed {
-        failed = hand(wire, forwarder, counts, Event::PathFailed { path }).failed;
+        failed = hand(wire, forwarder, counts, &Event::PathFailed { path }).failed;
     }
     handled.more
+}
+
+/// Hands the event of a datagram to the forwarder, and the memory of its octets back to the wire. The answer is whether
+/// more was due after the event.
+pub(crate) fn hand_datagram<H: BuildHasher + Drop, A: Allocator + Copy, W: Wire<A>>(
+    wire: &mut W,
+    forwarder: &mut Forwarder<H, A>,
+    counts: &mut Served,
+    mut event: Event<A>,
+) -> bool
+    ensures { HandsOn (event_of event) result (standing forwarder.old (W.told wire.old) counts.old)
+        (standing forwarder.new (W.told wire.new) counts.new) }
+{
+    let more = hand_on(wire, forwarder, counts, &event);
+    match &mut event {
+        Event::Client { bytes, .. } | Event::Delivery { bytes, .. } => wire.take_back(bytes),
+        Event::PathFailed { .. } | Event::Tick | Event::Restart => {}
+    }
+    more
 }
 
 /// Hands ticks to the forwarder until one tells that nothing more is due, or finds no memory.
@@ -123,5 +145,5 @@ pub(crate) fn tick_on<H: BuildHasher + Drop, A: Allocator + Copy, W: Wire<A>>(
     ensures { Ticks (standing forwarder.old (W.told wire.old) counts.old)
         (standing forwarder.new (W.told wire.new) counts.new) }
 {
-    while hand_on(wire, forwarder, counts, Event::Tick) {}
+    while hand_on(wire, forwarder, counts, &Event::Tick) {}
 }

@@ -16,7 +16,6 @@ use suffix_routes::Config;
 /// A forwarder and the steps that it has made since it was new. They serve truly, whenever they are seen.
 #[derive(Drop)]
 pub struct Recorded<H: BuildHasher, A: Allocator = Global> {
-    alloc: A,
     forwarder: Forwarder<H, A>,
     steps: Vec<Step<A>, A>,
 }
@@ -40,7 +39,6 @@ impl<H: BuildHasher + Drop, A: Allocator + Copy> Recorded<H, A> {
     {
         let forwarder = Forwarder::new(alloc, config, hasher)?;
         Ok(Recorded {
-            alloc,
             forwarder,
             steps: Vec::new(alloc),
         })
@@ -64,8 +62,9 @@ impl<H: BuildHasher + Drop, A: Allocator + Copy> Recorded<H, A> {
         ensures err { OnErr result (self.new ≡ self.old) }
     {
         self.steps.reserve(1)?;
-        let event = handed.event.copy(self.alloc)?;
-        let outcome = self.forwarder.step(handed.now, handed.words, event)?;
+        let outcome = self
+            .forwarder
+            .step(handed.now, handed.words, &handed.event)?;
         self.steps.push_reserved(Step { handed, outcome });
         Ok(())
     }

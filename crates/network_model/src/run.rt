@@ -31,8 +31,7 @@ pub fn run_list<A: Allocator + Copy>(
     let mut steps = Vec::new(alloc);
     for entry in handed {
         let entry = entry.copy(alloc)?;
-        let event = entry.event.copy(alloc)?;
-        let outcome = forwarder.step(entry.now, entry.words, event)?;
+        let outcome = forwarder.step(entry.now, entry.words, &entry.event)?;
         steps.push(Step {
             handed: entry,
             outcome,

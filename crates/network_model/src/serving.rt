@@ -7,7 +7,7 @@ ghost use Rattle.network_model.specs.Serving.{standing, Serves};
 ghost use Rattle.network_model.specs.Streams.{events_by, Follows, ServesEvents, TakesArrival, TakesTurn};
 
 use crate::counts::Served;
-use crate::handing::{hand_on, tick_on};
+use crate::handing::{hand_datagram, hand_on, tick_on};
 use crate::streams::{Sender, Streams, put_in, serve_piece, take_out};
 use forwarder_core::Forwarder;
 use std::alloc::{AllocError, Allocator};
@@ -47,7 +47,7 @@ fn serve_arrival<H: BuildHasher + Drop, A: Allocator + Copy, W: Wire<A>>(
         Arrival::Nothing => {}
         Arrival::ClientDatagram { from, bytes } => {
             let client = Client::Udp(from);
-            hand_on(wire, forwarder, counts, Event::Client { client, bytes });
+            hand_datagram(wire, forwarder, counts, Event::Client { client, bytes });
         }
         Arrival::ClientStream { conn, bytes } => {
             let mut reader = take_out(alloc, &mut streams.clients, conn);
@@ -67,7 +67,7 @@ fn serve_arrival<H: BuildHasher + Drop, A: Allocator + Copy, W: Wire<A>>(
         }
         Arrival::ServerDatagram { port, from, bytes } => {
             let path = Path::Udp(port);
-            hand_on(
+            hand_datagram(
                 wire,
                 forwarder,
                 counts,
@@ -89,7 +89,7 @@ fn serve_arrival<H: BuildHasher + Drop, A: Allocator + Copy, W: Wire<A>>(
         }
         Arrival::PathGone { path } => {
             forget_path(alloc, streams, path);
-            hand_on(wire, forwarder, counts, Event::PathFailed { path });
+            hand_on(wire, forwarder, counts, &Event::PathFailed { path });
         }
     }
     Ok(())

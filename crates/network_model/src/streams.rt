@@ -96,7 +96,7 @@ fn serve_frames<H: BuildHasher + Drop, A: Allocator + Copy, W: Wire<A>>(
     cut_does_not_matter();
     all_frames_are_taken();
     while let Some(message) = reader.take()? {
-        hand_on(wire, forwarder, counts, sender.event(message));
+        hand_on(wire, forwarder, counts, &sender.event(message));
     }
     Ok(())
 }

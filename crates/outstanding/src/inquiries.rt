@@ -85,11 +85,11 @@ impl<A: Allocator> Inquiries<A> {
     }
 
     /// Ends the ask on a path, and lists another one behind all others: it gets the room of the one that ended, so this
-    /// is never refused and takes no memory. The ended ask is the answer.
+    /// is never refused and takes no memory. The ended ask is the answer, with the key of its question.
     ///
     /// The caller sees to it that the path is listed, and that what `begin` asks of the new one holds without the ended
     /// one.
-    pub fn replace(&mut self, path: Path, ask: Ask<A>) -> Ask<A>
+    pub fn replace(&mut self, path: Path, ask: Ask<A>) -> KeyedAsk<A>
         requires listed { IsSome (on_path path self.old.asks) }
         requires begins { MayBegin ask (without_path path self.old.asks) }
         ensures ended { on_path path self.old.asks ≡ Some result }
@@ -103,9 +103,9 @@ impl<A: Allocator> Inquiries<A> {
         ended
     }
 
-    /// Ends the ask on a path: it is taken out, and the others stay in order. `None` exactly where no ask is listed on
-    /// the path; then nothing changes. It takes no memory.
-    pub fn end(&mut self, path: Path) -> Option<Ask<A>>
+    /// Ends the ask on a path: it is taken out, with the key of its question, and the others stay in order. `None`
+    /// exactly where no ask is listed on the path; then nothing changes. It takes no memory.
+    pub fn end(&mut self, path: Path) -> Option<KeyedAsk<A>>
         ensures ended { result ≡ on_path path self.old.asks }
         ensures list { self.new ≡ record self.old { asks = without_path path self.old.asks } }
         ensures listed { AreListed self.new }
@@ -113,9 +113,9 @@ impl<A: Allocator> Inquiries<A> {
         self.table.take(path)
     }
 
-    /// The ask on a path. `None` exactly where no ask is listed there. It takes no memory. `listed` says again what
-    /// holds of each list.
-    pub fn by_path(&self, path: Path) -> Option<&Ask<A>>
+    /// The ask on a path, with the key of its question. `None` exactly where no ask is listed there. It takes no memory.
+    /// `listed` says again what holds of each list.
+    pub fn by_path(&self, path: Path) -> Option<&KeyedAsk<A>>
         ensures found { MatchOption result (on_path path self.now.asks ≡ None) (λ ask. on_path path self.now.asks
             ≡ Some ask.now) }
         ensures listed { AreListed self.now }
@@ -141,11 +141,12 @@ impl<A: Allocator> Inquiries<A> {
         ensures { result ≡ next_due ask_ms self.now.asks }
     {
         let oldest = self.table.oldest()?;
-        Some(due_of(oldest, ask_ms))
+        Some(due_of(oldest.ask(), ask_ms))
     }
 
-    /// The ask that was asked first, which is due first. `None` exactly where no ask is listed. It takes no memory.
-    pub fn oldest(&self) -> Option<&Ask<A>>
+    /// The ask that was asked first, which is due first, with the key of its question. `None` exactly where no ask is
+    /// listed. It takes no memory.
+    pub fn oldest(&self) -> Option<&KeyedAsk<A>>
         ensures first { MatchOption result (self.now.asks ≡ []) (λ ask. slice_get self.now.asks 0 ≡ Some ask.now) }
         ensures listed { AreListed self.now }
     {

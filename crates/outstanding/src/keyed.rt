@@ -139,15 +139,8 @@ impl<A: Allocator> KeyedAsk<A> {
         &self.ask
     }
 
-    pub(crate) fn into_ask(self) -> Ask<A>
-        ensures { result ≡ self }
-    {
-        let KeyedAsk { key: _, ask } = self;
-        ask
-    }
-
-    /// The key of its question.
-    pub(crate) fn key(&self) -> &QuestionKey
+    /// The key of its question. It takes no memory.
+    pub fn key(&self) -> &QuestionKey
         ensures { result.now ≡ question_key self.now.question }
     {
         &self.key

@@ -55,22 +55,22 @@ impl<A: Allocator> Table<A> {
     }
 
     /// The ask that was asked first.
-    pub(crate) fn oldest(&self) -> Option<&Ask<A>>
+    pub(crate) fn oldest(&self) -> Option<&KeyedAsk<A>>
         requires { IsIndexed self.now }
         ensures { MatchOption result (asks_of self.now ≡ []) (λ ask. slice_get (asks_of self.now) 0 ≡ Some ask.now) }
     {
         let key = self.in_turn.first()?;
-        Some(self.asks[key].ask())
+        Some(&self.asks[key])
     }
 
     /// The ask on a path.
-    pub(crate) fn on_path(&self, path: Path) -> Option<&Ask<A>>
+    pub(crate) fn on_path(&self, path: Path) -> Option<&KeyedAsk<A>>
         requires { IsIndexed self.now }
         ensures { MatchOption result (on_path path (asks_of self.now) ≡ None) (λ ask. on_path path (asks_of self.now)
             ≡ Some ask.now) }
     {
         match place_on(&self.asks, &self.by_path, path) {
-            Ok(place) => Some(self.asks[self.by_path[place].key()].ask()),
+            Ok(place) => Some(&self.asks[self.by_path[place].key()]),
             Err(_) => None,
         }
     }
@@ -134,7 +134,7 @@ impl<A: Allocator> Table<A> {
     }
 
     /// Takes the ask on a path out, which leaves room for another one.
-    pub(crate) fn take(&mut self, path: Path) -> Option<Ask<A>>
+    pub(crate) fn take(&mut self, path: Path) -> Option<KeyedAsk<A>>
         requires { IsIndexed self.old }
         ensures indexed { IsIndexed self.new }
         ensures ended { result ≡ on_path path (asks_of self.old) }
@@ -153,7 +153,7 @@ impl<A: Allocator> Table<A> {
         take_key(&mut self.by_path, place);
         take_key(&mut self.by_question, question);
         self.in_turn.take(turn);
-        Some(self.asks.remove(key).into_ask())
+        Some(self.asks.remove(key))
     }
 
     /// Takes all asks out. It takes no memory.

@@ -67,9 +67,11 @@ fn run_line<A: Allocator + Copy, W: Write>(
     requires { number ≤ MOST_LINES }
 {
     let handed = handed_by(alloc, number, line)?;
-    let outcome = forwarder.step(handed.now, handed.words, handed.event)?;
-    for action in outcome.actions.as_slice() {
-        print(alloc, writer, number, action)?;
+    let outcome = forwarder.step(handed.now, handed.words, &handed.event)?;
+    for place in 0..outcome.actions.len() {
+        if let Some(action) = outcome.actions.get(place) {
+            print(alloc, writer, number, action)?;
+        }
     }
     Ok(())
 }

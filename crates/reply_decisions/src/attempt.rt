@@ -9,8 +9,7 @@ ghost use Rattle.step_table.specs.Failures.{row_of_attempt, row_of_failure, row_
 ghost use Rattle.step_actions.specs.Decision.{IsQuiet, CanFollow, MeetsRow};
 ghost use Rattle.step_table.specs.State.{turn};
 
-use outstanding::{Ask, Path, draw};
-use plain_list::PlainList;
+use outstanding::{Ask, KeyedAsk, Path, draw};
 use retry_failover::{Failure, Next, after};
 use std::alloc::{AllocError, Allocator};
 use std::hash::BuildHasher;
@@ -18,13 +17,13 @@ use step_actions::{
     Attempt, Change, Decision, TurnRef, ask as ask_action, by_tcp, by_udp, close_path,
     draw_connection, failures, freed_port, last_replies, new_ask, nothing, plan,
 };
-use step_values::Why;
+use step_values::{Actions, Why};
 
 /// The ask on a path is closed, and those that wait for it are told why.
 pub(crate) fn give_up<'a, 's, H: BuildHasher + Drop, A: Allocator + Copy>(
     turn: &TurnRef<'a, H, A>,
     path: Path,
-    ask: &Ask<A>,
+    ask: &KeyedAsk<A>,
     why: Why,
 ) -> Result<Decision<'a, 's, A>, AllocError>
     requires { ask_on path turn.now.state.asks ≡ Some ask.now }
@@ -40,7 +39,7 @@ pub(crate) fn give_up<'a, 's, H: BuildHasher + Drop, A: Allocator + Copy>(
 fn run_out<'a, 's, H: BuildHasher + Drop, A: Allocator + Copy>(
     turn: &TurnRef<'a, H, A>,
     path: Path,
-    ask: &Ask<A>,
+    ask: &KeyedAsk<A>,
 ) -> Result<Decision<'a, 's, A>, AllocError>
     requires on { ask_on path turn.now.state.asks ≡ Some ask.now }
     ensures decides { IfOk result (MeetsRow turn.now (λ _. closing_step turn.now.moment ask.now
@@ -62,7 +61,7 @@ fn run_out<'a, 's, H: BuildHasher + Drop, A: Allocator + Copy>(
 fn ask_again<'a, 's, H: BuildHasher + Drop, A: Allocator + Copy>(
     turn: &TurnRef<'a, H, A>,
     path: Path,
-    ask: &Ask<A>,
+    ask: &KeyedAsk<A>,
     next: Ask<A>,
 ) -> Result<Decision<'a, 's, A>, AllocError>
     requires on { ask_on path turn.now.state.asks ≡ Some ask.now }
@@ -71,8 +70,8 @@ fn ask_again<'a, 's, H: BuildHasher + Drop, A: Allocator + Copy>(
     ensures decides { IfOk result (MeetsRow turn.now (λ _. row_of_attempt turn.now.moment ask.now turn.now.state
         (Some next))) }
 {
-    let mut actions = PlainList::new(turn.alloc);
-    actions.push(close_path(ask.path))?;
+    let mut actions = Actions::new(turn.alloc);
+    actions.push(close_path(ask.ask().path))?;
     let action = ask_action(turn.alloc, &next)?;
     actions.push(action)?;
     let next = Box::new(turn.alloc, next)?;
@@ -83,7 +82,7 @@ fn ask_again<'a, 's, H: BuildHasher + Drop, A: Allocator + Copy>(
 fn retry<'a, 's, H: BuildHasher + Drop, A: Allocator + Copy>(
     turn: &TurnRef<'a, H, A>,
     path: Path,
-    ask: &Ask<A>,
+    ask: &KeyedAsk<A>,
     server: u8,
     drawn: Option<(u16, Path)>,
 ) -> Result<Decision<'a, 's, A>, AllocError>
@@ -96,16 +95,17 @@ fn retry<'a, 's, H: BuildHasher + Drop, A: Allocator + Copy>(
         (ask_by turn.now.moment ask.now.question ask.now.route server (ask.now.used + 1)
         (peer_at turn.now.config ask.now.route server) drawn))) }
 {
+    let asked = ask.ask();
     let attempt = Attempt {
-        route: ask.route,
+        route: asked.route,
         server: usize::from(server),
-        used: ask.used + 1,
+        used: asked.used + 1,
     };
     match new_ask(
         turn.alloc,
         turn.config,
         turn.moment,
-        &ask.question,
+        &asked.question,
         attempt,
         drawn,
     )? {
@@ -118,17 +118,18 @@ fn retry<'a, 's, H: BuildHasher + Drop, A: Allocator + Copy>(
 pub(crate) fn fail<'a, 's, H: BuildHasher + Drop, A: Allocator + Copy>(
     turn: &TurnRef<'a, H, A>,
     path: Path,
-    ask: &Ask<A>,
+    ask: &KeyedAsk<A>,
     failure: Failure,
 ) -> Result<Decision<'a, 's, A>, AllocError>
     requires on { ask_on path turn.now.state.asks ≡ Some ask.now }
     ensures decides { IfOk result (MeetsRow turn.now (λ _. row_of_failure turn.now ask.now failure)) }
 {
-    let plan = plan(turn.config, ask);
+    let asked = ask.ask();
+    let plan = plan(turn.config, asked);
     match after(&plan, failure) {
         Next::GiveUp => run_out(turn, path, ask),
         Next::AskUdp(server) => {
-            let drawn = draw(turn.words, turn.inquiries, freed_port(ask.path));
+            let drawn = draw(turn.words, turn.inquiries, freed_port(asked.path));
             retry(turn, path, ask, server, by_udp(drawn))
         }
         Next::AskTcp(server) => {

@@ -17,7 +17,7 @@ ghost use Rattle.step_table.specs.State.{turn};
 
 use alias_chains::{SlotsRef, held_from};
 use dns_message::{Fault, Message, MessageRef};
-use outstanding::{Ask, Path};
+use outstanding::{KeyedAsk, Path};
 use reply_match::{Judged, judge};
 use retry_failover::Failure;
 use std::alloc::{AllocError, Allocator};
@@ -55,7 +55,7 @@ use step_actions::nothing;
 fn accept<'a, 's, H: BuildHasher + Drop, A: Allocator + Copy>(
     turn: &TurnRef<'a, H, A>,
     path: Path,
-    ask: &Ask<A>,
+    ask: &KeyedAsk<A>,
     walk: Walk<A>,
 ) -> Result<Decision<'a, 's, A>, AllocError>
     requires on { ask_on path turn.now.state.asks ≡ Some ask.now }
@@ -71,9 +71,10 @@ fn accept<'a, 's, H: BuildHasher + Drop, A: Allocator + Copy>(
     let walked = pieces.as_slice().len();
     let held = held_from(turn.alloc, pieces, authority, turn.moment)?;
     let actions = answers_to(turn.alloc, ask, &held[..walked], turn.moment, turn.waiting)?;
+    let answered = ask.ask();
     let preferred = Preferred {
-        route: ask.route,
-        server: ask.server,
+        route: answered.route,
+        server: answered.server,
     };
     Ok(Decision {
         actions,
@@ -87,7 +88,7 @@ fn accept<'a, 's, H: BuildHasher + Drop, A: Allocator + Copy>(
 fn on_message<'a, 's, H: BuildHasher + Drop, A: Allocator + Copy>(
     turn: &TurnRef<'a, H, A>,
     path: Path,
-    ask: &Ask<A>,
+    ask: &KeyedAsk<A>,
     message: &Message<A>,
 ) -> Result<Decision<'a, 's, A>, AllocError>
     requires on { ask_on path turn.now.state.asks ≡ Some ask.now }
@@ -95,7 +96,14 @@ fn on_message<'a, 's, H: BuildHasher + Drop, A: Allocator + Copy>(
     ensures decides { IfOk result (MeetsRow turn.now (λ rooms. row_of_walk turn.now rooms ask.now
         (walk_of turn.now.config message.now ask.now.question ask.now.route))) }
 {
-    let walk = pieces(turn.alloc, message, &ask.question, ask.route, turn.config)?;
+    let asked = ask.ask();
+    let walk = pieces(
+        turn.alloc,
+        message,
+        &asked.question,
+        asked.route,
+        turn.config,
+    )?;
     if is_lame(&walk.end) {
         return fail(turn, path, ask, Failure::Lame);
     }
@@ -109,7 +117,7 @@ fn on_message<'a, 's, H: BuildHasher + Drop, A: Allocator + Copy>(
 fn on_whole<'a, 's, H: BuildHasher + Drop, A: Allocator + Copy>(
     turn: &TurnRef<'a, H, A>,
     path: Path,
-    ask: &Ask<A>,
+    ask: &KeyedAsk<A>,
     view: &MessageRef<'_>,
 ) -> Result<Decision<'a, 's, A>, AllocError>
     requires on { ask_on path turn.now.state.asks ≡ Some ask.now }
@@ -128,7 +136,7 @@ fn on_whole<'a, 's, H: BuildHasher + Drop, A: Allocator + Copy>(
 fn on_verdict<'a, 's, H: BuildHasher + Drop, A: Allocator + Copy>(
     turn: &TurnRef<'a, H, A>,
     path: Path,
-    ask: &Ask<A>,
+    ask: &KeyedAsk<A>,
     judged: Judged<'_>,
 ) -> Result<Decision<'a, 's, A>, AllocError>
     requires on { ask_on path turn.now.state.asks ≡ Some ask.now }
@@ -164,9 +172,10 @@ pub fn on_delivery<'a, 's, H: BuildHasher + Drop, A: Allocator + Copy>(
     let Some(ask) = turn.inquiries.by_path(path) else {
         return Ok(nothing(turn));
     };
-    if !is_live(turn.config, turn.moment, ask) {
+    let asked = ask.ask();
+    if !is_live(turn.config, turn.moment, asked) {
         return Ok(nothing(turn));
     }
-    let judged = judge(ask, from, bytes);
+    let judged = judge(asked, from, bytes);
     on_verdict(turn, path, ask, judged)
 }

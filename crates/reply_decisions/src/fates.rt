@@ -18,12 +18,11 @@ use crate::fate::{AliasLead, Fate, fails, fate_of, unless_sent};
 use crate::looking_on::look_on;
 use alias_chains::{LookUp, SlotsRef, slot_for_look_ups};
 use dns_message::Question;
-use plain_list::PlainList;
 use record_cache::{Cache, Held};
 use std::alloc::{AllocError, Allocator, Global};
 use std::hash::BuildHasher;
 use std::marker::Model;
-use step_values::{Action, Why};
+use step_values::{Action, Actions, Why};
 use suffix_routes::Config;
 use waiting_questions::{SentOn, Waiting, WaitingFor};
 
@@ -183,7 +182,7 @@ impl<'a, A: Allocator + Copy> Fates<'a, A> {
     pub fn into_parts<'s>(
         self,
         alloc: A,
-        actions: &mut PlainList<Action<A>, A>,
+        actions: &mut Actions<A>,
     ) -> Result<(Vec<Option<SentOn<A>>, A>, SlotsRef<'a, 's, A>), AllocError>
         ensures replies { IfOk result (λ parts. actions_of actions.new
             ≡ actions_of actions.old ++ filter_map reply_of self.entry.each) }

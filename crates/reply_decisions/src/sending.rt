@@ -20,8 +20,7 @@ use crate::fate::AliasLead;
 use crate::fates::{Fates, fates_behind};
 use alias_chains::held_from;
 use dns_message::Question;
-use outstanding::{Ask, Path, QuestionKey, draw};
-use plain_list::PlainList;
+use outstanding::{Ask, KeyedAsk, Path, QuestionKey, draw};
 use record_cache::Held;
 use std::alloc::{AllocError, Allocator};
 use std::hash::BuildHasher;
@@ -29,7 +28,7 @@ use step_actions::{
     Attempt, Change, Decision, Preferred, Sending, TurnRef, ask as ask_action, by_udp, close_path,
     freed_port, new_ask,
 };
-use step_values::Action;
+use step_values::Actions;
 use suffix_routes::RouteId;
 use trust_rank::{End, Walk};
 use waiting_questions::WaitingFor;
@@ -37,7 +36,7 @@ use waiting_questions::WaitingFor;
 /// The ask goes out last, where there is one.
 fn put_next<A: Allocator + Copy>(
     alloc: A,
-    actions: &mut PlainList<Action<A>, A>,
+    actions: &mut Actions<A>,
     next: &Option<Ask<A>>,
 ) -> Result<(), AllocError>
     ensures { IfOk result (λ _. actions_of actions.new ≡ actions_of actions.old ++ map asks (ask_list next.now)) }
@@ -53,15 +52,16 @@ fn put_next<A: Allocator + Copy>(
 fn preferred_then<'a, H: BuildHasher + Drop, A: Allocator + Copy>(
     turn: &TurnRef<'a, H, A>,
     route: RouteId,
-    answered: &Ask<A>,
+    answered: &KeyedAsk<A>,
 ) -> usize
     requires { ask_on answered.now.path turn.now.state.asks ≡ Some answered.now }
     ensures { result ≡ preferred_on (with_preferred_server answered.now turn.now.state) route }
 {
-    let own = answered.route;
+    let ask = answered.ask();
+    let own = ask.route;
     let before = turn.preferred.get(route.place).copied().unwrap_or(0);
     if route.place == own.place {
-        answered.server
+        ask.server
     } else {
         before
     }
@@ -71,7 +71,7 @@ fn preferred_then<'a, H: BuildHasher + Drop, A: Allocator + Copy>(
 /// no route, or no port is free.
 fn first_ask_then<'a, H: BuildHasher + Drop, A: Allocator + Copy>(
     turn: &TurnRef<'a, H, A>,
-    answered: &Ask<A>,
+    answered: &KeyedAsk<A>,
     question: &Question<A>,
 ) -> Result<Option<Ask<A>>, AllocError>
     requires { ask_on answered.now.path turn.now.state.asks ≡ Some answered.now }
@@ -86,7 +86,8 @@ fn first_ask_then<'a, H: BuildHasher + Drop, A: Allocator + Copy>(
         server: preferred_then(turn, route, answered),
         used: 1,
     };
-    let drawn = by_udp(draw(turn.words, turn.inquiries, freed_port(answered.path)));
+    let ask = answered.ask();
+    let drawn = by_udp(draw(turn.words, turn.inquiries, freed_port(ask.path)));
     new_ask(
         turn.alloc,
         turn.config,
@@ -101,14 +102,15 @@ fn first_ask_then<'a, H: BuildHasher + Drop, A: Allocator + Copy>(
 fn is_asked_beside<'a, H: BuildHasher + Drop, A: Allocator + Copy>(
     turn: &TurnRef<'a, H, A>,
     question: &Question<A>,
-    answered: &Ask<A>,
+    answered: &KeyedAsk<A>,
 ) -> bool
     requires { ask_on answered.now.path turn.now.state.asks ≡ Some answered.now }
     ensures { result ≡ is_some (of_question question.now (without_path answered.now.path turn.now.state.asks)) }
 {
+    let ask = answered.ask();
     let key = QuestionKey::of(question);
     match turn.inquiries.by_question(&key) {
-        Some(open) => !open.path.is_same(answered.path),
+        Some(open) => !open.path.is_same(ask.path),
         None => false,
     }
 }
@@ -117,7 +119,7 @@ fn is_asked_beside<'a, H: BuildHasher + Drop, A: Allocator + Copy>(
 /// fail.
 fn ask_for_those<'a, H: BuildHasher + Drop, A: Allocator + Copy>(
     turn: &TurnRef<'a, H, A>,
-    answered: &Ask<A>,
+    answered: &KeyedAsk<A>,
     fates: Fates<'a, A>,
     those: &WaitingFor<'_, A>,
 ) -> Result<(Fates<'a, A>, Option<Ask<A>>), AllocError>
@@ -147,7 +149,7 @@ fn ask_for_those<'a, H: BuildHasher + Drop, A: Allocator + Copy>(
 /// The ask is closed, replies are given, and the next ask goes out.
 fn close_and_send_on<'a, 's, H: BuildHasher + Drop, A: Allocator + Copy>(
     turn: &TurnRef<'a, H, A>,
-    answered: &Ask<A>,
+    answered: &KeyedAsk<A>,
     fates: Fates<'a, A>,
     next: Option<Ask<A>>,
     carried: Vec<Held<A>, A>,
@@ -166,16 +168,17 @@ fn close_and_send_on<'a, 's, H: BuildHasher + Drop, A: Allocator + Copy>(
         (with_promoted (map (λ h. h.piece.slot) fates.entry.used)
         (with_preferred_server answered.now turn.now.state))))) }
 {
-    let mut actions = PlainList::new(turn.alloc);
-    actions.push(close_path(answered.path))?;
+    let ask = answered.ask();
+    let mut actions = Actions::new(turn.alloc);
+    actions.push(close_path(ask.path))?;
     let (onward, used) = fates.into_parts(turn.alloc, &mut actions)?;
     put_next(turn.alloc, &mut actions, &next)?;
     let preferred = Preferred {
-        route: answered.route,
-        server: answered.server,
+        route: ask.route,
+        server: ask.server,
     };
     let sending = Sending {
-        path: answered.path,
+        path: ask.path,
         preferred,
         onward,
         ask: next,
@@ -193,7 +196,7 @@ fn close_and_send_on<'a, 's, H: BuildHasher + Drop, A: Allocator + Copy>(
 /// reply or waits on; what the reply carries is kept.
 pub(crate) fn send_on<'a, 's, H: BuildHasher + Drop, A: Allocator + Copy>(
     turn: &TurnRef<'a, H, A>,
-    answered: &Ask<A>,
+    answered: &KeyedAsk<A>,
     walk: Walk<A>,
 ) -> Result<Decision<'a, 's, A>, AllocError>
     requires on { ask_on answered.now.path turn.now.state.asks ≡ Some answered.now }
@@ -211,7 +214,7 @@ pub(crate) fn send_on<'a, 's, H: BuildHasher + Drop, A: Allocator + Copy>(
     };
     let walked = pieces.as_slice().len();
     let held = held_from(turn.alloc, pieces, authority, turn.moment)?;
-    let those = turn.waiting.for_question(&answered.question);
+    let those = turn.waiting.for_ask(answered);
     let lead = AliasLead {
         aliases: &held[..walked],
         name: &name,

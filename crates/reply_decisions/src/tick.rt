@@ -7,7 +7,7 @@ ghost use Rattle.step_actions.specs.Decision.{closed_path, IsQuiet, MeetsRow};
 ghost use Rattle.step_table.specs.State.{turn};
 
 use crate::attempt::fail;
-use outstanding::{Ask, Path, QuestionKey};
+use outstanding::{KeyedAsk, Path, QuestionKey};
 use retry_failover::Failure;
 use std::alloc::{AllocError, Allocator};
 use std::hash::BuildHasher;
@@ -71,16 +71,17 @@ fn on_question<'a, 's, H: BuildHasher + Drop, A: Allocator + Copy>(
 /// The oldest ask comes first.
 fn on_attempt<'a, 's, H: BuildHasher + Drop, A: Allocator + Copy>(
     turn: &TurnRef<'a, H, A>,
-    oldest: &Ask<A>,
+    oldest: &KeyedAsk<A>,
 ) -> Result<Decision<'a, 's, A>, AllocError>
     requires first { slice_get turn.now.state.asks 0 ≡ Some oldest.now }
     ensures decides { IfOk result (MeetsRow turn.now (λ _. row_of_item turn.now (attempt oldest.now))) }
     ensures early { is_due_at turn.now.config turn.now.moment turn.now.state ≡ false → IsQuiet result }
 {
-    if !is_late(turn.config, turn.moment, oldest) {
+    let ask = oldest.ask();
+    if !is_late(turn.config, turn.moment, ask) {
         return Ok(nothing(turn));
     }
-    fail(turn, oldest.path, oldest, Failure::TimedOut)
+    fail(turn, ask.path, oldest, Failure::TimedOut)
 }
 
 /// Time has passed.
@@ -95,7 +96,7 @@ pub fn on_tick<'a, 's, H: BuildHasher + Drop, A: Allocator + Copy>(
         (None, Some(ask)) => on_attempt(turn, ask),
         (Some(waiting), None) => on_question(turn, waiting),
         (Some(waiting), Some(ask)) => {
-            if comes_first(turn.config, waiting, ask) {
+            if comes_first(turn.config, waiting, ask.ask()) {
                 on_question(turn, waiting)
             } else {
                 on_attempt(turn, ask)

@@ -7,6 +7,7 @@ ghost use Rattle.wires.specs.Wire.Arrival.{nothing};
 ghost use Rattle.script_wire.specs.Scripts.{put_of, turn_of, next_turn, begun, calls_once, faults_once, refuses};
 ghost use Rattle.script_wire.specs.Scripts.{standing, AllButTold};
 
+use plain_list::Octets;
 use std::alloc::{AllocError, Allocator, Global};
 use std::collections::VecDeque;
 use std::marker::Model;
@@ -335,6 +336,12 @@ impl<A: Allocator + Copy> Wire<A> for ScriptWire<A> {
             }
         }
     }
+
+    fn take_back(&mut self, _octets: &mut Octets<A>)
+        ensures tells { self.new.told ≡ self.old.told }
+        ensures faults { self.new.faults ≡ self.old.faults }
+        ensures same { self.new ≡ self.old }
+    {}
 
     fn moment(&mut self) -> u64
         ensures tells { TellsMore self.old.told (moment_was result) self.new.told }

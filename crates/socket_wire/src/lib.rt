@@ -10,6 +10,7 @@ mod origin;
 mod readiness;
 mod receive_buffer;
 mod sockets;
+mod spare;
 mod wire;
 mod words;
 

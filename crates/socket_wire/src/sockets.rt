@@ -13,8 +13,10 @@ mod trying;
 use crate::listeners::{connections_at, datagrams_at};
 use crate::numbers::Numbers;
 use crate::readiness::Readiness;
+use crate::spare::Spare;
 use crate::words::Words;
 use mio::net::{TcpListener, UdpSocket};
+use plain_list::Octets;
 use std::alloc::{AllocError, Allocator};
 use std::collections::BTreeMap;
 use std::io;
@@ -47,6 +49,7 @@ pub(crate) struct Sockets<'a, R: Net, A: Allocator> {
     numbers: Numbers,
     asks: BTreeMap<u16, UdpSocket, A>,
     buffer: Box<[u8; LARGEST], A>,
+    spare: Spare<A>,
     words: Words,
     /// How long a question may wait for its reply, in milliseconds.
     deadline: u64,
@@ -85,6 +88,7 @@ impl<'a, R: Net, A: Allocator + Copy> Sockets<'a, R, A> {
             numbers: Numbers::new(),
             asks: BTreeMap::new(alloc),
             buffer,
+            spare: Spare::new(alloc),
             words,
             deadline: limits.deadline_ms,
             tried: 0,
@@ -101,6 +105,13 @@ impl<'a, R: Net, A: Allocator + Copy> Sockets<'a, R, A> {
         ensures rest { self.new ≡ record self.old { words = self.new.words } }
     {
         self.words.next()
+    }
+
+    /// Takes the memory of octets back that were served, for those that arrive next.
+    pub fn take_back(&mut self, octets: &mut Octets<A>)
+        ensures { self.new ≡ self.old }
+    {
+        self.spare.keep(self.alloc, octets);
     }
 
     /// What arrives next: first the end of a connection that the wire closed.

@@ -1,10 +1,12 @@
 //! The wire.
 
 ghost use Rattle.std.specs.Prelude.{◌≡◌, IfOk};
+ghost use Rattle.socket_wire.specs.Seen.{told_of_sockets};
 
 use crate::moments::Moments;
 use crate::sockets::Sockets;
 use crate::words::Words;
+use plain_list::Octets;
 use std::alloc::{Allocator, Global};
 use std::io;
 use std::marker::Model;
@@ -50,9 +52,7 @@ impl<'a, R: Net + Clock + RandomSource, A: Allocator + Copy> MioWire<'a, R, A> {
 }
 
 impl<R: Net + Clock, A: Allocator + Copy> Wire<A> for MioWire<'_, R, A> {
-    ghost use Rattle.std.specs.Prelude.{None};
-
-    ghost told = { λ _. None };
+    ghost told = { λ _. told_of_sockets };
 
     ghost fault_count = { λ wire. wire.faults };
 
@@ -81,6 +81,13 @@ impl<R: Net + Clock, A: Allocator + Copy> Wire<A> for MioWire<'_, R, A> {
                 Err(WireFault)
             }
         }
+    }
+
+    fn take_back(&mut self, octets: &mut Octets<A>)
+        ensures tells { told_of_sockets ≡ told_of_sockets }
+        ensures faults { self.new.faults ≡ self.old.faults }
+    {
+        self.sockets.take_back(octets);
     }
 
     fn moment(&mut self) -> u64 {

@@ -6,10 +6,9 @@ ghost use Rattle.alias_chains.specs.Offering.{pieces_of};
 
 use alias_chains::SlotsRef;
 use outstanding::{Ask, KeyedAsk, Path};
-use plain_list::PlainList;
 use record_cache::Held;
 use std::alloc::{Allocator, Global};
-use step_values::Action;
+use step_values::Actions;
 use suffix_routes::RouteId;
 use waiting_questions::{KeyedWaiting, SentOn};
 
@@ -61,7 +60,7 @@ pub enum Change<A: Allocator = Global> {
 /// pieces that an accepted reply carries are offered to the cache, last.
 #[derive(Drop)]
 pub struct Decision<'a, 's, A: Allocator = Global> {
-    pub actions: PlainList<Action<A>, A>,
+    pub actions: Actions<A>,
     pub used: SlotsRef<'a, 's, A>,
     pub change: Change<A>,
     /// In the order in which they are offered.
@@ -70,11 +69,7 @@ pub struct Decision<'a, 's, A: Allocator = Global> {
 
 impl<'a, 's, A: Allocator + Copy> Decision<'a, 's, A> {
     /// These actions and this change, with no look-up and no accepted reply. It takes no memory.
-    pub fn without_cache(
-        alloc: A,
-        actions: PlainList<Action<A>, A>,
-        change: Change<A>,
-    ) -> Decision<'a, 's, A>
+    pub fn without_cache(alloc: A, actions: Actions<A>, change: Change<A>) -> Decision<'a, 's, A>
         ensures actions { actions_of result.actions ≡ actions_of actions }
         ensures used { result.used ≡ [] }
         ensures change { result.change ≡ change }

@@ -18,12 +18,11 @@ use crate::past_ends::stale_answer;
 use crate::refusals::failure;
 use crate::replies::close_path;
 use alias_chains::look_up_past;
-use outstanding::Ask;
-use plain_list::PlainList;
+use outstanding::KeyedAsk;
 use record_cache::{Cache, Held};
 use std::alloc::{AllocError, Allocator};
 use std::hash::BuildHasher;
-use step_values::{Action, Why};
+use step_values::{Action, Actions, Why};
 use suffix_routes::Config;
 use trust_rank::MOST_ALIASES;
 use waiting_questions::{Waiting, WaitingQuestions};
@@ -85,7 +84,7 @@ fn last_reply<H: BuildHasher + Drop, A: Allocator + Copy>(
 /// Puts the last reply to a question last.
 fn put_last<H: BuildHasher + Drop, A: Allocator + Copy>(
     alloc: A,
-    actions: &mut PlainList<Action<A>, A>,
+    actions: &mut Actions<A>,
     cache: &Cache<H, A>,
     config: &Config<A>,
     moment: u64,
@@ -105,21 +104,21 @@ fn put_last<H: BuildHasher + Drop, A: Allocator + Copy>(
 /// in milliseconds. `Err` where memory ran out.
 pub fn last_replies<H: BuildHasher + Drop, A: Allocator + Copy>(
     alloc: A,
-    ask: &Ask<A>,
+    ask: &KeyedAsk<A>,
     cache: &Cache<H, A>,
     config: &Config<A>,
     moment: u64,
     waiting: &WaitingQuestions<A>,
-) -> Result<PlainList<Action<A>, A>, AllocError>
+) -> Result<Actions<A>, AllocError>
     requires accepted { IsConfig config.now }
     requires entries { AllByRecursion (IsEarlier moment) cache.now.entries }
     requires aliases { AllByRecursion (HoldsEarlier moment) waiting.now.items }
     ensures { IfOk result (λ actions. actions_of actions ≡ with_replies
         (runs_out config.now moment cache.now.entries ask.now.question) (closes ask.now.path ∷ []) waiting.now.items) }
 {
-    let mut actions = PlainList::new(alloc);
-    actions.push(close_path(ask.path))?;
-    let those = waiting.for_question(&ask.question);
+    let mut actions = Actions::new(alloc);
+    actions.push(close_path(ask.ask().path))?;
+    let those = waiting.for_ask(ask);
     for place in 0..those.len() {
         put_last(alloc, &mut actions, cache, config, moment, those.get(place))?;
     }

@@ -13,12 +13,10 @@ ghost use Rattle.step_actions.specs.Decision.{closing_path, gives_from, told_fro
 
 use crate::answers::Answers;
 use crate::refusals::failure;
-use dns_message::Question;
-use outstanding::{Ask, Path};
-use plain_list::PlainList;
+use outstanding::{KeyedAsk, Path};
 use record_cache::Held;
 use std::alloc::{AllocError, Allocator};
-use step_values::{Action, Why};
+use step_values::{Action, Actions, Why};
 use trust_rank::MOST_ALIASES;
 use waiting_questions::{Waiting, WaitingQuestions};
 
@@ -33,13 +31,13 @@ pub fn close_path<A: Allocator>(path: Path) -> Action<A>
 }
 
 /// The actions that give a path up, where there is one. `Err` where memory ran out.
-pub fn close_paths<A: Allocator>(
+pub fn close_paths<A: Allocator + Copy>(
     alloc: A,
     closed: Option<Path>,
-) -> Result<PlainList<Action<A>, A>, AllocError>
+) -> Result<Actions<A>, AllocError>
     ensures { IfOk result (λ actions. actions_of actions ≡ closing_path closed) }
 {
-    let mut actions = PlainList::new(alloc);
+    let mut actions = Actions::new(alloc);
     if let Some(path) = closed {
         actions.push(close_path(path))?;
     }
@@ -49,7 +47,7 @@ pub fn close_paths<A: Allocator>(
 /// Puts the failure of a question last.
 fn put_failure<A: Allocator + Copy>(
     alloc: A,
-    actions: &mut PlainList<Action<A>, A>,
+    actions: &mut Actions<A>,
     waiting: &Waiting<A>,
     why: Why,
 ) -> Result<(), AllocError>
@@ -62,16 +60,16 @@ fn put_failure<A: Allocator + Copy>(
 /// The ask is closed, and each question that waits for it fails. `Err` where memory ran out.
 pub fn failures<A: Allocator + Copy>(
     alloc: A,
-    ask: &Ask<A>,
+    ask: &KeyedAsk<A>,
     waiting: &WaitingQuestions<A>,
     why: Why,
-) -> Result<PlainList<Action<A>, A>, AllocError>
+) -> Result<Actions<A>, AllocError>
     ensures { IfOk result (λ actions. actions_of actions ≡ with_replies (fails why ask.now.question)
         (closes ask.now.path ∷ []) waiting.now.items) }
 {
-    let mut actions = PlainList::new(alloc);
-    actions.push(close_path(ask.path))?;
-    let those = waiting.for_question(&ask.question);
+    let mut actions = Actions::new(alloc);
+    actions.push(close_path(ask.ask().path))?;
+    let those = waiting.for_ask(ask);
     for place in 0..those.len() {
         put_failure(alloc, &mut actions, those.get(place), why)?;
     }
@@ -100,7 +98,7 @@ fn answer_or_fail<'a, A: Allocator + Copy>(
 /// Puts the answer of a question last.
 fn put_answer<'a, A: Allocator + Copy>(
     alloc: A,
-    actions: &mut PlainList<Action<A>, A>,
+    actions: &mut Actions<A>,
     answers: &mut Answers<'a, A>,
     pieces: usize,
     waiting: &'a Waiting<A>,
@@ -115,21 +113,21 @@ fn put_answer<'a, A: Allocator + Copy>(
     actions.push(action)
 }
 
-/// Puts the answers of those questions last that wait for this one, in their order.
+/// Puts the answers of those questions last that wait for the one of this ask, in their order.
 fn put_answers<'a, A: Allocator + Copy>(
     alloc: A,
-    actions: &mut PlainList<Action<A>, A>,
-    question: &Question<A>,
+    actions: &mut Actions<A>,
+    ask: &KeyedAsk<A>,
     answers: &mut Answers<'a, A>,
     pieces: usize,
     waiting: &'a WaitingQuestions<A>,
 ) -> Result<(), AllocError>
     requires pieces { pieces ≡ length answers.old.chain }
     requires earlier { AllByRecursion (HoldsEarlier answers.old.moment) waiting.now.items }
-    ensures { IfOk result (λ _. actions_of actions.new ≡ with_replies (gives_from answers.old question.now)
+    ensures { IfOk result (λ _. actions_of actions.new ≡ with_replies (gives_from answers.old ask.now.question)
         (actions_of actions.old) waiting.now.items) }
 {
-    let those = waiting.for_question(question);
+    let those = waiting.for_ask(ask);
     for place in 0..those.len() {
         put_answer(alloc, actions, answers, pieces, those.get(place))?;
     }
@@ -152,11 +150,11 @@ fn borrowed<A: Allocator + Copy>(alloc: A, held: &[Held<A>]) -> Result<Vec<&Held
 /// memory ran out.
 pub fn answers_to<A: Allocator + Copy>(
     alloc: A,
-    ask: &Ask<A>,
+    ask: &KeyedAsk<A>,
     held: &[Held<A>],
     moment: u64,
     waiting: &WaitingQuestions<A>,
-) -> Result<PlainList<Action<A>, A>, AllocError>
+) -> Result<Actions<A>, AllocError>
     requires pieces { AllByRecursion (IsEarlier moment) held.now }
     requires aliases { AllByRecursion (HoldsEarlier moment) waiting.now.items }
     ensures { IfOk result (λ actions. actions_of actions ≡ with_replies
@@ -165,15 +163,8 @@ pub fn answers_to<A: Allocator + Copy>(
 {
     let chain = borrowed(alloc, held)?;
     let mut answers = Answers::new(alloc, &chain, moment);
-    let mut actions = PlainList::new(alloc);
-    actions.push(close_path(ask.path))?;
-    put_answers(
-        alloc,
-        &mut actions,
-        &ask.question,
-        &mut answers,
-        held.len(),
-        waiting,
-    )?;
+    let mut actions = Actions::new(alloc);
+    actions.push(close_path(ask.ask().path))?;
+    put_answers(alloc, &mut actions, ask, &mut answers, held.len(), waiting)?;
     Ok(actions)
 }

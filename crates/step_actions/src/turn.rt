@@ -6,11 +6,11 @@ ghost use Rattle.step_actions.specs.Decision.{next_of, MeetsRow, CanChange};
 
 use crate::decision::{Change, Decision};
 use outstanding::Inquiries;
-use plain_list::PlainList;
 use record_cache::Cache;
 use std::alloc::{Allocator, Global};
 use std::hash::BuildHasher;
 use std::marker::Model;
+use step_values::Actions;
 use suffix_routes::Config;
 use waiting_questions::WaitingQuestions;
 
@@ -67,5 +67,5 @@ pub fn nothing<'a, 's, H: BuildHasher + Drop, A: Allocator + Copy>(
     ensures decides { MeetsRow turn.now (λ _. idle_step turn.now.moment turn.now.state) result }
     ensures quiet { (result.used ≡ []) × (result.change ≡ Change.Nothing) }
 {
-    Decision::without_cache(turn.alloc, PlainList::new(turn.alloc), Change::Nothing)
+    Decision::without_cache(turn.alloc, Actions::new(turn.alloc), Change::Nothing)
 }

@@ -7,7 +7,7 @@ use plain_list::PlainList;
 use std::alloc::Global;
 use std::fs;
 use std::time::Instant;
-use step_values::{Action, Client, Event, Path};
+use step_values::{Action, Actions, Client, Event, Path};
 use suffix_routes::{Config, Peer};
 
 /// One route for all names, and room for all that wait.
@@ -59,16 +59,16 @@ fn asked(
     for number in 0..waiting {
         let client = client(number, over_tcp);
         let bytes = PlainList::copied(alloc, question)?;
-        forwarder.step(1000, WORDS, Event::Client { client, bytes })?;
+        forwarder.step(1000, WORDS, &Event::Client { client, bytes })?;
     }
     Ok(forwarder)
 }
 
 /// How many octets the actions send to clients.
-fn octets_sent(actions: &[Action]) -> usize {
+fn octets_sent(actions: &Actions) -> usize {
     let mut sent = 0usize;
-    for action in actions {
-        if let Action::Reply { bytes, .. } = action {
+    for place in 0..actions.len() {
+        if let Some(Action::Reply { bytes, .. }) = actions.get(place) {
             sent = sent.saturating_add(bytes.as_slice().len());
         }
     }
@@ -82,9 +82,9 @@ fn time_of_step(
     event: Event,
 ) -> Result<(u128, usize)> {
     let started = Instant::now(rt)?;
-    let outcome = forwarder.step(1020, WORDS, event)?;
+    let outcome = forwarder.step(1020, WORDS, &event)?;
     let took = started.elapsed(rt)?.as_nanos();
-    Ok((took, octets_sent(outcome.actions.as_slice())))
+    Ok((took, octets_sent(&outcome.actions)))
 }
 
 /// How long the step with the reply takes in nanoseconds where so many wait for it, and how many octets it sends.

@@ -86,7 +86,7 @@ fn ask(
         client: Client::Udp(peer),
         bytes: PlainList::copied(alloc, &question(number))?,
     };
-    forwarder.step(moment_of(number), words_of(number), event)?;
+    forwarder.step(moment_of(number), words_of(number), &event)?;
     Ok(())
 }
 
@@ -102,8 +102,8 @@ fn answer(
         from: SERVER,
         bytes: PlainList::copied(alloc, &reply(number))?,
     };
-    let outcome = forwarder.step(moment, words_of(number), event)?;
-    Ok(outcome.actions.as_slice().len().saturating_sub(1))
+    let outcome = forwarder.step(moment, words_of(number), &event)?;
+    Ok(outcome.actions.len().saturating_sub(1))
 }
 
 /// A forwarder with so many queries under way, for each of which so many clients wait.

@@ -18,10 +18,10 @@ fn is_quiet<'a>(
     event: Event<&'a Refusing<Global>>,
 ) -> Result<bool, AllocError> {
     heap.allow(1);
-    let outcome = forwarder.step(now, WORDS, event);
+    let outcome = forwarder.step(now, WORDS, &event);
     let is_left = Box::new(heap, 0u8).is_ok();
     heap.allow(u64::MAX);
-    Ok(is_left && outcome?.actions.as_slice().is_empty())
+    Ok(is_left && outcome?.actions.is_empty())
 }
 
 /// An event whose octets stand in the table.

@@ -5,7 +5,7 @@ use forwarder_core::Forwarder;
 use lru::DefaultHasher;
 use plain_list::PlainList;
 use std::alloc::{AllocError, Allocator};
-use step_values::{Action, Client, Event, Path, Why};
+use step_values::{Action, Actions, Client, Event, Path, Why};
 use suffix_routes::{Config, Limits, Peer, Route};
 
 const CLIENT: Client = Client::Udp(Peer {
@@ -96,20 +96,23 @@ pub(crate) fn asked<A: Allocator + Copy>(
     alloc: A,
 ) -> Result<Forwarder<DefaultHasher, A>, AllocError> {
     let mut forwarder = Forwarder::new(alloc, config(alloc)?, DefaultHasher::default())?;
-    let _outcome = forwarder.step(1000, WORDS, sends(alloc, &QUESTION)?)?;
+    let _outcome = forwarder.step(1000, WORDS, &sends(alloc, &QUESTION)?)?;
     Ok(forwarder)
 }
 
 /// The actions send these octets to the server, from the query's port, and do nothing else.
-pub(crate) fn send_alone<A: Allocator>(actions: &[Action<A>], text: &[u8]) -> bool {
-    match actions {
-        [
-            Action::AskUdp {
-                port,
-                server,
-                bytes,
-            },
-        ] => *port == 1032 && *server == SERVER && bytes.as_slice() == text,
+pub(crate) fn send_alone<A: Allocator + Copy>(actions: &Actions<A>, text: &[u8]) -> bool {
+    match (actions.get(0), actions.get(1)) {
+        (
+            Some(
+                Action::AskUdp {
+                    port,
+                    server,
+                    bytes,
+                },
+            ),
+            None,
+        ) => *port == 1032 && *server == SERVER && bytes.as_slice() == text,
         _ => false,
     }
 }
@@ -125,9 +128,9 @@ pub(crate) fn is_reply<A: Allocator>(action: &Action<A>, text: &[u8], reason: Wh
 }
 
 /// The actions close the query's port and give the client its answer, and do nothing else.
-pub(crate) fn answer_whole<A: Allocator>(actions: &[Action<A>]) -> bool {
-    match actions {
-        [Action::CloseUdp { port }, reply] => {
+pub(crate) fn answer_whole<A: Allocator + Copy>(actions: &Actions<A>) -> bool {
+    match (actions.get(0), actions.get(1), actions.get(2)) {
+        (Some(Action::CloseUdp { port }), Some(reply), None) => {
             *port == 1032 && is_reply(reply, ANSWER, Why::Answered)
         }
         _ => false,

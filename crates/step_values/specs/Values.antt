@@ -1,5 +1,5 @@
 -- Events, actions and steps as plain values.
-use Rattle.std.specs.Prelude.{ℕ, Bool, List, map, Option, Some, None}
+use Rattle.std.specs.Prelude.{ℕ, Bool, List, [], ◌∷◌, map, Option, Some, None}
 use Rattle.suffix_routes.specs.declared.peer.Peer.{Peer}
 use Rattle.step_values.specs.declared.event.Client.{Client}
 use Rattle.outstanding.specs.declared.ask.Path.{Path}
@@ -9,6 +9,8 @@ use Rattle.step_values.specs.declared.event.Event.{Event as OwnedEvent}
 use Rattle.step_values.specs.declared.event.Event.TheVariants.{Client as OfClient, Delivery, PathFailed, Tick, Restart}
 use Rattle.step_values.specs.declared.action.Action.{Action as OwnedAction}
 use Rattle.step_values.specs.declared.action.Action.TheVariants.{AskUdp, AskTcp, CloseUdp, CloseTcp, Reply}
+use Rattle.step_values.specs.declared.actions.Listed.{Listed}
+use Rattle.step_values.specs.declared.actions.Listed.TheVariants.{Nothing, One, More}
 
 -- what happens: a message of a client, a message on a path to a server, the end of such a path, the passing of time, a
 -- new beginning
@@ -26,6 +28,19 @@ pub data Action : Type 0 where
   close_udp : ℕ → Action
   close_tcp : ℕ → Action
   send_reply : Client → List ℕ → Why → Action
+
+-- ---- where actions lie
+
+-- the actions that a list has, in order
+abbrev pub listed_in : {A : Type 0} → Listed A → List (OwnedAction A)
+listed_in Nothing = []
+listed_in (One action) = action ∷ []
+listed_in (More actions) = actions.items
+
+abbrev pub IsOne : {A : Type 0} → Listed A → Type 0
+IsOne Nothing = ⊥
+IsOne (One action) = Unit {0}
+IsOne (More actions) = ⊥
 
 -- ---- what an event and an action show
 

@@ -2,10 +2,12 @@
 #![tactic(auto)]
 
 mod action;
+mod actions;
 mod event;
 mod step;
 
 pub use action::{Action, Why};
+pub use actions::Actions;
 pub use event::{Client, Event};
 pub use outstanding::Path;
 pub use step::{Handed, Outcome, Step};

@@ -2,9 +2,8 @@
 
 ghost use Rattle.std.specs.Prelude.{◌≡◌, IfOk};
 
-use crate::action::Action;
+use crate::actions::Actions;
 use crate::event::Event;
-use plain_list::PlainList;
 use std::alloc::{AllocError, Allocator, Global};
 use std::marker::Model;
 
@@ -12,7 +11,7 @@ use std::marker::Model;
 #[derive(Drop)]
 pub struct Outcome<A: Allocator = Global> {
     /// In the order in which they are to be done.
-    pub actions: PlainList<Action<A>, A>,
+    pub actions: Actions<A>,
     /// How many entries found no memory in the cache.
     pub unkept: u32,
     /// A deadline or a timeout is due already.

@@ -1,6 +1,6 @@
 //! Values are copied whole, and each refused growth is told.
 
-use crate::{Action, Client, Event, Handed, Path, Why};
+use crate::{Action, Actions, Client, Event, Handed, Path, Why};
 use plain_list::PlainList;
 use refusing_allocator::Refusing;
 use std::alloc::{AllocError, Allocator, Global};
@@ -254,5 +254,31 @@ fn is_handed_copied(heap: Heap<'_>) -> Result<bool, AllocError> {
 fn copies_of_what_is_handed_are_equal(rt: HostRuntime) -> Result<(), Fail> {
     let heap = Refusing::new(rt.alloc());
     assert!(rt; is_handed_copied(&heap)?);
+    Ok(())
+}
+
+/// Whether actions are listed in their order, the first without memory, and a refused growth changes nothing.
+fn are_listed(heap: Heap<'_>) -> Result<bool, AllocError> {
+    heap.allow(0);
+    let mut actions = Actions::new(heap);
+    let is_empty = actions.is_empty() && actions.get(0).is_none();
+    actions.push(Action::CloseUdp { port: 1032 })?;
+    let is_refused = actions.push(Action::CloseTcp { conn: 7 }).is_err();
+    let is_left = actions.len() == 1
+        && matches!(actions.get(0), Some(Action::CloseUdp { port: 1032 }))
+        && actions.get(1).is_none();
+    heap.allow(1);
+    actions.push(Action::CloseTcp { conn: 7 })?;
+    let are_both = actions.len() == 2
+        && matches!(actions.get(0), Some(Action::CloseUdp { port: 1032 }))
+        && matches!(actions.get(1), Some(Action::CloseTcp { conn: 7 }))
+        && actions.get(2).is_none();
+    Ok(is_empty && is_refused && is_left && are_both)
+}
+
+#[test]
+fn actions_are_listed_in_order(rt: HostRuntime) -> Result<(), Fail> {
+    let heap = Refusing::new(rt.alloc());
+    assert!(rt; are_listed(&heap)?);
     Ok(())
 }

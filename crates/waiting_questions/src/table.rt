@@ -13,8 +13,7 @@ use crate::keyed::KeyedWaiting;
 use crate::places::{place_by_turn, range_of};
 use crate::waiting::SentOn;
 use arrival_order::KeysInTurn;
-use dns_message::Question;
-use outstanding::{NumberedKey, QuestionKey};
+use outstanding::{KeyedAsk, NumberedKey, QuestionKey};
 use slab::Slab;
 use std::alloc::{AllocError, Allocator};
 use std::collections::VecDeque;
@@ -165,31 +164,31 @@ impl<A: Allocator> Table<A> {
         }
     }
 
-    /// Gives their fates to those that wait for this question, the newest of them first, so that those before it stay
-    /// where they stand.
-    pub(crate) fn settle(&mut self, question: &Question<A>, mut fates: Vec<Option<SentOn<A>>, A>)
+    /// Gives their fates to those that wait for the question of this ask, the newest of them first, so that those
+    /// before it stay where they stand.
+    pub(crate) fn settle(&mut self, ask: &KeyedAsk<A>, mut fates: Vec<Option<SentOn<A>>, A>)
         requires indexed { IsIndexed self.old }
-        requires one_each { length fates.items ≡ length (filter (waits_for question.now) (items_of self.old)) }
+        requires one_each { length fates.items ≡ length (filter (waits_for ask.now.question) (items_of self.old)) }
         ensures indexed { IsIndexed self.new }
-        ensures list { items_of self.new ≡ settled question.now fates.items (items_of self.old) }
+        ensures list { items_of self.new ≡ settled ask.now.question fates.items (items_of self.old) }
     {
-        let key = QuestionKey::of(question);
+        let question = ask.key();
         while let Some(fate) = fates.pop() {
-            let (start, _) = self.range(&key);
+            let (start, _) = self.range(question);
             let place = start + fates.len();
             let turn = self.in_turn.place_of(self.by_question[place].key());
             self.settle_one(place, turn, fate);
         }
     }
 
-    /// Lets those go that wait for this question, the newest of them first. Their keys leave those by question at once,
-    /// when all are gone.
-    pub(crate) fn end(&mut self, question: &Question<A>)
+    /// Lets those go that wait for the question of this ask, the newest of them first. Their keys leave those by question
+    /// at once, when all are gone.
+    pub(crate) fn end(&mut self, ask: &KeyedAsk<A>)
         requires { IsIndexed self.old }
         ensures indexed { IsIndexed self.new }
-        ensures list { items_of self.new ≡ filter (λ x. not (waits_for question.now x)) (items_of self.old) }
+        ensures list { items_of self.new ≡ filter (λ x. not (waits_for ask.now.question x)) (items_of self.old) }
     {
-        let (start, end) = self.range(&QuestionKey::of(question));
+        let (start, end) = self.range(ask.key());
         for place in (start..end).rev() {
             let key = self.by_question[place].key();
             let turn = self.in_turn.place_of(key);

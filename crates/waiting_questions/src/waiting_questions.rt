@@ -12,7 +12,7 @@ use crate::keyed::KeyedWaiting;
 use crate::table::Table;
 use crate::waiting::{SentOn, Waiting};
 use dns_message::Question;
-use outstanding::{NumberedKey, QuestionKey};
+use outstanding::{KeyedAsk, NumberedKey, QuestionKey};
 use slab::Slab;
 use std::alloc::{AllocError, Allocator, Global};
 use std::collections::VecDeque;
@@ -102,29 +102,29 @@ impl<A: Allocator> WaitingQuestions<A> {
         self.table.take(place, 0);
     }
 
-    /// Those that wait for this question wait no more, the newest of them first. It takes no memory, and looks at no
-    /// other question but those that the searches by halves meet.
-    pub fn end(&mut self, question: &Question<A>)
-        ensures { self.new.items ≡ filter (λ x. not (waits_for question.now x)) self.old.items }
+    /// Those that wait for the question of this ask wait no more, the newest of them first. It takes no memory, and
+    /// looks at no other question but those that the searches by halves meet.
+    pub fn end(&mut self, ask: &KeyedAsk<A>)
+        ensures { self.new.items ≡ filter (λ x. not (waits_for ask.now.question x)) self.old.items }
     {
-        self.table.end(question);
+        self.table.end(ask);
     }
 
-    /// Those that wait for this question wait no more, or wait on: in the order of taking, each has a fate, the aliases
-    /// and the question that it is sent on with, or none. It takes no memory, and each keeps its place in the order of
-    /// taking.
-    pub fn send_on(&mut self, question: &Question<A>, fates: Vec<Option<SentOn<A>>, A>)
-        requires { length fates.items ≡ length (filter (waits_for question.now) self.old.items) }
-        ensures { self.new.items ≡ settled question.now fates.items self.old.items }
+    /// Those that wait for the question of this ask wait no more, or wait on: in the order of taking, each has a fate,
+    /// the aliases and the question that it is sent on with, or none. It takes no memory, and each keeps its place in
+    /// the order of taking.
+    pub fn send_on(&mut self, ask: &KeyedAsk<A>, fates: Vec<Option<SentOn<A>>, A>)
+        requires { length fates.items ≡ length (filter (waits_for ask.now.question) self.old.items) }
+        ensures { self.new.items ≡ settled ask.now.question fates.items self.old.items }
     {
-        self.table.settle(question, fates);
+        self.table.settle(ask, fates);
     }
 
-    /// Those that wait for this question, in the order of taking. It takes no memory.
-    pub fn for_question(&self, question: &Question<A>) -> WaitingFor<'_, A>
-        ensures { result ≡ filter (waits_for question.now) self.now.items }
+    /// Those that wait for the question of this ask, in the order of taking. It takes no memory.
+    pub fn for_ask(&self, ask: &KeyedAsk<A>) -> WaitingFor<'_, A>
+        ensures { result ≡ filter (waits_for ask.now.question) self.now.items }
     {
-        let (start, end) = self.table.range(&QuestionKey::of(question));
+        let (start, end) = self.table.range(ask.key());
         WaitingFor::new(&self.table.waiting, &self.table.by_question, start, end)
     }
 

@@ -98,6 +98,11 @@ pub trait Wire<A: Allocator> {
         ensures tells { TellsMore (told self.old) (was_put (action_of action.now) (is_ok result)) (told self.new) }
         ensures faults { OnErr result (fault_count self.old < fault_count self.new) };
 
+    /// May take the memory of octets back that it gave, once they are served: what arrives next may lie in it.
+    fn take_back(&mut self, octets: &mut Octets<A>)
+        ensures tells { told self.new ≡ told self.old }
+        ensures faults { fault_count self.new ≡ fault_count self.old };
+
     /// The moment, in milliseconds.
     fn moment(&mut self) -> u64
         ensures tells { TellsMore (told self.old) (moment_was result) (told self.new) };

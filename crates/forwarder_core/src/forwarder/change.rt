@@ -18,12 +18,11 @@ use crate::forwarder::Forwarder;
 use crate::lists::{close_inquiry, end_closed, list_ask, send_on};
 use alias_chains::{Slots, offer_all, promote_all};
 use outstanding::{Ask, KeyedAsk, Path};
-use plain_list::PlainList;
 use record_cache::Held;
 use std::alloc::{AllocError, Allocator};
 use std::hash::BuildHasher;
 use step_actions::{Change, Opening, Preferred, Sending, is_late, is_overdue};
-use step_values::{Action, Outcome};
+use step_values::{Actions, Outcome};
 use waiting_questions::KeyedWaiting;
 
 /// One more ask by TCP, where the path is a connection.
@@ -213,8 +212,29 @@ impl<H: BuildHasher + Drop, A: Allocator + Copy> Forwarder<H, A> {
         self.moment = moment;
     }
 
-    /// Puts a change in place. An `Err` changes nothing.
+    /// Puts a change in place. An `Err` changes nothing. A step that changes no list does without the room on the stack
+    /// that what is listed takes, which is cleared before it is used.
     fn apply(&mut self, moment: u64, change: Change<A>) -> Result<(), AllocError>
+        requires later { self.old.state.moment ≤ moment }
+        requires in_time { moment ≤ 2 ^ 62 }
+        requires fits { FitsChange self.old.config moment self.old.state change }
+        ensures ok { OnOk result (self.new.state ≡ changed moment self.old.state change) }
+        ensures config { self.new.config ≡ self.old.config }
+        ensures quiet { change ≡ Change.Nothing → IsOk result }
+        ensures err { OnErr result (self.new ≡ self.old) }
+    {
+        match change {
+            Change::Nothing => {
+                self.pass(moment);
+                Ok(())
+            }
+            listed => self.change_lists(moment, listed),
+        }
+    }
+
+    /// The same, for any change, out of line.
+    #[inline(never)]
+    fn change_lists(&mut self, moment: u64, change: Change<A>) -> Result<(), AllocError>
         requires later { self.old.state.moment ≤ moment }
         requires in_time { moment ≤ 2 ^ 62 }
         requires fits { FitsChange self.old.config moment self.old.state change }
@@ -284,7 +304,7 @@ impl<H: BuildHasher + Drop, A: Allocator + Copy> Forwarder<H, A> {
         ensures { result ≡ list_any (λ a. nat_le (timeout_of self.now.config a) moment) self.now.state.asks }
     {
         match self.inquiries.oldest() {
-            Some(oldest) => is_late(&self.config, moment, oldest),
+            Some(oldest) => is_late(&self.config, moment, oldest.ask()),
             None => false,
         }
     }
@@ -307,7 +327,7 @@ impl<H: BuildHasher + Drop, A: Allocator + Copy> Forwarder<H, A> {
     pub(crate) fn carry_out(
         &mut self,
         moment: u64,
-        actions: PlainList<Action<A>, A>,
+        actions: Actions<A>,
         used: &Slots<'_, A>,
         change: Change<A>,
         carried: Vec<Held<A>, A>,

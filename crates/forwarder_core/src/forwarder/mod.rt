@@ -19,13 +19,12 @@ use crate::deciding::decide;
 use crate::lists::forget_all;
 use alias_chains::slot_for_look_ups;
 use outstanding::Inquiries;
-use plain_list::PlainList;
 use record_cache::Cache;
 use std::alloc::{AllocError, Allocator, Global};
 use std::hash::BuildHasher;
 use std::marker::Model;
 use step_actions::{Decision, TurnRef};
-use step_values::{Event, Outcome};
+use step_values::{Actions, Event, Outcome};
 use suffix_routes::{Config, Route};
 use waiting_questions::WaitingQuestions;
 
@@ -123,7 +122,7 @@ impl<H: BuildHasher + Drop, A: Allocator + Copy> Forwarder<H, A> {
         ensures { result ≡ record { actions = []; unkept = 0; more = false } }
     {
         Outcome {
-            actions: PlainList::new(self.alloc),
+            actions: Actions::new(self.alloc),
             unkept: 0,
             more: false,
         }
@@ -225,37 +224,39 @@ impl<H: BuildHasher + Drop, A: Allocator + Copy> Forwarder<H, A> {
         &mut self,
         now: u64,
         words: [u32; 8],
-        event: Event<A>,
+        event: &Event<A>,
     ) -> Result<Outcome<A>, AllocError>
         ensures row { IfOk result (λ outcome. Row self.old.config self.old.state
-            (record { now = now; words = words; event = event_of event }) outcome self.new.state) }
+            (record { now = now; words = words; event = event_of event.now }) outcome self.new.state) }
         // What explains the state before explains, with this step and an owner for each of its replies, the state
         // after.
         ensures explained { IfOk result (λ outcome. StaysExplained self.old.config self.old.state
-            (record { now = now; words = words; event = event_of event }) outcome self.new.state) }
+            (record { now = now; words = words; event = event_of event.now }) outcome self.new.state) }
         // So it is of what stands of that history and is mirrored in the state, and of asks and those who wait, which
         // serve each other: a question of which enough stands is answered by its own step, where the cache has room.
         ensures whole { IfOk result (λ outcome. StaysFullyExplained self.old.config self.old.state
-            (record { now = now; words = words; event = event_of event }) outcome self.new.state) }
+            (record { now = now; words = words; event = event_of event.now }) outcome self.new.state) }
         // Behind whatever steps led a new forwarder to the state before, this one serves truly: with one list of owners
         // each claim holds of the whole run.
-        ensures truly { IfOk result (λ outcome. ServesOnTruly self.old.config self.old.state
-            (record { handed = record { now = now; words = words; event = event_of event }; outcome = outcome } ∷ [])) }
+        ensures truly { IfOk result (λ outcome. ServesOnTruly self.old.config self.old.state (record {
+          handed = record { now = now; words = words; event = event_of event.now };
+          outcome = outcome;
+        } ∷ [])) }
         ensures config { self.new.config ≡ self.old.config }
         // A message that is dropped, a delivery that matches nothing, the failure of a path without an ask, a tick with
         // nothing due and a restart never want memory.
         ensures no_memory { TakesNoMemory self.old.config (effective now self.old.state) self.old.state
-            (event_of event) → IsOk result }
+            (event_of event.now) → IsOk result }
         ensures err { OnErr result (self.new ≡ self.old) }
         // What is left to do is bounded, and falls with each step that serves something: so ticks, while more is due,
         // come to an end.
         ensures bounded { left_to_do self.old.config self.old.state ≤ self.old.config.limits.questions +
             self.old.config.limits.inquiries * self.old.config.limits.tries }
-        ensures less { ServesSomething self.old.config (effective now self.old.state) self.old.state (event_of event)
+        ensures less { ServesSomething self.old.config (effective now self.old.state) self.old.state (event_of event.now)
             → IfOk result (λ outcome. left_to_do self.old.config self.new.state < left_to_do self.old.config
             self.old.state) }
     {
-        self.take(now, words, &event)
+        self.take(now, words, event)
     }
 
     /// The least moment, in milliseconds, at which a tick serves something: the deadline of a waiting question, or the

@@ -5,11 +5,12 @@ ghost use Rattle.socket_wire.specs.Arriving.{MayCloseResting, TakesConnection, T
 ghost use Rattle.socket_wire.specs.Attempting.{Attempts};
 ghost use Rattle.socket_wire.specs.Taking.{IsPiece, TakesAsk, TakesClient, TakesDatagram, TakesServer};
 
-use super::Sockets;
+use super::{LARGEST, Sockets};
 use crate::address::peer_of;
 use crate::origin::Origin;
+use crate::spare::Spare;
 use mio::net::TcpStream;
-use plain_list::PlainList;
+use plain_list::Octets;
 use std::alloc::{AllocError, Allocator};
 use std::io;
 use std::io::ErrorKind;
@@ -51,7 +52,7 @@ impl<R: Net, A: Allocator + Copy> Sockets<'_, R, A> {
         let Some(from) = peer_of(from) else {
             return Ok(Tried::Served);
         };
-        let bytes = PlainList::copied(self.alloc, &self.buffer[..count])?;
+        let bytes = self.spare.copied(self.alloc, &self.buffer[..count])?;
         Ok(Tried::Arrived(Arrival::ClientDatagram { from, bytes }))
     }
 
@@ -104,7 +105,12 @@ impl<R: Net, A: Allocator + Copy> Sockets<'_, R, A> {
             .connections
             .serve_client(conn, &mut self.buffer[..], now)
         {
-            Some(Heard::Octets(count)) => match self.piece(count) {
+            Some(Heard::Octets(count)) => match piece(
+                self.alloc,
+                &mut self.spare,
+                &self.buffer,
+                count,
+            ) {
                 Ok(bytes) => Ok(Tried::Arrived(Arrival::ClientStream { conn, bytes })),
                 Err(refusal) => {
                     self.connections.close_client(conn);
@@ -131,7 +137,7 @@ impl<R: Net, A: Allocator + Copy> Sockets<'_, R, A> {
                 let Some(from) = peer_of(from) else {
                     return Ok(Tried::Served);
                 };
-                let bytes = PlainList::copied(self.alloc, &self.buffer[..count])?;
+                let bytes = self.spare.copied(self.alloc, &self.buffer[..count])?;
                 Ok(Tried::Arrived(Arrival::ServerDatagram { port, from, bytes }))
             }
             Err(error) if error.kind() == ErrorKind::WouldBlock => Ok(Tried::Nothing),
@@ -152,7 +158,7 @@ impl<R: Net, A: Allocator + Copy> Sockets<'_, R, A> {
         };
         match served {
             Ok(0) => {}
-            Ok(count) => match self.piece(count) {
+            Ok(count) => match piece(self.alloc, &mut self.spare, &self.buffer, count) {
                 Ok(bytes) => return Ok(Tried::Arrived(Arrival::ServerStream { conn, from, bytes })),
                 Err(refusal) => {
                     self.connections.close_server(conn);
@@ -165,11 +171,16 @@ impl<R: Net, A: Allocator + Copy> Sockets<'_, R, A> {
         self.connections.close_server(conn);
         Ok(Tried::Served)
     }
+}
 
-    /// So many octets of the buffer.
-    fn piece(&self, count: usize) -> Result<PlainList<u8, A>, AllocError>
-        ensures { IfOk result (λ octets. IsPiece count self.now.buffer.value octets) }
-    {
-        PlainList::copied(self.alloc, self.buffer.get(..count).unwrap_or(&[]))
-    }
+/// So many octets of the buffer, in the memory that is spare.
+fn piece<A: Allocator + Copy>(
+    alloc: A,
+    spare: &mut Spare<A>,
+    buffer: &[u8; LARGEST],
+    count: usize,
+) -> Result<Octets<A>, AllocError>
+    ensures { IfOk result (λ octets. IsPiece count buffer.now octets) }
+{
+    spare.copied(alloc, buffer.get(..count).unwrap_or(&[]))
 }

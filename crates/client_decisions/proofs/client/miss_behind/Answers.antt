@@ -9,7 +9,7 @@ pub returns : goal.returns
 returns g c = record {
   decides =
       let on : route_of c.args.turn.now.config c.args.name ≡ Some c.in-Some.wanted.route = sym
-      (λ i. route_of (c.turn.view_is i).config ((c.of.ensures ∙ c.asked_at-question.ensures) i).name)
+      (λ i. route_of (c.turn.view_is i).config ((c.of-asked.ensures ∙ c.asked_at-question.ensures) i).name)
       ∙ c.in-Some.ensures.0 in
       decides_by c.wait.result _ _ _ c.wait.ensures.decides (λ rooms.
       waits_row c.args.turn.now.config c.args.turn.now.moment c.args.turn.now.words c.args.request.now

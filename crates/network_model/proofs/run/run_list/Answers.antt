@@ -2,7 +2,7 @@ use Rattle.std.proofs.Common.{◌≡◌, ◌∙◌, ℕ, List, [], length, take,
 use Rattle.std.specs.Prelude.{map}
 use Rattle.std.proofs.Math.Seq.{take-length}
 use Rattle.suffix_routes.specs.Values.{Config}
-use Rattle.step_values.specs.Values.{event_of, Handed, Step}
+use Rattle.step_values.specs.Values.{Handed, Step}
 use Rattle.step_table.specs.State.{Running}
 use Rattle.step_table.specs.Row.{Row}
 use Rattle.theorem_sound.proofs.CallerLemmas.{handed_more}
@@ -25,7 +25,7 @@ loop-entry-init g c =
 pub loop-entry-preserved : goal.loop-entry-preserved
 loop-entry-preserved g c =
     let i = c.loop-entry.invariant in
-    let same = ap (λ e. record { now = c.entry.inside.now; words = c.entry.inside.words; event = event_of e }) c.in_ok-event.ensures ∙ c.entry.view_is in
+    let same = c.entry.view_is in
     let row = subst (λ (h : Handed). Row c.loop-entry.forwarder.config c.loop-entry.forwarder.state h c.in_ok-outcome.outcome c.step.new.self.state) same c.in_ok-outcome.ensures.row in
     record {
       config = c.in_ok-outcome.ensures.config ∙ i.config;

@@ -7,8 +7,13 @@ use Rattle.network_model.proofs.streams.serve_frames.Goals as goal
 pub loop-message-init : goal.loop-message-init
 loop-message-init g c = frames_none _ _ _
 
-pub loop-message-preserved : goal.loop-message-preserved
-loop-message-preserved g c = frames_more c.cut_does_not_matter.ensures _ _ _ c.in-Some.message _ _ _ _ _ _ c.event.ensures c.loop-message.invariant
+pub loop-message-preserved-in-Some : goal.loop-message-preserved-in-Some
+loop-message-preserved-in-Some g c = frames_more c.cut_does_not_matter.ensures _ _ _ c.in-Some.message _ _ _ _ _ _ c.event.ensures c.loop-message.invariant
+    (subst (λ (r : Result (Option (List ℕ)) AllocError). Takes c.loop-message.reader r c.take.new.self) (c.in_ok-message.was ∙ ap (λ (o : Option (List ℕ)). Ok o) c.in-Some.is) c.take.ensures)
+    c.hand_on.ensures
+
+pub loop-message-preserved-in-Some-2 : goal.loop-message-preserved-in-Some-2
+loop-message-preserved-in-Some-2 g c = frames_more c.cut_does_not_matter.ensures _ _ _ c.in-Some.message _ _ _ _ _ _ c.event.ensures c.loop-message.invariant
     (subst (λ (r : Result (Option (List ℕ)) AllocError). Takes c.loop-message.reader r c.take.new.self) (c.in_ok-message.was ∙ ap (λ (o : Option (List ℕ)). Ok o) c.in-Some.is) c.take.ensures)
     c.hand_on.ensures
 

@@ -21,7 +21,7 @@ returns g c = record {
         (c.without_cache.ensures.actions ∙ ap (λ xs. actions_of {A = g.row.A.Denot} xs)
         (c.in_ok-push-2.ensures.ok ∙ ap (λ xs. xs ++ c.in_ok-action.action ∷ [])
         (c.in_ok-push.ensures.ok ∙ ap (λ xs. xs ++ c.close_path.result ∷ []) c.new-actions.ensures))
-        ∙ (λ i. (c.close_path.ensures ∙ ap (λ (a : Ask). closes a.path) c.ask.view_is) i ∷ c.in_ok-action.ensures i
+        ∙ (λ i. (c.close_path.ensures ∙ ap (λ (a : Ask). closes a.path) (c.behind-ask.view_is ∙ c.ask.ensures)) i ∷ c.in_ok-action.ensures i
         ∷ [])));
     fits =
         fits_plain c.args.turn.now.config c.args.turn.now.moment c.args.turn.now.state c.without_cache.result

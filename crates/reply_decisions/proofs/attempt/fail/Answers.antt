@@ -1,4 +1,4 @@
-use Rattle.std.proofs.Common.{◌≡◌, ◌∙◌, ℕ, ◌+◌, ◌<◌, ap, sym, subst, Option, Some, arith}
+use Rattle.std.proofs.Common.{◌≡◌, ◌∙◌, ℕ, ◌+◌, ◌<◌, length, ap, sym, subst, Option, Some, arith}
 use Rattle.outstanding.specs.declared.ask.Path.{Path}
 use Rattle.outstanding.specs.Draws.{drawn_by_tcp, udp_draw}
 use Rattle.step_table.specs.Failures.{row_of_attempt, row_of_next}
@@ -7,19 +7,22 @@ use Rattle.retry_failover.specs.Table.{after_failure}
 use Rattle.outstanding.specs.Lists.{on_path as ask_on, without_path}
 use Rattle.outstanding.specs.Values.{Ask}
 use Rattle.step_table.specs.State.{Turn}
-use Rattle.step_table.specs.Attempts.{ask_by, peer_at, over_udp, over_tcp, freed_by, plan_of}
+use Rattle.step_table.specs.Attempts.{ask_by, group_of, peer_at, servers_in, over_udp, over_tcp, freed_by, plan_of}
 use Rattle.step_actions.specs.Decision.{CanFollow}
 use Rattle.step_actions.proofs.CallerLemmas.{server_within, more_left, udp_goes_on, tcp_goes_on, next_by_udp, next_by_tcp, decides_by}
 use Rattle.reply_decisions.proofs.attempt.fail.Goals as goal
 
 pub plan-plan-requires-clause-server : goal.plan-plan-requires-clause-server
-plan-plan-requires-clause-server g c = server_within c.turn.inside.config.now c.turn.inside.before
+plan-plan-requires-clause-server g c =
+    subst (λ (a : Ask). a.server < length (servers_in (group_of c.turn.inside.config.now a.route)))
+    (sym c.ask-asked.ensures)
+    (server_within c.turn.inside.config.now c.turn.inside.before
     c.turn.inside.tcp_asks c.args.path c.turn.inside.inquiries.now.asks c.args.ask.now
     (subst (λ (r : Turn). ask_on c.args.path r.state.asks ≡ Some c.args.ask.now) (sym c.turn.view_is) c.requires.on)
-    c.turn.invariant.0.asks
+    c.turn.invariant.0.asks)
 
 pub after-requires : goal.after-requires
-after-requires g c = subst (λ (p : Plan). p.server < p.servers) (sym c.plan-plan.ensures)
+after-requires g c = subst (λ (p : Plan). p.server < p.servers) (sym (c.plan-plan.ensures ∙ ap (plan_of c.turn.inside.config.now) c.ask-asked.ensures))
     (server_within c.turn.inside.config.now c.turn.inside.before c.turn.inside.tcp_asks c.args.path
     c.turn.inside.inquiries.now.asks c.args.ask.now (subst
     (λ (r : Turn). ask_on c.args.path r.state.asks ≡ Some c.args.ask.now) (sym c.turn.view_is) c.requires.on)
@@ -31,7 +34,7 @@ retry-requires-clause-tries g c =
     c.turn.inside.waiting.now.items c.turn.inside.preferred.now c.turn.inside.before c.turn.inside.tcp_asks
     c.args.path c.args.ask.now c.args.failure c.turn.invariant.0
     (subst (λ (r : Turn). ask_on c.args.path r.state.asks ≡ Some c.args.ask.now) (sym c.turn.view_is) c.requires.on)
-    (udp_goes_on _ c.in-AskUdp.server (ap (λ (p : Plan). after_failure p c.args.failure) (sym c.plan-plan.ensures)
+    (udp_goes_on _ c.in-AskUdp.server (ap (λ (p : Plan). after_failure p c.args.failure) (sym (c.plan-plan.ensures ∙ ap (plan_of c.turn.inside.config.now) c.ask-asked.ensures))
     ∙ sym c.in-AskUdp.ensures)) in
     let most = c.turn.invariant.0.config.limits.tries.1 in omega (arith, more, most)
 
@@ -44,13 +47,13 @@ retry-requires-clause-follows g c =
     c.turn.inside.moment c.turn.inside.words c.args.path c.args.ask.now c.args.failure c.turn.invariant.0
     c.turn.invariant.1 c.turn.invariant.2
     (subst (λ (r : Turn). ask_on c.args.path r.state.asks ≡ Some c.args.ask.now) (sym c.turn.view_is) c.requires.on)
-    c.in-AskUdp.server (ap (λ (p : Plan). after_failure p c.args.failure) (sym c.plan-plan.ensures)
+    c.in-AskUdp.server (ap (λ (p : Plan). after_failure p c.args.failure) (sym (c.plan-plan.ensures ∙ ap (plan_of c.turn.inside.config.now) c.ask-asked.ensures))
     ∙ sym c.in-AskUdp.ensures) next
     ((λ i. ask_by (c.turn.view_is i).moment c.args.ask.now.question c.args.ask.now.route c.in-AskUdp.server
     (c.args.ask.now.used + 1) (peer_at (c.turn.view_is i).config c.args.ask.now.route c.in-AskUdp.server)
     (sym (c.by_udp.ensures ∙ ap over_udp (c.draw-drawn.ensures.drawn
     ∙ ap (udp_draw c.turn.inside.words c.turn.inside.inquiries.now.asks)
-    (c.freed_port.ensures ∙ ap (λ (a : Ask). freed_by a.path) c.ask.view_is))) i)) ∙ is))
+    (c.freed_port.ensures ∙ ap (λ (a : Ask). freed_by a.path) (c.asked.view_is ∙ c.ask-asked.ensures)))) i)) ∙ is))
 
 pub retry-requires-in-AskTcp-clause-tries : goal.retry-requires-in-AskTcp-clause-tries
 retry-requires-in-AskTcp-clause-tries g c =
@@ -58,7 +61,7 @@ retry-requires-in-AskTcp-clause-tries g c =
     c.turn.inside.waiting.now.items c.turn.inside.preferred.now c.turn.inside.before c.turn.inside.tcp_asks
     c.args.path c.args.ask.now c.args.failure c.turn.invariant.0
     (subst (λ (r : Turn). ask_on c.args.path r.state.asks ≡ Some c.args.ask.now) (sym c.turn.view_is) c.requires.on)
-    (tcp_goes_on _ c.in-AskTcp.server (ap (λ (p : Plan). after_failure p c.args.failure) (sym c.plan-plan.ensures)
+    (tcp_goes_on _ c.in-AskTcp.server (ap (λ (p : Plan). after_failure p c.args.failure) (sym (c.plan-plan.ensures ∙ ap (plan_of c.turn.inside.config.now) c.ask-asked.ensures))
     ∙ sym c.in-AskTcp.ensures)) in
     let most = c.turn.invariant.0.config.limits.tries.1 in omega (arith, more, most)
 
@@ -71,7 +74,7 @@ retry-requires-in-AskTcp-clause-follows g c =
     c.turn.inside.moment c.turn.inside.words c.args.path c.args.ask.now c.args.failure c.turn.invariant.0
     c.turn.invariant.1 c.turn.invariant.2
     (subst (λ (r : Turn). ask_on c.args.path r.state.asks ≡ Some c.args.ask.now) (sym c.turn.view_is) c.requires.on)
-    c.in-AskTcp.server (ap (λ (p : Plan). after_failure p c.args.failure) (sym c.plan-plan.ensures)
+    c.in-AskTcp.server (ap (λ (p : Plan). after_failure p c.args.failure) (sym (c.plan-plan.ensures ∙ ap (plan_of c.turn.inside.config.now) c.ask-asked.ensures))
     ∙ sym c.in-AskTcp.ensures) next
     ((λ i. ask_by (c.turn.view_is i).moment c.args.ask.now.question c.args.ask.now.route c.in-AskTcp.server
     (c.args.ask.now.used + 1) (peer_at (c.turn.view_is i).config c.args.ask.now.route c.in-AskTcp.server)
@@ -83,7 +86,7 @@ returns-in-GiveUp g c = record {
       decides_by c.run_out.result _ _ _ c.run_out.ensures.decides
       (λ rooms. sym (ap (row_of_next c.args.turn.now c.args.ask.now)
       (ap (λ (r : Turn). after_failure (plan_of r.config c.args.ask.now) c.args.failure) (sym c.turn.view_is)
-      ∙ ap (λ (p : Plan). after_failure p c.args.failure) (sym c.plan-plan.ensures) ∙ sym c.in-GiveUp.ensures)));
+      ∙ ap (λ (p : Plan). after_failure p c.args.failure) (sym (c.plan-plan.ensures ∙ ap (plan_of c.turn.inside.config.now) c.ask-asked.ensures)) ∙ sym c.in-GiveUp.ensures)));
 }
 
 pub returns-in-AskUdp : goal.returns-in-AskUdp
@@ -96,11 +99,11 @@ returns-in-AskUdp g c = record {
       c.in-AskUdp.server) d))
       (c.by_udp.ensures ∙ ap over_udp (c.draw-drawn.ensures.drawn
       ∙ ap (udp_draw c.turn.inside.words c.turn.inside.inquiries.now.asks)
-      (c.freed_port.ensures ∙ ap (λ (a : Ask). freed_by a.path) c.ask.view_is))
+      (c.freed_port.ensures ∙ ap (λ (a : Ask). freed_by a.path) (c.asked.view_is ∙ c.ask-asked.ensures)))
       ∙ ap (λ (r : Turn). over_udp (udp_draw r.words r.state.asks (freed_by c.args.ask.now.path))) c.turn.view_is)
       ∙ sym (ap (row_of_next c.args.turn.now c.args.ask.now)
       (ap (λ (r : Turn). after_failure (plan_of r.config c.args.ask.now) c.args.failure) (sym c.turn.view_is)
-      ∙ ap (λ (p : Plan). after_failure p c.args.failure) (sym c.plan-plan.ensures) ∙ sym c.in-AskUdp.ensures)));
+      ∙ ap (λ (p : Plan). after_failure p c.args.failure) (sym (c.plan-plan.ensures ∙ ap (plan_of c.turn.inside.config.now) c.ask-asked.ensures)) ∙ sym c.in-AskUdp.ensures)));
 }
 
 pub returns-in-AskTcp : goal.returns-in-AskTcp
@@ -115,5 +118,5 @@ returns-in-AskTcp g c = record {
       ∙ ap (λ (r : Turn). over_tcp (drawn_by_tcp r.words r.state.tcp_asks)) c.turn.view_is)
       ∙ sym (ap (row_of_next c.args.turn.now c.args.ask.now)
       (ap (λ (r : Turn). after_failure (plan_of r.config c.args.ask.now) c.args.failure) (sym c.turn.view_is)
-      ∙ ap (λ (p : Plan). after_failure p c.args.failure) (sym c.plan-plan.ensures) ∙ sym c.in-AskTcp.ensures)));
+      ∙ ap (λ (p : Plan). after_failure p c.args.failure) (sym (c.plan-plan.ensures ∙ ap (plan_of c.turn.inside.config.now) c.ask-asked.ensures)) ∙ sym c.in-AskTcp.ensures)));
 }

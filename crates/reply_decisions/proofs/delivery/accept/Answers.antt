@@ -52,8 +52,8 @@ returns g c = record {
             routed c.requires.ends g.row.A.Denot c.args.turn.now.words rooms c.args.path c.args.turn.now.state _ _ _ _ _
             c.requires.on
             c.none.ensures
-            (ap (λ (a : Ask). a.route) c.ask.view_is)
-            (ap (λ (a : Ask). a.server) c.ask.view_is)
+            (ap (λ (a : Ask). a.route) (c.answered.view_is ∙ c.ask-answered.ensures))
+            (ap (λ (a : Ask). a.server) (c.answered.view_is ∙ c.ask-answered.ensures))
             (c.in_ok-actions.ensures
             ∙ (λ i. with_replies (gives_from (record {
               chain =
@@ -70,7 +70,7 @@ returns g c = record {
             (ap (λ (v : Walk). v.pieces) c.walk.view_is) (ap (λ (v : Walk). v.authority) c.walk.view_is));
         fits = record {
           fits = subst (λ (a : Ask). a.server < length (servers_in (group_of c.args.turn.now.config a.route)))
-              (sym c.ask.view_is)
+              (sym (c.answered.view_is ∙ c.ask-answered.ensures))
               (subst (λ (r : Turn). c.args.ask.now.server < length
               (servers_in (group_of r.config c.args.ask.now.route))) c.turn.view_is
               (server_within c.turn.inside.config.now c.turn.inside.before c.turn.inside.tcp_asks c.args.path

@@ -5,9 +5,11 @@ use Rattle.plain_list.specs.Octets.{AreOctets}
 use Rattle.reply_match.specs.declared.verdict.Judged.{Judged}
 use Rattle.reply_match.specs.declared.verdict.Judged.TheVariants.{Stranger, Truncated, Failed, Malformed, Whole}
 use Rattle.reply_match.specs.Judged.{IsViewOf}
+use Rattle.reply_match.specs.Verdicts.{judge}
 use Rattle.step_table.specs.State.{Turn}
-use Rattle.step_table.specs.Replies.{row_of_verdict}
+use Rattle.step_table.specs.Replies.{row_of_verdict, timeout_of}
 use Rattle.outstanding.specs.Lists.{on_path as ask_on}
+use Rattle.outstanding.specs.Values.{Ask}
 use Rattle.reply_decisions.specs.Walked.{ShowsOctets}
 use Rattle.reply_decisions.proofs.Deciding.{idle_unlisted, idle_late, judged_is, verdict_is}
 use Rattle.step_actions.proofs.CallerLemmas.{decides_as, decides_by}
@@ -36,7 +38,7 @@ returns-then-not-is_live-clause-decides g c =
     c.args.turn.now.state _ c.in-Some.ask.now _
     (sym (ap (ask_on c.args.path) (ap (λ (r : Turn). r.state.asks) c.turn.view_is)) ∙ c.in-Some.ensures.found)
     (ap (λ (r : Turn). nat_lt r.moment (c.in-Some.ask.now.asked + r.config.limits.ask_ms)) (sym c.turn.view_is)
-    ∙ sym c.is_live.ensures ∙ c.if-not-is_live.true)
+    ∙ sym (c.is_live.ensures ∙ ap (λ (a : Ask). nat_lt c.turn.inside.moment (timeout_of c.turn.inside.config.now a)) c.ask-asked.ensures) ∙ c.if-not-is_live.true)
     refl)
 
 pub on_verdict-requires-clause-on : goal.on_verdict-requires-clause-on
@@ -55,15 +57,17 @@ returns-clause-decides g c =
     c.args.bytes.now c.args.turn.now.state _ c.in-Some.ask.now _
     (sym (ap (ask_on c.args.path) (ap (λ (r : Turn). r.state.asks) c.turn.view_is)) ∙ c.in-Some.ensures.found)
     (ap (λ (r : Turn). nat_lt r.moment (c.in-Some.ask.now.asked + r.config.limits.ask_ms)) (sym c.turn.view_is)
-    ∙ sym c.is_live.ensures ∙ c.if-not-is_live.false)
-    (ap (row_of_verdict c.args.turn.now rooms c.in-Some.ask.now c.args.bytes.now) c.judge-judged.ensures.verdict))
+    ∙ sym (c.is_live.ensures ∙ ap (λ (a : Ask). nat_lt c.turn.inside.moment (timeout_of c.turn.inside.config.now a)) c.ask-asked.ensures) ∙ c.if-not-is_live.false)
+    (ap (row_of_verdict c.args.turn.now rooms c.in-Some.ask.now c.args.bytes.now)
+    (c.judge-judged.ensures.verdict ∙ ap (λ (a : Ask). judge a c.args.from c.args.bytes.now) c.ask-asked.ensures)))
 
 pub returns-clause-unmatched : goal.returns-clause-unmatched
 returns-clause-unmatched g c stranger =
     c.on_verdict.ensures.unmatched
     (c.judge-judged.ensures.verdict
+    ∙ ap (λ (a : Ask). judge a c.args.from c.args.bytes.now) c.ask-asked.ensures
     ∙ sym (verdict_is c.args.turn.now.config c.args.turn.now.moment c.args.from c.args.bytes.now _ c.in-Some.ask.now
     (sym (ap (ask_on c.args.path) (ap (λ (r : Turn). r.state.asks) c.turn.view_is)) ∙ c.in-Some.ensures.found)
     (ap (λ (r : Turn). nat_lt r.moment (c.in-Some.ask.now.asked + r.config.limits.ask_ms)) (sym c.turn.view_is)
-    ∙ sym c.is_live.ensures ∙ c.if-not-is_live.false))
+    ∙ sym (c.is_live.ensures ∙ ap (λ (a : Ask). nat_lt c.turn.inside.moment (timeout_of c.turn.inside.config.now a)) c.ask-asked.ensures) ∙ c.if-not-is_live.false))
     ∙ stranger)

@@ -13,8 +13,8 @@ returns-then-is_lame g c = record {
   decides =
       let walk : c.in_ok-walk.walk ≡ walk_of c.args.turn.now.config c.args.message.now c.args.ask.now.question
       c.args.ask.now.route =
-      c.in_ok-walk.ensures ∙ (λ i. walk_of (c.turn.view_is i).config c.args.message.now (c.ask.view_is i).question
-      (c.ask.view_is i).route) in
+      c.in_ok-walk.ensures ∙ (λ i. walk_of (c.turn.view_is i).config c.args.message.now ((c.asked.view_is ∙ c.ask-asked.ensures) i).question
+      ((c.asked.view_is ∙ c.ask-asked.ensures) i).route) in
       let lame : is_lame (walk_of c.args.turn.now.config c.args.message.now c.args.ask.now.question
       c.args.ask.now.route).end ≡ true =
       ap (λ (w : Walk). is_lame w.end) (sym walk ∙ sym c.walk.view_is) ∙ sym c.is_lame.ensures ∙ c.if-is_lame.true in
@@ -28,8 +28,8 @@ returns-then-leads_on g c = record {
   decides =
       let walk : c.in_ok-walk.walk ≡ walk_of c.args.turn.now.config c.args.message.now c.args.ask.now.question
       c.args.ask.now.route =
-      c.in_ok-walk.ensures ∙ (λ i. walk_of (c.turn.view_is i).config c.args.message.now (c.ask.view_is i).question
-      (c.ask.view_is i).route) in
+      c.in_ok-walk.ensures ∙ (λ i. walk_of (c.turn.view_is i).config c.args.message.now ((c.asked.view_is ∙ c.ask-asked.ensures) i).question
+      ((c.asked.view_is ∙ c.ask-asked.ensures) i).route) in
       let fine : is_lame (walk_of c.args.turn.now.config c.args.message.now c.args.ask.now.question
       c.args.ask.now.route).end ≡ false =
       ap (λ (w : Walk). is_lame w.end) (sym walk ∙ sym c.walk.view_is) ∙ sym c.is_lame.ensures ∙ c.if-is_lame.false in
@@ -44,8 +44,8 @@ returns g c = record {
   decides =
       let walk : c.in_ok-walk.walk ≡ walk_of c.args.turn.now.config c.args.message.now c.args.ask.now.question
       c.args.ask.now.route =
-      c.in_ok-walk.ensures ∙ (λ i. walk_of (c.turn.view_is i).config c.args.message.now (c.ask.view_is i).question
-      (c.ask.view_is i).route) in
+      c.in_ok-walk.ensures ∙ (λ i. walk_of (c.turn.view_is i).config c.args.message.now ((c.asked.view_is ∙ c.ask-asked.ensures) i).question
+      ((c.asked.view_is ∙ c.ask-asked.ensures) i).route) in
       let fine : is_lame (walk_of c.args.turn.now.config c.args.message.now c.args.ask.now.question
       c.args.ask.now.route).end ≡ false =
       ap (λ (w : Walk). is_lame w.end) (sym walk ∙ sym c.walk.view_is) ∙ sym c.is_lame.ensures ∙ c.if-is_lame.false in
@@ -62,8 +62,8 @@ pub send_on-requires-clause-carried : goal.send_on-requires-clause-carried
 send_on-requires-clause-carried g c =
     let walk : c.in_ok-walk.walk ≡ walk_of c.args.turn.now.config c.args.message.now c.args.ask.now.question
     c.args.ask.now.route =
-    c.in_ok-walk.ensures ∙ (λ i. walk_of (c.turn.view_is i).config c.args.message.now (c.ask.view_is i).question
-    (c.ask.view_is i).route) in
+    c.in_ok-walk.ensures ∙ (λ i. walk_of (c.turn.view_is i).config c.args.message.now ((c.asked.view_is ∙ c.ask-asked.ensures) i).question
+    ((c.asked.view_is ∙ c.ask-asked.ensures) i).route) in
     record { message = c.args.message.now; read = c.requires.read; is = walk }
 
 pub accept-requires-clause-ends : goal.accept-requires-clause-ends
@@ -76,6 +76,6 @@ pub accept-requires-clause-carried : goal.accept-requires-clause-carried
 accept-requires-clause-carried g c =
     let walk : c.in_ok-walk.walk ≡ walk_of c.args.turn.now.config c.args.message.now c.args.ask.now.question
     c.args.ask.now.route =
-    c.in_ok-walk.ensures ∙ (λ i. walk_of (c.turn.view_is i).config c.args.message.now (c.ask.view_is i).question
-    (c.ask.view_is i).route) in
+    c.in_ok-walk.ensures ∙ (λ i. walk_of (c.turn.view_is i).config c.args.message.now ((c.asked.view_is ∙ c.ask-asked.ensures) i).question
+    ((c.asked.view_is ∙ c.ask-asked.ensures) i).route) in
     record { message = c.args.message.now; read = c.requires.read; is = walk }

@@ -23,8 +23,8 @@ pub returns : goal.returns
 returns g c = record {
   decides =
       λ fate become.
-      let on : ask_on c.answered.inside.path c.args.turn.now.state.asks ≡ Some c.args.answered.now = ap
-      (λ (a : Ask). ask_on a.path c.args.turn.now.state.asks) c.answered.view_is ∙ c.requires.on in
+      let on : ask_on c.ask.inside.path c.args.turn.now.state.asks ≡ Some c.args.answered.now = ap
+      (λ (a : Ask). ask_on a.path c.args.turn.now.state.asks) (c.ask.view_is ∙ c.ask-ask.ensures) ∙ c.requires.on in
       let on_inside : ask_on c.args.answered.now.path c.turn.inside.inquiries.now.asks
       ≡ Some c.args.answered.now = subst (λ (r : Turn). ask_on c.args.answered.now.path r.state.asks
       ≡ Some c.args.answered.now) (sym c.turn.view_is) c.requires.on in
@@ -34,11 +34,11 @@ returns g c = record {
             (sending_row g.row.A.Denot c.args.turn.now.moment c.args.turn.now.state c.args.answered.now fate
             c.args.fates.each c.args.next c.in_ok-onward.used c.in_ok-sending.sending _ c.requires.on become
             (ap (λ (v : Sending g.row.A.Denot). v.path) c.in_ok-sending.ensures.ok
-            ∙ ap (λ (a : Ask). a.path) c.answered.view_is)
+            ∙ ap (λ (a : Ask). a.path) (c.ask.view_is ∙ c.ask-ask.ensures))
             (ap (λ (v : Sending g.row.A.Denot). v.preferred.route) c.in_ok-sending.ensures.ok
-            ∙ ap (λ (a : Ask). a.route) c.answered.view_is)
+            ∙ ap (λ (a : Ask). a.route) (c.ask.view_is ∙ c.ask-ask.ensures))
             (ap (λ (v : Sending g.row.A.Denot). v.preferred.server) c.in_ok-sending.ensures.ok
-            ∙ ap (λ (a : Ask). a.server) c.answered.view_is)
+            ∙ ap (λ (a : Ask). a.server) (c.ask.view_is ∙ c.ask-ask.ensures))
             (ap (λ (v : Sending g.row.A.Denot). v.onward.items) c.in_ok-sending.ensures.ok
             ∙ c.in_ok-onward.ensures.onward)
             (ap (λ (v : Sending g.row.A.Denot). v.ask) c.in_ok-sending.ensures.ok)
@@ -48,7 +48,7 @@ returns g c = record {
             ∙ ap (λ (ys : List Action). ys ++ filter_map reply_of c.args.fates.each)
             (ap (λ xs. actions_of {A = g.row.A.Denot} xs) (c.in_ok-push.ensures.ok
             ∙ ap (λ xs. xs ++ c.close_path.result ∷ []) c.new-actions.ensures)
-            ∙ (λ i. (c.close_path.ensures ∙ ap (λ (a : Ask). closes a.path) c.answered.view_is) i ∷ []))))
+            ∙ (λ i. (c.close_path.ensures ∙ ap (λ (a : Ask). closes a.path) (c.ask.view_is ∙ c.ask-ask.ensures)) i ∷ []))))
             ∙ ap (λ (slots : List Slot). closing_step c.args.turn.now.moment c.args.answered.now fate c.args.next
             (with_promoted slots (with_preferred_server c.args.answered.now c.args.turn.now.state)))
             c.in_ok-onward.ensures.used);
@@ -63,7 +63,7 @@ returns g c = record {
                     (sym c.in_ok-onward.ensures.onward)
                     (sent_all c.args.turn.now.moment c.args.fates.each c.requires.earlier);
                 served = subst (λ (a : Ask). a.server < length (servers_in (group_of c.args.turn.now.config a.route)))
-                    (sym c.answered.view_is)
+                    (sym (c.ask.view_is ∙ c.ask-ask.ensures))
                     (subst (λ (r : Turn). c.args.answered.now.server < length
                     (servers_in (group_of r.config c.args.answered.now.route))) c.turn.view_is
                     (server_within c.turn.inside.config.now c.turn.inside.before c.turn.inside.tcp_asks
@@ -72,7 +72,7 @@ returns g c = record {
                 follows = subst (λ (a : Ask). IfFollows c.args.turn.now.config c.args.turn.now.moment
                     c.args.turn.now.state
                     (without_path a.path c.args.turn.now.state.asks) c.args.next)
-                    (sym c.answered.view_is) c.requires.follows;
+                    (sym (c.ask.view_is ∙ c.ask-ask.ensures)) c.requires.follows;
               });
           few = c.requires.few;
           routed = c.requires.routed;

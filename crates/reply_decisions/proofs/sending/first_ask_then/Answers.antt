@@ -18,7 +18,7 @@ returns g c =
     ∙ ap over_udp
     (c.draw.ensures.drawn
     ∙ (λ i. udp_draw (c.turn.view_is i).words (c.turn.view_is i).state.asks
-    ((c.freed_port.ensures ∙ ap (λ (a : Ask). freed_by a.path) c.answered.view_is) i))
+    ((c.freed_port.ensures ∙ ap (λ (a : Ask). freed_by a.path) (c.ask.view_is ∙ c.ask-ask.ensures)) i))
     ∙ sym (draws_left c.args.turn.now.words c.args.answered.now.path c.args.turn.now.state.asks)) in
     let on : route_of c.args.turn.now.config c.args.question.now.name ≡ Some c.in-Some.route =
     sym (c.serving_route_of.ensures ∙ (λ i. route_of (c.turn.view_is i).config (c.question.view_is i).name))

@@ -7,7 +7,7 @@ use Rattle.reply_decisions.proofs.sending.is_asked_beside.Goals as goal
 
 pub returns-in-Some : goal.returns-in-Some
 returns-in-Some g c =
-    ap not (c.is_same.ensures ∙ (λ i. same_path (c.open.view_is i).path (c.answered.view_is i).path))
+    ap not (c.is_same.ensures ∙ (λ i. same_path (c.open.view_is i).path ((c.ask.view_is ∙ c.ask-ask.ensures) i).path))
     ∙ sym (asked_beside c.args.question.now c.args.answered.now.path c.turn.inside.inquiries.now.asks
     (Some c.in-Some.open.now) c.turn.invariant.0.listed.in_turn
     (c.in-Some.ensures.found c.args.question.now c.of-key.ensures))

@@ -22,8 +22,8 @@ returns-then-route-own g c =
     ≡ Some c.args.answered.now.peer) c.turn.view_is
     (kept_of c.turn.inside.config.now c.turn.inside.before c.turn.inside.tcp_asks c.args.answered.now.path
     c.turn.inside.inquiries.now.asks c.args.answered.now listed c.turn.invariant.0.asks).server in
-    ap (λ (a : Ask). a.server) c.answered.view_is ∙ preferred_own c.args.turn.now.config c.args.answered.now
+    ap (λ (a : Ask). a.server) (c.ask.view_is ∙ c.ask-ask.ensures) ∙ preferred_own c.args.turn.now.config c.args.answered.now
     c.args.turn.now.state are there
     ∙ ap (preferred_on (with_preferred_server c.args.answered.now c.args.turn.now.state))
-    (sym (ap (λ (a : Ask). a.route) c.answered.view_is) ∙ sym c.own.view_is ∙ sym c.if-route-own.true
+    (sym (ap (λ (a : Ask). a.route) (c.ask.view_is ∙ c.ask-ask.ensures)) ∙ sym c.own.view_is ∙ sym c.if-route-own.true
     ∙ c.route.view_is)

@@ -49,8 +49,8 @@ fates_behind-requires-clause-aliases g c = subst (AllByRecursion (IsEarlier c.tu
 
 pub fates_behind-requires-clause-own : goal.fates_behind-requires-clause-own
 fates_behind-requires-clause-own g c =
-    subst (AllByRecursion (HoldsEarlier c.turn.inside.moment)) (sym c.for_question-those.ensures)
-    (All-filter (HoldsEarlier c.turn.inside.moment) (waits_for c.answered.inside.question)
+    subst (AllByRecursion (HoldsEarlier c.turn.inside.moment)) (sym c.for_ask-those.ensures)
+    (All-filter (HoldsEarlier c.turn.inside.moment) (waits_for c.args.answered.now.question)
     c.turn.inside.waiting.now.items
     (later_held c.turn.inside.before c.turn.inside.moment c.turn.inside.waiting.now.items c.turn.invariant.1
     c.turn.invariant.0.aliases))
@@ -58,7 +58,7 @@ fates_behind-requires-clause-own g c =
 pub close_and_send_on-requires-clause-count : goal.close_and_send_on-requires-clause-count
 close_and_send_on-requires-clause-count g c =
     c.in_ok-fates-2.ensures.count ∙ ap (λ (xs : List Waiting). length xs)
-    (c.for_question-those.ensures ∙ (λ i. filter (waits_for (c.answered.view_is i).question)
+    (c.for_ask-those.ensures ∙ (λ i. filter (waits_for c.args.answered.now.question)
     (c.turn.view_is i).state.waiting))
 
 pub close_and_send_on-requires-clause-earlier : goal.close_and_send_on-requires-clause-earlier
@@ -75,9 +75,9 @@ close_and_send_on-requires-clause-earlier g c =
     ∙ walk_first c.turn.inside.moment c.in_ok-held.held.items c.walk.inside.pieces c.walk.inside.authority _
     c.in_ok-held.ensures.held (ap (λ (ps : List Piece). length ps) c.as_slice-walked.ensures)))
     (held_now c.turn.inside.moment c.walk.inside.pieces)))
-    c.for_question-those.result c.in_ok-fates-2.fates.each c.in_ok-fates-2.ensures.count
-    (subst (AllByRecursion (HoldsEarlier c.turn.inside.moment)) (sym c.for_question-those.ensures)
-    (All-filter (HoldsEarlier c.turn.inside.moment) (waits_for c.answered.inside.question)
+    c.for_ask-those.result c.in_ok-fates-2.fates.each c.in_ok-fates-2.ensures.count
+    (subst (AllByRecursion (HoldsEarlier c.turn.inside.moment)) (sym c.for_ask-those.ensures)
+    (All-filter (HoldsEarlier c.turn.inside.moment) (waits_for c.args.answered.now.question)
     c.turn.inside.waiting.now.items (later_held c.turn.inside.before c.turn.inside.moment
     c.turn.inside.waiting.now.items c.turn.invariant.1 c.turn.invariant.0.aliases)))
     _ c.in_ok-fates-2.next
@@ -94,10 +94,10 @@ close_and_send_on-requires-clause-follows g c =
     c.turn.invariant.0 c.turn.invariant.1 c.turn.invariant.2
     (subst (λ (r : Turn). ask_on c.args.answered.now.path r.state.asks ≡ Some c.args.answered.now)
     (sym c.turn.view_is) c.requires.on)
-    (fates_in c.for_question-those.result c.in_ok-fates.fates.each) c.in_ok-fates-2.next
+    (fates_in c.for_ask-those.result c.in_ok-fates.fates.each) c.in_ok-fates-2.next
     (subst (λ (r : Turn). c.in_ok-fates-2.next ≡ ask_for
     (turn r.config r.moment r.words (closing_state c.args.answered.now r.state))
-    (asked_for c.args.answered.now r.state (fates_in c.for_question-those.result c.in_ok-fates.fates.each)))
+    (asked_for c.args.answered.now r.state (fates_in c.for_ask-those.result c.in_ok-fates.fates.each)))
     (sym c.turn.view_is) c.in_ok-fates-2.ensures.ask))
 
 pub close_and_send_on-requires-clause-few : goal.close_and_send_on-requires-clause-few
@@ -150,30 +150,30 @@ returns g c = record {
       ∙ walk_first c.turn.inside.moment c.in_ok-held.held.items c.walk.inside.pieces c.walk.inside.authority _
       c.in_ok-held.ensures.held (ap (λ (ps : List Piece). length ps) c.as_slice-walked.ensures)
       ∙ (λ i. map (held_at (c.turn.view_is i).moment) (c.walk.view_is i).pieces) in
-      let those : c.for_question-those.result ≡ filter (waits_for c.args.answered.now.question)
+      let those : c.for_ask-those.result ≡ filter (waits_for c.args.answered.now.question)
       c.args.turn.now.state.waiting =
-      c.for_question-those.ensures ∙ (λ i. filter (waits_for (c.answered.view_is i).question)
+      c.for_ask-those.ensures ∙ (λ i. filter (waits_for c.args.answered.now.question)
       (c.turn.view_is i).state.waiting) in
-      let each : fates_in c.for_question-those.result c.in_ok-fates.fates.each ≡ map
+      let each : fates_in c.for_ask-those.result c.in_ok-fates.fates.each ≡ map
       (fate_behind c.args.turn.now.config c.args.turn.now.moment c.args.turn.now.state.cache.entries
-      (take (length c.as_slice-walked.result.now) c.deref.result.now) c.in-Elsewhere.name) c.for_question-those.result =
-      subst (λ (r : Turn). fates_in c.for_question-those.result c.in_ok-fates.fates.each ≡ map
+      (take (length c.as_slice-walked.result.now) c.deref.result.now) c.in-Elsewhere.name) c.for_ask-those.result =
+      subst (λ (r : Turn). fates_in c.for_ask-those.result c.in_ok-fates.fates.each ≡ map
       (fate_behind r.config r.moment r.state.cache.entries
-      (take (length c.as_slice-walked.result.now) c.deref.result.now) c.in-Elsewhere.name) c.for_question-those.result)
+      (take (length c.as_slice-walked.result.now) c.deref.result.now) c.in-Elsewhere.name) c.for_ask-those.result)
       c.turn.view_is c.in_ok-fates.ensures.fates in
       decides_by c.close_and_send_on.result _ _ _ (c.close_and_send_on.ensures.decides _
       (sent_become c.args.turn.now.config c.args.turn.now.moment c.args.turn.now.words c.args.answered.now c.args.walk
-      c.args.turn.now.state c.in-Elsewhere.name leads _ c.for_question-those.result c.in_ok-fates.fates.each
+      c.args.turn.now.state c.in-Elsewhere.name leads _ c.for_ask-those.result c.in_ok-fates.fates.each
       c.in_ok-fates-2.next aliases those each
       c.in_ok-fates-2.fates.each c.in_ok-fates-2.ensures.count c.in_ok-fates-2.ensures.fates)) (λ rooms.
       sent_row c.args.turn.now.config c.args.turn.now.moment c.args.turn.now.words c.args.answered.now c.args.walk
-      c.args.turn.now.state c.in-Elsewhere.name leads _ c.for_question-those.result c.in_ok-fates.fates.each
+      c.args.turn.now.state c.in-Elsewhere.name leads _ c.for_ask-those.result c.in_ok-fates.fates.each
       c.in_ok-fates-2.next aliases those each
       rooms c.in_ok-fates.fates.used c.in_ok-fates-2.fates.used _ _ c.in_ok-fates-2.ensures.ask
       (subst (λ (r : Turn). map (λ (h : Held). h.piece.slot) c.in_ok-fates.fates.used ≡ Rattle.std.specs.List.flat_map
       (λ x. (looked_behind r.config r.moment r.state.cache.entries
       (take (length c.as_slice-walked.result.now) c.deref.result.now) c.in-Elsewhere.name x).used)
-      c.for_question-those.result) c.turn.view_is c.in_ok-fates.ensures.used)
+      c.for_ask-those.result) c.turn.view_is c.in_ok-fates.ensures.used)
       c.in_ok-fates-2.ensures.used
       (carried_is c.args.turn.now.config c.turn.inside.moment c.args.answered.now c.args.walk c.requires.carried routed
       c.in_ok-held.held.items c.walk.inside.pieces c.walk.inside.authority c.in_ok-held.ensures.held

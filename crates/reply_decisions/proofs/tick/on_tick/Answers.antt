@@ -1,5 +1,6 @@
 use Rattle.std.proofs.Common.{◌∙◌, ap, sym}
 use Rattle.std.specs.Prelude.{drop, nat_le, slice_get}
+use Rattle.outstanding.specs.Values.{Ask}
 use Rattle.step_table.specs.State.{Turn}
 use Rattle.step_table.specs.Ticks.{deadline_of}
 use Rattle.step_table.specs.Replies.{timeout_of}
@@ -60,7 +61,9 @@ returns-then-comes_first-clause-decides g c =
     (ap (λ (r : Turn). slice_get r.state.waiting 0) (sym c.turn.view_is) ∙ c.in-Some-Some.ensures))
     (ap (λ (r : Turn). slice_get r.state.asks 0) (sym c.turn.view_is) ∙ c.in-Some-Some.ensures'.first)
     (ap (λ (r : Turn). nat_le (deadline_of r.config c.in-Some-Some.waiting.now)
-    (timeout_of r.config c.in-Some-Some.ask.now)) (sym c.turn.view_is) ∙ sym c.comes_first.ensures
+    (timeout_of r.config c.in-Some-Some.ask.now)) (sym c.turn.view_is) ∙ sym (c.comes_first.ensures
+    ∙ ap (λ (a : Ask). nat_le (deadline_of c.turn.inside.config.now c.in-Some-Some.waiting.now)
+    (timeout_of c.turn.inside.config.now a)) c.ask.ensures)
     ∙ c.if-comes_first.true))
 
 pub returns-else-comes_first-clause-decides : goal.returns-else-comes_first-clause-decides
@@ -72,5 +75,7 @@ returns-else-comes_first-clause-decides g c =
     (ap (λ (r : Turn). slice_get r.state.waiting 0) (sym c.turn.view_is) ∙ c.in-Some-Some.ensures))
     (ap (λ (r : Turn). slice_get r.state.asks 0) (sym c.turn.view_is) ∙ c.in-Some-Some.ensures'.first)
     (ap (λ (r : Turn). nat_le (deadline_of r.config c.in-Some-Some.waiting.now)
-    (timeout_of r.config c.in-Some-Some.ask.now)) (sym c.turn.view_is) ∙ sym c.comes_first.ensures
+    (timeout_of r.config c.in-Some-Some.ask.now)) (sym c.turn.view_is) ∙ sym (c.comes_first.ensures
+    ∙ ap (λ (a : Ask). nat_le (deadline_of c.turn.inside.config.now c.in-Some-Some.waiting.now)
+    (timeout_of c.turn.inside.config.now a)) c.ask.ensures)
     ∙ c.if-comes_first.false))

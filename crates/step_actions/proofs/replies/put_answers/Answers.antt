@@ -11,23 +11,23 @@ pub loop-place-preserved : goal.loop-place-preserved
 loop-place-preserved g c = record {
   same = c.put_answer.ensures.same ∙ c.loop-place.invariant.same;
   replies =
-      ap (λ (actions : List Action). with_replies (gives_from c.args.answers.now c.args.question.now) actions (drop (c.loop-place.place + 1) c.for_question-those.result))
+      ap (λ (actions : List Action). with_replies (gives_from c.args.answers.now c.args.ask.now.question) actions (drop (c.loop-place.place + 1) c.for_ask-those.result))
       (c.in_ok-put_answer.ensures.put
       ∙ ap (λ (d : Source). actions_of c.loop-place.actions ++ told_from d c.get.result.now ∷ []) c.loop-place.invariant.same)
-      ∙ one_answered c.args.answers.now c.args.question.now (actions_of c.loop-place.actions) c.args.waiting.now.items c.for_question-those.result c.loop-place.place c.get.result.now c.for_question-those.ensures c.get.ensures
+      ∙ one_answered c.args.answers.now c.args.ask.now.question (actions_of c.loop-place.actions) c.args.waiting.now.items c.for_ask-those.result c.loop-place.place c.get.result.now c.for_ask-those.ensures c.get.ensures
       ∙ c.loop-place.invariant.replies;
 }
 
 pub returns : goal.returns
 returns g c =
-    let all = at_drop_all (with_replies (gives_from c.args.answers.now c.args.question.now) (actions_of c.loop-place.actions)) c.for_question-those.result c.loop-place.place
+    let all = at_drop_all (with_replies (gives_from c.args.answers.now c.args.ask.now.question) (actions_of c.loop-place.actions)) c.for_ask-those.result c.loop-place.place
     (let test = c.loop-place-test.false in let count = c.len-place-end.ensures in omega (arith, test, count)) in
     sym all
     ∙ c.loop-place.invariant.replies
-    ∙ ap (with_replies (gives_from c.args.answers.now c.args.question.now) (actions_of c.args.actions.now)) c.for_question-those.ensures
-    ∙ answers_filter c.args.answers.now c.args.question.now (actions_of c.args.actions.now) c.args.waiting.now.items
+    ∙ ap (with_replies (gives_from c.args.answers.now c.args.ask.now.question) (actions_of c.args.actions.now)) c.for_ask-those.ensures
+    ∙ answers_filter c.args.answers.now c.args.ask.now.question (actions_of c.args.actions.now) c.args.waiting.now.items
 
 pub put_answer-requires-clause-earlier : goal.put_answer-requires-clause-earlier
 put_answer-requires-clause-earlier g c =
     subst (λ (d : Source). HoldsEarlier d.moment c.get.result.now) (sym c.loop-place.invariant.same)
-    (one_of_those (HoldsEarlier c.args.answers.now.moment) c.args.question.now c.args.waiting.now.items c.for_question-those.result c.loop-place.place c.get.result.now c.requires.earlier c.for_question-those.ensures c.get.ensures)
+    (one_of_those (HoldsEarlier c.args.answers.now.moment) c.args.ask.now.question c.args.waiting.now.items c.for_ask-those.result c.loop-place.place c.get.result.now c.requires.earlier c.for_ask-those.ensures c.get.ensures)

@@ -10,5 +10,6 @@ use Rattle.forwarder_core.proofs.forwarder.Forwarder.is_ask_due.Goals as goal
 pub returns-in-Some : goal.returns-in-Some
 returns-in-Some g c =
     c.is_late.ensures
+    ∙ ap (λ (a : Ask). nat_le (timeout_of c.self.inside.config a) c.args.moment) c.ask.ensures
     ∙ oldest_late c.self.inside.config.limits.ask_ms c.args.moment c.in-Some.oldest.now c.self.inside.inquiries.asks c.in-Some.ensures.first c.in-Some.ensures.listed.in_turn
     ∙ ap (λ (r : Running). list_any (λ (a : Ask). nat_le (timeout_of r.config a) c.args.moment) r.state.asks) c.self.view_is

@@ -1,5 +1,5 @@
 use Rattle.std.proofs.Common.{◌∙◌, ap, subst, [], ◌∷◌, ◌++◌, List}
-use Rattle.step_values.specs.Values.{event_of, Handed, Step}
+use Rattle.step_values.specs.Values.{Handed, Step}
 use Rattle.step_table.specs.State.{Running}
 use Rattle.step_table.specs.Row.{Row}
 use Rattle.theorem_use.proofs.CallerLemmas.{came_more}
@@ -8,7 +8,7 @@ use Rattle.network_model.proofs.recorded.Recorded.step.Goals as goal
 
 pub invariant_of-self-2 : goal.invariant_of-self-2
 invariant_of-self-2 g c =
-    let same = ap (λ e. record { now = c.handed.inside.now; words = c.handed.inside.words; event = event_of e }) c.in_ok-event.ensures ∙ c.handed.view_is in
+    let same = c.handed.view_is in
     let before = c.self.inside.forwarder in
     let row = subst (λ (h : Handed). Row before.config before.state h c.in_ok-outcome.outcome c.step.new.self.state)
     same c.in_ok-outcome.ensures.row in
@@ -18,7 +18,7 @@ invariant_of-self-2 g c =
 
 pub returns-clause-ok : goal.returns-clause-ok
 returns-clause-ok g c =
-    let same = ap (λ e. record { now = c.handed.inside.now; words = c.handed.inside.words; event = event_of e }) c.in_ok-event.ensures ∙ c.handed.view_is in
+    let same = c.handed.view_is in
     let row = subst (λ (h : Handed). Row c.self.inside.forwarder.config c.self.inside.forwarder.state h c.in_ok-outcome.outcome c.step.new.self.state) same c.in_ok-outcome.ensures.row in (
       c.in_ok-outcome.outcome,
       c.push_reserved.ensures.items ∙ ap (λ (xs : List Step). xs ++ record { handed = c.args.handed; outcome = c.in_ok-outcome.outcome } ∷ []) (c.in_ok-reserve.ensures.items ∙ ap (λ (r : Recording). r.steps) c.self.view_is),

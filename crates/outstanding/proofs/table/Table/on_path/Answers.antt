@@ -1,4 +1,4 @@
-use Rattle.std.proofs.Common.{Some, sym, ap, ◌∙◌}
+use Rattle.std.proofs.Common.{ap, ◌∙◌}
 use Rattle.slab.specs.Slab.{get}
 use Rattle.outstanding.specs.Tables.{keys_of}
 use Rattle.outstanding.proofs.KeyNumbers.{read_at, present_at}
@@ -14,7 +14,6 @@ returns-in-Ok g c =
     let is = read_at c.args.self.now.by_path.items c.in-Ok.place c.key.result c.index.result.now c.in-Ok.ensures.found.in_range c.index.ensures c.key.ensures.key in
     path_found c.args.self.now.asks (keys_of c.args.self.now.by_path.items) (keys_of c.args.self.now.by_question.items) c.args.self.now.in_turn.keys c.requires.keys c.args.path c.in-Ok.place c.in-Ok.ensures.found
     c.index-in-Ok.result.now (ap (get c.args.self.now.asks) is ∙ c.index-in-Ok.ensures)
-    ∙ ap Some (sym c.ask.ensures)
 
 pub returns-in-Err : goal.returns-in-Err
 returns-in-Err g c =

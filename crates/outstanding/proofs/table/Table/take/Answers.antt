@@ -1,4 +1,4 @@
-use Rattle.std.proofs.Common.{◌≡◌, ◌+◌, ℕ, List, length, Some, None, sym, ap, subst, ◌∙◌, arith}
+use Rattle.std.proofs.Common.{◌≡◌, ◌+◌, ℕ, List, length, None, sym, ap, subst, ◌∙◌, arith}
 use Rattle.std.proofs.lemmas.List.{get_or_default}
 use Rattle.slab.specs.Slab.{get}
 use Rattle.outstanding.specs.declared.keyed.QuestionKey.{QuestionKey}
@@ -39,7 +39,7 @@ place_of-turn-requires g c =
     let v = c.requires.keys.turns.complete c.key-key.result (is_some_of (get c.args.self.now.asks c.key-key.result) c.index-2.result.now c.index-2.ensures) in
     (v.0, v.1, get_or_default c.args.self.now.in_turn.keys v.0 c.key-key.result 0 v.1 ∙ v.2)
 
-placed : (g : given.Over) (c : goal.After-into_ask g)
+placed : (g : given.Over) (c : goal.After-remove g)
     → Placed c.args.self.now.asks (keys_of c.args.self.now.by_path.items) (keys_of c.args.self.now.by_question.items) c.args.self.now.in_turn.keys c.args.path c.key-key.result c.in-Ok.place c.in-Ok-place_of.question c.place_of-turn.result c.index-2.result.now
 placed g c = record {
   here = c.index-2.ensures;
@@ -71,7 +71,7 @@ returns-clause-indexed g c =
 
 pub returns-clause-ended : goal.returns-clause-ended
 returns-clause-ended g c =
-    ap Some c.into_ask.ensures ∙ sym c.remove.ensures.value ∙ c.index-2.ensures
+    sym c.remove.ensures.value ∙ c.index-2.ensures
     ∙ sym (take_ended c.args.self.now.asks (keys_of c.args.self.now.by_path.items) (keys_of c.args.self.now.by_question.items) c.args.self.now.in_turn.keys c.requires.keys c.args.path c.key-key.result c.in-Ok.place c.in-Ok-place_of.question c.place_of-turn.result c.index-2.result.now (placed g c))
 
 pub returns-clause-list : goal.returns-clause-list

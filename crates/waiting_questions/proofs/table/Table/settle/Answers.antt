@@ -13,11 +13,11 @@ index-requires g c =
     let table = c.loop-fate.self in
     let items : List NumberedKey = table.by_question.items in
     let inv = c.loop-fate.invariant in
-    let q = c.args.question.now in
+    let q = c.args.ask.now.question in
     let i = c.range-start.result.0 in
     let j = c.range-start.result.1 in
     let range : IsRange (to_question (question_key q)) table.waiting (keys_of items) i j =
-    subst (λ (k : QuestionKey). IsRange (to_question k) table.waiting (keys_of items) i j) c.of-key.ensures c.range-start.ensures in
+    subst (λ (k : QuestionKey). IsRange (to_question k) table.waiting (keys_of items) i j) c.key-question.ensures c.range-start.ensures in
     let left : List (Option Onward) = c.pop.new.self.items in
     let are : c.loop-fate.fates.items ≡ left ++ c.in-Some.fate ∷ [] = c.in-Some.ensures.items in
     let long : c.len.result ≡ length left = omega (arith, c.len.ensures, c.pop.new.self.ok.0) in
@@ -28,11 +28,11 @@ place_of-turn-requires g c =
     let table = c.loop-fate.self in
     let items : List NumberedKey = table.by_question.items in
     let inv = c.loop-fate.invariant in
-    let q = c.args.question.now in
+    let q = c.args.ask.now.question in
     let i = c.range-start.result.0 in
     let j = c.range-start.result.1 in
     let range : IsRange (to_question (question_key q)) table.waiting (keys_of items) i j =
-    subst (λ (k : QuestionKey). IsRange (to_question k) table.waiting (keys_of items) i j) c.of-key.ensures c.range-start.ensures in
+    subst (λ (k : QuestionKey). IsRange (to_question k) table.waiting (keys_of items) i j) c.key-question.ensures c.range-start.ensures in
     let left : List (Option Onward) = c.pop.new.self.items in
     let are : c.loop-fate.fates.items ≡ left ++ c.in-Some.fate ∷ [] = c.in-Some.ensures.items in
     let long : c.len.result ≡ length left = omega (arith, c.len.ensures, c.pop.new.self.ok.0) in
@@ -46,11 +46,11 @@ settle_one-requires-clause-place g c =
     let table = c.loop-fate.self in
     let items : List NumberedKey = table.by_question.items in
     let inv = c.loop-fate.invariant in
-    let q = c.args.question.now in
+    let q = c.args.ask.now.question in
     let i = c.range-start.result.0 in
     let j = c.range-start.result.1 in
     let range : IsRange (to_question (question_key q)) table.waiting (keys_of items) i j =
-    subst (λ (k : QuestionKey). IsRange (to_question k) table.waiting (keys_of items) i j) c.of-key.ensures c.range-start.ensures in
+    subst (λ (k : QuestionKey). IsRange (to_question k) table.waiting (keys_of items) i j) c.key-question.ensures c.range-start.ensures in
     let left : List (Option Onward) = c.pop.new.self.items in
     let are : c.loop-fate.fates.items ≡ left ++ c.in-Some.fate ∷ [] = c.in-Some.ensures.items in
     let long : c.len.result ≡ length left = omega (arith, c.len.ensures, c.pop.new.self.ok.0) in
@@ -61,11 +61,11 @@ settle_one-requires-clause-one g c =
     let table = c.loop-fate.self in
     let items : List NumberedKey = table.by_question.items in
     let inv = c.loop-fate.invariant in
-    let q = c.args.question.now in
+    let q = c.args.ask.now.question in
     let i = c.range-start.result.0 in
     let j = c.range-start.result.1 in
     let range : IsRange (to_question (question_key q)) table.waiting (keys_of items) i j =
-    subst (λ (k : QuestionKey). IsRange (to_question k) table.waiting (keys_of items) i j) c.of-key.ensures c.range-start.ensures in
+    subst (λ (k : QuestionKey). IsRange (to_question k) table.waiting (keys_of items) i j) c.key-question.ensures c.range-start.ensures in
     let left : List (Option Onward) = c.pop.new.self.items in
     let are : c.loop-fate.fates.items ≡ left ++ c.in-Some.fate ∷ [] = c.in-Some.ensures.items in
     let long : c.len.result ≡ length left = omega (arith, c.len.ensures, c.pop.new.self.ok.0) in
@@ -79,11 +79,11 @@ loop-fate-preserved g c =
     let table = c.loop-fate.self in
     let items : List NumberedKey = table.by_question.items in
     let inv = c.loop-fate.invariant in
-    let q = c.args.question.now in
+    let q = c.args.ask.now.question in
     let i = c.range-start.result.0 in
     let j = c.range-start.result.1 in
     let range : IsRange (to_question (question_key q)) table.waiting (keys_of items) i j =
-    subst (λ (k : QuestionKey). IsRange (to_question k) table.waiting (keys_of items) i j) c.of-key.ensures c.range-start.ensures in
+    subst (λ (k : QuestionKey). IsRange (to_question k) table.waiting (keys_of items) i j) c.key-question.ensures c.range-start.ensures in
     let left : List (Option Onward) = c.pop.new.self.items in
     let are : c.loop-fate.fates.items ≡ left ++ c.in-Some.fate ∷ [] = c.in-Some.ensures.items in
     let long : c.len.result ≡ length left = omega (arith, c.len.ensures, c.pop.new.self.ok.0) in
@@ -97,4 +97,4 @@ loop-fate-preserved g c =
 
 pub returns-clause-list : goal.returns-clause-list
 returns-clause-list g c =
-    sym (none_left c.args.question.now c.loop-fate.fates.items (items_of c.loop-fate.self) (omega (arith, c.in_default.ensures.cases.0, c.loop-fate.fates.ok.0))) ∙ c.loop-fate.invariant.1
+    sym (none_left c.args.ask.now.question c.loop-fate.fates.items (items_of c.loop-fate.self) (omega (arith, c.in_default.ensures.cases.0, c.loop-fate.fates.ok.0))) ∙ c.loop-fate.invariant.1

@@ -1,0 +1,44 @@
+//! Memory for the octets of datagrams.
+
+ghost use Rattle.std.specs.Prelude.{◌≡◌, IfOk};
+
+use plain_list::{Octets, PlainList};
+use std::alloc::{AllocError, Allocator};
+use std::marker::Model;
+use std::mem;
+
+/// Memory that held octets which were served, kept for the next ones. Contracts see nothing of it.
+#[derive(Drop)]
+pub(crate) struct Spare<A: Allocator> {
+    memory: Vec<u8, A>,
+}
+
+impl<A: Allocator> Model for Spare<A> {
+    ghost Value = { Unit {0} };
+
+    ghost view = { λ _. tt };
+}
+
+impl<A: Allocator + Copy> Spare<A> {
+    /// None yet. It takes no memory.
+    pub fn new(alloc: A) -> Spare<A> {
+        Spare {
+            memory: Vec::new(alloc),
+        }
+    }
+
+    /// The same octets, in what was kept, where that has room. `Err` where memory ran out.
+    pub fn copied(&mut self, alloc: A, octets: &[u8]) -> Result<Octets<A>, AllocError>
+        ensures { IfOk result (λ copied. copied ≡ octets.now) }
+    {
+        let mut memory = mem::replace(&mut self.memory, Vec::new(alloc));
+        memory.clear();
+        memory.extend_from_slice(octets)?;
+        Ok(PlainList::from_vec(memory))
+    }
+
+    /// Keeps the memory of octets that were served, in the place of what was kept.
+    pub fn keep(&mut self, alloc: A, octets: &mut Octets<A>) {
+        self.memory = mem::replace(octets, PlainList::new(alloc)).into_vec();
+    }
+}

@@ -1,0 +1,124 @@
+//! The actions of a step.
+
+ghost use Rattle.std.specs.Prelude.{◌≡◌, ◌==◌, ◌∷◌, ◌++◌, [], length, slice_get, MatchOption, None, OnOk, OnErr, Some};
+ghost use Rattle.step_values.specs.Values.{listed_in, IsOne};
+
+use crate::action::Action;
+use std::alloc::{AllocError, Allocator, Global};
+use std::marker::Model;
+use std::mem;
+
+/// How many actions a list has room for once it has more than one: two, and some more.
+const ROOM: usize = 4;
+
+/// Actions, in order. Contracts see them as a list. The first lies in place: most steps have one alone, and take no
+/// memory to list it.
+#[derive(Drop)]
+pub struct Actions<A: Allocator = Global> {
+    alloc: A,
+    listed: Listed<A>,
+}
+
+/// Where actions lie.
+#[derive(Drop)]
+enum Listed<A: Allocator> {
+    Nothing,
+    One(Action<A>),
+    More(Vec<Action<A>, A>),
+}
+
+impl<A: Allocator> Model for Actions<A> {
+    ghost use Rattle.std.specs.Prelude.{List};
+    ghost use Rattle.step_values.specs.declared.action.Action.{Action as OwnedAction};
+    ghost use Rattle.step_values.specs.Values.{listed_in};
+
+    ghost Value = { List (OwnedAction A) };
+
+    ghost view = { λ actions. listed_in actions.listed };
+}
+
+impl<A: Allocator + Copy> Actions<A> {
+    /// No actions. It takes no memory.
+    pub fn new(alloc: A) -> Actions<A>
+        ensures { result ≡ [] }
+    {
+        Actions {
+            alloc,
+            listed: Listed::Nothing,
+        }
+    }
+
+    /// Puts an action last, which takes memory where it is not the first. `Err` where memory ran out, and then nothing
+    /// has changed.
+    pub fn push(&mut self, action: Action<A>) -> Result<(), AllocError>
+        ensures ok { OnOk result (self.new ≡ self.old ++ action ∷ []) }
+        ensures err { OnErr result (self.new ≡ self.old) }
+    {
+        self.listed.push(self.alloc, action)
+    }
+
+    /// How many actions there are. It takes no memory.
+    pub fn len(&self) -> usize
+        ensures { result ≡ length self.now }
+    {
+        match &self.listed {
+            Listed::Nothing => 0,
+            Listed::One(_) => 1,
+            Listed::More(actions) => actions.len(),
+        }
+    }
+
+    /// Whether there are none. It takes no memory.
+    pub fn is_empty(&self) -> bool
+        ensures { result ≡ (length self.now == 0) }
+    {
+        self.len() == 0
+    }
+
+    /// The action at this place, from 0; `None` where there are not so many. It takes no memory.
+    pub fn get(&self, place: usize) -> Option<&Action<A>>
+        ensures { MatchOption result (slice_get self.now place ≡ None)
+            (λ action. slice_get self.now place ≡ Some action.now) }
+    {
+        match &self.listed {
+            Listed::Nothing => None,
+            Listed::One(action) if place == 0 => Some(action),
+            Listed::One(_) => None,
+            Listed::More(actions) => actions.get(place),
+        }
+    }
+}
+
+impl<A: Allocator> Listed<A> {
+    fn push(&mut self, alloc: A, action: Action<A>) -> Result<(), AllocError>
+        ensures ok { OnOk result (listed_in self.new ≡ listed_in self.old ++ action ∷ []) }
+        ensures err { OnErr result (listed_in self.new ≡ listed_in self.old) }
+    {
+        match self {
+            Listed::Nothing => {
+                *self = Listed::One(action);
+                Ok(())
+            }
+            Listed::One(_) => self.push_second(alloc, action),
+            Listed::More(actions) => {
+                actions.push(action)?;
+                Ok(())
+            }
+        }
+    }
+
+    /// Puts an action behind the only one.
+    fn push_second(&mut self, alloc: A, action: Action<A>) -> Result<(), AllocError>
+        requires { IsOne self.old }
+        ensures ok { OnOk result (listed_in self.new ≡ listed_in self.old ++ action ∷ []) }
+        ensures err { OnErr result (self.new ≡ self.old) }
+    {
+        let mut actions = Vec::with_capacity(alloc, ROOM)?;
+        if let Listed::One(first) = mem::replace(self, Listed::Nothing) {
+            actions.push_reserved(first);
+        }
+        actions.push_reserved(action);
+        *self = Listed::More(actions);
+        Ok(())
+    }
+}
