@@ -1,0 +1,119 @@
+"""What an answer touches, from a trace of each instruction, load and store (`valgrind --tool=lackey`).
+
+The trace is cut at each `recvfrom`. A part that sends something is a part of an answer: for a cached answer there is
+one, for a miss there are two, the question and the reply.
+"""
+import pathlib
+import re
+import statistics
+import subprocess
+import tempfile
+from dataclasses import dataclass, field
+
+from counting.served import ask_all
+
+# Octets of a line of the processor's caches.
+LINE = 64
+# Where valgrind puts the stack of the first thread, and a program that may lie anywhere.
+STACK, BASE = range(0x1FFE000000, 0x1FFF001000), 0x108000
+# Waiting for readiness is not part of an answer.
+WAITS = {"epoll_wait", "epoll_pwait", "poll"}
+
+
+@dataclass
+class Part:
+    """What is between one `recvfrom` and the next."""
+    calls: list = field(default_factory=list)
+    instructions: int = 0
+    loads: int = 0
+    stores: int = 0
+    code: set = field(default_factory=set)
+    stack: set = field(default_factory=set)
+    heap: set = field(default_factory=set)
+    addresses: set = field(default_factory=set)
+
+    def kind(self):
+        return tuple(call for call in self.calls if call not in WAITS)
+
+
+def parts_of(trace):
+    """The parts of a trace, in order."""
+    part = None
+    for line in trace:
+        if line.startswith("SYSCALL"):
+            called = re.search(r"sys_(\w+)|\) (\w+) ?\(", line)
+            call = called and (called[1] or called[2])
+            if call == "recvfrom":
+                if part:
+                    yield part
+                part = Part()
+            if part and call:
+                part.calls.append(call)
+        elif part and line[:2] in ("I ", " L", " S", " M"):
+            address = int(line[3:line.index(",")], 16)
+            if line[0] == "I":
+                part.instructions += 1
+                part.code.add(address // LINE)
+                part.addresses.add(address)
+                continue
+            part.loads += line[1] in "LM"
+            part.stores += line[1] in "SM"
+            (part.stack if address in STACK else part.heap).add(address // LINE)
+
+
+def kinds_of(parts, count):
+    """The parts of an answer, by their calls, in the order in which they first come: those that most questions have."""
+    kinds = {}
+    for part in parts:
+        if "sendto" in part.calls:
+            kinds.setdefault(part.kind(), []).append(part)
+    return [found for found in kinds.values() if len(found) >= count // 2]
+
+
+def middle(values):
+    return round(statistics.median(values))
+
+
+def counts_of(kinds):
+    """Instructions, loads, stores, and lines of code, stack and heap: the middle one of many answers."""
+    each = list(zip(*kinds))
+    sums = [middle(sum(getattr(part, what) for part in answer) for answer in each)
+            for what in ("instructions", "loads", "stores")]
+    lines = [middle(len(set().union(*(getattr(part, what) for part in answer))) for answer in each)
+             for what in ("code", "stack", "heap")]
+    return sums + lines
+
+
+def footprint(program, case, count):
+    """The counts of an answer of a case, and the addresses of its instructions."""
+    with tempfile.TemporaryDirectory() as made:
+        log = pathlib.Path(made) / "trace"
+        ask_all(program, case, count, ["--tool=lackey", "--trace-mem=yes", "--trace-syscalls=yes", f"--log-file={log}"])
+        with open(log, errors="replace") as trace:
+            parts = list(parts_of(trace))
+    # The last questions are those of the case; those that fill the cache came before.
+    kinds = [found[-count:] for found in kinds_of(parts, count)]
+    if not kinds:
+        raise SystemExit(f"instructions: no answer was found in the trace of: {case[0]}")
+    touched = set().union(*(part.addresses for found in kinds for part in found))
+    return counts_of(kinds), touched
+
+
+def frames(program, touched):
+    """The functions of the program that an answer passes, with the octets of each one's frame, the largest first."""
+    listing = subprocess.run(["objdump", "-d", "-C", "--no-show-raw-insn", program], capture_output=True, text=True)
+    is_fixed = b"EXEC" in subprocess.run(["readelf", "-h", program], capture_output=True).stdout
+    base, found, name, frame, is_passed = 0 if is_fixed else BASE, {}, None, 0, False
+    for line in [*listing.stdout.splitlines(), "0000000000000000 <>:"]:
+        head = re.match(r"[0-9a-f]{16} <(.*)>:$", line)
+        if head:
+            if name and is_passed:
+                found[name] = max(frame, found.get(name, 0))
+            name, frame, is_passed = head[1], 0, False
+            continue
+        step = re.match(r" +([0-9a-f]+):\t(.*)", line)
+        if step:
+            is_passed = is_passed or base + int(step[1], 16) in touched
+            room = re.match(r"sub +\$0x([0-9a-f]+),%rsp", step[2])
+            frame = max(frame, int(room[1], 16) if room else 0)
+    return sorted(found.items(), key=lambda it: -it[1])
