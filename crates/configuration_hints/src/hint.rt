@@ -1,0 +1,91 @@
+//! Hints, and their texts.
+
+use std::fmt;
+use suffix_routes::Position;
+
+/// What a person may mend. Its text follows that of the fault.
+#[derive(Clone, Copy, Debug, PartialEq, Eq)]
+pub enum Hint {
+    /// A number has a zero at its front.
+    LeadingZero,
+    /// A number has something else than digits.
+    DigitsAlone,
+    /// This character is not ASCII.
+    NotAscii(char),
+    /// This character of a name is not ASCII.
+    NotAsciiName(char),
+    /// This character can't be in a name.
+    Character(char),
+    /// A carriage return has no line feed after it.
+    CarriageReturn,
+    /// A comment begins in another way.
+    Comment,
+    /// A boolean is spelled in another way.
+    Boolean,
+    /// A string has no quotation marks.
+    Quotes,
+    /// A number has quotation marks.
+    NoQuotes,
+    /// The bracket or quotation mark at this position is not closed.
+    NotClosed(Position),
+    /// A route is no table of an array.
+    RouteHeader,
+    /// Servers are no array.
+    Array,
+    /// This key has capital letters.
+    SmallLetters(&'static str),
+    /// This key is nearly the one that was met.
+    Nearly(&'static str),
+    /// An address is of IPv6.
+    OnlyIpv4,
+    /// A name is given for an address.
+    AddressNotName,
+    /// A port is missing.
+    PortMissing,
+    /// A suffix begins with a dot, or with `*`.
+    SuffixAlone,
+}
+
+impl fmt::Display for Hint {
+    fn fmt<W: fmt::Write>(&self, f: &mut fmt::Formatter<W>) -> fmt::Result {
+        match self {
+            Hint::NotAscii(character) => write!(
+                f,
+                "{character:?} (U+{:04X}) is not ASCII",
+                u32::from(*character)
+            ),
+            Hint::NotAsciiName(character) => write!(
+                f,
+                "{character:?} is not ASCII: write the label in its form that begins with `xn--`"
+            ),
+            Hint::Character(character) => write!(f, "{character:?} can't be in it"),
+            Hint::NotClosed(position) => write!(f, "what {position} opens is not closed"),
+            Hint::SmallLetters(key) => write!(f, "keys are in small letters: `{key}`"),
+            Hint::Nearly(key) => write!(f, "did you mean `{key}`?"),
+            _ => f.write_str(self.words()),
+        }
+    }
+}
+
+impl Hint {
+    /// The text of a hint that shows nothing of what was met.
+    fn words(&self) -> &'static str {
+        match self {
+            Hint::LeadingZero => "numbers are written without leading zeros",
+            Hint::DigitsAlone => "a number has digits alone",
+            Hint::CarriageReturn => "a carriage return has no line feed after it",
+            Hint::Comment => "a comment begins with `#`",
+            Hint::Boolean => "a boolean is `true` or `false`, in small letters",
+            Hint::Quotes => "a string is between quotation marks",
+            Hint::NoQuotes => "it is written without quotation marks",
+            Hint::RouteHeader => "each route begins with `[[route]]`",
+            Hint::Array => "write `[\"ADDRESS:PORT\"]`, also for one server",
+            Hint::OnlyIpv4 => "only addresses of IPv4 can be given",
+            Hint::AddressNotName => "an address is wanted, no name",
+            Hint::PortMissing => "the port is missing, as in `192.0.2.1:53`",
+            Hint::SuffixAlone =>
+                "a suffix is for all names below it: leave out what is before its first label",
+            _ => "",
+        }
+    }
+}

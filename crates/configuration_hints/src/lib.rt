@@ -1,0 +1,15 @@
+//! What a person may mend in a configuration that is refused, besides what its fault says. No call allocates.
+#![tactic(auto)]
+
+mod hint;
+mod keys;
+mod opened;
+mod strings;
+#[cfg(test)]
+mod tests;
+mod toml_text;
+
+pub use hint::Hint;
+pub use keys::hint_for_key;
+pub use strings::hint_for_fault;
+pub use toml_text::hint_for_text;
