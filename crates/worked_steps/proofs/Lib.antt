@@ -1,0 +1,3 @@
+mod Deadlines
+mod OverTcp
+mod Windows
