@@ -1,5 +1,5 @@
 -- What is taken of the sockets of clients and of asks.
-use Rattle.std.specs.Prelude.{◌≡◌, ℕ, zero, suc, ◌≤◌, ◌⊎◌, length, Bool, true, false, not, if◌then◌else◌, is_ok, IfOk}
+use Rattle.std.specs.Prelude.{◌≡◌, ℕ, ◌≤◌, length, Bool, true, false, not, if◌then◌else◌, is_ok, IfOk}
 use Rattle.std.specs.Prelude.{List, take, Option, Some, None, Result, Ok, Err}
 use Rattle.std.specs.declared.alloc.AllocError.{AllocError}
 use Rattle.std.specs.Ordering.{nat_cmp}
@@ -7,14 +7,13 @@ use Rattle.std.specs.Map.{remove_entry}
 use Rattle.std.specs.BTreeMap.{is_at}
 use Rattle.step_values.specs.declared.Path.TheVariants as path
 use Rattle.socket_wire.specs.declared.sockets.Sockets.{Sockets}
-use Rattle.std.specs.declared.io.Error.{Error}
 use Rattle.suffix_routes.specs.declared.peer.Peer.{Peer}
 use Rattle.wires.specs.declared.wire.Arrival.{Arrival}
 use Rattle.wires.specs.declared.wire.Arrival.TheVariants.{ClientDatagram, ClientStream as ArrivesOfClient}
 use Rattle.wires.specs.declared.wire.Arrival.TheVariants.{ServerDatagram, ServerStream, PathGone}
 use Rattle.stream_connections.specs.declared.client_stream.ClientStream.{ClientStream}
-use Rattle.stream_connections.specs.declared.client_stream.Heard.{Heard}
-use Rattle.stream_connections.specs.declared.client_stream.Heard.TheVariants as heard
+use Rattle.stream_connections.specs.declared.answers.Heard.{Heard}
+use Rattle.stream_connections.specs.declared.answers.Heard.TheVariants as heard
 use Rattle.socket_wire.specs.declared.sockets.taking.Tried.{Tried}
 use Rattle.socket_wire.specs.declared.sockets.taking.Tried.TheVariants.{Arrived, Served, Nothing}
 use Rattle.stream_connections.specs.declared.servers.ServerStream.{ServerStream as ServerConnection}
@@ -75,13 +74,14 @@ pub record TakesClient {R A Streams Listeners : Type 0} (conn now : ℕ) (result
 
 -- What arrives of the server on the connection with this number: the octets that were read, unless memory ran out.
 -- Where it sends nothing more, nothing does; nor where the stream failed, or would wait.
-abbrev pub ArrivesOf : {A : Type 0} → (conn : ℕ) (buffer : List ℕ) → Option (Peer × Result ℕ Error)
+abbrev pub ArrivesOf : {A : Type 0} → (conn : ℕ) (buffer : List ℕ) → Option (Peer × Heard)
     → Result (Tried A) AllocError → Type 0
-ArrivesOf conn buffer (Some (from, Ok zero)) result = result ≡ Ok Served
-ArrivesOf conn buffer (Some (from, Ok (suc before_last))) (Ok tried) =
-    tried ≡ Arrived (ServerStream conn from (take (suc before_last) buffer))
-ArrivesOf conn buffer (Some (from, Ok (suc before_last))) (Err _) = Unit {0}
-ArrivesOf conn buffer (Some (from, Err _)) result = (result ≡ Ok Nothing) ⊎ (result ≡ Ok Served)
+ArrivesOf conn buffer (Some (from, heard.Octets count)) (Ok tried) =
+    tried ≡ Arrived (ServerStream conn from (take count buffer))
+ArrivesOf conn buffer (Some (from, heard.Octets count)) (Err _) = Unit {0}
+ArrivesOf conn buffer (Some (from, heard.Nothing)) result = result ≡ Ok Nothing
+ArrivesOf conn buffer (Some (from, heard.Done)) result = result ≡ Ok Served
+ArrivesOf conn buffer (Some (from, heard.Failed)) result = result ≡ Ok Served
 ArrivesOf conn buffer None result = result ≡ Ok Nothing
 
 -- whether a connection to a server is closed where this came of it
@@ -94,7 +94,7 @@ is_closed_by (Err _) = true
 -- Taking of the server on the connection with this number. No other changes.
 pub record TakesServer {R A Streams Listeners : Type 0} (conn : ℕ) (result : Result (Tried A) AllocError)
     (before after : Sockets R A Streams Listeners) : Type 0 where
-  pub served : Option (Peer × Result ℕ Error)
+  pub served : Option (Peer × Heard)
   pub servers : List (ℕ × ServerConnection A)
   pub serves : ServesServer conn served after.buffer.value before.connections.servers servers
   pub arrives : ArrivesOf conn after.buffer.value served result

@@ -153,23 +153,23 @@ impl<R: Net, A: Allocator + Copy> Sockets<'_, R, A> {
     fn take_server(&mut self, conn: u64) -> Result<Tried<A>, AllocError>
         ensures { TakesServer conn result self.old self.new }
     {
-        let Some((from, served)) = self.connections.serve_server(conn, &mut self.buffer[..]) else {
+        let Some((from, heard)) = self.connections.serve_server(conn, &mut self.buffer[..]) else {
             return Ok(Tried::Nothing);
         };
-        match served {
-            Ok(0) => {}
-            Ok(count) => match piece(self.alloc, &mut self.spare, &self.buffer, count) {
-                Ok(bytes) => return Ok(Tried::Arrived(Arrival::ServerStream { conn, from, bytes })),
+        match heard {
+            Heard::Octets(count) => match piece(self.alloc, &mut self.spare, &self.buffer, count) {
+                Ok(bytes) => Ok(Tried::Arrived(Arrival::ServerStream { conn, from, bytes })),
                 Err(refusal) => {
                     self.connections.close_server(conn);
-                    return Err(refusal);
+                    Err(refusal)
                 }
             },
-            Err(error) if error.kind() == ErrorKind::WouldBlock => return Ok(Tried::Nothing),
-            Err(_) => {}
+            Heard::Nothing => Ok(Tried::Nothing),
+            Heard::Done | Heard::Failed => {
+                self.connections.close_server(conn);
+                Ok(Tried::Served)
+            }
         }
-        self.connections.close_server(conn);
-        Ok(Tried::Served)
     }
 }
 
