@@ -7,13 +7,19 @@ use Rattle.std.specs.Map.{remove_entry}
 use Rattle.std.specs.BTreeMap.{is_at}
 use Rattle.step_values.specs.declared.Path.TheVariants as path
 use Rattle.socket_wire.specs.declared.sockets.Sockets.{Sockets}
+use Rattle.std.specs.declared.io.Error.{Error}
 use Rattle.suffix_routes.specs.declared.peer.Peer.{Peer}
 use Rattle.wires.specs.declared.wire.Arrival.{Arrival}
 use Rattle.wires.specs.declared.wire.Arrival.TheVariants.{ClientDatagram, ClientStream as ArrivesOfClient}
 use Rattle.wires.specs.declared.wire.Arrival.TheVariants.{ServerDatagram, ServerStream, PathGone}
 use Rattle.stream_connections.specs.declared.client_stream.ClientStream.{ClientStream}
+use Rattle.stream_connections.specs.Answers.{refusal_of}
 use Rattle.stream_connections.specs.declared.answers.Heard.{Heard}
 use Rattle.stream_connections.specs.declared.answers.Heard.TheVariants as heard
+use Rattle.stream_connections.specs.declared.answers.Refusal.{Refusal}
+use Rattle.stream_connections.specs.declared.answers.Refusal.TheVariants.{WouldBlock, Interrupted, NoDescriptor, Failed}
+use Rattle.std.specs.declared.net.socket_addr.SocketAddr.{SocketAddr}
+use Rattle.socket_wire.specs.Addresses.{peer_at}
 use Rattle.socket_wire.specs.declared.sockets.taking.Tried.{Tried}
 use Rattle.socket_wire.specs.declared.sockets.taking.Tried.TheVariants.{Arrived, Served, Nothing}
 use Rattle.stream_connections.specs.declared.servers.ServerStream.{ServerStream as ServerConnection}
@@ -33,6 +39,21 @@ abbrev pub IsDatagram : {A : Type 0} → (buffer : List ℕ) → Tried A → Typ
 IsDatagram buffer (Arrived arrival) = (from : Peer) × CarriesFront buffer (ClientDatagram from) arrival
 IsDatagram buffer Served = Unit {0}
 IsDatagram buffer Nothing = Unit {0}
+
+-- A datagram arrives from this peer with the octets of the buffer's front, as many as were received, unless memory ran
+-- out. One of no peer, which came by IPv6, does not.
+abbrev pub IsReceived : {A : Type 0} → (count : ℕ) → Option Peer → (buffer : List ℕ) → (Peer → List ℕ → Arrival A)
+    → Result (Tried A) AllocError → Type 0
+IsReceived count (Some from) buffer carrying (Ok tried) = tried ≡ Arrived (carrying from (take count buffer))
+IsReceived count (Some from) buffer carrying (Err _) = Unit {0}
+IsReceived count None buffer carrying result = result ≡ Ok Served
+
+-- What comes of the socket for clients' datagrams, by its answer: a datagram; or where it refuses, nothing, whatever the
+-- reason.
+abbrev pub HearsDatagram : {A : Type 0} → Result (ℕ × SocketAddr) Error → (buffer : List ℕ)
+    → Result (Tried A) AllocError → Type 0
+HearsDatagram (Ok (count, from)) buffer result = IsReceived count (peer_at from) buffer ClientDatagram result
+HearsDatagram (Err error) buffer result = result ≡ Ok Nothing
 
 -- Taking of the socket for datagrams. No connection, no ask and no number changes.
 pub record TakesDatagram {R A Streams Listeners : Type 0} (result : Result (Tried A) AllocError)
@@ -113,6 +134,28 @@ IsOfAsk port buffer (Arrived (PathGone gone)) = gone ≡ path.Udp port
 IsOfAsk port buffer (Arrived arrival) = (from : Peer) × CarriesFront buffer (ServerDatagram port from) arrival
 IsOfAsk port buffer Served = Unit {0}
 IsOfAsk port buffer Nothing = Unit {0}
+
+-- The path of the ask at this port is gone, and its socket with it.
+abbrev pub IsLost : {A X : Type 0} → (port : ℕ) → Tried A → (before after : List (ℕ × X)) → Type 0
+IsLost port tried before after =
+    (tried ≡ Arrived (PathGone (path.Udp port))) × (after ≡ remove_entry (is_at (nat_cmp port)) before)
+
+-- The path of an ask whose socket refused to be read: where it would block nothing is there, and nothing changes; for
+-- any other reason the path is gone, and its socket with it.
+abbrev pub LosesAsk : {A X : Type 0} → (port : ℕ) → Refusal → Tried A → (before after : List (ℕ × X)) → Type 0
+LosesAsk port WouldBlock tried before after = (tried ≡ Nothing) × (after ≡ before)
+LosesAsk port Interrupted tried before after = IsLost port tried before after
+LosesAsk port NoDescriptor tried before after = IsLost port tried before after
+LosesAsk port Failed tried before after = IsLost port tried before after
+
+-- What comes at the port of an ask, by the answer of its socket: a datagram; or where it refuses, nothing or the end of
+-- its path.
+abbrev pub HearsAsk : {A X : Type 0} → (port : ℕ) → Result (ℕ × SocketAddr) Error → (buffer : List ℕ)
+    → Result (Tried A) AllocError → (before after : List (ℕ × X)) → Type 0
+HearsAsk port (Ok (count, from)) buffer result before after =
+    IsReceived count (peer_at from) buffer (ServerDatagram port) result × (after ≡ before)
+HearsAsk port (Err error) buffer (Ok tried) before after = LosesAsk port (refusal_of error) tried before after
+HearsAsk port (Err error) buffer (Err _) before after = ⊥
 
 -- Taking of the socket of the ask at this port.
 pub record TakesAsk {R A Streams Listeners : Type 0} (port : ℕ) (result : Result (Tried A) AllocError)
