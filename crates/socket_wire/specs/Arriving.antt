@@ -1,10 +1,14 @@
 -- What arrives first, and which connection of a client is taken in.
 use Rattle.std.specs.Prelude.{◌≡◌, ℕ, ◌+◌, ◌<◌, ◌≤◌, ◌⊎◌, [], length, drop, slice_get, if◌then◌else◌, nat_lt}
-use Rattle.std.specs.Prelude.{Bool, true, false, Some, None, is_some, Result, Ok}
+use Rattle.std.specs.Prelude.{Bool, true, false, Some, None, is_some, Result, Ok, Err}
 use Rattle.std.specs.declared.alloc.AllocError.{AllocError}
 use Rattle.step_values.specs.declared.Path.TheVariants as path
 use Rattle.wires.specs.declared.wire.Arrival.{Arrival}
 use Rattle.wires.specs.declared.wire.Arrival.TheVariants.{ClientClosed, PathGone}
+use Rattle.std.specs.declared.io.Error.{Error}
+use Rattle.stream_connections.specs.Answers.{refusal_of}
+use Rattle.stream_connections.specs.declared.answers.Refusal.{Refusal}
+use Rattle.stream_connections.specs.declared.answers.Refusal.TheVariants.{WouldBlock, Interrupted, NoDescriptor, Failed}
 use Rattle.stream_connections.specs.declared.connections.Closed.{Closed}
 use Rattle.stream_connections.specs.declared.connections.Closed.TheVariants.{Client, Server}
 use Rattle.socket_wire.specs.declared.sockets.Sockets.{Sockets}
@@ -57,6 +61,37 @@ abbrev pub MayCloseResting : {R A Streams Listeners : Type 0} → (now : ℕ) �
     → (before after : Sockets R A Streams Listeners) → Type 0
 MayCloseResting now true before after = ClosesResting now before after
 MayCloseResting now false before after = after ≡ before
+
+-- What follows from a refused call: where no descriptor is left, the oldest client that has waited for nothing for a
+-- while is closed, if any; for any other reason nothing changes, as a taken port or a network that can't be reached.
+abbrev pub FreesFor : {R A Streams Listeners : Type 0} → Refusal → (now : ℕ) → (is_closed : Bool)
+    → (before after : Sockets R A Streams Listeners) → Type 0
+FreesFor NoDescriptor now is_closed before after =
+    (is_closed ≡ is_some (first_resting now before.connections.clients)) × (after ≡ record before {
+      connections = without_first (first_resting now before.connections.clients) before.connections;
+    })
+FreesFor WouldBlock now is_closed before after = (is_closed ≡ false) × (after ≡ before)
+FreesFor Interrupted now is_closed before after = (is_closed ≡ false) × (after ≡ before)
+FreesFor Failed now is_closed before after = (is_closed ≡ false) × (after ≡ before)
+
+-- What follows from a call, by its answer: from one that was not refused nothing.
+abbrev pub FreesBy : {R A Streams Listeners T : Type 0} → Result T Error → (now : ℕ) → (is_closed : Bool)
+    → (before after : Sockets R A Streams Listeners) → Type 0
+FreesBy (Ok value) now is_closed before after = (is_closed ≡ false) × (after ≡ before)
+FreesBy (Err error) now is_closed before after = FreesFor (refusal_of error) now is_closed before after
+
+-- what came of a listener that refused: where a descriptor was freed, the next turn may have a connection
+abbrev pub tried_if : {A : Type 0} → (is_closed : Bool) → Tried A
+tried_if true = Served
+tried_if false = Nothing
+
+-- What trying the listener does, by its answer: a connection comes; or it refuses, and only for want of a descriptor one
+-- is freed.
+abbrev pub AcceptsBy : {R A Streams Listeners T : Type 0} → Result T Error → (now : ℕ) → Tried A
+    → (before after : Sockets R A Streams Listeners) → Type 0
+AcceptsBy (Ok accepted) now tried before after = (tried ≡ Served) × TakesIn now before after
+AcceptsBy (Err error) now tried before after =
+    (is_closed : Bool) × (tried ≡ tried_if is_closed) × FreesFor (refusal_of error) now is_closed before after
 
 -- What trying the listener does: a connection comes, or the descriptor of another is freed for it; else nothing
 -- changes.

@@ -29,6 +29,11 @@ abbrev pub ListsPort : {X : Type 0} → (port : ℕ) → (is_done : Bool) → Li
 ListsPort {X} port true before after = (socket : X) × (after ≡ insert_entry nat_cmp before port socket)
 ListsPort port false before after = after ≡ before
 
+-- A query by UDP that was sent: its socket is listed at its port, unless memory ran out.
+abbrev pub ListsThis : {X : Type 0} → (port : ℕ) → X → (is_done : Bool) → List (ℕ × X) → List (ℕ × X) → Type 0
+ListsThis port socket true before after = after ≡ insert_entry nat_cmp before port socket
+ListsThis port socket false before after = after ≡ before
+
 -- A query over TCP that is begun: its connection is listed.
 pub record Begins {A : Type 0} (conn : ℕ) (server : Peer) (query : List ℕ) (now : ℕ) (before after : Connections A)
     : Type 0 where

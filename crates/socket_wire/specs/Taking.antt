@@ -1,5 +1,5 @@
 -- What is taken of the sockets of clients and of asks.
-use Rattle.std.specs.Prelude.{◌≡◌, ℕ, zero, suc, ◌≤◌, ◌⊎◌, length, Bool, true, false, not, if◌then◌else◌, is_ok, IfOk}
+use Rattle.std.specs.Prelude.{◌≡◌, ℕ, ◌≤◌, length, Bool, true, false, not, if◌then◌else◌, is_ok, IfOk}
 use Rattle.std.specs.Prelude.{List, take, Option, Some, None, Result, Ok, Err}
 use Rattle.std.specs.declared.alloc.AllocError.{AllocError}
 use Rattle.std.specs.Ordering.{nat_cmp}
@@ -13,8 +13,13 @@ use Rattle.wires.specs.declared.wire.Arrival.{Arrival}
 use Rattle.wires.specs.declared.wire.Arrival.TheVariants.{ClientDatagram, ClientStream as ArrivesOfClient}
 use Rattle.wires.specs.declared.wire.Arrival.TheVariants.{ServerDatagram, ServerStream, PathGone}
 use Rattle.stream_connections.specs.declared.client_stream.ClientStream.{ClientStream}
-use Rattle.stream_connections.specs.declared.client_stream.Heard.{Heard}
-use Rattle.stream_connections.specs.declared.client_stream.Heard.TheVariants as heard
+use Rattle.stream_connections.specs.Answers.{refusal_of}
+use Rattle.stream_connections.specs.declared.answers.Heard.{Heard}
+use Rattle.stream_connections.specs.declared.answers.Heard.TheVariants as heard
+use Rattle.stream_connections.specs.declared.answers.Refusal.{Refusal}
+use Rattle.stream_connections.specs.declared.answers.Refusal.TheVariants.{WouldBlock, Interrupted, NoDescriptor, Failed}
+use Rattle.std.specs.declared.net.socket_addr.SocketAddr.{SocketAddr}
+use Rattle.socket_wire.specs.Addresses.{peer_at}
 use Rattle.socket_wire.specs.declared.sockets.taking.Tried.{Tried}
 use Rattle.socket_wire.specs.declared.sockets.taking.Tried.TheVariants.{Arrived, Served, Nothing}
 use Rattle.stream_connections.specs.declared.servers.ServerStream.{ServerStream as ServerConnection}
@@ -34,6 +39,21 @@ abbrev pub IsDatagram : {A : Type 0} → (buffer : List ℕ) → Tried A → Typ
 IsDatagram buffer (Arrived arrival) = (from : Peer) × CarriesFront buffer (ClientDatagram from) arrival
 IsDatagram buffer Served = Unit {0}
 IsDatagram buffer Nothing = Unit {0}
+
+-- A datagram arrives from this peer with the octets of the buffer's front, as many as were received, unless memory ran
+-- out. One of no peer, which came by IPv6, does not.
+abbrev pub IsReceived : {A : Type 0} → (count : ℕ) → Option Peer → (buffer : List ℕ) → (Peer → List ℕ → Arrival A)
+    → Result (Tried A) AllocError → Type 0
+IsReceived count (Some from) buffer carrying (Ok tried) = tried ≡ Arrived (carrying from (take count buffer))
+IsReceived count (Some from) buffer carrying (Err _) = Unit {0}
+IsReceived count None buffer carrying result = result ≡ Ok Served
+
+-- What comes of the socket for clients' datagrams, by its answer: a datagram; or where it refuses, nothing, whatever the
+-- reason.
+abbrev pub HearsDatagram : {A : Type 0} → Result (ℕ × SocketAddr) Error → (buffer : List ℕ)
+    → Result (Tried A) AllocError → Type 0
+HearsDatagram (Ok (count, from)) buffer result = IsReceived count (peer_at from) buffer ClientDatagram result
+HearsDatagram (Err error) buffer result = result ≡ Ok Nothing
 
 -- Taking of the socket for datagrams. No connection, no ask and no number changes.
 pub record TakesDatagram {R A Streams Listeners : Type 0} (result : Result (Tried A) AllocError)
@@ -75,13 +95,14 @@ pub record TakesClient {R A Streams Listeners : Type 0} (conn now : ℕ) (result
 
 -- What arrives of the server on the connection with this number: the octets that were read, unless memory ran out.
 -- Where it sends nothing more, nothing does; nor where the stream failed, or would wait.
-abbrev pub ArrivesOf : {A : Type 0} → (conn : ℕ) (buffer : List ℕ) → Option (Peer × Result ℕ Error)
+abbrev pub ArrivesOf : {A : Type 0} → (conn : ℕ) (buffer : List ℕ) → Option (Peer × Heard)
     → Result (Tried A) AllocError → Type 0
-ArrivesOf conn buffer (Some (from, Ok zero)) result = result ≡ Ok Served
-ArrivesOf conn buffer (Some (from, Ok (suc before_last))) (Ok tried) =
-    tried ≡ Arrived (ServerStream conn from (take (suc before_last) buffer))
-ArrivesOf conn buffer (Some (from, Ok (suc before_last))) (Err _) = Unit {0}
-ArrivesOf conn buffer (Some (from, Err _)) result = (result ≡ Ok Nothing) ⊎ (result ≡ Ok Served)
+ArrivesOf conn buffer (Some (from, heard.Octets count)) (Ok tried) =
+    tried ≡ Arrived (ServerStream conn from (take count buffer))
+ArrivesOf conn buffer (Some (from, heard.Octets count)) (Err _) = Unit {0}
+ArrivesOf conn buffer (Some (from, heard.Nothing)) result = result ≡ Ok Nothing
+ArrivesOf conn buffer (Some (from, heard.Done)) result = result ≡ Ok Served
+ArrivesOf conn buffer (Some (from, heard.Failed)) result = result ≡ Ok Served
 ArrivesOf conn buffer None result = result ≡ Ok Nothing
 
 -- whether a connection to a server is closed where this came of it
@@ -94,7 +115,7 @@ is_closed_by (Err _) = true
 -- Taking of the server on the connection with this number. No other changes.
 pub record TakesServer {R A Streams Listeners : Type 0} (conn : ℕ) (result : Result (Tried A) AllocError)
     (before after : Sockets R A Streams Listeners) : Type 0 where
-  pub served : Option (Peer × Result ℕ Error)
+  pub served : Option (Peer × Heard)
   pub servers : List (ℕ × ServerConnection A)
   pub serves : ServesServer conn served after.buffer.value before.connections.servers servers
   pub arrives : ArrivesOf conn after.buffer.value served result
@@ -113,6 +134,28 @@ IsOfAsk port buffer (Arrived (PathGone gone)) = gone ≡ path.Udp port
 IsOfAsk port buffer (Arrived arrival) = (from : Peer) × CarriesFront buffer (ServerDatagram port from) arrival
 IsOfAsk port buffer Served = Unit {0}
 IsOfAsk port buffer Nothing = Unit {0}
+
+-- The path of the ask at this port is gone, and its socket with it.
+abbrev pub IsLost : {A X : Type 0} → (port : ℕ) → Tried A → (before after : List (ℕ × X)) → Type 0
+IsLost port tried before after =
+    (tried ≡ Arrived (PathGone (path.Udp port))) × (after ≡ remove_entry (is_at (nat_cmp port)) before)
+
+-- The path of an ask whose socket refused to be read: where it would block nothing is there, and nothing changes; for
+-- any other reason the path is gone, and its socket with it.
+abbrev pub LosesAsk : {A X : Type 0} → (port : ℕ) → Refusal → Tried A → (before after : List (ℕ × X)) → Type 0
+LosesAsk port WouldBlock tried before after = (tried ≡ Nothing) × (after ≡ before)
+LosesAsk port Interrupted tried before after = IsLost port tried before after
+LosesAsk port NoDescriptor tried before after = IsLost port tried before after
+LosesAsk port Failed tried before after = IsLost port tried before after
+
+-- What comes at the port of an ask, by the answer of its socket: a datagram; or where it refuses, nothing or the end of
+-- its path.
+abbrev pub HearsAsk : {A X : Type 0} → (port : ℕ) → Result (ℕ × SocketAddr) Error → (buffer : List ℕ)
+    → Result (Tried A) AllocError → (before after : List (ℕ × X)) → Type 0
+HearsAsk port (Ok (count, from)) buffer result before after =
+    IsReceived count (peer_at from) buffer (ServerDatagram port) result × (after ≡ before)
+HearsAsk port (Err error) buffer (Ok tried) before after = LosesAsk port (refusal_of error) tried before after
+HearsAsk port (Err error) buffer (Err _) before after = ⊥
 
 -- Taking of the socket of the ask at this port.
 pub record TakesAsk {R A Streams Listeners : Type 0} (port : ℕ) (result : Result (Tried A) AllocError)

@@ -1,9 +1,7 @@
 //! Peers as addresses of sockets.
 
-ghost use Rattle.std.specs.Prelude.{IfSome, IfNone, IsTrue, ◌∷◌, []};
-ghost use Rattle.std.specs.Net.Addr.{is_ipv6};
-ghost use Rattle.std.specs.Net.Socket.{socket_ip};
-ghost use Rattle.socket_wire.specs.Addresses.{IsAddressOf};
+ghost use Rattle.std.specs.Prelude.{◌≡◌};
+ghost use Rattle.socket_wire.specs.Addresses.{IsAddressOf, at_any_address, peer_at};
 
 use std::net::{Ipv4Addr, SocketAddr, SocketAddrV4};
 use suffix_routes::Peer;
@@ -19,8 +17,7 @@ pub(crate) fn address_of(peer: Peer) -> SocketAddr
 
 /// The peer at an address; `None` for IPv6.
 pub(crate) fn peer_of(address: SocketAddr) -> Option<Peer>
-    ensures some { IfSome result (λ peer. IsAddressOf peer address) }
-    ensures none { IfNone result (IsTrue (is_ipv6 (socket_ip address))) }
+    ensures { result ≡ peer_at address }
 {
     match address {
         SocketAddr::V4(v4) => Some(Peer {
@@ -33,7 +30,27 @@ pub(crate) fn peer_of(address: SocketAddr) -> Option<Peer>
 
 /// This port on every address of this machine.
 pub(crate) fn any_address(port: u16) -> SocketAddr
-    ensures { IsAddressOf (record { ip = 0 ∷ 0 ∷ 0 ∷ 0 ∷ []; port = port }) result }
+    ensures { IsAddressOf (at_any_address port) result }
 {
     SocketAddr::V4(SocketAddrV4::new(Ipv4Addr::UNSPECIFIED, port))
+}
+
+/// The addresses of the socket of an ask.
+#[derive(Clone, Copy)]
+pub(crate) struct Ends {
+    /// Its own.
+    pub own: SocketAddr,
+    /// That of the server which is asked.
+    pub server: SocketAddr,
+}
+
+/// The addresses of the socket of an ask from this port of this server.
+pub(crate) fn ends_of(port: u16, server: Peer) -> Ends
+    ensures own { IsAddressOf (at_any_address port) result.own }
+    ensures server { IsAddressOf server result.server }
+{
+    Ends {
+        own: any_address(port),
+        server: address_of(server),
+    }
 }

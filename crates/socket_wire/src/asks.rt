@@ -1,6 +1,7 @@
 //! The sockets of asks.
 
-use crate::address::{address_of, any_address};
+use crate::address::ends_of;
+use crate::answers::kept_if;
 use crate::origin::Origin;
 use crate::readiness::Readiness;
 use mio::net::UdpSocket;
@@ -16,8 +17,10 @@ pub(crate) fn ask_socket<R: Net, A: Allocator + Copy>(
     port: u16,
     server: Peer,
 ) -> io::Result<UdpSocket> {
-    let mut socket = UdpSocket::bind(rt, any_address(port))?;
-    socket.connect(address_of(server))?;
-    readiness.watch_reads(&mut socket, Origin::Ask(port))?;
-    Ok(socket)
+    let ends = ends_of(port, server);
+    let socket = UdpSocket::bind(rt, ends.own)?;
+    let connected = socket.connect(ends.server);
+    let mut socket = kept_if(socket, connected)?;
+    let watched = readiness.watch_reads(&mut socket, Origin::Ask(port));
+    kept_if(socket, watched)
 }

@@ -2,6 +2,7 @@
 #![tactic(auto)]
 
 mod address;
+mod answers;
 mod asks;
 mod listeners;
 mod moments;

@@ -1,34 +1,33 @@
 //! The sockets that clients send to.
 
-use crate::address::address_of;
+use crate::answers::kept_if;
 use crate::origin::Origin;
 use crate::readiness::Readiness;
 use crate::receive_buffer::widen;
 use mio::net::{TcpListener, UdpSocket};
 use std::alloc::Allocator;
 use std::io;
-use std::net::Net;
-use suffix_routes::Peer;
+use std::net::{Net, SocketAddr};
 
-/// A socket that takes datagrams at the peer's address.
+/// A socket that takes datagrams at this address.
 pub(crate) fn datagrams_at<A: Allocator + Copy>(
     net: &impl Net,
     readiness: &Readiness<A>,
-    listen: Peer,
+    at: SocketAddr,
 ) -> io::Result<UdpSocket> {
-    let mut socket = UdpSocket::bind(net, address_of(listen))?;
+    let mut socket = UdpSocket::bind(net, at)?;
     widen(&socket);
-    readiness.watch_reads(&mut socket, Origin::Datagrams)?;
-    Ok(socket)
+    let watched = readiness.watch_reads(&mut socket, Origin::Datagrams);
+    kept_if(socket, watched)
 }
 
-/// A listener for connections at the peer's address.
+/// A listener for connections at this address.
 pub(crate) fn connections_at<A: Allocator + Copy>(
     net: &impl Net,
     readiness: &Readiness<A>,
-    listen: Peer,
+    at: SocketAddr,
 ) -> io::Result<TcpListener> {
-    let mut listener = TcpListener::bind(net, address_of(listen))?;
-    readiness.watch_reads(&mut listener, Origin::Connections)?;
-    Ok(listener)
+    let mut listener = TcpListener::bind(net, at)?;
+    let watched = readiness.watch_reads(&mut listener, Origin::Connections);
+    kept_if(listener, watched)
 }

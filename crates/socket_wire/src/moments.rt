@@ -1,10 +1,11 @@
 //! Moments that never fall.
 
-ghost use Rattle.std.specs.Prelude.{◌≡◌, ◌≤◌, true, false, IfOk};
+ghost use Rattle.std.specs.Prelude.{◌≡◌, ◌≤◌, max, true, false, IfOk, OnErr};
+ghost use Rattle.socket_wire.specs.Moments.{moment_of};
 
 use std::io;
 use std::rt::Clock;
-use std::time::Instant;
+use std::time::{Duration, Instant};
 
 /// Milliseconds since it was made, by the system's monotonic clock. One reading serves all steps of a turn.
 #[derive(Drop)]
@@ -15,6 +16,13 @@ pub(crate) struct Moments<'a, R: Clock> {
     pub last: u64,
     /// The clock was read in this turn.
     is_read: bool,
+}
+
+/// The whole milliseconds of a time, 2^64 - 1 at most.
+fn moment_of(spent: Duration) -> u64
+    ensures { result ≡ moment_of spent }
+{
+    u64::try_from(spent.as_millis()).unwrap_or(u64::MAX)
 }
 
 impl<'a, R: Clock> Moments<'a, R> {
@@ -48,10 +56,21 @@ impl<'a, R: Clock> Moments<'a, R> {
             return self.last;
         }
         self.is_read = true;
-        if let Ok(spent) = self.started.elapsed(self.rt) {
-            let moment = u64::try_from(spent.as_millis()).unwrap_or(u64::MAX);
-            self.last = self.last.max(moment);
-        }
+        let spent = self.started.elapsed(self.rt);
+        self.note(spent);
         self.last
+    }
+
+    /// Notes the moment at which this time was spent, by the clock's answer, unless it is an earlier
+    /// one or the clock failed.
+    fn note(&mut self, spent: io::Result<Duration>)
+        ensures ok { IfOk spent (λ spent. self.new ≡ record self.old { last = max self.old.last (moment_of spent) }) }
+        ensures err { OnErr spent (self.new ≡ self.old) }
+        ensures rises { self.old.last ≤ self.new.last }
+        ensures rest { self.new ≡ record self.old { last = self.new.last } }
+    {
+        if let Ok(spent) = spent {
+            self.last = self.last.max(moment_of(spent));
+        }
     }
 }

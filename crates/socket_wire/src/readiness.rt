@@ -1,6 +1,8 @@
 //! What may be ready, and which of it is tried next.
 
-ghost use Rattle.std.specs.Prelude.{◌≡◌, ◌≤◌, ◌+◌, ◌%◌, [], IsTrue, IfOk, ◌↔◌};
+ghost use Rattle.std.specs.Prelude.{◌≡◌, ◌≤◌, ◌+◌, ◌*◌, ◌%◌, [], true, IsTrue, IfOk, OnErr, IsSomeAnd, ◌↔◌};
+ghost use Rattle.std.specs.Duration.{as_nanos};
+ghost use Rattle.mio.specs.Interest.{is_readable, is_writable};
 ghost use Rattle.std.specs.BTreeSet.{btree_set_len};
 ghost use Rattle.socket_wire.specs.Rounds.{Dropped, Finds, Gives, GivesOnTurn, HasDatagramsAlone, IsBegun};
 ghost use Rattle.socket_wire.specs.Rounds.{IsNothing, Noted, NotedStay};
@@ -115,6 +117,21 @@ impl<A: Allocator + Copy> Ready<A> {
     }
 }
 
+/// This many milliseconds, as a poll takes them.
+fn pause_of(millis: u64) -> Option<Duration>
+    ensures { IsSomeAnd result (λ pause. as_nanos pause ≡ millis * 1_000_000) }
+{
+    Some(Duration::from_millis(millis))
+}
+
+/// A socket that is read from and written to.
+fn both_ways() -> Interest
+    ensures reads { is_readable result ≡ true }
+    ensures writes { is_writable result ≡ true }
+{
+    Interest::READABLE | Interest::WRITABLE
+}
+
 /// What may be ready: told by the system, or to be tried all the same. Each stays until it said that it would block.
 #[derive(Drop)]
 pub(crate) struct Readiness<A: Allocator> {
@@ -149,8 +166,8 @@ impl<A: Allocator + Copy> Readiness<A> {
 
     /// Has the system tell when the socket can be read from or written to.
     pub fn watch<S: Source>(&self, socket: &mut S, origin: Origin) -> io::Result<()> {
-        let both = Interest::READABLE | Interest::WRITABLE;
-        self.poll.registry().register(socket, origin.token(), both)
+        let registry = self.poll.registry();
+        registry.register(socket, origin.token(), both_ways())
     }
 
     /// Waits until something is ready, for so many milliseconds at most; no turn waits for long.
@@ -159,11 +176,19 @@ impl<A: Allocator + Copy> Readiness<A> {
         ensures stay { NotedStay self.old.ready self.new.ready }
         ensures turn { self.new.turn ≡ self.old.turn }
     {
-        let pause = Some(Duration::from_millis(pause));
-        if self.poll.poll(&mut self.events, pause).is_err() {
-            return;
+        let polled = self.poll.poll(&mut self.events, pause_of(pause));
+        self.note_events(polled);
+    }
+
+    /// Notes the sockets that the events tell of, unless the poll failed that gave them.
+    fn note_events(&mut self, polled: io::Result<()>)
+        ensures stay { NotedStay self.old.ready self.new.ready }
+        ensures err { OnErr polled (self.new.ready ≡ self.old.ready) }
+        ensures turn { self.new.turn ≡ self.old.turn }
+    {
+        if polled.is_ok() {
+            self.ready.add_each(&self.events);
         }
-        self.ready.add_each(&self.events);
     }
 
     /// The socket may be ready. Where memory ran out it isn't noted; then it is tried when its turn comes.

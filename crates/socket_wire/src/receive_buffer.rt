@@ -1,5 +1,8 @@
 //! A wider receive buffer.
 
+ghost use Rattle.std.specs.Prelude.{◌≡◌, ◌++◌, ◌^◌, replicate};
+ghost use Rattle.std.specs.Int.{to_le_bytes, w32};
+
 use libc::net::{SO_RCVBUF, SOL_SOCKET, setsockopt};
 use mio::net::UdpSocket;
 use std::os::fd::AsRawFd;
@@ -7,10 +10,18 @@ use std::os::fd::AsRawFd;
 /// How many octets are asked for: some thousands of questions.
 const ROOM: i32 = 1 << 20;
 
+/// The value of the option: how many octets are asked for, in the machine's order, in its first four.
+fn room_asked() -> [u8; 16]
+    ensures { result ≡ to_le_bytes w32 (2 ^ 20) ++ replicate 12 0 }
+{
+    let mut value = [0u8; 16];
+    value[..4].copy_from_slice(&ROOM.to_ne_bytes());
+    value
+}
+
 /// Asks the system to keep more datagrams until they are taken. The system may give less, and where it gives nothing
 /// the buffer stays as it is.
 pub(crate) fn widen(socket: &UdpSocket) {
-    let mut value = [0u8; 16];
-    value[..4].copy_from_slice(&ROOM.to_ne_bytes());
+    let value = room_asked();
     let _status = unsafe { setsockopt(socket.as_raw_fd(), SOL_SOCKET, SO_RCVBUF, &value, 4) };
 }

@@ -10,6 +10,7 @@ mod putting;
 mod taking;
 mod trying;
 
+use crate::address::address_of;
 use crate::listeners::{connections_at, datagrams_at};
 use crate::numbers::Numbers;
 use crate::readiness::Readiness;
@@ -75,8 +76,9 @@ impl<'a, R: Net, A: Allocator + Copy> Sockets<'a, R, A> {
         ensures words { IfOk result (λ sockets. sockets.words ≡ words) }
     {
         let readiness = Readiness::new(rt, alloc)?;
-        let datagrams = datagrams_at(rt, &readiness, listen)?;
-        let listener = connections_at(rt, &readiness, listen)?;
+        let at = address_of(listen);
+        let datagrams = datagrams_at(rt, &readiness, at)?;
+        let listener = connections_at(rt, &readiness, at)?;
         let buffer = Box::new(alloc, [0u8; LARGEST])?;
         Ok(Sockets {
             rt,

@@ -3,6 +3,7 @@
 ghost use Rattle.std.specs.Prelude.{◌≡◌, IfOk};
 ghost use Rattle.socket_wire.specs.Seen.{told_of_sockets};
 
+use crate::answers::kept_if;
 use crate::moments::Moments;
 use crate::sockets::Sockets;
 use crate::words::Words;
@@ -36,15 +37,16 @@ impl<'a, R: Net + Clock, A: Allocator> Model for MioWire<'a, R, A> {
 
 impl<'a, R: Net + Clock + RandomSource, A: Allocator + Copy> MioWire<'a, R, A> {
     /// A wire that listens at this address, and counted no fault. A question on a connection waits for its reply for as
-    /// long as the limits let it. `Err` where the system refuses, or memory ran out.
+    /// long as the limits let it. `Err` where the system refuses, gives no random octets or no time, or memory ran out.
     pub fn new(rt: &'a R, alloc: A, listen: Peer, limits: &Limits) -> io::Result<MioWire<'a, R, A>>
         ensures faults { IfOk result (λ wire. wire.faults ≡ 0) }
         ensures deadline { IfOk result (λ wire. wire.deadline ≡ limits.now.deadline_ms) }
     {
         let mut seed = [0u8; 32];
-        rt.fill_bytes(&mut seed)?;
+        let filled = rt.fill_bytes(&mut seed);
+        let words = Words::new(kept_if(seed, filled)?);
         Ok(MioWire {
-            sockets: Sockets::new(rt, alloc, listen, limits, Words::new(seed))?,
+            sockets: Sockets::new(rt, alloc, listen, limits, words)?,
             moments: Moments::new(rt)?,
             faults: 0,
         })

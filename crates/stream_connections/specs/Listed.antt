@@ -7,7 +7,7 @@ use Rattle.std.specs.Map.{lookup, set_value}
 use Rattle.std.specs.BTreeMap.{insert_entry, is_at}
 use Rattle.std.specs.BTreeMap.Range.{entries_between}
 use Rattle.stream_connections.specs.declared.client_stream.ClientStream.{ClientStream}
-use Rattle.stream_connections.specs.declared.client_stream.Heard.{Heard}
+use Rattle.stream_connections.specs.declared.answers.Heard.{Heard}
 use Rattle.stream_connections.specs.declared.lost.Lost.{Lost}
 use Rattle.stream_connections.specs.Serving.{Replies, Serves}
 use Rattle.stream_connections.specs.Waiting.{IsNew, is_idle, is_late, is_resting}

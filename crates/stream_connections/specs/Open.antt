@@ -1,6 +1,6 @@
 -- The connections that are open, and the ends of others that are yet to be told.
 use Rattle.std.specs.Prelude.{◌≡◌, ℕ, ◌+◌, ◌≤◌, Bool, ◌||◌, List, [], ◌∷◌, ◌++◌, length, slice_get, nat_lt}
-use Rattle.std.specs.Prelude.{Option, Some, None, is_some, Result, IfOk, if◌then◌else◌}
+use Rattle.std.specs.Prelude.{Option, Some, None, is_some, if◌then◌else◌}
 use Rattle.std.specs.Option.{option_map}
 use Rattle.std.specs.Ordering.{nat_cmp}
 use Rattle.std.specs.declared.ops.Bound.TheVariants.{Included, Unbounded}
@@ -12,7 +12,8 @@ use Rattle.stream_connections.specs.declared.client_stream.ClientStream.{ClientS
 use Rattle.stream_connections.specs.declared.servers.ServerStream.{ServerStream}
 use Rattle.stream_connections.specs.declared.connections.Closed.{Closed}
 use Rattle.stream_connections.specs.declared.connections.Closed.TheVariants.{Client, Server}
-use Rattle.stream_connections.specs.Queries.{SendsQuery}
+use Rattle.stream_connections.specs.declared.answers.Heard.{Heard}
+use Rattle.stream_connections.specs.Queries.{IsWithin, SendsQuery}
 use Rattle.stream_connections.specs.Listed.{ChangesAt, IsNotOpen, first_idle}
 
 -- The connections of clients and of asks, each in the order of their numbers; those that were closed and whose end is
@@ -82,8 +83,8 @@ abbrev pub Serves : {A : Type 0} → Peer → ServerStream A → ServerStream A 
 Serves from before after = (from ≡ before.server) × SendsQuery before after
 
 -- Serving the server on the connection with this number.
-abbrev pub ServesServer : {A E : Type 0} → (conn : ℕ) → Option (Peer × Result ℕ E) → (buffer : List ℕ)
+abbrev pub ServesServer : {A : Type 0} → (conn : ℕ) → Option (Peer × Heard) → (buffer : List ℕ)
     → (before after : List (ℕ × ServerStream A)) → Type 0
-ServesServer conn (Some (from, octets)) buffer before after =
-    ChangesAt conn (Serves from) before after × IfOk octets (λ count. count ≤ length buffer)
+ServesServer conn (Some (from, heard)) buffer before after =
+    ChangesAt conn (Serves from) before after × IsWithin heard buffer
 ServesServer conn None buffer before after = IsNotOpen conn before after

@@ -1,14 +1,23 @@
 -- Queries on connections to servers.
-use Rattle.std.specs.Prelude.{◌≡◌, ℕ, ◌≤◌, ◌⊎◌, List, length}
+use Rattle.std.specs.Prelude.{◌≡◌, ℕ, ◌<◌, ◌≤◌, ◌⊎◌, List, length}
 use Rattle.suffix_routes.specs.declared.peer.Peer.{Peer}
 use Rattle.tcp_frames.specs.Frames.{framed}
 use Rattle.tcp_frames.specs.Unsent.{sent}
+use Rattle.stream_connections.specs.declared.answers.Heard.{Heard}
+use Rattle.stream_connections.specs.declared.answers.Heard.TheVariants.{Octets, Nothing, Done, Failed}
 use Rattle.stream_connections.specs.declared.servers.ServerStream.{ServerStream}
 
 -- A connection to this server is begun, and the frame of the query is all that it is still to take.
 pub record IsBegunWith {A : Type 0} (server : Peer) (query : List ℕ) (stream : ServerStream A) : Type 0 where
   pub to : stream.server ≡ server
   pub unsent : stream.unsent ≡ record { left = framed query; taken = 0 }
+
+-- The octets that were heard, one at least, are in the buffer.
+abbrev pub IsWithin : Heard → (buffer : List ℕ) → Type 0
+IsWithin (Octets count) buffer = (0 < count) × (count ≤ length buffer)
+IsWithin Nothing buffer = Unit {0}
+IsWithin Done buffer = Unit {0}
+IsWithin Failed buffer = Unit {0}
 
 -- The server took some of the octets that were left for it.
 pub record TakesOfQuery {A : Type 0} (before after : ServerStream A) : Type 0 where

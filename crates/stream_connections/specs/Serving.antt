@@ -1,5 +1,6 @@
 -- What a call does to the connection of a client.
-use Rattle.std.specs.Prelude.{◌≡◌, ℕ, ◌+◌, ◌-◌, ◌^◌, ◌<◌, ◌≤◌, ◌==◌, ◌++◌, ◌⊎◌, Bool, true, false, not, List, length}
+use Rattle.std.specs.declared.io.Error.{Error}
+use Rattle.std.specs.Prelude.{◌≡◌, ℕ, zero, suc, ◌+◌, ◌-◌, ◌^◌, ◌<◌, ◌≤◌, ◌==◌, ◌++◌, ◌⊎◌, Bool, true, false, not, List, length}
 use Rattle.std.specs.Prelude.{take, Option, Some, None, Result, Ok, Err, if◌then◌else◌}
 use Rattle.tcp_frames.specs.declared.fault.FrameFault.{FrameFault}
 use Rattle.tcp_frames.specs.declared.fault.FrameFault.TheVariants as fault
@@ -7,11 +8,11 @@ use Rattle.tcp_frames.specs.Frames.{framed, frames_of, unfinished_of}
 use Rattle.tcp_frames.specs.Counting.{Stands}
 use Rattle.tcp_frames.specs.Unsent.{pushed, sent}
 use Rattle.stream_connections.specs.declared.client_stream.ClientStream.{ClientStream}
-use Rattle.stream_connections.specs.declared.client_stream.Heard.{Heard}
-use Rattle.stream_connections.specs.declared.client_stream.Heard.TheVariants.{Octets, Nothing, Done, Failed}
+use Rattle.stream_connections.specs.declared.answers.Heard.{Heard}
+use Rattle.stream_connections.specs.declared.answers.Heard.TheVariants.{Octets, Nothing, Done, Failed}
 use Rattle.stream_connections.specs.declared.lost.Lost.{Lost}
 use Rattle.stream_connections.specs.declared.lost.Lost.TheVariants.{Memory, TooLong, TooMuch, Gone}
-use Rattle.stream_connections.specs.Waiting.{Hears, is_done}
+use Rattle.stream_connections.specs.Waiting.{Hears, is_done, silence_of}
 
 -- Nothing has changed but the stream itself.
 abbrev pub Keeps : {A : Type 0} → ClientStream A → ClientStream A → Type 0
@@ -27,6 +28,13 @@ pub record Takes {A : Type 0} (now : ℕ) (before after : ClientStream A) : Type
 -- Sending: a write that takes nothing changes nothing.
 abbrev pub Sends : {A : Type 0} → (now : ℕ) → ClientStream A → ClientStream A → Type 0
 Sends now before after = Keeps before after ⊎ Takes now before after
+
+-- After a write of which the stream took this: octets are progress, none leaves all as it was.
+abbrev pub WroteBy : {A : Type 0} → Result ℕ Error → (now : ℕ) → Result (Unit {0}) Error → (before after : ClientStream A)
+    → Type 0
+WroteBy (Ok zero) now result before after = (result ≡ Ok tt) × (after ≡ before)
+WroteBy (Ok (suc more)) now result before after = (result ≡ Ok tt) × (after ≡ record before { took = now })
+WroteBy (Err error) now result before after = (result ≡ Err error) × (after ≡ before)
 
 -- A piece of the client's stream is heard at this moment: the messages that end in it have no reply yet.
 pub record HearsPiece {A : Type 0} (piece : List ℕ) (now : ℕ) (before after : ClientStream A) : Type 0 where
@@ -63,6 +71,22 @@ TellsWhetherDone (Octets _) after = Unit {0}
 TellsWhetherDone Nothing after = is_done after ≡ false
 TellsWhetherDone Done after = is_done after ≡ true
 TellsWhetherDone Failed after = Unit {0}
+
+-- After a read by which this was heard of the stream: a piece at the beginning of the buffer, or the
+-- client's end. Otherwise nothing has changed.
+abbrev pub HearsBy : {A : Type 0} → Heard → (now : ℕ) (buffer : List ℕ) → (result : Heard) → (before after : ClientStream A)
+    → Type 0
+HearsBy (Octets count) now buffer result before after =
+    (result ≡ Octets count) × HearsPiece (take count buffer) now before after
+HearsBy Nothing now buffer result before after = (result ≡ Nothing) × (after ≡ before)
+HearsBy Done now buffer result before after = (result ≡ silence_of after) × (after ≡ record before { ended = true })
+HearsBy Failed now buffer result before after = (result ≡ Failed) × (after ≡ before)
+
+-- Reading into the buffer, unless the client has ended.
+pub record Receives {A : Type 0} (heard : Heard) (now : ℕ) (buffer : List ℕ) (before after : ClientStream A)
+    : Type 0 where
+  pub hears : HearsInto heard now buffer before after
+  pub tells : TellsWhetherDone heard after
 
 -- Sending what is left, and then reading into the buffer.
 pub record Serves {A : Type 0} (heard : Heard) (now : ℕ) (buffer : List ℕ) (before after : ClientStream A)

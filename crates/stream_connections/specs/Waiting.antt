@@ -1,13 +1,15 @@
 -- Which clients wait, and which have been silent for too long (RFC 7766 6.2.3).
 use Rattle.std.specs.Prelude.{◌≡◌, ℕ, ◌+◌, ◌-◌, ◌^◌, ◌==◌, ◌&&◌, min, Bool, false, nat_le, List, [], length}
 use Rattle.std.specs.Prelude.{if◌then◌else◌}
-use Rattle.tcp_frames.specs.declared.framing.Within.TheVariants.{Nothing}
+use Rattle.tcp_frames.specs.declared.framing.Within.TheVariants as within
+use Rattle.stream_connections.specs.declared.answers.Heard.{Heard}
+use Rattle.stream_connections.specs.declared.answers.Heard.TheVariants.{Nothing, Done}
 use Rattle.stream_connections.specs.declared.client_stream.ClientStream.{ClientStream}
 
 -- A client that has just come has sent nothing.
 pub record IsNew {A : Type 0} (now : ℕ) (client : ClientStream A) : Type 0 where
   pub unsent : client.unsent ≡ record { left = []; taken = 0 }
-  pub within : client.within ≡ Nothing
+  pub within : client.within ≡ within.Nothing
   pub unanswered : client.unanswered ≡ 0
   pub ended : client.ended ≡ false
   pub active : client.active ≡ now
@@ -29,6 +31,10 @@ is_idle unanswered unsent = (unanswered == 0) && (length unsent == 0)
 -- whether a client sends nothing more and waits for nothing
 abbrev pub is_done : {A : Type 0} → ClientStream A → Bool
 is_done client = client.ended && is_idle client.unanswered client.unsent.left
+
+-- what is heard of a client that sends nothing now: whether it is done with
+abbrev pub silence_of : {A : Type 0} → ClientStream A → Heard
+silence_of client = if is_done client then Done else Nothing
 
 -- whether it has been silent for too long: it took nothing for 10 s of what is left for it; or, where nothing is, sent
 -- no whole message and got no reply for 10 s, and where it waits for replies for so many milliseconds more as they may

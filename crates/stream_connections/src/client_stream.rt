@@ -1,15 +1,21 @@
 //! A connection of a client.
 
-ghost use Rattle.std.specs.Prelude.{◌≡◌, ◌+◌, ◌-◌, ◌^◌, nat_lt, length, IfOk, OnOk, OnErr};
-ghost use Rattle.stream_connections.specs.Waiting.{IsNew, is_done, is_idle, is_late, is_resting};
-ghost use Rattle.stream_connections.specs.Serving.{HearsPiece, Keeps, Reads, Replies, Sends, Serves, with_frame};
+ghost use Rattle.std.specs.Prelude.{◌≡◌, ◌+◌, ◌-◌, ◌^◌, not, nat_lt, length, Ok, Err, OnOk, OnErr};
+ghost use Rattle.std.specs.Io.{ReadsAtMost};
+ghost use Rattle.stream_connections.specs.declared.answers.Heard.TheVariants.{Failed};
+ghost use Rattle.stream_connections.specs.declared.lost.Lost.TheVariants.{Gone};
+ghost use Rattle.stream_connections.specs.Answers.{heard_by, taken_by};
+ghost use Rattle.stream_connections.specs.Waiting.{IsNew, is_done, is_idle, is_late, is_resting, silence_of};
+ghost use Rattle.stream_connections.specs.Serving.{HearsBy, HearsPiece, Keeps, Receives, Replies, Sends, Serves, WroteBy};
+ghost use Rattle.stream_connections.specs.Serving.{with_frame};
 
+use crate::answers::{Heard, heard_by, taken_by};
 use crate::lost::Lost;
 use mio::net::TcpStream;
 use plain_list::Octets;
 use std::alloc::{AllocError, Allocator};
 use std::io;
-use std::io::{ErrorKind, Read};
+use std::io::Read;
 use tcp_frames::{Unsent, Within, frame};
 
 /// For how many milliseconds a client may send no whole message, or take nothing of its replies (RFC 7766 6.2.3).
@@ -21,19 +27,6 @@ const REST: u64 = 1_000;
 
 /// How many octets of replies are kept for a client.
 const MOST_UNSENT: usize = 1 << 20;
-
-/// What was heard of a client.
-#[derive(Drop)]
-pub enum Heard {
-    /// So many octets.
-    Octets(usize),
-    /// Nothing that is there now.
-    Nothing,
-    /// Nothing, and it sends nothing more and waits for nothing.
-    Done,
-    /// Nothing, since the stream failed.
-    Failed,
-}
 
 /// A connection that a client opened.
 #[derive(Drop)]
@@ -101,8 +94,7 @@ impl<A: Allocator + Copy> ClientStream<A> {
         silent >= PATIENCE && silent - PATIENCE >= allowed
     }
 
-    /// Has it take what it takes of the replies; one that takes none of them makes no progress. `Err` where it takes
-    /// none any more.
+    /// Has it take what it takes of the replies. `Err` where it takes none any more.
     fn send(&mut self, now: u64) -> io::Result<()>
         ensures ok { OnOk result (Sends now self.old self.new) }
         ensures err { OnErr result (Keeps self.old self.new) }
@@ -110,13 +102,21 @@ impl<A: Allocator + Copy> ClientStream<A> {
         if self.unsent.is_empty() {
             return Ok(());
         }
-        match self.unsent.send(&mut self.stream) {
+        let answer = self.unsent.send(&mut self.stream);
+        self.wrote(answer, now)
+    }
+
+    /// Notes the progress of a write, by the stream's answer: one that takes nothing makes none.
+    /// `Err` where it takes nothing any more.
+    fn wrote(&mut self, answer: io::Result<usize>, now: u64) -> io::Result<()>
+        ensures { WroteBy (taken_by answer) now result self.old self.new }
+    {
+        match taken_by(answer) {
             Ok(0) => Ok(()),
             Ok(_) => {
                 self.took = now;
                 Ok(())
             }
-            Err(error) if error.kind() == ErrorKind::WouldBlock => Ok(()),
             Err(error) => Err(error),
         }
     }
@@ -140,40 +140,63 @@ impl<A: Allocator + Copy> ClientStream<A> {
         self.active = now;
     }
 
-    /// Reads what it has sent into the buffer, and tells how many octets that is; `None` where nothing is there now.
-    fn read(&mut self, buffer: &mut [u8], now: u64) -> io::Result<Option<usize>>
-        ensures ok { IfOk result (λ count. Reads count now buffer.new self.old self.new) }
-        ensures err { OnErr result (self.new ≡ self.old) }
-    {
-        if self.ended {
-            return Ok(None);
-        }
-        match self.stream.read(buffer) {
-            Ok(0) => {
-                self.ended = true;
-                Ok(None)
-            }
-            Ok(count) => {
-                self.heard(&buffer[..count], now);
-                Ok(Some(count))
-            }
-            Err(error) if error.kind() == ErrorKind::WouldBlock => Ok(None),
-            Err(error) => Err(error),
-        }
-    }
-
     /// Sends what is left, and reads into the buffer.
     pub fn serve(&mut self, buffer: &mut [u8], now: u64) -> Heard
         ensures { Serves result now buffer.new self.old self.new }
     {
-        if self.send(now).is_err() {
-            return Heard::Failed;
-        }
-        match self.read(buffer, now) {
-            Ok(Some(count)) => Heard::Octets(count),
-            Ok(None) if self.is_done() => Heard::Done,
-            Ok(None) => Heard::Nothing,
+        let sent = self.send(now);
+        self.receive_after(sent, buffer, now)
+    }
+
+    /// Reads into the buffer, unless the send before it failed.
+    fn receive_after(&mut self, sent: io::Result<()>, buffer: &mut [u8], now: u64) -> Heard
+        ensures ok { OnOk sent (Receives result now buffer.new self.old self.new) }
+        ensures err { OnErr sent ((result ≡ Failed) × (self.new ≡ self.old)) }
+    {
+        match sent {
+            Ok(()) => self.receive(buffer, now),
             Err(_) => Heard::Failed,
+        }
+    }
+
+    /// Reads into the buffer what it has sent.
+    fn receive(&mut self, buffer: &mut [u8], now: u64) -> Heard
+        ensures { Receives result now buffer.new self.old self.new }
+    {
+        if self.ended {
+            return self.silence();
+        }
+        let answer = self.stream.read(buffer);
+        self.hear(answer, buffer, now)
+    }
+
+    /// `Done` or `Nothing`, of a client that sends nothing now.
+    fn silence(&self) -> Heard
+        ensures { result ≡ silence_of self.now }
+    {
+        if self.is_done() {
+            Heard::Done
+        } else {
+            Heard::Nothing
+        }
+    }
+
+    /// Notes what a read into the buffer gave, by the stream's answer: a piece, its end, or neither.
+    fn hear(&mut self, answer: io::Result<usize>, buffer: &[u8], now: u64) -> Heard
+        requires within { ReadsAtMost answer buffer.now }
+        ensures { HearsBy (heard_by answer) now buffer.now result self.old self.new }
+    {
+        match heard_by(answer) {
+            Heard::Octets(count) => {
+                self.heard(&buffer[..count], now);
+                Heard::Octets(count)
+            }
+            Heard::Done => {
+                self.ended = true;
+                self.silence()
+            }
+            Heard::Nothing => Heard::Nothing,
+            Heard::Failed => Heard::Failed,
         }
     }
 
@@ -206,9 +229,18 @@ impl<A: Allocator + Copy> ClientStream<A> {
             return Err(Lost::TooMuch);
         }
         self.list(frame(alloc, reply)?, now)?;
-        if self.send(now).is_err() {
-            return Err(Lost::Gone);
+        let sent = self.send(now);
+        self.goes_on_after(sent)
+    }
+
+    /// Whether the connection goes on after this send. `Err` where the stream takes nothing any more.
+    fn goes_on_after(&self, sent: io::Result<()>) -> Result<bool, Lost>
+        ensures ok { OnOk sent (result ≡ Ok (not (is_done self.now))) }
+        ensures err { OnErr sent (result ≡ Err Gone) }
+    {
+        match sent {
+            Ok(()) => Ok(!self.is_done()),
+            Err(_) => Err(Lost::Gone),
         }
-        Ok(!self.is_done())
     }
 }

@@ -6,7 +6,8 @@ ghost use Rattle.std.specs.Map.{lookup, remove_entry};
 ghost use Rattle.std.specs.BTreeMap.{is_at};
 ghost use Rattle.stream_connections.specs.Listed.{Admits, RepliesOn, ServesOn, first_from, first_idle, first_resting};
 
-use crate::client_stream::{ClientStream, Heard};
+use crate::answers::Heard;
+use crate::client_stream::ClientStream;
 use crate::lost::Lost;
 use mio::net::TcpStream;
 use std::alloc::{AllocError, Allocator};

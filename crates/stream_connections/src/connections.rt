@@ -8,14 +8,13 @@ ghost use Rattle.stream_connections.specs.Listed.{Admits, RepliesOn, ServesOn, f
 ghost use Rattle.stream_connections.specs.Open.{AreNone, MakesPlace, ServesServer, first_number};
 ghost use Rattle.stream_connections.specs.Open.{without_client, without_first, without_server};
 
-use crate::client_stream::Heard;
+use crate::answers::Heard;
 use crate::clients::Clients;
 use crate::lost::Lost;
 use crate::servers::ServerStream;
 use mio::net::TcpStream;
 use std::alloc::{AllocError, Allocator, Global};
 use std::collections::{BTreeMap, VecDeque};
-use std::io;
 use std::marker::Model;
 use suffix_routes::Peer;
 
@@ -173,11 +172,7 @@ impl<A: Allocator + Copy> Connections<A> {
 
     /// Sends what is left for the server on the connection with this number, and reads of it into the buffer; `None`
     /// where it isn't open.
-    pub fn serve_server(
-        &mut self,
-        conn: u64,
-        buffer: &mut [u8],
-    ) -> Option<(Peer, io::Result<usize>)>
+    pub fn serve_server(&mut self, conn: u64, buffer: &mut [u8]) -> Option<(Peer, Heard)>
         ensures serves { ServesServer conn result buffer.new self.old.servers self.new.servers }
         ensures rest { self.new ≡ record self.old { servers = self.new.servers } }
     {

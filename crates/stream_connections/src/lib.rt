@@ -2,13 +2,14 @@
 //! which client gives way to another, and the ends that are to be told.
 #![tactic(auto)]
 
+mod answers;
 mod client_stream;
 mod clients;
 mod connections;
 mod lost;
 mod servers;
 
-pub use client_stream::Heard;
+pub use answers::{Heard, Refusal};
 pub use connections::{Closed, Connections};
 pub use lost::Lost;
 pub use servers::{ServerStream, unsent_query};

@@ -1,10 +1,11 @@
 //! The connections of asks.
 
-ghost use Rattle.std.specs.Prelude.{◌≡◌, IfOk};
-ghost use Rattle.std.specs.Io.{ReadsAtMost};
+ghost use Rattle.std.specs.Prelude.{◌≡◌, IfOk, OnErr};
 ghost use Rattle.tcp_frames.specs.Frames.{framed};
-ghost use Rattle.stream_connections.specs.Queries.{SendsQuery};
+ghost use Rattle.stream_connections.specs.declared.answers.Heard.TheVariants.{Failed};
+ghost use Rattle.stream_connections.specs.Queries.{IsWithin, SendsQuery};
 
+use crate::answers::{Heard, heard_by, taken_by};
 use mio::net::TcpStream;
 use std::alloc::{Allocator, Global};
 use std::io;
@@ -46,18 +47,34 @@ impl<A: Allocator + Copy> ServerStream<A> {
         }
     }
 
-    /// Sends what is left of the query, and reads into the buffer; 0 octets where the server sends nothing more.
-    pub(crate) fn serve(&mut self, buffer: &mut [u8]) -> io::Result<usize>
-        ensures bound { ReadsAtMost result buffer.new }
+    /// Sends what is left of the query, and reads into the buffer.
+    pub(crate) fn serve(&mut self, buffer: &mut [u8]) -> Heard
+        ensures bound { IsWithin result buffer.new }
         ensures sends { SendsQuery self.old self.new }
     {
-        if !self.unsent.is_empty() {
-            match self.unsent.send(&mut self.stream) {
-                Ok(_) => {}
-                Err(error) if error.kind() == ErrorKind::WouldBlock => {}
-                Err(error) => return Err(error),
-            }
+        let sent = self.send();
+        self.receive_after(sent, buffer)
+    }
+
+    /// Has the server take what it takes of the query. `Err` where it takes none any more.
+    fn send(&mut self) -> io::Result<usize>
+        ensures { SendsQuery self.old self.new }
+    {
+        if self.unsent.is_empty() {
+            return Ok(0);
         }
-        self.stream.read(buffer)
+        taken_by(self.unsent.send(&mut self.stream))
+    }
+
+    /// Reads into the buffer, unless the send before it failed.
+    fn receive_after(&mut self, sent: io::Result<usize>, buffer: &mut [u8]) -> Heard
+        ensures bound { IsWithin result buffer.new }
+        ensures same { self.new ≡ self.old }
+        ensures err { OnErr sent (result ≡ Failed) }
+    {
+        match sent {
+            Ok(_) => heard_by(self.stream.read(buffer)),
+            Err(_) => Heard::Failed,
+        }
     }
 }

@@ -1,14 +1,16 @@
 //! Actions that a wire does.
 
-ghost use Rattle.std.specs.Prelude.{◌≡◌, IfOk, is_ok};
+ghost use Rattle.std.specs.Prelude.{◌≡◌, Err, IfErr, IfOk, OnOk, is_ok};
 ghost use Rattle.stream_connections.specs.Queries.{IsBegunWith};
-ghost use Rattle.socket_wire.specs.Putting.{AnswersOn, ListsPort, MayMakeRoom, PutsAction, PutsQuery, with_spent};
+ghost use Rattle.socket_wire.specs.Putting.{AnswersOn, ListsPort, ListsThis, MayMakeRoom, PutsAction, PutsQuery};
+ghost use Rattle.socket_wire.specs.Putting.{with_spent};
 
 use super::Sockets;
 use crate::address::address_of;
+use crate::answers::{kept_if, sent};
 use crate::asks::ask_socket;
 use crate::origin::Origin;
-use mio::net::TcpStream;
+use mio::net::{TcpStream, UdpSocket};
 use std::alloc::Allocator;
 use std::io;
 use std::io::ErrorKind;
@@ -55,8 +57,7 @@ impl<R: Net, A: Allocator + Copy> Sockets<'_, R, A> {
             }
             Action::Reply { client, bytes, .. } => match client {
                 Client::Udp(peer) => {
-                    self.datagrams.send_to(bytes.as_slice(), address_of(*peer))?;
-                    Ok(())
+                    sent(self.datagrams.send_to(bytes.as_slice(), address_of(*peer)))
                 }
                 Client::Tcp(conn) => self.reply(*conn, bytes.as_slice(), now),
             },
@@ -70,14 +71,29 @@ impl<R: Net, A: Allocator + Copy> Sockets<'_, R, A> {
         ensures room { MayMakeRoom now self.old.connections self.new.connections }
         ensures rest { self.new ≡ record self.old { asks = self.new.asks; connections = self.new.connections } }
     {
-        let opened = match ask_socket(self.rt, &self.readiness, port, server) {
-            Err(error) if self.frees_descriptor(&error, now) => {
-                ask_socket(self.rt, &self.readiness, port, server)
-            }
-            opened => opened,
-        };
+        let mut opened = ask_socket(self.rt, &self.readiness, port, server);
+        if self.frees_for(&opened, now) {
+            opened = ask_socket(self.rt, &self.readiness, port, server);
+        }
         let socket = opened?;
-        socket.send(query)?;
+        let answer = socket.send(query);
+        self.list_ask(port, socket, answer)
+    }
+
+    /// Lists the socket of an ask, by its answer to the query that was sent: one that refused it goes. `Err` there, and
+    /// where memory ran out.
+    fn list_ask(
+        &mut self,
+        port: u16,
+        socket: UdpSocket,
+        answer: io::Result<usize>,
+    ) -> io::Result<()>
+        ensures sent { OnOk answer (ListsThis port socket (is_ok result) self.old.asks.entries self.new.asks.entries) }
+        ensures refused { IfErr answer (λ error. (result ≡ Err error) × (self.new ≡ self.old)) }
+        ensures lists { ListsPort port (is_ok result) self.old.asks.entries self.new.asks.entries }
+        ensures rest { self.new ≡ record self.old { asks = self.new.asks } }
+    {
+        sent(answer)?;
         self.asks.insert(port, socket)?;
         Ok(())
     }
@@ -107,10 +123,11 @@ impl<R: Net, A: Allocator + Copy> Sockets<'_, R, A> {
         ensures has { self.new.connections.has_room ≡ self.old.connections.has_room }
         ensures rest { self.new ≡ record self.old { connections = self.new.connections } }
     {
-        match self.begin(conn, server, query) {
-            Err(error) if self.frees_descriptor(&error, now) => self.begin(conn, server, query),
-            begun => begun,
+        let begun = self.begin(conn, server, query);
+        if self.frees_for(&begun, now) {
+            return self.begin(conn, server, query);
         }
+        begun
     }
 
     /// Begins to connect, with the query behind its length. `Err` where the system refuses, or memory ran out.
@@ -119,8 +136,8 @@ impl<R: Net, A: Allocator + Copy> Sockets<'_, R, A> {
     {
         let unsent = unsent_query(self.alloc, query)?;
         let mut stream = TcpStream::connect(self.rt, address_of(server))?;
-        self.readiness.watch(&mut stream, Origin::Server(conn))?;
-        Ok(ServerStream::new(stream, server, unsent))
+        let watched = self.readiness.watch(&mut stream, Origin::Server(conn));
+        Ok(ServerStream::new(kept_if(stream, watched)?, server, unsent))
     }
 
     /// Replies on a client's connection. `Err` where the reply is lost. A connection that is over is closed.

@@ -1,22 +1,24 @@
 //! What is taken of a socket.
 
-ghost use Rattle.std.specs.Prelude.{IfOk};
-ghost use Rattle.socket_wire.specs.Arriving.{MayCloseResting, TakesConnection, TakesIn};
+ghost use Rattle.std.specs.Prelude.{◌≡◌, Ok, IfOk};
+ghost use Rattle.std.specs.Counts.{IsPrefixLen};
+ghost use Rattle.socket_wire.specs.Arriving.{AcceptsBy, FreesBy, FreesFor, MayCloseResting, TakesConnection, TakesIn};
 ghost use Rattle.socket_wire.specs.Attempting.{Attempts};
-ghost use Rattle.socket_wire.specs.Taking.{IsPiece, TakesAsk, TakesClient, TakesDatagram, TakesServer};
+ghost use Rattle.socket_wire.specs.Taking.{HearsAsk, HearsDatagram, IsPiece, TakesAsk, TakesClient, TakesDatagram};
+ghost use Rattle.socket_wire.specs.Taking.{LosesAsk, TakesServer};
 
 use super::{LARGEST, Sockets};
 use crate::address::peer_of;
+use crate::answers::kept_if;
 use crate::origin::Origin;
 use crate::spare::Spare;
 use mio::net::TcpStream;
 use plain_list::Octets;
 use std::alloc::{AllocError, Allocator};
 use std::io;
-use std::io::ErrorKind;
-use std::net::Net;
+use std::net::{Net, SocketAddr};
 use step_values::Path;
-use stream_connections::Heard;
+use stream_connections::{Heard, Refusal};
 use wires::Arrival;
 
 /// What came of trying a socket.
@@ -46,13 +48,27 @@ impl<R: Net, A: Allocator + Copy> Sockets<'_, R, A> {
     fn take_datagram(&mut self) -> Result<Tried<A>, AllocError>
         ensures { TakesDatagram result self.old self.new }
     {
-        let Ok((count, from)) = self.datagrams.recv_from(&mut self.buffer[..]) else {
+        let answer = self.datagrams.recv_from(&mut self.buffer[..]);
+        self.hear_datagram(answer)
+    }
+
+    /// A client's datagram, by the answer of its socket: nothing is there where it refuses, whatever the reason.
+    fn hear_datagram(
+        &mut self,
+        answer: io::Result<(usize, SocketAddr)>,
+    ) -> Result<Tried<A>, AllocError>
+        requires within { IfOk answer (λ received. IsPrefixLen received.0 self.old.buffer.value) }
+        ensures hears { HearsDatagram answer self.old.buffer.value result }
+        ensures takes { TakesDatagram result self.old self.new }
+        ensures same { self.new ≡ self.old }
+    {
+        let Ok((count, from)) = answer else {
             return Ok(Tried::Nothing);
         };
         let Some(from) = peer_of(from) else {
             return Ok(Tried::Served);
         };
-        let bytes = self.spare.copied(self.alloc, &self.buffer[..count])?;
+        let bytes = piece(self.alloc, &mut self.spare, &self.buffer, count)?;
         Ok(Tried::Arrived(Arrival::ClientDatagram { from, bytes }))
     }
 
@@ -61,27 +77,57 @@ impl<R: Net, A: Allocator + Copy> Sockets<'_, R, A> {
     fn take_connection(&mut self, now: u64) -> Tried<A>
         ensures { TakesConnection now result self.old self.new }
     {
-        match self.listener.accept() {
+        let answer = self.listener.accept();
+        self.accept(answer, now)
+    }
+
+    /// A client's connection, by the answer of the listener.
+    fn accept(&mut self, answer: io::Result<(TcpStream, SocketAddr)>, now: u64) -> Tried<A>
+        ensures by { AcceptsBy answer now result self.old self.new }
+        ensures takes { TakesConnection now result self.old self.new }
+    {
+        match answer {
             Ok((stream, _)) => {
                 let _refused = self.admit(stream, now);
                 Tried::Served
             }
-            Err(error) if self.frees_descriptor(&error, now) => Tried::Served,
-            Err(_) => Tried::Nothing,
+            Err(error) => {
+                if self.frees_descriptor(Refusal::of(&error), now) {
+                    Tried::Served
+                } else {
+                    Tried::Nothing
+                }
+            }
         }
     }
 
-    /// Where no descriptor was left, closes the oldest connection of a client that has waited for nothing for a while.
-    /// True where one was closed.
-    pub(super) fn frees_descriptor(&mut self, error: &io::Error, now: u64) -> bool
-        ensures { MayCloseResting now result self.old self.new }
+    /// Where a call answered that no descriptor is left, closes the oldest connection of a client that has waited for
+    /// nothing for a while. True where one was closed, and the call is worth another try.
+    pub(super) fn frees_for<T>(&mut self, answer: &io::Result<T>, now: u64) -> bool
+        ensures by { FreesBy answer.now now result self.old self.new }
+        ensures may { MayCloseResting now result self.old self.new }
     {
-        error.raw_os_error() == Some(libc::EMFILE) && self.connections.close_resting(now)
+        match answer {
+            Ok(_) => false,
+            Err(error) => self.frees_descriptor(Refusal::of(error), now),
+        }
+    }
+
+    /// Where this refusal says that no descriptor is left, closes the oldest connection of a client that has waited for
+    /// nothing for a while. True where one was closed.
+    fn frees_descriptor(&mut self, refusal: Refusal, now: u64) -> bool
+        ensures by { FreesFor refusal now result self.old self.new }
+        ensures may { MayCloseResting now result self.old self.new }
+    {
+        match refusal {
+            Refusal::NoDescriptor => self.connections.close_resting(now),
+            Refusal::WouldBlock | Refusal::Interrupted | Refusal::Failed => false,
+        }
     }
 
     /// Lists a client's connection under the next number. Where there are as many as may be, the oldest that waits for
     /// nothing goes, else this one. `Err` where it goes since the system refuses or memory ran out.
-    fn admit(&mut self, mut stream: TcpStream, now: u64) -> io::Result<()>
+    fn admit(&mut self, stream: TcpStream, now: u64) -> io::Result<()>
         ensures { TakesIn now self.old self.new }
     {
         if !self.connections.make_place() {
@@ -90,8 +136,10 @@ impl<R: Net, A: Allocator + Copy> Sockets<'_, R, A> {
         let Some(conn) = self.numbers.give() else {
             return Ok(());
         };
-        stream.set_nodelay(true)?;
-        self.readiness.watch(&mut stream, Origin::Client(conn))?;
+        let is_prompt = stream.set_nodelay(true);
+        let mut stream = kept_if(stream, is_prompt)?;
+        let watched = self.readiness.watch(&mut stream, Origin::Client(conn));
+        let stream = kept_if(stream, watched)?;
         self.connections.keep_room()?;
         self.connections.admit(self.alloc, conn, stream, now)?;
         Ok(())
@@ -132,19 +180,44 @@ impl<R: Net, A: Allocator + Copy> Sockets<'_, R, A> {
         let Some(socket) = self.asks.get(&port) else {
             return Ok(Tried::Nothing);
         };
-        match socket.recv_from(&mut self.buffer[..]) {
+        let answer = socket.recv_from(&mut self.buffer[..]);
+        self.hear_ask(port, answer)
+    }
+
+    /// A datagram at the port of an ask, by the answer of its socket. One that fails is dropped, and its end reported.
+    fn hear_ask(
+        &mut self,
+        port: u16,
+        answer: io::Result<(usize, SocketAddr)>,
+    ) -> Result<Tried<A>, AllocError>
+        requires within { IfOk answer (λ received. IsPrefixLen received.0 self.old.buffer.value) }
+        ensures hears { HearsAsk port answer self.old.buffer.value result self.old.asks.entries self.new.asks.entries }
+        ensures takes { TakesAsk port result self.old self.new }
+    {
+        match answer {
             Ok((count, from)) => {
                 let Some(from) = peer_of(from) else {
                     return Ok(Tried::Served);
                 };
-                let bytes = self.spare.copied(self.alloc, &self.buffer[..count])?;
+                let bytes = piece(self.alloc, &mut self.spare, &self.buffer, count)?;
                 Ok(Tried::Arrived(Arrival::ServerDatagram { port, from, bytes }))
             }
-            Err(error) if error.kind() == ErrorKind::WouldBlock => Ok(Tried::Nothing),
-            Err(_) => {
+            Err(error) => Ok(self.lose_ask(port, Refusal::of(&error))),
+        }
+    }
+
+    /// Nothing of the socket of an ask that would block. One that refuses to be read for another reason is dropped, and
+    /// its end reported.
+    fn lose_ask(&mut self, port: u16, refusal: Refusal) -> Tried<A>
+        ensures loses { LosesAsk port refusal result self.old.asks.entries self.new.asks.entries }
+        ensures takes { TakesAsk port (Ok result) self.old self.new }
+    {
+        match refusal {
+            Refusal::WouldBlock => Tried::Nothing,
+            Refusal::Interrupted | Refusal::NoDescriptor | Refusal::Failed => {
                 let _socket = self.asks.remove(&port);
                 let path = Path::Udp(port);
-                Ok(Tried::Arrived(Arrival::PathGone { path }))
+                Tried::Arrived(Arrival::PathGone { path })
             }
         }
     }
@@ -153,23 +226,23 @@ impl<R: Net, A: Allocator + Copy> Sockets<'_, R, A> {
     fn take_server(&mut self, conn: u64) -> Result<Tried<A>, AllocError>
         ensures { TakesServer conn result self.old self.new }
     {
-        let Some((from, served)) = self.connections.serve_server(conn, &mut self.buffer[..]) else {
+        let Some((from, heard)) = self.connections.serve_server(conn, &mut self.buffer[..]) else {
             return Ok(Tried::Nothing);
         };
-        match served {
-            Ok(0) => {}
-            Ok(count) => match piece(self.alloc, &mut self.spare, &self.buffer, count) {
-                Ok(bytes) => return Ok(Tried::Arrived(Arrival::ServerStream { conn, from, bytes })),
+        match heard {
+            Heard::Octets(count) => match piece(self.alloc, &mut self.spare, &self.buffer, count) {
+                Ok(bytes) => Ok(Tried::Arrived(Arrival::ServerStream { conn, from, bytes })),
                 Err(refusal) => {
                     self.connections.close_server(conn);
-                    return Err(refusal);
+                    Err(refusal)
                 }
             },
-            Err(error) if error.kind() == ErrorKind::WouldBlock => return Ok(Tried::Nothing),
-            Err(_) => {}
+            Heard::Nothing => Ok(Tried::Nothing),
+            Heard::Done | Heard::Failed => {
+                self.connections.close_server(conn);
+                Ok(Tried::Served)
+            }
         }
-        self.connections.close_server(conn);
-        Ok(Tried::Served)
     }
 }
 

@@ -1,0 +1,84 @@
+//! The system's answers to calls on sockets, and what follows from each.
+
+ghost use Rattle.std.specs.Prelude.{◌≡◌};
+ghost use Rattle.stream_connections.specs.Answers.{by_kind, heard_by, refusal_of, taken_by};
+
+use std::io;
+use std::io::ErrorKind;
+
+/// Why a call on a socket that never waits gave nothing.
+#[derive(Clone, Copy)]
+pub enum Refusal {
+    /// It would have to wait (EAGAIN).
+    WouldBlock,
+    /// A signal came first (EINTR). A call that never waits doesn't report it: it counts as a failure.
+    Interrupted,
+    /// The process has as many descriptors as it may have (EMFILE).
+    NoDescriptor,
+    /// Anything else: the socket, its path or the system failed.
+    Failed,
+}
+
+/// What came of reading a stream.
+#[derive(Drop)]
+pub enum Heard {
+    /// Octets: how many there are, one at least.
+    Octets(usize),
+    /// Nothing that is there now.
+    Nothing,
+    /// Nothing, and nothing more is to be done: a server sends nothing more, or a client sends
+    /// nothing more and waits for nothing.
+    Done,
+    /// Nothing, since the stream failed.
+    Failed,
+}
+
+impl Refusal {
+    /// The refusal that this error of a call reports.
+    pub fn of(error: &io::Error) -> Refusal
+        ensures { result ≡ refusal_of error.now }
+    {
+        if error.raw_os_error() == Some(libc::EMFILE) {
+            return Refusal::NoDescriptor;
+        }
+        Refusal::by_kind(error.kind())
+    }
+
+    fn by_kind(kind: ErrorKind) -> Refusal
+        ensures { result ≡ by_kind kind }
+    {
+        match kind {
+            ErrorKind::WouldBlock => Refusal::WouldBlock,
+            ErrorKind::Interrupted => Refusal::Interrupted,
+            _ => Refusal::Failed,
+        }
+    }
+}
+
+/// How many octets a stream took, by its answer to a write: none where it would block. `Err` where it
+/// takes none any more.
+pub(crate) fn taken_by(answer: io::Result<usize>) -> io::Result<usize>
+    ensures { result ≡ taken_by answer }
+{
+    match answer {
+        Ok(count) => Ok(count),
+        Err(error) => match Refusal::of(&error) {
+            Refusal::WouldBlock => Ok(0),
+            Refusal::Interrupted | Refusal::NoDescriptor | Refusal::Failed => Err(error),
+        },
+    }
+}
+
+/// What was heard of a stream, by its answer to a read: no octets are its end.
+pub(crate) fn heard_by(answer: io::Result<usize>) -> Heard
+    ensures { result ≡ heard_by answer }
+{
+    match answer {
+        Ok(0) => Heard::Done,
+        Ok(count) => Heard::Octets(count),
+        Err(error) => match Refusal::of(&error) {
+            Refusal::WouldBlock => Heard::Nothing,
+            Refusal::Interrupted | Refusal::NoDescriptor | Refusal::Failed => Heard::Failed,
+        },
+    }
+}
