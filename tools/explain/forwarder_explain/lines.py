@@ -11,14 +11,15 @@ HEADER = "000001000001000000000000"  # of its questions
 class Line:
     """An event line. `order` puts it among the others: microseconds, and a number for lines of one moment.
 
-    `event` is what was captured; `target` the line whose query a reply or a failure is for, where no event says so.
+    `event` is what was captured; `target` the line whose query a reply or a failure is for, where no event says so, and
+    `server` whom that query asks.
     """
 
-    __slots__ = ("order", "moment", "kind", "event", "target", "text", "number", "note")
+    __slots__ = ("order", "moment", "kind", "event", "target", "text", "number", "note", "server")
 
-    def __init__(self, order, moment, kind, event=None, target=None, text="", note=""):
+    def __init__(self, order, moment, kind, event=None, target=None, text="", note="", server=None):
         self.order, self.moment, self.kind, self.event = order, moment, kind, event
-        self.target, self.text, self.note, self.number = target, text, note, 0
+        self.target, self.text, self.note, self.server, self.number = target, text, note, server, 0
 
 
 class Maker:
@@ -32,6 +33,10 @@ class Maker:
 
     def moment(self, event):
         return event.moment // 1000 - self.first + FIRST_MOMENT
+
+    def micros(self, moment):
+        """The time of a script's moment, in microseconds."""
+        return (moment - FIRST_MOMENT + self.first) * 1000
 
     def add(self, moment, kind, event=None, order=None, **more):
         self.count += 1
@@ -83,7 +88,7 @@ class Maker:
         of = query.asked and query.asked.of()
         cause = self.causes.pop(of, None)
         if cause is None or moment - cause.moment > PROMPT:
-            cause = self.add(moment + 1, "tick", order=query.moment)
+            cause = self.add(moment + 1, "tick", query)
         self.pairs[query] = cause
 
     def answer(self, answer, moment):
@@ -98,7 +103,7 @@ class Maker:
             if of not in self.leads:
                 break
             of = self.leads[of]
-        self.add(moment + 1, "tick", order=answer.moment)
+        self.add(moment + 1, "tick", answer)
 
     def put_before(self, held, server):
         """Two lines that put a set or denial into the cache: its question, and a reply that carries just it."""

@@ -12,6 +12,7 @@ from .messages import Malformed, code, records
 
 SLACK = 40  # milliseconds by which the service's clock and the capture's may part
 SOON = 60  # milliseconds in which an answer comes that needed no server
+HORIZON = 2_000_000  # microseconds after the first change of a run in which others are made
 STALE = 30  # seconds that expired data is told with
 STEPS = (3, 10, 30)  # milliseconds by which a line is moved, one after another
 
@@ -24,39 +25,88 @@ class Repairs:
         self.tried = defaultdict(int)
         self.changed, self.touched = False, set()
 
-    def after(self, outcome, pairing, answers):
-        """The changes that a run calls for; `answers` has the script's reply to each question."""
-        self.changed, self.touched = False, set()
-        self.outcome, self.pairing = outcome, pairing
+    def after(self, outcome, pairing, answers, moved):
+        """The changes that a run calls for; `answers` has the script's reply to each question, `moved` the queries that have
+        just been paired anew. Changes go in the order of time: what comes long after the first may be gone with it."""
+        self.changed, self.touched = False, {query.asked.of() for query in moved if query.asked}
+        self.outcome, self.pairing, self.answers = outcome, pairing, answers
         self.by_question = defaultdict(list)
         for each in outcome.asked:
             self.by_question[self.window.asked_in(each)].append(each)
-        for query in pairing.unexplained:
-            if query.asked:
-                self.once(query.asked.of(), self.unexplained, query)
-        for each in pairing.unseen:
-            if each.line.note != "before":
-                self.once(self.window.asked_in(each), self.unseen, each)
-        for question in self.window.questions:
-            if question.answer and question not in answers and question in self.window.maker.line_of and question.asked:
-                self.once(question.asked.of(), self.unanswered, question)
-        for reply in self.window.replies:
-            if self.window.verdicts.get(reply) not in ("stranger", "late"):
-                self.late_reply(reply)
+        until = min((query.moment for query in moved), default=float("inf")) + HORIZON
+        for moment, _, of, repair, what in sorted(self.open_points(), key=lambda point: point[:2]):
+            if moment > until:
+                break
+            if of not in self.touched and repair(what):
+                self.touched.add(of)
+                self.changed = True
+                until = min(until, moment + HORIZON)
+        self.let_time_pass()
         return self.changed
 
-    def once(self, of, repair, what):
-        """One change for each question in a run: what follows may be gone with it."""
-        if of not in self.touched and repair(what):
-            self.touched.add(of)
-            self.changed = True
+    def open_points(self):
+        """Where the script and the capture part: when, what is asked there, and what may be done about it."""
+        number = 0
+        for number, query in enumerate(self.pairing.unexplained):
+            if query.asked and self.window.is_on_route(query):
+                yield query.moment, number, query.asked.of(), self.unexplained, query
+        for number, each in enumerate(self.pairing.unseen, number):
+            if each.line.note != "before" and (each.closed is None or not each.closed.note):
+                yield each.line.order[0], number, self.window.asked_in(each), self.unseen, each
+        for number, question in enumerate(self.window.questions, number):
+            if question.answer and question not in self.answers and question in self.window.maker.line_of and question.asked:
+                yield question.answer.moment, number, question.asked.of(), self.unanswered, question
+        for number, reply in enumerate(self.window.replies, number):
+            line = self.window.maker.line_of.get(reply)
+            if line is not None and line.number in self.outcome.quiet and self.window.verdicts.get(reply) not in ("stranger", "late"):
+                yield reply.moment, number, reply.query.asked.of(), self.late_reply, reply
+        for number, line in enumerate(self.window.lines, number):
+            if line.server is not None and not self.is_meant(line):
+                yield line.order[0], number, None, self.take_out, line
+
+    def take_out(self, line):
+        """A failure whose query is another one by now: another server is preferred, or it was captured after all."""
+        self.window.lines.remove(line)
+        self.touched.discard(None)
+        return True
 
     def may(self, what, most):
         self.tried[what] += 1
         return self.tried[what] <= most
 
-    def insert(self, order, moment, kind, target=None, text="", note=""):
-        self.window.lines.append(Line(order, moment, kind, None, target, text, note))
+    def insert(self, order, moment, kind, each=None, note=""):
+        """A tick, or the failure of a query of the script."""
+        line = Line(order, moment, kind, None, each and each.line, each.transport if each else "", note, each and each.server)
+        self.window.lines.append(line)
+
+    def let_time_pass(self):
+        """Ticks where the script leaves something undone for long that was due: the service never does. Such ticks go again
+        where they do nothing."""
+        lines, dues = self.window.lines, {}
+        lines[:] = [line for line in lines if line.kind != "tick" or line.event is not None or line.number not in self.outcome.quiet]
+        for each in self.outcome.asked:
+            due = each.moment + self.limits["ask_ms"]
+            if self.is_late(due, each.closed):
+                dues[due] = dues.get(due, 0) + 1
+        for question in self.window.questions:
+            line = self.window.maker.line_of.get(question)
+            if line is not None and question.asked and question.wants_answer():
+                due = self.outcome.moments[line.number - 1] + self.limits["deadline_ms"]
+                if self.is_late(due, self.answers.get(question, (None,))[0]):
+                    dues[due] = dues.get(due, 0) + 1
+        for due, count in dues.items():
+            for _ in range(count):
+                self.insert((self.window.maker.micros(due), 0), due, "tick")
+        self.changed |= bool(dues)
+
+    def is_late(self, due, line):
+        """Whether something that was due happened long after, or not before the end."""
+        last = self.outcome.moments[-1]
+        return due <= last and (line is None or self.outcome.moments[line.number - 1] > due + SOON)
+
+    def is_meant(self, line):
+        each = self.outcome.by_line.get(line.target)
+        return each is not None and each.server == line.server and (line.note != "never left" or each not in self.pairing.query_of)
 
     def says_failure(self, answer):
         """Whether an answer is what clients get once all tries failed: a failure, or expired data."""
@@ -86,33 +136,39 @@ class Repairs:
         if each not in self.pairing.query_of:
             order = (each.line.order[0], each.line.order[1] + 0.001)
         note = "unseen" if each in self.pairing.query_of else "never left"
-        self.insert(order, each.moment if note == "never left" else moment, "failed", each.line, each.transport, note)
+        self.insert(order, each.moment if note == "never left" else moment, "failed", each, note)
         return True
 
     def unexplained(self, query):
         """A captured query that the script does not make."""
         moment, of = self.window.maker.moment(query), query.asked.of()
-        if not self.window.is_on_route(query):
-            return False
         each = self.open_at(of, (query.moment, 1e9))
         if each:
             return self.end_try(each, query, moment)
         for question in self.asking(of, query.moment - SOON * 1000, query.moment):
-            line = self.window.maker.line_of.get(question)
-            count = self.tried[question, "later"]
-            if line and count < len(STEPS):
-                self.tried[question, "later"] += 1
-                line.moment = self.window.maker.moment(question) + STEPS[count]
-                near = self.replies_near(of, question.moment, question.moment + 20_000)
-                if near:
-                    line.order = (near[-1].moment, 1e9)
+            if self.take_later(question, of, query):
                 return True
         return False
 
+    def take_later(self, question, of, query):
+        """A question that the script joins or answers, and for which the capture has a query of its own: what it used had
+        ended by some milliseconds, or the reply that came with it was taken first."""
+        line, found = self.window.maker.line_of.get(question), self.answers.get(question)
+        if line is None or found is None or found[1] not in (0, 12):
+            return False
+        near = [reply for reply in self.replies_near(of, question.moment, query.moment) if reply.query.moment < question.moment]
+        if near and self.may((question, "after"), 1):
+            line.order, line.moment = (near[-1].moment, 1e9), max(line.moment, self.window.maker.moment(near[-1]))
+            return True
+        count = self.tried[question, "later"]
+        if found[0] is not line or count >= len(STEPS) or not ends_soon(found[2]):
+            return False
+        self.tried[question, "later"] += 1
+        line.moment = self.window.maker.moment(question) + STEPS[count]
+        return True
+
     def unseen(self, each):
         """A query of the script that the capture does not have."""
-        if each.closed is not None and each.closed.note:
-            return False
         of, moment = self.window.asked_in(each), each.moment
         micros = each.line.order[0]
         event = each.line.event
@@ -195,16 +251,23 @@ class Repairs:
 
     def late_reply(self, reply):
         """A reply that did nothing, since its query was over by time some milliseconds before: it was taken first."""
-        line = self.window.maker.line_of.get(reply)
-        if line is None or line.number not in self.outcome.quiet:
-            return
+        line = self.window.maker.line_of[reply]
         target = self.window.pairs.get(reply.query)
         each = self.outcome.by_line.get(target)
         if each and each.closed and each.closed.kind == "tick" and each.closed.order < line.order \
                 and line.moment - each.closed.moment <= SLACK and self.may((reply, "earlier"), 1):
             line.order = (each.closed.order[0], each.closed.order[1] - 1e-6)
             line.moment = min(line.moment, each.closed.moment)
-            self.changed = True
+            return True
+        return False
+
+
+def ends_soon(octets):
+    """Whether an answer has a record with no whole second left."""
+    try:
+        return any(record.seconds == 0 for record in records(octets))
+    except Malformed:
+        return False
 
 
 def in_order(events, key):

@@ -10,7 +10,7 @@ from .repairs import Repairs, in_order
 from .replay import Script
 from .traffic import Ending, Query, Question, Reply
 
-MOST_RUNS = 40
+MOST_RUNS = 150
 
 
 class Attempt(NamedTuple):
@@ -135,8 +135,8 @@ class Window:
             self.pairs.update(moved)
             if self.runs >= MOST_RUNS:
                 return
-            changed = moved or self.script.connections != before and any(query.transport == "tcp" for query in self.queries)
-            if not changed and not repairs.after(self.outcome, self.pairing, self.answers):
+            renumbered = self.script.connections != before and any(query.transport == "tcp" for query in self.queries)
+            if not repairs.after(self.outcome, self.pairing, self.answers, moved) and not moved and not renumbered:
                 return
 
     def results(self):
