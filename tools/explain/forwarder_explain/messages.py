@@ -1,0 +1,195 @@
+"""Messages of the DNS (RFC 1035 4.1), as far as an explanation needs them. Names are kept in octets, as in a message."""
+import functools
+import struct
+from typing import NamedTuple
+
+NAME = "name"
+STRING = "string"
+# The parts of RDATA of each type whose names may be compressed, or are written out; numbers are octets.
+SHAPES = {
+    **{kind: (NAME,) for kind in (2, 3, 4, 5, 7, 8, 9, 12)},
+    6: (NAME, NAME, 20), 14: (NAME, NAME), 17: (NAME, NAME), 15: (2, NAME), 18: (2, NAME), 21: (2, NAME),
+    26: (2, NAME, NAME), 33: (6, NAME), 35: (4, STRING, STRING, STRING, NAME),
+}
+TYPES = {
+    1: "A", 2: "NS", 5: "CNAME", 6: "SOA", 12: "PTR", 13: "HINFO", 15: "MX", 16: "TXT", 17: "RP", 18: "AFSDB", 28: "AAAA",
+    29: "LOC", 33: "SRV", 35: "NAPTR", 39: "DNAME", 41: "OPT", 43: "DS", 44: "SSHFP", 46: "RRSIG", 47: "NSEC",
+    48: "DNSKEY", 50: "NSEC3", 51: "NSEC3PARAM", 52: "TLSA", 64: "SVCB", 65: "HTTPS", 99: "SPF", 250: "TSIG",
+    251: "IXFR", 252: "AXFR", 255: "ANY", 256: "URI", 257: "CAA",
+}
+CODES = ("NOERROR", "FORMERR", "SERVFAIL", "NXDOMAIN", "NOTIMP", "REFUSED", "YXDOMAIN", "YXRRSET", "NXRRSET", "NOTAUTH",
+         "NOTZONE", "code 11", "code 12", "code 13", "code 14", "code 15")
+CNAME, SOA, NS, OPT = 5, 6, 2, 41
+ANSWER, AUTHORITY = 0, 1
+
+
+class Malformed(Exception):
+    """A message that can't be read."""
+
+
+class Question(NamedTuple):
+    """What is asked: `key` is the name in lower case."""
+
+    name: bytes
+    key: bytes
+    kind: int
+    klass: int
+
+    def of(self):
+        """What makes questions equal."""
+        return self.key, self.kind, self.klass
+
+
+class Record(NamedTuple):
+    """A record; `at` is the offset of its lifetime in the message, `data` has its names written out."""
+
+    section: int
+    owner: bytes
+    key: bytes
+    kind: int
+    klass: int
+    seconds: int
+    data: bytes
+    at: int
+
+
+def identifier(octets):
+    return struct.unpack_from(">H", octets)[0]
+
+
+def is_response(octets):
+    return octets[2] >= 128
+
+
+def is_cut(octets):
+    return bool(octets[2] & 2)
+
+
+def is_authoritative(octets):
+    return bool(octets[2] & 4)
+
+
+def code(octets):
+    return octets[3] & 15
+
+
+def name_at(octets, at):
+    """The name at an offset, and the offset after it."""
+    parts, end, total = [], None, 1
+    try:
+        while True:
+            size = octets[at]
+            if size == 0:
+                return b"".join(parts) + b"\0", at + 1 if end is None else end
+            if size >= 192:
+                target = ((size & 63) << 8) | octets[at + 1]
+                end = at + 2 if end is None else end
+                if target >= at:
+                    raise Malformed("a pointer leads forward")
+                at = target
+                continue
+            total += size + 1
+            if size > 63 or total > 255 or at + 1 + size > len(octets):
+                raise Malformed("a label")
+            parts.append(octets[at:at + 1 + size])
+            at += 1 + size
+    except IndexError:
+        raise Malformed("a name") from None
+
+
+@functools.lru_cache(maxsize=100_000)
+def question_in(body):
+    """The one question of a message without its identifier, or None."""
+    if len(body) < 10 or body[2:4] != b"\0\1":
+        return None
+    try:
+        name, at = name_at(b"\0\0" + body, 12)
+        kind, klass = struct.unpack_from(">2H", body, at - 2)
+    except (Malformed, struct.error):
+        return None
+    return Question(name, name.lower(), kind, klass)
+
+
+def question_of(octets):
+    """The first question of a message, where there is exactly one that can be read; else None."""
+    found = question_in(octets[2:512])
+    return found if found or len(octets) <= 512 else question_in(octets[2:])
+
+
+def records(octets):
+    """The records of the answer and authority sections; raises where they can't be read."""
+    counts = struct.unpack_from(">4H", octets, 4)
+    at, found = 12, []
+    try:
+        for _ in range(counts[0]):
+            at = name_at(octets, at)[1] + 4
+        for section in range(3):
+            for _ in range(counts[section + 1]):
+                owner, at = name_at(octets, at)
+                kind, klass, seconds, size = struct.unpack_from(">2HIH", octets, at)
+                start, at = at + 10, at + 10 + size
+                if at > len(octets):
+                    raise Malformed("a record")
+                data = written_out(octets, kind, start, at)
+                if section < 2:
+                    found.append(Record(section, owner, owner.lower(), kind, klass, seconds, data, start - 6))
+    except (struct.error, IndexError):
+        raise Malformed("a record") from None
+    return found
+
+
+def written_out(octets, kind, start, end):
+    """The RDATA between two offsets with its names written out."""
+    shape = SHAPES.get(kind)
+    if shape is None:
+        return octets[start:end]
+    parts, at = [], start
+    for part in shape:
+        if part is NAME:
+            name, after = name_at(octets, at)
+            parts.append(name)
+        else:
+            after = at + (1 + octets[at] if part is STRING else part)
+            parts.append(octets[at:after])
+        at = after
+    if at != end:
+        raise Malformed("RDATA")
+    return b"".join(parts)
+
+
+def text(name):
+    """A name in letters; what is no letter, digit, hyphen or underscore is escaped as RFC 1035 5.1 has it."""
+    labels, at = [], 0
+    while name[at]:
+        label = name[at + 1:at + 1 + name[at]]
+        labels.append("".join(
+            chr(o) if 48 <= o < 58 or 65 <= o < 91 or 97 <= o < 123 or o in b"-_" else
+            f"\\{chr(o)}" if 33 <= o < 127 else f"\\{o:03}" for o in label))
+        at += 1 + name[at]
+    return ".".join(labels) or "."
+
+
+def from_text(words):
+    """The octets of a plain name in lower case, or None."""
+    labels = [] if words == "." else words.rstrip(".").lower().split(".")
+    if any(not 1 <= len(label) <= 63 for label in labels):
+        return None
+    return b"".join(bytes([len(label)]) + label.encode("utf-8", "surrogateescape") for label in labels) + b"\0"
+
+
+def parents(key):
+    """The name and each name above it, in octets."""
+    while True:
+        yield key
+        if key == b"\0":
+            return
+        key = key[1 + key[0]:]
+
+
+def is_under(key, suffix):
+    return any(above == suffix for above in parents(key))
+
+
+def kind_text(kind, klass=1):
+    shown = TYPES.get(kind, f"TYPE{kind}")
+    return shown if klass == 1 else f"{shown} (class {klass})"

@@ -1,0 +1,59 @@
+"""Which captured query is which query of the script: same server, transport and octets, in order, at about one time."""
+from collections import defaultdict
+
+from .configuration import shown
+
+EARLIER = 60  # milliseconds that a captured query may be before the script's
+
+
+def align(wanted, made, latest, when_wanted, when_made):
+    """Pairs two lists that are in order of time; gives pairs, and what is left of each."""
+    pairs, left, extra, place = [], [], [], 0
+    for each in wanted:
+        while place < len(made) and when_wanted(each) - when_made(made[place]) > latest:
+            extra.append(made[place])
+            place += 1
+        if place < len(made) and when_wanted(each) - when_made(made[place]) >= -EARLIER:
+            pairs.append((each, made[place]))
+            place += 1
+        else:
+            left.append(each)
+    return pairs, left, extra + made[place:]
+
+
+class Pairing:
+    """Pairs of one run."""
+
+    def __init__(self, queries, asked, latest, moment):
+        """`queries` are those captured, `asked` those of the script; `latest` is how late a captured one may be, in ms."""
+        self.line_of, self.query_of, self.unexplained, self.unseen = {}, {}, [], []
+        self.moment, self.latest = moment, latest
+        by_key = defaultdict(lambda: ([], []))
+        connections = []
+        for query in queries:
+            if query.octets is None:
+                connections.append(query)
+            else:
+                by_key[query.transport, shown(query.server), query.octets[2:].hex()][0].append(query)
+        for each in asked:
+            by_key[each.key()][1].append(each)
+        left = [extra for wanted, made in by_key.values() for extra in self.pair(wanted, made)]
+        self.pair_connections(connections, [each for each in left if each.transport == "tcp"])
+        self.unseen += [each for each in left if each not in self.query_of]
+        self.unexplained.sort(key=lambda query: query.moment)
+        self.unseen.sort(key=lambda each: each.line.order)
+
+    def pair(self, wanted, made):
+        """Notes the pairs of one server, transport and text; gives the script's queries that have none."""
+        pairs, left, extra = align(wanted, made, self.latest, self.moment, lambda each: each.moment)
+        for query, each in pairs:
+            self.line_of[query], self.query_of[each] = each.line, query
+        self.unexplained += left
+        return extra
+
+    def pair_connections(self, connections, left):
+        """Connections that never carried a query are told by their server alone."""
+        for server in {query.server for query in connections}:
+            wanted = [query for query in connections if query.server == server]
+            made = sorted((each for each in left if each.server == shown(server)), key=lambda each: each.line.order)
+            self.pair(wanted, made)

@@ -1,0 +1,281 @@
+"""Small changes of a script where it and the capture part, for what a capture can't show.
+
+The two clocks are not in phase, what came at about one moment may have been taken in another order, and a query that
+could not be sent is in no capture. Each change moves something by some milliseconds at most, or ends a try earlier: none
+of them changes an octet, nor can it hide an answer that is past its end, of another route or of another question.
+"""
+from collections import defaultdict
+
+from .carried import MOST_ALIASES
+from .lines import Line
+from .messages import Malformed, code, records
+
+SLACK = 40  # milliseconds by which the service's clock and the capture's may part
+SOON = 60  # milliseconds in which an answer comes that needed no server
+HORIZON = 2_000_000  # microseconds after the first change of a run in which others are made
+STALE = 30  # seconds that expired data is told with
+STEPS = (3, 10, 30)  # milliseconds by which a line is moved, one after another
+
+
+class Repairs:
+    """Looks at one run of a script, and changes its lines; `changed` says whether it did."""
+
+    def __init__(self, window):
+        self.window, self.limits = window, window.configuration.limits
+        self.tried = defaultdict(int)
+        self.changed, self.touched = False, set()
+
+    def after(self, outcome, pairing, answers, moved):
+        """The changes that a run calls for; `answers` has the script's reply to each question, `moved` the queries that have
+        just been paired anew. Changes go in the order of time: what comes long after the first may be gone with it."""
+        self.changed, self.touched = False, {query.asked.of() for query in moved if query.asked}
+        self.outcome, self.pairing, self.answers = outcome, pairing, answers
+        self.by_question = defaultdict(list)
+        for each in outcome.asked:
+            self.by_question[self.window.asked_in(each)].append(each)
+        until = min((query.moment for query in moved), default=float("inf")) + HORIZON
+        for moment, _, of, repair, what in sorted(self.open_points(), key=lambda point: point[:2]):
+            if moment > until:
+                break
+            if of not in self.touched and repair(what):
+                self.touched.add(of)
+                self.changed = True
+                until = min(until, moment + HORIZON)
+        self.let_time_pass()
+        return self.changed
+
+    def open_points(self):
+        """Where the script and the capture part: when, what is asked there, and what may be done about it."""
+        number = 0
+        for number, query in enumerate(self.pairing.unexplained):
+            if query.asked and self.window.is_on_route(query):
+                yield query.moment, number, query.asked.of(), self.unexplained, query
+        for number, each in enumerate(self.pairing.unseen, number):
+            if each.line.note != "before" and (each.closed is None or not each.closed.note):
+                yield each.line.order[0], number, self.window.asked_in(each), self.unseen, each
+        for number, question in enumerate(self.window.questions, number):
+            if question.answer and question not in self.answers and question in self.window.maker.line_of and question.asked:
+                yield question.answer.moment, number, question.asked.of(), self.unanswered, question
+        for number, reply in enumerate(self.window.replies, number):
+            line = self.window.maker.line_of.get(reply)
+            if line is not None and line.number in self.outcome.quiet and self.window.verdicts.get(reply) not in ("stranger", "late"):
+                yield reply.moment, number, reply.query.asked.of(), self.late_reply, reply
+        for number, line in enumerate(self.window.lines, number):
+            if line.server is not None and not self.is_meant(line):
+                yield line.order[0], number, None, self.take_out, line
+
+    def take_out(self, line):
+        """A failure whose query is another one by now: another server is preferred, or it was captured after all."""
+        self.window.lines.remove(line)
+        self.touched.discard(None)
+        return True
+
+    def may(self, what, most):
+        self.tried[what] += 1
+        return self.tried[what] <= most
+
+    def insert(self, order, moment, kind, each=None, note=""):
+        """A tick, or the failure of a query of the script."""
+        line = Line(order, moment, kind, None, each and each.line, each.transport if each else "", note, each and each.server)
+        self.window.lines.append(line)
+
+    def let_time_pass(self):
+        """Ticks where the script leaves something undone for long that was due: the service never does. Such ticks go again
+        where they do nothing."""
+        lines, dues = self.window.lines, {}
+        lines[:] = [line for line in lines if line.kind != "tick" or line.event is not None or line.number not in self.outcome.quiet]
+        for each in self.outcome.asked:
+            due = each.moment + self.limits["ask_ms"]
+            if self.is_late(due, each.closed):
+                dues[due] = dues.get(due, 0) + 1
+        for question in self.window.questions:
+            line = self.window.maker.line_of.get(question)
+            if line is not None and question.asked and question.wants_answer():
+                due = self.outcome.moments[line.number - 1] + self.limits["deadline_ms"]
+                if self.is_late(due, self.answers.get(question, (None,))[0]):
+                    dues[due] = dues.get(due, 0) + 1
+        for due, count in dues.items():
+            for _ in range(count):
+                self.insert((self.window.maker.micros(due), 0), due, "tick")
+        self.changed |= bool(dues)
+
+    def is_late(self, due, line):
+        """Whether something that was due happened long after, or not before the end."""
+        last = self.outcome.moments[-1]
+        return due <= last and (line is None or self.outcome.moments[line.number - 1] > due + SOON)
+
+    def is_meant(self, line):
+        each = self.outcome.by_line.get(line.target)
+        return each is not None and each.server == line.server and (line.note != "never left" or each not in self.pairing.query_of)
+
+    def says_failure(self, answer):
+        """Whether an answer is what clients get once all tries failed: a failure, or expired data."""
+        if code(answer.octets) not in (0, 3):
+            return True
+        try:
+            return self.limits["stale_s"] > 0 and any(record.seconds == STALE for record in records(answer.octets))
+        except Malformed:
+            return False
+
+    def open_at(self, of, order):
+        """The script's query of this question that is open at a place, or None."""
+        return next((each for each in reversed(self.by_question.get(of, ())) if each.line.order <= order
+                     and (each.closed is None or each.closed.order >= order)), None)
+
+    def end_try(self, each, event, moment):
+        """Ends a try of the script before an event that left: by its time if that is near, else as failed unseen."""
+        due = each.moment + self.limits["ask_ms"]
+        if moment + 1 >= due - SLACK:
+            if not self.may((event, "tick"), 6):
+                return False
+            self.insert((event.moment, -1), max(due, moment + 1), "tick")
+            return True
+        if not self.may((event, "failed"), 20):
+            return False
+        order = (event.moment, -1)
+        if each not in self.pairing.query_of:
+            order = (each.line.order[0], each.line.order[1] + 0.001)
+        note = "unseen" if each in self.pairing.query_of else "never left"
+        self.insert(order, each.moment if note == "never left" else moment, "failed", each, note)
+        return True
+
+    def unexplained(self, query):
+        """A captured query that the script does not make."""
+        moment, of = self.window.maker.moment(query), query.asked.of()
+        each = self.open_at(of, (query.moment, 1e9))
+        if each:
+            return self.end_try(each, query, moment)
+        for question in self.asking(of, query.moment - SOON * 1000, query.moment):
+            if self.take_later(question, of, query):
+                return True
+        return False
+
+    def take_later(self, question, of, query):
+        """A question that the script joins or answers, and for which the capture has a query of its own: what it used had
+        ended by some milliseconds, or the reply that came with it was taken first."""
+        line, found = self.window.maker.line_of.get(question), self.answers.get(question)
+        if line is None or found is None or found[1] not in (0, 12):
+            return False
+        near = [reply for reply in self.replies_near(of, question.moment, query.moment) if reply.query.moment < question.moment]
+        if near and self.may((question, "after"), 1):
+            line.order, line.moment = (near[-1].moment, 1e9), max(line.moment, self.window.maker.moment(near[-1]))
+            return True
+        count = self.tried[question, "later"]
+        if found[0] is not line or count >= len(STEPS) or not ends_soon(found[2]):
+            return False
+        self.tried[question, "later"] += 1
+        line.moment = self.window.maker.moment(question) + STEPS[count]
+        return True
+
+    def unseen(self, each):
+        """A query of the script that the capture does not have."""
+        of, moment = self.window.asked_in(each), each.moment
+        micros = each.line.order[0]
+        event = each.line.event
+        until = micros + 1000 * (self.limits["ask_ms"] - SLACK)
+        later = [query for query in self.window.queries_of.get(of, ())
+                 if micros < query.moment < until and self.window.is_on_route(query)]
+        question = event if each.line.kind == "client" else None
+        if question is not None and not later and question.answer is None:
+            return self.not_taken(question, micros)
+        if question is not None and question.answer and question.answer.moment - micros < 1000 * SOON and not later \
+                and code(question.answer.octets) in (0, 3):
+            return self.reorder(question, of) or self.keep_longer(of, moment)
+        waiting = [each_ for each_ in self.window.waiting_for(of) if each_.moment <= micros + 1000 * SOON
+                   and micros <= each_.answer.moment < until and self.says_failure(each_.answer)]
+        if (later and later[0] in self.pairing.unexplained) or waiting:
+            return self.end_try(each, later[0] if later else waiting[0].answer, moment) if self.not_due(each, later, waiting) else False
+        return False
+
+    def not_due(self, each, later, waiting):
+        """Whether what followed came before the time of the try was over."""
+        event = later[0] if later else waiting[0].answer
+        return self.window.maker.moment(event) + 1 < each.moment + self.limits["ask_ms"] - SLACK
+
+    def not_taken(self, question, micros):
+        """A question that got nothing, and for which nothing was asked: the service never read it."""
+        if self.window.ends - micros < 1000 * SOON or not self.may((question, "taken"), 1):
+            return False
+        self.window.drop(question)
+        return True
+
+    def asking(self, of, since, until):
+        """Questions that wanted this, taken in some span of time."""
+        return [question for question in self.window.wanting.get(of, ()) if since <= question.moment <= until]
+
+    def replies_near(self, of, since, until):
+        return [reply for reply in self.window.replies_of.get(of, ()) if since <= reply.moment <= until]
+
+    def reorder(self, question, of):
+        """A question that was taken before a reply that the capture has just before it: it joined what was open."""
+        near = self.replies_near(of, question.moment - 20_000, question.moment)
+        line = self.window.maker.line_of.get(question)
+        if not near or line is None or not self.may((question, "before"), 1):
+            return False
+        line.order = (near[0].moment, -1)
+        line.moment = self.window.maker.moment(near[0])
+        return True
+
+    def keep_longer(self, of, moment):
+        """A set that expires within milliseconds of being asked for: it was accepted some milliseconds later."""
+        for _ in range(MOST_ALIASES):
+            for reply in reversed(self.window.replies_of.get(of, ())):
+                walk = self.window.history.walks.get(reply)
+                line = self.window.maker.line_of.get(reply)
+                for piece in walk.pieces if walk and line else ():
+                    end = line.moment + 1000 * piece.seconds
+                    if moment - SLACK < end <= moment and self.tried[reply, "longer"] < len(STEPS):
+                        line.moment = self.window.maker.moment(reply) + STEPS[self.tried[reply, "longer"]]
+                        self.tried[reply, "longer"] += 1
+                        return True
+            if of not in self.window.maker.leads:
+                return False
+            of = self.window.maker.leads[of]
+        return False
+
+    def unanswered(self, question):
+        """A question that was answered, and to which the script has no reply."""
+        answer, moment = question.answer, self.window.maker.moment(question.answer)
+        line = self.window.maker.line_of[question]
+        due = self.outcome.moments[line.number - 1] + self.limits["deadline_ms"]
+        if moment + 1 >= due - SLACK:
+            if not self.may((question, "deadline"), 6):
+                return False
+            self.insert((answer.moment, -1), max(due, moment + 1), "tick")
+            return True
+        for of in self.window.chain(question):
+            each = self.open_at(of, (answer.moment, 1e9))
+            if each and self.says_failure(answer) and each.line.order <= (answer.moment, 0):
+                return self.end_try(each, answer, moment)
+        return False
+
+    def late_reply(self, reply):
+        """A reply that did nothing, since its query was over by time some milliseconds before: it was taken first."""
+        line = self.window.maker.line_of[reply]
+        target = self.window.pairs.get(reply.query)
+        each = self.outcome.by_line.get(target)
+        if each and each.closed and each.closed.kind == "tick" and each.closed.order < line.order \
+                and line.moment - each.closed.moment <= SLACK and self.may((reply, "earlier"), 1):
+            line.order = (each.closed.order[0], each.closed.order[1] - 1e-6)
+            line.moment = min(line.moment, each.closed.moment)
+            return True
+        return False
+
+
+def ends_soon(octets):
+    """Whether an answer has a record with no whole second left."""
+    try:
+        return any(record.seconds == 0 for record in records(octets))
+    except Malformed:
+        return False
+
+
+def in_order(events, key):
+    """Events by a key of each, in order."""
+    found = defaultdict(list)
+    for event in events:
+        of = key(event)
+        if of is not None:
+            found[of].append(event)
+    return found
+

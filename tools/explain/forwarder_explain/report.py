@@ -1,0 +1,195 @@
+"""Lines, counts, and the same for programs."""
+import json
+from collections import Counter, defaultdict
+
+from . import comparing, messages, story
+from .configuration import address_text, shown
+from .packets import counted
+from .story import clock, duration
+from .traffic import Query
+
+REASONS = {
+    0: "answered", 1: "not one question", 2: "operation not served", 3: "type or class not served", 4: "no route",
+    5: "questions full", 6: "inquiries full", 7: "no port", 8: "all tries failed", 9: "deadline", 10: "aliases", 11: "too large",
+    12: "expired data", 13: "denied by the configuration",
+}
+
+MOST_SHOWN, MOST_CLIENTS = 10, 20  # of queries that are not the step's, and of the clients that asked most
+UNCOMPARED = {
+    comparing.BEFORE: "on what was kept before the capture began",
+    comparing.UNANSWERED: "no answer that was captured, and the step gives one",
+    comparing.GONE: "no answer, since the connection had ended",
+    comparing.OPEN: "no answer: the capture ended, or the question was not taken",
+    comparing.DROPPED: "dropped: no question",
+}
+
+
+class Row:
+    """A question with its result, in words."""
+
+    def __init__(self, question, result, teller):
+        self.question, self.result = question, result
+        self.asked, self.answer = question.asked, question.answer
+        self.code = messages.CODES[messages.code(self.answer.octets)] if self.answer else "-"
+        self.took = (self.answer.moment - question.moment) / 1000 if self.answer else None
+        self.client = f"{address_text(question.peer[0])}:{question.peer[1]}"
+        self.transport = question.client.split(" ")[0]
+        self.name = messages.text(self.asked.name) if self.asked else "-"
+        self.kind = messages.kind_text(self.asked.kind, self.asked.klass) if self.asked else "-"
+        self.words = teller.words(question, result)
+
+    def failed(self):
+        """Whether `--failures` shows it."""
+        if self.result.same == comparing.DROPPED:
+            return False
+        return self.code not in ("NOERROR", "NXDOMAIN") or self.result.same == comparing.DIFFERENT or self.result.reason == 12
+
+    def line(self):
+        took = f"{duration(self.took)} ms" if self.took is not None else "-"
+        return f"{clock(self.question.moment)} {self.client} {self.transport} {self.name} {self.kind} {self.code} {took}: {self.words}"
+
+    def differs(self):
+        """Both messages of an answer that is not the step's."""
+        captured, step = self.answer.octets, self.result.octets
+        yield "    DIFFERENT: this answer is not the step's"
+        yield f"    captured  {story.message_text(captured)}"
+        yield f"              {captured.hex()}"
+        yield f"    the step  {story.message_text(step) if step else 'no answer'}"
+        if step:
+            yield f"              {step.hex()}"
+
+    def object(self):
+        result = self.result
+        told = {
+            "time": self.question.moment / 1_000_000, "client": self.client, "transport": self.transport, "name": self.name,
+            "type": self.kind, "code": self.code, "milliseconds": self.took, "reason": result.reason, "words": self.words,
+            "compared": result.same, "script_line": result.line,
+            "tries": [{"name": messages.text(attempt.name), "server": attempt.server, "transport": attempt.transport,
+                       "milliseconds": attempt.lasted, "how": attempt.how} for attempt in result.attempts]}
+        if result.same == comparing.DIFFERENT:
+            told["captured"], told["step"] = self.answer.octets.hex(), result.octets.hex()
+        return told
+
+
+class Summary:
+    """Counts over rows and queries."""
+
+    def __init__(self, rows, events, history, explained):
+        self.rows, self.explained = rows, explained
+        self.same = Counter(row.result.same for row in rows)
+        self.queries = [event for event in events if isinstance(event, Query)]
+        self.history = history
+
+    def verdict(self):
+        """The last lines: how many answers are the step's own octets."""
+        same = self.same
+        answered = sum(1 for row in self.rows if row.answer)
+        yield f"{counted(len(self.rows), 'question')}, {counted(answered, 'answer')}: {are(same[comparing.SAME])} the step's own octets, " \
+              f"{same[comparing.SECOND]:,} but for a second, {same[comparing.DIFFERENT]:,} different"
+        for word, one, more in (
+                (comparing.BEFORE, "rests", "rest"), (comparing.UNANSWERED, "got", "got"), (comparing.GONE, "got", "got"),
+                (comparing.OPEN, "got", "got"), (comparing.DROPPED, "was", "were")):
+            if same[word]:
+                yield f"{same[word]:,} {one if same[word] == 1 else more} {UNCOMPARED[word]}"
+        yield from self.queries_text()
+
+    def queries_text(self):
+        explained = self.explained
+        yield f"{counted(explained.paired + len(explained.others), 'query')} to servers: {are(explained.paired)} the step's" \
+            + (f", {are(len(explained.others))} not" if explained.others else "") \
+            + (f"; {explained.never_left:,} of the step's could not be sent" if explained.never_left else "")
+        for moment, server, transport, asked, on_route in explained.others[:MOST_SHOWN]:
+            yield f"    {clock(moment)} {shown(server)}{' over TCP' if transport == 'tcp' else ''} was asked for " \
+                  f"{messages.text(asked.name)} {messages.kind_text(asked.kind, asked.klass)}, and not by the step" \
+                  + ("" if on_route else ": it is not of the route of this name")
+        if len(explained.others) > MOST_SHOWN:
+            yield f"    and {len(explained.others) - MOST_SHOWN:,} more"
+
+    def tables(self):
+        """Counts by reason, by server and by client."""
+        yield from table("reason", ("questions", "median ms", "99 % ms"), self.by_reason())
+        yield from table("server", ("queries", "share", "median ms", "99 % ms", "failed", "how"), self.by_server())
+        yield from table("client", ("questions", "from the cache", "failed", "median ms"), self.by_client())
+        slow = sorted((row for row in self.rows if row.took is not None), key=lambda row: -row.took)[:5]
+        yield "slowest"
+        for row in slow:
+            yield f"  {row.line()}"
+        yield ""
+
+    def by_reason(self):
+        groups = defaultdict(list)
+        for row in self.rows:
+            groups[row.result.reason if row.result.reason is not None else -1].append(row)
+        for reason, rows in sorted(groups.items()):
+            if reason == 0:
+                cached = [row for row in rows if not row.result.attempts]
+                asked = [row for row in rows if row.result.attempts]
+                yield from (("0 answered from the cache", times(cached)),) if cached else ()
+                yield from (("0 answered by a server", times(asked)),) if asked else ()
+            else:
+                yield f"{reason} {REASONS[reason]}" if reason >= 0 else "- not judged", times(rows)
+
+    def by_server(self):
+        groups = defaultdict(list)
+        for query in self.queries:
+            groups[story.server_text(query)].append(query)
+        for server, queries in sorted(groups.items(), key=lambda group: -len(group[1])):
+            took, how = [], Counter()
+            for query in queries:
+                moment, verdict = self.history.closed.get(query, (None, "silent"))
+                reply = next((reply for reply in query.replies if self.history.verdicts.get(reply) not in ("stranger", None)), None)
+                if reply:
+                    took.append((reply.moment - query.moment) / 1000)
+                if verdict != "answered":
+                    how[verdict] += 1
+            failed = ", ".join(f"{count} {word}" for word, count in how.most_common()) or "-"
+            yield server, (f"{len(queries):,}", f"{100 * len(queries) / len(self.queries):.0f} %", *spread(took), f"{sum(how.values()):,}", failed)
+
+    def by_client(self):
+        groups = defaultdict(list)
+        for row in self.rows:
+            groups[address_text(row.question.peer[0])].append(row)
+        for client, rows in sorted(groups.items(), key=lambda group: -len(group[1]))[:MOST_CLIENTS]:
+            cached = sum(1 for row in rows if row.result.reason == 0 and not row.result.attempts)
+            failed = sum(row.failed() for row in rows)
+            yield client, (f"{len(rows):,}", f"{100 * cached / len(rows):.0f} %", f"{failed:,}", spread([row.took for row in rows if row.took is not None])[0])
+
+    def object(self):
+        return {"summary": {
+            "questions": len(self.rows), "answers": sum(1 for row in self.rows if row.answer), **self.same,
+            "queries_of_the_step": self.explained.paired, "other_queries": len(self.explained.others),
+            "never_left": self.explained.never_left}}
+
+
+def are(number):
+    return f"{number:,} {'is' if number == 1 else 'are'}"
+
+
+def times(rows):
+    return (f"{len(rows):,}", *spread([row.took for row in rows if row.took is not None]))
+
+
+def spread(values):
+    """Median and 99 % of some times, as text."""
+    if not values:
+        return "-", "-"
+    values = sorted(values)
+    return duration(values[len(values) // 2]), duration(values[min(len(values) - 1, len(values) * 99 // 100)])
+
+
+def table(title, heads, rows):
+    """Lines of a table, with columns as wide as what is in them."""
+    cells = [(title, *heads), *((name, *values) for name, values in rows)]
+    if len(cells) == 1:
+        return
+    widths = [max(len(str(row[place])) for row in cells) for place in range(len(heads) + 1)]
+    for row in cells:
+        shown = [str(row[0]).ljust(widths[0])]
+        shown += [str(cell).ljust(width) if head == "how" else str(cell).rjust(width)
+                  for cell, width, head in zip(row[1:], widths[1:], heads)]
+        yield "  ".join(shown).rstrip()
+    yield ""
+
+
+def written(value):
+    return json.dumps(value, ensure_ascii=False)

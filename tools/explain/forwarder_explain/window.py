@@ -1,0 +1,236 @@
+"""A part of a capture as one script: run, paired and repaired until nothing changes; then each answer is compared."""
+from collections import defaultdict
+from typing import NamedTuple
+
+from . import comparing
+from .lines import Maker
+from .messages import question_in
+from .pairing import Pairing
+from .repairs import Repairs, in_order
+from .replay import Script
+from .traffic import Ending, Query, Question, Reply
+
+MOST_RUNS = 150
+
+
+class Attempt(NamedTuple):
+    """A try for a question: what was asked of whom, when, for how long, and how it ended."""
+
+    name: bytes
+    transport: str
+    server: str
+    moment: int
+    lasted: int
+    how: str
+
+
+class Result(NamedTuple):
+    """What became of a question. `same` is one of comparing's words; `reason` the number of forwarder(8), or None."""
+
+    same: str
+    reason: object
+    octets: bytes
+    line: int
+    attempts: tuple
+    joined: bool
+
+
+class Window:
+    """Events of a capture with what was kept when they began."""
+
+    def __init__(self, configuration, history, program, events, judged, before, span):
+        """`before` are Held to begin with, and routes' preferred servers; `judged` the questions whose result is wanted;
+        `span` is when the window begins, before which events are there for what is open, and when the capture ends."""
+        self.configuration, self.history, self.judged = configuration, history, judged
+        self.begins, self.ends = span
+        self.verdicts = history.verdicts
+        self.script = Script(program, configuration.text)
+        self.maker = Maker(history, history.first)
+        preferred = self.put_preferred(before[1])
+        places = [(held.accepted * 1000, 0, place, held) for place, held in enumerate(before[0])]
+        places += [(event.moment, 1, place, event) for place, event in enumerate(events)]
+        for _, is_event, _, each in sorted(places):
+            if is_event:
+                self.maker.take(each)
+            else:
+                route = configuration.route_of(each.key)
+                if route and route.servers:
+                    self.maker.put_before(each, preferred.get(route, route.servers[0]))
+        self.lines, self.pairs = self.maker.lines, self.maker.pairs
+        self.questions = [event for event in events if isinstance(event, Question)]
+        self.replies = [event for event in events if isinstance(event, Reply)]
+        self.queries = [event for event in events if isinstance(event, Query)]
+        self.endings = [event for event in events if isinstance(event, Ending)]
+        self.index()
+        self.runs = 0
+
+    def put_preferred(self, preferred):
+        """Lines by which each route prefers the server that it preferred when the window began."""
+        tries = self.configuration.limits["tries"]
+        for route, server in preferred.items():
+            at, goal, kind = 0, route.servers.index(server), 65278
+            while at != goal and tries > 1:
+                steps = min(tries - 1, (goal - at) % len(route.servers))
+                at, kind = (at + steps) % len(route.servers), kind - 1
+                self.maker.prefer(route, steps, route.servers[at], kind)
+        return preferred
+
+    def index(self):
+        self.wanting = in_order(self.questions, self.wanted)
+        self.queries_of = in_order(self.queries, lambda query: query.asked and query.asked.of())
+        self.replies_of = in_order(self.replies, lambda reply: reply.query.asked and reply.query.asked.of())
+        self.asked_by_body = {}
+        self.waiting = defaultdict(list)
+        for question in self.questions:
+            if question.answer and question.asked and question.answer.moment - question.moment > 0:
+                for of in self.chain(question):
+                    self.waiting[of].append(question)
+
+    def wanted(self, question):
+        """What a question has to ask: itself, or the name that its kept aliases lead to."""
+        if question.asked is None:
+            return None
+        found = self.history.found.get(question)
+        return question.asked.of() if found is None or found.answers else (found.missed, question.asked.kind, question.asked.klass)
+
+    def chain(self, question):
+        """What is asked for a question, along the aliases that replies led on to."""
+        of, seen = self.wanted(question), []
+        while of is not None and of not in seen and len(seen) < 20:
+            seen.append(of)
+            of = self.maker.leads.get(of)
+        return seen
+
+    def waiting_for(self, of):
+        return self.waiting.get(of, ())
+
+    def asked_in(self, each):
+        """What a query of the script asks."""
+        if each.body not in self.asked_by_body:
+            self.asked_by_body[each.body] = question_in(bytes.fromhex(each.body)).of()
+        return self.asked_by_body[each.body]
+
+    def is_on_route(self, query):
+        """Whether the name of a query is of a route with the server that was asked."""
+        route = self.configuration.route_of(query.asked.key)
+        return route is not None and query.server in route.servers
+
+    def drop(self, question):
+        """Leaves a question out of the script."""
+        self.lines.remove(self.maker.line_of.pop(question))
+
+    def settle(self):
+        """Runs the script until neither pairs nor lines change."""
+        repairs = Repairs(self)
+        latest = 0.8 * self.configuration.limits["ask_ms"]
+        while True:
+            self.lines.sort(key=lambda line: line.order)
+            before = self.script.connections
+            self.outcome = self.script.run(self.lines, self.pairs)
+            self.runs += 1
+            made = [each for each in self.outcome.asked if each.line.note != "before"]
+            self.pairing = Pairing(self.queries, made, latest, self.maker.moment)
+            self.answers = comparing.replies_of(self.questions, self.outcome, self.maker.line_of)
+            moved = {query: line for query, line in self.pairing.line_of.items() if self.pairs.get(query) is not line}
+            self.pairs.update(moved)
+            if self.runs >= MOST_RUNS:
+                return
+            renumbered = self.script.connections != before and any(query.transport == "tcp" for query in self.queries)
+            if not repairs.after(self.outcome, self.pairing, self.answers, moved) and not moved and not renumbered:
+                return
+
+    def results(self):
+        """The result of each question that is to be judged."""
+        self.settle()
+        return {question: self.result(question) for question in self.judged}
+
+    def result(self, question):
+        line, reason, octets = self.answers.get(question, (None, None, b""))
+        same = comparing.compare(question, octets, question in self.history.rests_on_before, question in self.maker.line_of)
+        attempts, joined = self.attempts(question, line) if line is not None else (self.open_tries(question), False)
+        own = self.maker.line_of.get(question)
+        return Result(same, reason, octets, own.number if own else 0, attempts, joined)
+
+    def attempts(self, question, line):
+        """The tries that led to a reply of the script, in order, and whether the first was under way before."""
+        own = self.maker.line_of[question]
+        if line is own:
+            return (), False
+        last = self.last_try(question, line)
+        tries = []
+        while last is not None:
+            tries.append(last)
+            if last.line.order <= own.order:
+                break
+            last = self.ended_at.get(last.line) or (self.moved_from(question, own, last) if last.line.kind == "client" else None)
+        joined = bool(tries) and tries[-1].line.order < own.order
+        return tuple(map(self.attempt, reversed(tries))), joined
+
+    @property
+    def ended_at(self):
+        """The try that each line of the script ended."""
+        if getattr(self, "_ended_for", None) is not self.outcome:
+            self._ended_for = self.outcome
+            self._ended = {each.closed: each for each in self.outcome.asked if each.closed is not None}
+        return self._ended
+
+    def last_try(self, question, line):
+        ended = self.ended_at.get(line)
+        if ended is not None:
+            return ended
+        return self.open_for(question, line.order)
+
+    def open_for(self, question, order):
+        """The try that a question waits for whose deadline has come, while others wait on."""
+        wanted = self.chain(question)
+        return next((each for each in reversed(self.outcome.asked) if self.asked_in(each) in wanted and each.line.order <= order
+                     and (each.closed is None or each.closed.order >= order)), None)
+
+    def open_tries(self, question):
+        """The try that a question waits for when it was answered otherwise."""
+        if question.answer is None or question not in self.maker.line_of:
+            return ()
+        each = self.open_for(question, (question.answer.moment, 1e9))
+        return (self.attempt(each),) if each is not None else ()
+
+    def moved_from(self, question, own, last):
+        """The try whose reply led a question on to a name that others had asked for already."""
+        wanted = self.wanted(question)
+        return next((each for each in self.outcome.asked if self.asked_in(each) == wanted and each is not last and each.closed is not None
+                     and own.order <= each.closed.order), None)
+
+    def attempt(self, each):
+        query, closed = self.pairing.query_of.get(each), each.closed
+        name = question_in(bytes.fromhex(each.body)).name
+        if query is None and (closed is None or not closed.note):
+            return Attempt(name, each.transport, each.server, each.moment, -1, "unasked")
+        if closed is None:
+            return Attempt(name, each.transport, each.server, each.moment, -1, "open")
+        lasted = self.outcome.moments[closed.number - 1] - each.moment
+        if query is not None and closed.event is not None and closed.kind != "tick":
+            lasted = (closed.event.moment - query.moment) / 1000
+        how = self.how(closed)
+        if how == "silent":
+            whole = self.configuration.limits["ask_ms"]
+            how, lasted = ("silent", whole) if lasted >= whole else ("deadline", lasted)
+        return Attempt(name, each.transport, each.server, each.moment, lasted, how)
+
+    def how(self, closed):
+        """How a try ended, by the line that ended it."""
+        if closed.kind == "tick":
+            return "silent"
+        if closed.kind == "failed":
+            return closed.event.why if closed.event else closed.note
+        if closed.kind == "reply" and closed.event is not None and closed.note != "before":
+            return self.verdicts.get(closed.event, "answered")
+        return "answered"
+
+    def queries_of_step(self):
+        """How many captured queries the script makes too, and how many of its own never left."""
+        own = {query for query in self.queries if query.moment >= self.begins}
+        never_left = sum(1 for line in self.lines if line.note == "never left" and line.order[0] >= self.begins)
+        return len(own.intersection(self.pairing.line_of)), never_left
+
+    def other_queries(self):
+        """The captured queries that the script does not make."""
+        return [query for query in self.pairing.unexplained if query.moment >= self.begins]

@@ -1,0 +1,100 @@
+"""Captures made by hand: packets, and messages of the DNS, octet by octet."""
+import struct
+
+START = 1_795_874_580_000_000  # 2026-11-28 14:03:00 UTC, in microseconds
+ETHERNET, COOKED_2 = 1, 276
+A, NS, CNAME, SOA, MX, TXT, ANY = 1, 2, 5, 6, 15, 16, 255
+# An SOA record of the root that lives 3600 s, with a MINIMUM of 600 s; all its names are the root.
+DENIAL = "00 0006 0001 00000e10 0016 00 00 00000001 00000002 00000003 00000004 00000258"
+
+
+def octets(text):
+    return bytes.fromhex(text.replace(" ", ""))
+
+
+def name(text):
+    return b"".join(bytes([len(label)]) + label.encode() for label in text.split(".") if label) + b"\0"
+
+
+def asked(text, kind=A):
+    return name(text) + struct.pack(">2H", kind, 1)
+
+
+def message(identifier, flags, question, answers=(), authority=()):
+    """A message with one question; records are octets."""
+    counts = struct.pack(">4H", 1, len(answers), len(authority), 0)
+    return struct.pack(">2H", identifier, flags) + counts + question + b"".join(answers) + b"".join(authority)
+
+
+def record(owner, kind, seconds, data):
+    return owner + struct.pack(">2HIH", kind, 1, seconds, len(data)) + data
+
+
+def address(seconds, *numbers, owner=b"\xc0\x0c"):
+    """An A record, of the question's name unless another owner is given."""
+    return record(owner, A, seconds, bytes(numbers))
+
+
+def peer(text):
+    where, _, port = text.partition(":")
+    return bytes(map(int, where.split("."))), int(port)
+
+
+class Capturing:
+    """A capture that grows: packets by milliseconds after START."""
+
+    def __init__(self, link=ETHERNET):
+        self.link, self.packets, self.number = link, [], 0
+
+    def ip(self, milliseconds, source, target, protocol, payload, fragment=0, number=None):
+        if number is None:
+            self.number += 1
+            number = self.number
+        header = struct.pack(">BBHHHBBH", 0x45, 0, 20 + len(payload), number & 0xFFFF, fragment, 64, protocol, 0) + source + target
+        if self.link == COOKED_2:
+            front = struct.pack(">HHIHBB8s", 0x0800, 0, 2, 1, 0, 6, bytes(8))
+        else:
+            front = bytes(12) + b"\x08\x00"
+        self.packets.append((START + round(milliseconds * 1000), front + header + payload))
+
+    def udp(self, milliseconds, source, target, payload):
+        source, target = peer(source), peer(target)
+        header = struct.pack(">4H", source[1], target[1], 8 + len(payload), 0)
+        self.ip(milliseconds, source[0], target[0], 17, header + payload)
+
+    def tcp(self, milliseconds, source, target, sequence, flags, payload=b""):
+        source, target = peer(source), peer(target)
+        header = struct.pack(">2H2I2B3H", source[1], target[1], sequence, 0, 0x50, flags, 65535, 0, 0)
+        self.ip(milliseconds, source[0], target[0], 6, header + payload)
+
+    def unreachable(self, milliseconds, router, source, target, code=3):
+        """ICMP says that a datagram from source did not reach target."""
+        from_, to = peer(source), peer(target)
+        inner = struct.pack(">BBHHHBBH", 0x45, 0, 60, 1, 0, 64, 17, 0) + from_[0] + to[0] + struct.pack(">4H", from_[1], to[1], 40, 0)
+        self.ip(milliseconds, bytes(map(int, router.split("."))), from_[0], 1, struct.pack(">2BHI", 3, code, 0, 0) + inner)
+
+    def pcap(self):
+        """The capture as classic pcap."""
+        parts = [struct.pack("<I2H4I", 0xA1B2C3D4, 2, 4, 0, 0, 262144, self.link)]
+        for moment, packet in sorted(self.packets, key=lambda each: each[0]):
+            parts.append(struct.pack("<4I", moment // 1_000_000, moment % 1_000_000, len(packet), len(packet)) + packet)
+        return b"".join(parts)
+
+    def pcapng(self):
+        """The capture as pcapng, with big numbers first and a time in nanoseconds."""
+        parts = [block(0x0A0D0D0A, struct.pack(">I2Hq", 0x1A2B3C4D, 1, 0, -1)),
+                 block(1, struct.pack(">2HI", self.link, 0, 262144) + struct.pack(">2HB3x2H", 9, 1, 9, 0, 0))]
+        for moment, packet in sorted(self.packets, key=lambda each: each[0]):
+            nanoseconds = moment * 1000
+            head = struct.pack(">5I", 0, nanoseconds >> 32, nanoseconds & 0xFFFFFFFF, len(packet), len(packet))
+            parts.append(block(6, head + packet + bytes(-len(packet) % 4)))
+        return b"".join(parts)
+
+
+def block(kind, body):
+    size = struct.pack(">I", 12 + len(body))
+    return struct.pack(">I", kind) + size + body + size
+
+
+def framed(octets_):
+    return struct.pack(">H", len(octets_)) + octets_
