@@ -30,7 +30,7 @@ enum { ROOM = 65536, PATHS = 65536, EVENTS = 256, BUFFER = 1 << 20, HEADER = 12 
 
 /* Owner: the name at octet 12. A, IN, 3,600 seconds, 4 octets: 192.0.2.1. */
 static const uint8_t ADDRESS[] = {0xc0, 12, 0, 1, 0, 1, 0, 0, 14, 16, 0, 4, 192, 0, 2, 1};
-/* Behind an owner: SOA, IN, 3,600 seconds, 22 octets: root, root, 1, 2, 3, 4, 3,600. */
+/* After an owner: SOA, IN, 3,600 seconds, 22 octets: root, root, 1, 2, 3, 4, 3,600. */
 static const uint8_t START[] = {0, 6, 0, 1, 0, 0, 14, 16, 0, 22, 0, 0, 0, 0, 0, 1, 0, 0,
                                 0, 2, 0, 0, 0, 3, 0, 0, 0, 4, 0, 0, 14, 16};
 static const char GONE[] = "\4gone\7example";

@@ -99,17 +99,17 @@ def answers(report, code):
     return count
 
 
-def an_answer(pid, asked, report, code="NOERROR"):
+def an_answer(pid, asked, load, code="NOERROR"):
     """What the program took for each answer of a load, in µs, and what dnsperf reports of it."""
     before, questions = spent(pid), asked.questions()
-    told = report()
+    report = load()
     took = spent(pid).since(before)
-    count = answers(told, code)
+    count = answers(report, code)
     split = took.ran / max(took.user + took.system, 1 / TICKS)
     found = {"us": 1e6 * took.ran / count, "user": 1e6 * took.user * split / count,
              "system": 1e6 * took.system * split / count, "asked": 100 * (asked.questions() - questions) / count,
              "waited": 100 * took.waited / (took.ran + took.waited)}
-    return found, told
+    return found, report
 
 
 class Bench:
@@ -146,8 +146,8 @@ class Bench:
         """At 1,000 questions a second, which keeps no program busy, and how long a client waits."""
         with programs.running(program, self.folder) as pid:
             self.filled(self.files.ten)
-            found, told = an_answer(pid, asked, self.load(self.files.ten, "-Q", str(SLOW), "-v"))
-        waits = [1e6 * float(each) for each in re.findall(r"^> NOERROR .* (\d+\.\d+)$", told, re.M)]
+            found, report = an_answer(pid, asked, self.load(self.files.ten, "-Q", str(SLOW), "-v"))
+        waits = [1e6 * float(each) for each in re.findall(r"^> NOERROR .* (\d+\.\d+)$", report, re.M)]
         cuts = statistics.quantiles(waits, n=100)
         return {**found, "p50": cuts[49], "p99": cuts[98]}
 

@@ -1,5 +1,4 @@
 """The table of figures in Markdown, and the text round it, from what a run wrote as JSON."""
-import json
 import os
 import pathlib
 import platform
@@ -20,8 +19,8 @@ ROWS = [
     ("a name below a denied one", "below", "us"),
     ("– asked of the server, of 100", "below", "asked"),
     ("a cached answer at 1,000 a second", "slow", "us"),
-    ("– half of the clients wait at most, µs", "slow", "p50"),
-    ("– 99 of 100 wait at most, µs", "slow", "p99"),
+    ("– median wait of a client, µs", "slow", "p50"),
+    ("– its 99th percentile, µs", "slow", "p99"),
     ("memory at the start, MiB", "many", "start"),
     ("memory with 10,000 names, MiB", "many", "full"),
 ]
@@ -82,22 +81,19 @@ def about(run):
     on = run["machine"]
     busy = "The machine was idle before" if is_idle(on) else "The machine was NOT idle"
     waited = max((each["waited"] for of_name in run["figures"].values() for each in of_name.values()), default=0)
-    versions = ", ".join(f"{each['title']} {each['version']}" for each in run["programs"].values() if each["version"])
+    versions = [f"{each['title']} {each['version']}" for each in run["programs"].values() if each["version"]]
     lines = [f"{on['processors']} processors, {on['model']}; {on['system']}, Linux {on['kernel']}.",
              f"{busy}: a load of {on['load']}, and processors {on['busy']} % busy.",
              f"What was measured waited for its processor for up to {waited:.0f} % of the time in which it could run.",
-             f"{run['rounds']} rounds of {run['seconds']:g} s each. dnsperf {run['dnsperf']}, {versions}."]
+             f"Rounds: {run['rounds']}, of {run['seconds']:g} s for each load.",
+             ", ".join([f"dnsperf {run['dnsperf']}", *versions]) + "."]
     return textwrap.wrap(" ".join(lines), 120, break_on_hyphens=False)
 
 
-def put_into(document, file):
-    """Puts the table of a JSON file between the document's two comments; says if it changed."""
-    run = json.loads(file.read_text(encoding="utf-8"))
-    text = document.read_text(encoding="utf-8")
+def with_table(text, run):
+    """The text of a document, with the table of this run between its two comments."""
     before, begin, rest = text.partition(BEGIN + "\n")
     _, end, after = rest.partition(END)
     if not begin or not end:
-        raise ValueError(f"{document}: {BEGIN} and {END} are missing")
-    made = before + begin + "\n".join(["", *table(run), "", *about(run), ""]) + "\n" + end + after
-    document.write_text(made, encoding="utf-8")
-    return made != text
+        raise ValueError(f"{BEGIN} or {END} is missing")
+    return before + begin + "\n".join(["", *table(run), "", *about(run), ""]) + "\n" + end + after
