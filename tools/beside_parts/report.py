@@ -1,0 +1,99 @@
+"""The table of figures in Markdown, and the text round it, from what a run wrote as JSON."""
+import os
+import pathlib
+import platform
+import re
+import textwrap
+import time
+
+NONE = "–"
+BEGIN, END = "<!-- begin: tools/beside --costs -->", "<!-- end: tools/beside --costs -->"
+# A row: its title, the measurement, and what of it ("split" is user's and system's).
+ROWS = [
+    ("a cached answer, 10 names", "cached", "us"),
+    ("– of it user, system", "cached", "split"),
+    ("a cached answer, 10,000 names", "many", "us"),
+    ("a cached answer over TCP", "stream", "us"),
+    ("a miss", "miss", "us"),
+    ("– of it user, system", "miss", "split"),
+    ("a name below a denied one", "below", "us"),
+    ("– asked of the server, of 100", "below", "asked"),
+    ("a cached answer at 1,000 a second", "slow", "us"),
+    ("– median wait of a client, µs", "slow", "p50"),
+    ("– its 99th percentile, µs", "slow", "p99"),
+    ("memory at the start, MiB", "many", "start"),
+    ("memory with 10,000 names, MiB", "many", "full"),
+]
+
+
+def number(value):
+    return f"{value:.0f}" if value >= 100 else f"{value:.1f}" if value >= 10 else f"{value:.2f}"
+
+
+def cell(found, what):
+    if found is None:
+        return NONE
+    if what == "us":
+        return f"{number(found['us'])} ({found['ratio']:.2f})"
+    if what == "split":
+        return f"{number(found['user'])}, {number(found['system'])}"
+    return f"{found[what]:.0f}" if what in ("asked", "p50", "p99") else f"{found[what]:.1f}"
+
+
+def table(run):
+    """The lines of the table."""
+    keys = list(run["programs"])
+    lines = ["| µs of processor | " + " | ".join(run["programs"][key]["title"] for key in keys) + " |",
+             "|---|" + "--:|" * len(keys)]
+    for title, name, what in ROWS:
+        cells = [cell(run["figures"].get(name, {}).get(key), what) for key in keys]
+        lines.append(f"| {title} | " + " | ".join(cells) + " |")
+    return lines
+
+
+def processors_busy(seconds=1.0):
+    """Which share of the processors' time is used now."""
+
+    def times():
+        words = [int(word) for word in pathlib.Path("/proc/stat").read_text().split("\n", 1)[0].split()[1:9]]
+        return sum(words), words[3] + words[4]
+
+    (before, idle), _ = times(), time.sleep(seconds)
+    after, still_idle = times()
+    return 100 * (1 - (still_idle - idle) / max(1, after - before))
+
+
+def machine():
+    """What the figures rest on, and how busy the machine is as it is now."""
+    model = re.search(r"model name\s*:\s*(.*)", pathlib.Path("/proc/cpuinfo").read_text())
+    system = re.search(r'PRETTY_NAME="(.*)"', pathlib.Path("/etc/os-release").read_text())
+    return {"processors": os.cpu_count(), "model": model[1] if model else platform.machine(),
+            "kernel": platform.release().split("-")[0], "system": system[1] if system else "",
+            "load": round(os.getloadavg()[0], 2), "busy": round(processors_busy())}
+
+
+def is_idle(found):
+    return found["load"] < 0.5 and found["busy"] < 5
+
+
+def about(run):
+    """Sentences on the machine, how busy it was, the versions and how often was measured."""
+    on = run["machine"]
+    busy = "The machine was idle before" if is_idle(on) else "The machine was NOT idle"
+    waited = max((each["waited"] for of_name in run["figures"].values() for each in of_name.values()), default=0)
+    versions = [f"{each['title']} {each['version']}" for each in run["programs"].values() if each["version"]]
+    lines = [f"{on['processors']} processors, {on['model']}; {on['system']}, Linux {on['kernel']}.",
+             f"{busy}: a load of {on['load']}, and processors {on['busy']} % busy.",
+             f"What was measured waited for its processor for up to {waited:.0f} % of the time in which it could run.",
+             f"Rounds: {run['rounds']}, of {run['seconds']:g} s for each load.",
+             ", ".join([f"dnsperf {run['dnsperf']}", *versions]) + "."]
+    return textwrap.wrap(" ".join(lines), 120, break_on_hyphens=False)
+
+
+def with_table(text, run):
+    """The text of a document, with the table of this run between its two comments."""
+    before, begin, rest = text.partition(BEGIN + "\n")
+    _, end, after = rest.partition(END)
+    if not begin or not end:
+        raise ValueError(f"{BEGIN} or {END} is missing")
+    return before + begin + "\n".join(["", *table(run), "", *about(run), ""]) + "\n" + end + after
