@@ -18,6 +18,7 @@ ghost use Rattle.step_actions.specs.Spelling.{sends_text, with_front};
 
 use crate::refusals::failure;
 use answer_builder::{AskedRef, Fault, Transport, put_answer};
+use byteorder::{BigEndian, ByteOrder};
 use dns_message::Question;
 use dns_name::Name;
 use plain_list::{Octets, PlainList};
@@ -159,13 +160,11 @@ fn front_of(asked: &AskedRef<'_>, flags: u8) -> [u8; 3]
     requires { asked.now.opcode < 16 }
     ensures { result ≡ front_of asked.now flags }
 {
-    let [high, low] = asked.id.to_be_bytes();
     let cut = flags / 2 % 2;
-    [
-        high,
-        low,
-        128 + 8 * asked.opcode + 2 * cut + u8::from(asked.rd),
-    ]
+    let mut front = [0; 3];
+    BigEndian::write_u16(&mut front, asked.id);
+    front[2] = 128 + 8 * asked.opcode + 2 * cut + u8::from(asked.rd);
+    front
 }
 
 /// The octets of an answer under the front of another one.

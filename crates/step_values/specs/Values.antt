@@ -1,5 +1,5 @@
 -- Events, actions and steps as plain values.
-use Rattle.std.specs.Prelude.{ℕ, Bool, List, [], ◌∷◌, map, Option, Some, None}
+use Rattle.std.specs.Prelude.{ℕ, ◌≤◌, length, Bool, List, [], ◌∷◌, map, Option, Some, None}
 use Rattle.suffix_routes.specs.declared.peer.Peer.{Peer}
 use Rattle.step_values.specs.declared.event.Client.{Client}
 use Rattle.outstanding.specs.declared.ask.Path.{Path}
@@ -36,6 +36,12 @@ abbrev pub listed_in : {A : Type 0} → Listed A → List (OwnedAction A)
 listed_in Nothing = []
 listed_in (One action) = action ∷ []
 listed_in (More actions) = actions.items
+
+-- a list in memory of its own has an action
+abbrev pub HasActions : {A : Type 0} → Listed A → Type 0
+HasActions Nothing = Unit {0}
+HasActions (One action) = Unit {0}
+HasActions (More actions) = 1 ≤ length actions.items
 
 abbrev pub IsOne : {A : Type 0} → Listed A → Type 0
 IsOne Nothing = ⊥

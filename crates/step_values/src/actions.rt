@@ -1,7 +1,7 @@
 //! The actions of a step.
 
-ghost use Rattle.std.specs.Prelude.{◌≡◌, ◌==◌, ◌∷◌, ◌++◌, [], length, slice_get, MatchOption, None, OnOk, OnErr, Some};
-ghost use Rattle.step_values.specs.Values.{listed_in, IsOne};
+ghost use Rattle.std.specs.Prelude.{◌≡◌, ◌==◌, ◌∷◌, ◌++◌, [], length, slice_get, MatchOption, None, IsOk, OnOk, OnErr, Some};
+ghost use Rattle.step_values.specs.Values.{listed_in, HasActions, IsOne};
 
 use crate::action::Action;
 use std::alloc::{AllocError, Allocator, Global};
@@ -30,11 +30,13 @@ enum Listed<A: Allocator> {
 impl<A: Allocator> Model for Actions<A> {
     ghost use Rattle.std.specs.Prelude.{List};
     ghost use Rattle.step_values.specs.declared.action.Action.{Action as OwnedAction};
-    ghost use Rattle.step_values.specs.Values.{listed_in};
+    ghost use Rattle.step_values.specs.Values.{listed_in, HasActions};
 
     ghost Value = { List (OwnedAction A) };
 
     ghost view = { λ actions. listed_in actions.listed };
+
+    ghost invariant = { λ actions. HasActions actions.listed };
 }
 
 impl<A: Allocator + Copy> Actions<A> {
@@ -48,11 +50,11 @@ impl<A: Allocator + Copy> Actions<A> {
         }
     }
 
-    /// Puts an action last, which takes memory where it is not the first. `Err` where memory ran out, and then nothing
-    /// has changed.
+    /// Puts an action last. The first one does not allocate. `Err` where memory ran out, and then nothing has changed.
     pub fn push(&mut self, action: Action<A>) -> Result<(), AllocError>
         ensures ok { OnOk result (self.new ≡ self.old ++ action ∷ []) }
         ensures err { OnErr result (self.new ≡ self.old) }
+        ensures first { (self.old ≡ []) → IsOk result }
     {
         self.listed.push(self.alloc, action)
     }
@@ -91,8 +93,11 @@ impl<A: Allocator + Copy> Actions<A> {
 
 impl<A: Allocator> Listed<A> {
     fn push(&mut self, alloc: A, action: Action<A>) -> Result<(), AllocError>
+        requires { HasActions self.old }
+        ensures kept { HasActions self.new }
         ensures ok { OnOk result (listed_in self.new ≡ listed_in self.old ++ action ∷ []) }
         ensures err { OnErr result (listed_in self.new ≡ listed_in self.old) }
+        ensures first { (listed_in self.old ≡ []) → IsOk result }
     {
         match self {
             Listed::Nothing => {
@@ -110,6 +115,7 @@ impl<A: Allocator> Listed<A> {
     /// Puts an action behind the only one.
     fn push_second(&mut self, alloc: A, action: Action<A>) -> Result<(), AllocError>
         requires { IsOne self.old }
+        ensures kept { HasActions self.new }
         ensures ok { OnOk result (listed_in self.new ≡ listed_in self.old ++ action ∷ []) }
         ensures err { OnErr result (self.new ≡ self.old) }
     {
