@@ -22,6 +22,24 @@ def a_question_by_udp_and_over_tcp(program):
 
 
 @case
+def nobody_is_answered_elsewhere(program):
+    """Who listens at one address of this machine answers there, and at no other one, by UDP and over TCP."""
+    server = Server()
+    for here, elsewhere in (("127.0.0.1", "127.0.0.2"), ("127.0.0.2", "127.0.0.1")):
+        with Forwarder(program, [server.port], address=here) as forwarder:
+            forwarder.is_well()
+            for kind in (socket.SOCK_DGRAM, socket.SOCK_STREAM):
+                with socket.socket(socket.AF_INET, kind) as client:
+                    client.settimeout(2)
+                    try:
+                        client.connect((elsewhere, forwarder.port))
+                        client.send(question())
+                        raise AssertionError(f"{elsewhere} answers: {client.recv(65535)}")
+                    except ConnectionRefusedError:
+                        pass
+
+
+@case
 def an_answer_that_is_kept(program):
     server = Server(by_udp=lambda query: reply_to(query, seconds=300))
     with Forwarder(program, [server.port]) as forwarder:
@@ -91,6 +109,46 @@ def a_client_that_ended_its_sending_gets_its_answers(program):
         client.shutdown(socket.SHUT_WR)
         expect(sorted(take_frame(client)[:2] for _ in range(3)), [b"\0\0", b"\0\1", b"\0\2"])
         expect(client.recv(1), b"")
+
+
+@case
+def a_client_that_ended_its_sending_beside_many_others(program):
+    """Next to 1,000 that wait for nothing it has its reply within 50 ms: of fifteen one may take longer, since a machine
+    has more to do than this."""
+    server = Server()
+    with Forwarder(program, [server.port], descriptors=4096) as forwarder:
+        others, took = [forwarder.tcp() for _ in range(1000)], []
+        for n in range(15):
+            asked = question(f"n{n}.example")
+            with forwarder.tcp() as client:
+                began = time.monotonic()
+                client.sendall(framed(asked))
+                client.shutdown(socket.SHUT_WR)
+                is_answer(take_frame(client), asked)
+                took.append(time.monotonic() - began)
+        for client in others:
+            client.close()
+        if sorted(took)[-2] > 0.05:
+            raise AssertionError(f"answered after {', '.join(f'{1000 * each:.0f}' for each in took)} ms")
+
+
+@case
+def small_replies_are_not_held_back(program):
+    """Two replies on a connection, the second 5 ms after the first, come so, as a rule, although the client acknowledges
+    the first one late, which a sender may wait for before it sends more (RFC 1122 4.2.3.4)."""
+    server = Server(by_udp=lambda query: time.sleep(0.005) or reply_to(query) if b"late" in query else reply_to(query))
+    with Forwarder(program, [server.port]) as forwarder, forwarder.tcp() as client:
+        apart = []
+        for n in range(15):
+            client.setsockopt(socket.IPPROTO_TCP, socket.TCP_QUICKACK, 0)
+            asked = [question(f"n{n}.example", identifier=1), question(f"late{n}.example", identifier=2)]
+            client.sendall(b"".join(map(framed, asked)))
+            is_answer(take_frame(client), asked[0])
+            first = time.monotonic()
+            is_answer(take_frame(client), asked[1])
+            apart.append(time.monotonic() - first)
+        if statistics.median(apart) > 0.02:
+            raise AssertionError(f"{1000 * statistics.median(apart):.0f} ms apart")
 
 
 @case
