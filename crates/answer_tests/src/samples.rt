@@ -90,7 +90,7 @@ pub(crate) type Built<'h> = Result<Octets<&'h Refusing<Global>>, Fault>;
 /// Which answer is built of the pieces.
 #[derive(Clone, Copy)]
 pub(crate) enum Kind {
-    /// With what is left of each so many milliseconds after they came.
+    /// With what is left of each, this many milliseconds after they came.
     Left(u64),
     /// Past their end from this index on, when the address has just ended.
     Past(usize),

@@ -87,7 +87,7 @@ fn answered(heap: Global, kind: Kind, question: &str, reply: &str) -> Result<Str
     }
 }
 
-/// The worked answer: at once, and after 10.5 seconds, when 289 of the 300 seconds are left.
+/// The worked answer at once, and after 10.5 seconds, when 289 of the 300 seconds are left.
 const WORKED: [(u64, &str); 2] = [
     (
         0,
@@ -108,8 +108,8 @@ fn worked_answers_in_octets(rt: HostRuntime) -> Result<(), Fail> {
     Ok(())
 }
 
-/// A question, how it is refused (its opcode, whether it is told, the response code), and the octets of that: that all
-/// tries failed (SERVFAIL), a question that can't be read (FORMERR), and an inverse query (NOTIMP; RFC 1035 4.1.1).
+/// The opcode, whether the question is repeated, the response code, and the octets of the failure: SERVFAIL, FORMERR
+/// for a question that can't be read, and NOTIMP for a status request (RFC 1035 4.1.1).
 const FAILURES: [(u8, bool, u8, &str); 3] = [
     (
         0,
@@ -122,14 +122,14 @@ const FAILURES: [(u8, bool, u8, &str); 3] = [
 ];
 
 /// The failure of the worked question, in hexadecimal digits.
-fn failed(heap: Global, opcode: u8, is_told: bool, rcode: u8) -> Result<String, Fail> {
+fn failed(heap: Global, opcode: u8, is_repeated: bool, rcode: u8) -> Result<String, Fail> {
     let octets = hex::decode(heap, ADDRESS)?;
     let question = MessageRef::view(&octets)?.question(heap)?;
     let asked = Asked {
         id: 0x1234,
         opcode,
         rd: true,
-        question: if is_told { Some(question) } else { None },
+        question: if is_repeated { Some(question) } else { None },
     };
     if opcode >= 16 || rcode >= 16 {
         return Err(Fail::from("four bits"));
@@ -140,8 +140,8 @@ fn failed(heap: Global, opcode: u8, is_told: bool, rcode: u8) -> Result<String, 
 
 #[test]
 fn worked_failures_in_octets(rt: HostRuntime) -> Result<(), Fail> {
-    for (opcode, is_told, rcode, expected) in &FAILURES {
-        let text = failed(rt.alloc(), *opcode, *is_told, *rcode)?;
+    for (opcode, is_repeated, rcode, expected) in &FAILURES {
+        let text = failed(rt.alloc(), *opcode, *is_repeated, *rcode)?;
         assert_eq!(rt; text.as_str(), *expected);
     }
     Ok(())

@@ -81,8 +81,8 @@ fn copies_are_equal_in_each_part(rt: HostRuntime) -> Result<(), Fail> {
     Ok(())
 }
 
-/// The piece is what the reply of the first worked row carries: the address 198.51.100.5 of `a.example`, for 300
-/// seconds, with authority. The data are one record of four octets.
+/// Whether the piece is that of the first worked reply: the address 198.51.100.5 of `a.example`, for 300 seconds, of
+/// rank 3.
 fn is_worked(piece: &Piece) -> bool {
     let is_address = match &piece.body {
         Body::Rows(rows) => match rows.data() {
@@ -98,8 +98,7 @@ fn is_worked(piece: &Piece) -> bool {
         && (piece.lifetime, piece.rank, piece.route.place) == (300, 3, 0)
 }
 
-/// A copy of the piece is offered to a new cache with room for two, which is empty before: what came of it, and how
-/// many entries there are then.
+/// Offers a copy of the piece: the number of entries before, what came of it, and the number after.
 fn offered_copy(
     cache: &mut Cache<DefaultHasher>,
     alloc: Global,
@@ -110,7 +109,7 @@ fn offered_copy(
     Ok((before, answer, cache.len()))
 }
 
-/// The worked piece is what the cache has in its slot, accepted at the moment at which it was offered.
+/// Whether the cache has the worked piece in this slot, accepted at the moment of the offer.
 fn is_found(cache: &Cache<DefaultHasher>, slot: &Slot) -> bool {
     match cache.peek(slot) {
         Some(held) => held.accepted == 1020 && is_worked(&held.piece),

@@ -1,4 +1,4 @@
-//! How many hashes a look-up takes: a bounded number, however many labels the name has.
+//! A look-up computes few hashes, however many labels the name has.
 
 use crate::samples::{CONFIG, Denial};
 use dns_name::{Name, NameFault};
@@ -11,7 +11,7 @@ use std::hash::{BuildHasher, FoldHasher};
 use std::test::Fail;
 use suffix_routes::Config;
 
-/// Counts the hashes that it begins.
+/// Counts the hashers that it makes: one for each hash.
 #[derive(Drop)]
 struct Counting<'a> {
     begun: &'a Cell<u64>,
@@ -35,15 +35,15 @@ const LONGEST: &str =
 a.a.a.a.a.a.a.a.a.a.a.a.a.a.a.a.a.a.a.a.a.a.a.a.a.a.a.a.a.a.a.a.a.a.a.a.a.a.a.a.a.a.\
 a.a.a.a.a.a.a.a.a.a.a.a.a.a.a.a.a.a.a.a.a.a.a.a.a.a.a.a.a.a.a.a.a.a.a.a.a.a.a.a.a.a.a";
 
-/// Names that are denied, none of them at or above the longest: one that ends otherwise, one that ends in the same
-/// eight octets, and one that is too short to have an ending. Of such a size are two and one.
+/// Denied names, none of them at or above the longest: one that ends otherwise, one that ends in the same eight octets,
+/// and one with fewer. They have ten octets, ten, and two.
 const DENIED: [&str; 3] = ["x.example", "b.a.a.a.a", "b"];
 
-/// One for the set, one for an alias, and one for each size of a denied name.
+/// One for the set, one for an alias, and one for each size that a denied name has.
 const MOST: u64 = 4;
 
-/// How many hashes each call began: a look-up of what is alive, which misses, one past the ends of entries, which
-/// misses too, and that the name is shown.
+/// The number of hashes of each call: a look-up, one that takes expired entries too, and `shown`. Both look-ups have to
+/// miss.
 fn begun_by(
     begun: &Cell<u64>,
     cache: &mut Cache<Counting<'_>>,
@@ -63,7 +63,7 @@ fn begun_by(
     }
 }
 
-/// The same of the longest name, in a cache that holds the denied names.
+/// The same for the longest name, in a cache with the denied names.
 fn begun_for_the_longest(alloc: Global) -> Result<Option<[u64; 3]>, Fail> {
     let begun = Cell::new(0);
     let hasher = Counting {

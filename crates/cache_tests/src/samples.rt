@@ -29,7 +29,7 @@ suffix = "lan"
 deny = true
 "#;
 
-/// The reply of the first worked row: a.example has an address for five minutes.
+/// The first worked reply: a.example has an address for five minutes.
 pub(crate) const ADDRESS: &str =
     "0008850000010001000000000161076578616d706c650000010001c00c000100010000012c0004c6336405";
 

@@ -1,31 +1,33 @@
-//! How many growths a step wants whose replies are made in more than one way: each of them is refused in turn, alone
-//! and with all after it, so that none is refused and borne in silence.
+//! How often a step allocates. Each allocation is refused in turn, alone and together with all after it, so no refusal
+//! is ignored.
 
 use crate::lines::Happens::{Ask, Broken, Reply};
 use crate::lines::{Line, NO_REPLY, are_right, event, first_wrong, new};
 use crate::runs::Refused;
 use crate::worked::{ANSWER, QUESTION, REPLY, WORDS};
 use refusing_allocator::Refusing;
-use std::alloc::{AllocError, Global};
+use std::alloc::{AllocError, Allocator, Global};
 use std::test::Fail;
 use step_values::{Outcome, Why};
 
-/// The lines of a forwarder, and the one behind them of which each growth is refused.
+/// Lines that a forwarder runs with ample memory, and the next one, in which allocations are refused.
 type Case = (&'static [Line], Line);
 
-/// What came of a step.
+/// What a step did.
 #[derive(Clone, Copy, PartialEq, Eq)]
 enum Came {
+    /// It returned `Err`.
     Refused,
-    /// It was made, but a piece was not kept.
+    /// All but one piece was cached.
     Unkept,
-    /// It was made whole.
+    /// All that it has to do.
     Whole,
+    /// Anything else.
     Wrong,
 }
 
-/// What came of the step of a line.
-fn came_of<'a>(outcome: &Result<Outcome<&'a Refusing<Global>>, AllocError>, line: &Line) -> Came {
+/// What the step of a line did.
+fn came_of<A: Allocator + Copy>(outcome: &Result<Outcome<A>, AllocError>, line: &Line) -> Came {
     match outcome {
         Err(_) => Came::Refused,
         Ok(outcome) if !are_right(&outcome.actions, line) => Came::Wrong,
@@ -34,7 +36,7 @@ fn came_of<'a>(outcome: &Result<Outcome<&'a Refusing<Global>>, AllocError>, line
     }
 }
 
-/// What came of the step of the last line, with a growth refused after so many.
+/// What the step of the last line does if an allocation is refused after `granted` ones.
 fn came_with(
     heap: &Refusing<Global>,
     case: &Case,
@@ -53,8 +55,8 @@ fn came_with(
     Ok(came_of(&outcome, last))
 }
 
-/// With how many growths granted the step is refused, and with how many a piece is not kept. `None` where it does
-/// anything else.
+/// How many allocations are refused with `Err`, and how many leave a piece uncached. `None` if the step does anything
+/// else.
 fn refusals(
     heap: &Refusing<Global>,
     case: &Case,
@@ -72,7 +74,7 @@ fn refusals(
     Ok(None)
 }
 
-/// The same of each case, where it is the same for a growth that is refused alone and with all after it.
+/// The same for each case; `None` if one refused allocation does not act as all after it do.
 fn refusals_of(alloc: Global, cases: &[Case; 3]) -> Result<[Option<(u64, u64)>; 3], AllocError> {
     let heap = Refusing::new(alloc);
     let mut counts = [None; 3];
@@ -85,22 +87,22 @@ fn refusals_of(alloc: Global, cases: &[Case; 3]) -> Result<[Option<(u64, u64)>; 
     Ok(counts)
 }
 
-/// So many clients ask, who spell the name alike.
+/// One, two and three clients ask, and spell the name alike.
 const ONE: [Line; 1] = [(1000, Ask(1, &QUESTION), 1, NO_REPLY)];
 
 const TWO: [Line; 1] = [(1000, Ask(2, &QUESTION), 0, NO_REPLY)];
 
 const THREE: [Line; 1] = [(1000, Ask(3, &QUESTION), 0, NO_REPLY)];
 
-/// The worked reply comes for them.
+/// The worked reply answers them.
 const SPELLED: [Case; 3] = [
     (&ONE, (1020, Reply(REPLY), 2, (1, Why::Answered, ANSWER))),
     (&TWO, (1020, Reply(REPLY), 3, (2, Why::Answered, ANSWER))),
     (&THREE, (1020, Reply(REPLY), 4, (3, Why::Answered, ANSWER))),
 ];
 
-/// The step for one takes eight growths, and one more to keep the set; one of these is for the list of actions, which has room
-/// for four, and one for the text. The text of the second is kept, in a list, and copied; that of the third is copied.
+/// For one client there are eight, and one more to cache the set. The second client adds the text that is kept, its
+/// place in a list, and its own copy; the third adds its own copy. The list of actions has room for four.
 #[test]
 fn texts_of_one_spelling(rt: HostRuntime) -> Result<(), Fail> {
     let counts = refusals_of(rt.alloc(), &SPELLED)?;
@@ -133,7 +135,7 @@ const QUESTION_B: &[u8] =
 const QUESTION_C: &[u8] =
     b"\x12\x34\x01\x00\x00\x01\x00\x00\x00\x00\x00\x00\x01c\x07example\x00\x00\x01\x00\x01";
 
-/// What the client gets of each at once,
+/// The answers to their questions at once,
 const FRESH_ADDRESS: &[u8] =
     b"\x12\x34\x81\x80\x00\x01\x00\x01\x00\x00\x00\x00\x01a\x07example\x00\x00\x01\x00\x01\
 \xc0\x0c\x00\x01\x00\x01\x00\x00\x00\x3c\x00\x04\xc6\x33\x64\x05";
@@ -149,7 +151,7 @@ const FRESH_ALIASES: &[u8] =
 \xc0\x27\x00\x05\x00\x01\x00\x00\x00\x3c\x00\x04\x01a\xc0\x0e\
 \xc0\x37\x00\x01\x00\x01\x00\x00\x00\x3c\x00\x04\xc6\x33\x64\x05";
 
-/// and what of each past its end, with 30 seconds (RFC 8767 4).
+/// and those once they have expired, with 30 seconds (RFC 8767 4).
 const PAST_ADDRESS: &[u8] =
     b"\x12\x34\x81\x80\x00\x01\x00\x01\x00\x00\x00\x00\x01a\x07example\x00\x00\x01\x00\x01\
 \xc0\x0c\x00\x01\x00\x01\x00\x00\x00\x1e\x00\x04\xc6\x33\x64\x05";
@@ -165,7 +167,7 @@ const PAST_ALIASES: &[u8] =
 \xc0\x27\x00\x05\x00\x01\x00\x00\x00\x1e\x00\x04\x01a\xc0\x0e\
 \xc0\x37\x00\x01\x00\x01\x00\x00\x00\x1e\x00\x04\xc6\x33\x64\x05";
 
-/// The question is answered from a reply; when all of that has ended it is asked again.
+/// A reply of one, two and three sets answers a question, which is asked again once all of them have expired.
 const OF_ONE: [Line; 3] = [
     (1000, Ask(1, &QUESTION), 1, NO_REPLY),
     (1020, Reply(ADDRESS), 2, (1, Why::Answered, FRESH_ADDRESS)),
@@ -184,7 +186,7 @@ const OF_THREE: [Line; 3] = [
     (62_000, Ask(1, QUESTION_C), 1, NO_REPLY),
 ];
 
-/// All tries fail then, and what has ended is answered.
+/// All tries fail then, and the expired sets are the answer.
 const PAST: [Case; 3] = [
     (&OF_ONE, (62_001, Broken, 2, (1, Why::Stale, PAST_ADDRESS))),
     (&OF_TWO, (62_001, Broken, 2, (1, Why::Stale, PAST_ALIAS))),
@@ -194,10 +196,10 @@ const PAST: [Case; 3] = [
     ),
 ];
 
-/// One growth each for what is found, for the chain, for what is told of each piece, for the text, and for the list of
-/// actions. Behind an alias, or two, one more for the list of sets.
+/// One allocation each for the pieces found, the chain, the TTLs, the text and the list of actions. An answer with
+/// aliases has one more, for its list of sets.
 #[test]
-fn pieces_past_their_ends(rt: HostRuntime) -> Result<(), Fail> {
+fn expired_pieces(rt: HostRuntime) -> Result<(), Fail> {
     let counts = refusals_of(rt.alloc(), &PAST)?;
     assert_eq!(rt; counts, [Some((5, 0)), Some((6, 0)), Some((6, 0))]);
     Ok(())

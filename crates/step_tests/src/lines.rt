@@ -1,4 +1,4 @@
-//! Runs of a forwarder by the lines of a table: what happens, and what the forwarder has to do then.
+//! Runs of a forwarder by the lines of a table: each has an event, and what the forwarder has to do.
 
 use crate::worked::{PATH, SECOND, SERVER, WORDS, delivers};
 use dns_name::Name;
@@ -12,7 +12,7 @@ use suffix_routes::{Config, Limits, Peer, Route};
 /// What happens.
 #[derive(Clone, Copy)]
 pub(crate) enum Happens {
-    /// So many clients send these octets, one after another.
+    /// This many clients send these octets, one after another.
     Ask(u16, &'static [u8]),
     /// These octets come from the first server on the path of the query.
     Reply(&'static [u8]),
@@ -20,17 +20,16 @@ pub(crate) enum Happens {
     Broken,
 }
 
-/// To how many clients there are replies, in the order in which they asked, for which reason, and with which octets.
+/// How many clients get a reply, in the order in which they asked, its reason and its octets.
 pub(crate) type Replies = (u16, Why, &'static [u8]);
 
-/// A moment in milliseconds, what happens then, and what it calls for, of many events the last one: how many actions
-/// there are, and the replies among these.
+/// A moment in milliseconds, what happens, and for its last event the number of actions and the replies among them.
 pub(crate) type Line = (u64, Happens, usize, Replies);
 
 /// No client gets a reply.
 pub(crate) const NO_REPLY: Replies = (0, Why::Answered, b"");
 
-/// One route, for every name. A question is asked once, and what ended less than a minute ago is answered then.
+/// One route, for every name; one try, and a window of a minute for expired sets.
 fn config<A: Allocator + Copy>(alloc: A) -> Result<Config<A>, AllocError> {
     let route = Route {
         suffix: Name::root(),
@@ -65,7 +64,7 @@ fn client(number: u16) -> Client {
     })
 }
 
-/// How many events a line has.
+/// The number of events.
 fn count(happens: Happens) -> u16 {
     match happens {
         Happens::Ask(count, _) => count,
@@ -73,7 +72,7 @@ fn count(happens: Happens) -> u16 {
     }
 }
 
-/// The event of a line with this number, from 0.
+/// The event with this number, from 0.
 pub(crate) fn event<A: Allocator + Copy>(
     alloc: A,
     happens: Happens,
@@ -89,7 +88,7 @@ pub(crate) fn event<A: Allocator + Copy>(
     }
 }
 
-/// The action is a reply to the client with this number, for this reason and with these octets.
+/// Whether the action is a reply to the client with this number, for this reason and with these octets.
 fn is_reply_to<A: Allocator>(action: &Action<A>, number: u16, why: Why, text: &[u8]) -> bool {
     match action {
         Action::Reply {
@@ -101,7 +100,7 @@ fn is_reply_to<A: Allocator>(action: &Action<A>, number: u16, why: Why, text: &[
     }
 }
 
-/// The actions are as many as the line says, and so are the replies, each the right one.
+/// Whether there are as many actions and replies as the line says, each reply the right one.
 pub(crate) fn are_right<A: Allocator + Copy>(actions: &Actions<A>, line: &Line) -> bool {
     let (_, _, listed, (count, why, text)) = *line;
     let mut replied = 0u16;
@@ -117,7 +116,7 @@ pub(crate) fn are_right<A: Allocator + Copy>(actions: &Actions<A>, line: &Line) 
     replied == count && actions.len() == listed
 }
 
-/// Whether the event of a line with this number is answered as the last one has to be. `Err` where memory ran out.
+/// Whether the forwarder does at the event with this number what it has to do at the last one. `Err` if out of memory.
 fn is_right_at<A: Allocator + Copy>(
     alloc: A,
     forwarder: &mut Forwarder<DefaultHasher, A>,
@@ -130,7 +129,7 @@ fn is_right_at<A: Allocator + Copy>(
     Ok(are_right(&outcome.actions, line) && outcome.unkept == 0)
 }
 
-/// Whether a line calls for what it has to. `Err` where memory ran out.
+/// Whether the forwarder does what it has to at the last event of a line. `Err` if out of memory.
 pub(crate) fn is_right<A: Allocator + Copy>(
     alloc: A,
     forwarder: &mut Forwarder<DefaultHasher, A>,
@@ -143,8 +142,8 @@ pub(crate) fn is_right<A: Allocator + Copy>(
     Ok(is_right)
 }
 
-/// In which of the lines, from 0, a forwarder does what it should not; `None` where it does all that it has to.
-/// `Err` where memory ran out.
+/// The first of the lines, from 0, in which the forwarder does anything else; `None` if there is none. `Err` if out of
+/// memory.
 pub(crate) fn first_wrong<A: Allocator + Copy>(
     alloc: A,
     forwarder: &mut Forwarder<DefaultHasher, A>,
