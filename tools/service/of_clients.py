@@ -23,7 +23,7 @@ def a_question_by_udp_and_over_tcp(program):
 
 @case
 def nobody_is_answered_elsewhere(program):
-    """Who listens at one address of this machine answers there, and at no other one, by UDP and over TCP."""
+    """It answers at the address `listen`, and at no other one of this machine, by UDP and over TCP."""
     server = Server()
     for here, elsewhere in (("127.0.0.1", "127.0.0.2"), ("127.0.0.2", "127.0.0.1")):
         with Forwarder(program, [server.port], address=here) as forwarder:
@@ -113,8 +113,7 @@ def a_client_that_ended_its_sending_gets_its_answers(program):
 
 @case
 def a_client_that_ended_its_sending_beside_many_others(program):
-    """Next to 1,000 that wait for nothing it has its reply within 50 ms: of fifteen one may take longer, since a machine
-    has more to do than this."""
+    """Next to 1,000 idle ones it has its reply within 50 ms. One of fifteen may take longer, on a busy machine."""
     server = Server()
     with Forwarder(program, [server.port], descriptors=4096) as forwarder:
         others, took = [forwarder.tcp() for _ in range(1000)], []
@@ -134,8 +133,8 @@ def a_client_that_ended_its_sending_beside_many_others(program):
 
 @case
 def small_replies_are_not_held_back(program):
-    """Two replies on a connection, the second 5 ms after the first, come so, as a rule, although the client acknowledges
-    the first one late, which a sender may wait for before it sends more (RFC 1122 4.2.3.4)."""
+    """Two replies on a connection, 5 ms apart, arrive so, as a rule. The client delays its acknowledgement of the first,
+    for which a sender might wait before it sends the second (RFC 1122 4.2.3.2 and 4.2.3.4)."""
     server = Server(by_udp=lambda query: time.sleep(0.005) or reply_to(query) if b"late" in query else reply_to(query))
     with Forwarder(program, [server.port]) as forwarder, forwarder.tcp() as client:
         apart = []

@@ -168,7 +168,7 @@ def names_of_files_are_octets(program):
 
 @case
 def names_of_files_with_control_characters(program):
-    """They are shown with escapes, so that what is said of a file stays one line, and no terminal obeys it."""
+    """They are shown with escapes, so that the line stays one line and does nothing to a terminal."""
     rows = [
         (b"a\nb.toml", b"a\\nb.toml"), (b"\x1b[31m", b"\\x1b[31m"), (b"a\tb\x7f", b"a\\tb\\x7f"), (b"\xc2\x85", b"\\xc2\\x85"),
         (b"\xc3\xa4\r", b"\\xc3\\xa4\\r")]
@@ -180,7 +180,7 @@ def names_of_files_with_control_characters(program):
 
 @case
 def a_name_of_a_file_of_4095_octets(program):
-    """The longest that the system takes, of a file that is there, and one of as many octets of a file that is not."""
+    """The longest name that the system takes, of a file that exists and of one that does not."""
     with tempfile.TemporaryDirectory() as folder:
         there = pathlib.Path(folder, "a.toml")
         there.write_bytes((TOP / "examples" / "office.toml").read_bytes())
@@ -193,9 +193,8 @@ def a_name_of_a_file_of_4095_octets(program):
 
 @case
 def statuses_where_a_standard_stream_fails(program):
-    """The status of each command where standard error is closed or full, and where standard output is: then `device`, if
-    there is something to print, and else what it is of old; of a script that is refused, where lines before have
-    something to print."""
+    """Each status, if standard error is closed or full, and if standard output is. A command that has lines to print then
+    fails with `device`, also a script that is refused after such lines; any other keeps its status."""
     office, script = TOP / "examples" / "office.toml", pathlib.Path(MAIN / "stdin").read_bytes()
     head = script[:script.index(b"---\n") + 4]
     device, server = (b"device\n", 5), Server()

@@ -63,7 +63,7 @@ def no_descriptor_is_left(program):
 
 @case
 def a_service_that_is_idle(program):
-    """It takes at most 3 % of a processor, and waits at most 300 times a second: 200 times where each wait is 5 ms."""
+    """It takes at most 3 % of a processor and wakes at most 300 times a second: 200 times if each wait is 5 ms."""
     server = Server()
     with Forwarder(program, [server.port]) as forwarder:
         pid = forwarder.process.pid
@@ -72,12 +72,12 @@ def a_service_that_is_idle(program):
         time.sleep(3)
         share, each = (spent(pid) - before) / 3, (waits(pid) - waited) / 3
         if share > 0.03 or not 0 < each <= 300:
-            raise AssertionError(f"{100 * share:.1f} % of a processor, {each:.0f} waits a second")
+            raise AssertionError(f"{100 * share:.1f} % of a processor, {each:.0f} wake-ups a second")
 
 
 @case
 def clients_that_ask_and_close_leave_nothing(program):
-    """The descriptors of thirty clients are free within a second."""
+    """Thirty clients ask and close: their descriptors are free within a second."""
     server = Server()
     with Forwarder(program, [server.port]) as forwarder:
         pid = forwarder.process.pid
@@ -99,7 +99,7 @@ def clients_that_ask_and_close_leave_nothing(program):
 
 
 def rests(forwarder):
-    """A client that has waited for nothing for more than a second, so that it gives way where no descriptor is left."""
+    """A client that has been idle for more than a second: it is closed if no descriptor is left."""
     client = forwarder.tcp()
     client.sendall(framed(question()))
     is_answer(take_frame(client), question())
@@ -114,7 +114,7 @@ def is_served(client):
 
 @case
 def a_client_that_rests_while_a_server_cannot_be_reached(program):
-    """It stays open: there are descriptors. Nobody may send to all of a network without asking for it (EACCES)."""
+    """It stays open, since descriptors are left. Sending to a broadcast address is not permitted (EACCES)."""
     server = Server()
     with Forwarder(program, [server.port], others=[("test", "255.255.255.255:53")]) as forwarder, rests(forwarder) as client:
         expect(code(forwarder.ask_udp(question("away.test"))), SERVFAIL)
@@ -123,7 +123,7 @@ def a_client_that_rests_while_a_server_cannot_be_reached(program):
 
 @case
 def a_client_that_rests_while_no_network_is_there(program):
-    """The same where no way leads to the server (ENETUNREACH)."""
+    """It stays open if there is no route to the server (ENETUNREACH)."""
     def body():
         server = Server()
         with Forwarder(program, [server.port], others=[("test", "192.0.2.1:53")]) as forwarder, rests(forwarder) as client:
@@ -135,8 +135,8 @@ def a_client_that_rests_while_no_network_is_there(program):
 
 @case
 def a_client_that_rests_while_drawn_ports_are_taken(program):
-    """The same where other programs have up to 4,000 of the 64,512 ports: of 200 queries that each are tried once, some
-    are drawn one of these, and fail."""
+    """It stays open while other programs have up to 4,000 of the 64,512 ports. Of 200 questions with one try each, those
+    whose query draws such a port fail."""
     server, most = Server(), resource.getrlimit(resource.RLIMIT_NOFILE)[0]
     limits = "ask_ms = 1500\ndeadline_ms = 5000\ntries = 1\n"
     with Forwarder(program, [server.port], limits=limits) as forwarder, rests(forwarder) as client:

@@ -119,8 +119,7 @@ def runs_draw_other_identifiers_and_ports(program):
 
 
 def are_drawn_everywhere(drawn, first, behind):
-    """In each quarter of the range lie at least 80 of 600 that are drawn at random: 150 are to be expected, give or take
-    eleven."""
+    """Each quarter of the range has at least 80 of 600 random values: 150 are expected, with a deviation of 11."""
     quarter = (behind - first) // 4
     counts = [sum(first + k * quarter <= value < first + (k + 1) * quarter for value in drawn) for k in range(4)]
     if sum(counts) != len(drawn) or min(counts) < 80:
@@ -129,8 +128,7 @@ def are_drawn_everywhere(drawn, first, behind):
 
 @case
 def ports_and_identifiers_are_drawn_from_all_that_there_are(program):
-    """Of 600 queries: ports of 1,024 to 65,535, and identifiers each of whose 16 bits is set as often as not (RFC 5452
-    9.2)."""
+    """600 queries leave from ports of 1,024 to 65,535, and their identifiers use all 16 bits (RFC 5452 9.2)."""
     server = Server()
     with Forwarder(program, [server.port]) as forwarder:
         for n in range(600):
@@ -147,7 +145,7 @@ def ports_and_identifiers_are_drawn_from_all_that_there_are(program):
 
 @case
 def a_query_that_the_system_refuses_to_send(program):
-    """It has failed (EPERM), and the next server is asked at once: nothing of five seconds passes."""
+    """The try fails (EPERM), and the next server is asked at once, not after the five seconds that a query may take."""
     refused = free_port()
 
     def body():

@@ -25,7 +25,7 @@ def case(function):
 
 
 class NotHere(Exception):
-    """The case can't run on this machine, or not by this user: it says why."""
+    """The case can't run on this machine or for this user, and why."""
 
 
 def free_port():
@@ -83,7 +83,7 @@ class Server:
 
 
 def route(suffix, servers):
-    """A route; a server is its port on this machine, or an address and a port."""
+    """A route; a server is a port on this machine, or an address and a port."""
     listed = ", ".join(f'"127.0.0.1:{server}"' if isinstance(server, int) else f'"{server}"' for server in servers)
     return f'[[route]]\nsuffix = "{suffix}"\nservers = [{listed}]\n'
 
@@ -158,7 +158,7 @@ class Forwarder:
 
 
 def run_of(program, *words, given=b"", out=subprocess.PIPE, told=subprocess.PIPE, closed=None, memory=None):
-    """What a run prints, what it tells on standard error, and its status. One descriptor may be closed before it begins."""
+    """What a run prints on standard output and on standard error, and its status; `closed` is a descriptor to close first."""
     def narrow():
         if memory:
             resource.setrlimit(resource.RLIMIT_AS, (memory, memory))
@@ -175,7 +175,7 @@ def spent(pid):
 
 
 def waits(pid):
-    """How often a process has given its processor away by itself: each wait that is not over at once is one."""
+    """How often a process has waited for something so far."""
     lines = pathlib.Path(f"/proc/{pid}/status").read_text().splitlines()
     return next(int(line.split()[1]) for line in lines if line.startswith("voluntary_ctxt_switches"))
 
@@ -189,7 +189,7 @@ CLONE_NEWNET = 0x40000000
 
 
 def in_a_network_of_its_own(rules, body):
-    """Runs the body in a network with nothing but a loopback, under these rules for nft(8). Only root may make one."""
+    """Runs the body in a network that has a loopback alone, under these rules for nft(8). Only root may make one."""
     if not shutil.which("nft") or not shutil.which("ip"):
         raise NotHere("it wants nft and ip")
     faults = []
