@@ -34,9 +34,12 @@ def nobody_is_answered_elsewhere(program):
                     try:
                         client.connect((elsewhere, forwarder.port))
                         client.send(question())
-                        raise AssertionError(f"{elsewhere} answers: {client.recv(65535)}")
+                        client.recv(65535)
                     except ConnectionRefusedError:
+                        continue
+                    except TimeoutError:
                         pass
+                    raise AssertionError(f"something listens at {elsewhere}")
 
 
 @case
@@ -117,6 +120,7 @@ def a_client_that_ended_its_sending_beside_many_others(program):
     server = Server()
     with Forwarder(program, [server.port], descriptors=4096) as forwarder:
         others, took = [forwarder.tcp() for _ in range(1000)], []
+        forwarder.is_well()
         for n in range(15):
             asked = question(f"n{n}.example")
             with forwarder.tcp() as client:
@@ -142,10 +146,12 @@ def small_replies_are_not_held_back(program):
             client.setsockopt(socket.IPPROTO_TCP, socket.TCP_QUICKACK, 0)
             asked = [question(f"n{n}.example", identifier=1), question(f"late{n}.example", identifier=2)]
             client.sendall(b"".join(map(framed, asked)))
-            is_answer(take_frame(client), asked[0])
+            replies = [take_frame(client)]
             first = time.monotonic()
-            is_answer(take_frame(client), asked[1])
+            replies.append(take_frame(client))
             apart.append(time.monotonic() - first)
+            for reply, message in zip(sorted(replies), asked):
+                is_answer(reply, message)
         if statistics.median(apart) > 0.02:
             raise AssertionError(f"{1000 * statistics.median(apart):.0f} ms apart")
 

@@ -89,13 +89,13 @@ def clients_that_ask_and_close_leave_nothing(program):
             client.sendall(framed(question(f"n{n}.example")))
         for n, client in enumerate(clients):
             is_answer(take_frame(client), question(f"n{n}.example"))
-        expect(descriptors(pid), before + 30)
         for client in clients:
             client.close()
         until = time.monotonic() + 1
         while descriptors(pid) > before and time.monotonic() < until:
             time.sleep(0.01)
-        expect(descriptors(pid), before)
+        if descriptors(pid) > before:
+            raise AssertionError(f"{descriptors(pid)} descriptors are open, and {before} before")
 
 
 def rests(forwarder):
