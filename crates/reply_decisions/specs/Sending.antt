@@ -1,7 +1,6 @@
 -- What comes of a reply that leads on, once it is known what becomes of each question that waited for it.
-use Rattle.std.specs.Prelude.{ℕ, List, map, Option, Some, None}
+use Rattle.std.specs.Prelude.{List, map, Option, Some, None}
 use Rattle.dns_message.specs.Values.{Question}
-use Rattle.suffix_routes.specs.Values.{Config}
 use Rattle.outstanding.specs.Lists.{without_path}
 use Rattle.outstanding.specs.Values.{Ask}
 use Rattle.step_table.specs.State.{State, Turn}

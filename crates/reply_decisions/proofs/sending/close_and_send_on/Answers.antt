@@ -2,6 +2,7 @@ use Rattle.std.proofs.Common.{◌≡◌, ◌∙◌, ◌<◌, List, [], ◌∷◌
 use Rattle.std.specs.Prelude.{map}
 use Rattle.std.specs.List.{AllByRecursion, filter_map}
 use Rattle.std.proofs.lemmas.List.{length-map}
+use Rattle.std.proofs.lemmas.Result.{err_from_is_err_and}
 use Rattle.trust_rank.specs.declared.slot.Slot.{Slot}
 use Rattle.outstanding.specs.Lists.{on_path as ask_on, without_path}
 use Rattle.outstanding.specs.Values.{Ask}
@@ -78,4 +79,11 @@ returns g c = record {
           routed = c.requires.routed;
         };
       };
+}
+
+pub returns-in_err-sending : goal.returns-in_err-sending
+returns-in_err-sending g c = record {
+  decides = λ fate become.
+      let failed = err_from_is_err_and c.from_residual-in_err-sending.result c.from_residual-in_err-sending.ensures.1 in
+      rw failed.1 tt;
 }
