@@ -22,6 +22,27 @@ def a_question_by_udp_and_over_tcp(program):
 
 
 @case
+def nobody_is_answered_elsewhere(program):
+    """It answers at the address `listen`, and at no other one of this machine, by UDP and over TCP."""
+    server = Server()
+    for here, elsewhere in (("127.0.0.1", "127.0.0.2"), ("127.0.0.2", "127.0.0.1")):
+        with Forwarder(program, [server.port], address=here) as forwarder:
+            forwarder.is_well()
+            for kind in (socket.SOCK_DGRAM, socket.SOCK_STREAM):
+                with socket.socket(socket.AF_INET, kind) as client:
+                    client.settimeout(2)
+                    try:
+                        client.connect((elsewhere, forwarder.port))
+                        client.send(question())
+                        client.recv(65535)
+                    except ConnectionRefusedError:
+                        continue
+                    except TimeoutError:
+                        pass
+                    raise AssertionError(f"something listens at {elsewhere}")
+
+
+@case
 def an_answer_that_is_kept(program):
     server = Server(by_udp=lambda query: reply_to(query, seconds=300))
     with Forwarder(program, [server.port]) as forwarder:
@@ -91,6 +112,48 @@ def a_client_that_ended_its_sending_gets_its_answers(program):
         client.shutdown(socket.SHUT_WR)
         expect(sorted(take_frame(client)[:2] for _ in range(3)), [b"\0\0", b"\0\1", b"\0\2"])
         expect(client.recv(1), b"")
+
+
+@case
+def a_client_that_ended_its_sending_beside_many_others(program):
+    """Next to 1,000 idle ones it has its reply within 50 ms. One of fifteen may take longer, on a busy machine."""
+    server = Server()
+    with Forwarder(program, [server.port], descriptors=4096) as forwarder:
+        others, took = [forwarder.tcp() for _ in range(1000)], []
+        forwarder.is_well()
+        for n in range(15):
+            asked = question(f"n{n}.example")
+            with forwarder.tcp() as client:
+                began = time.monotonic()
+                client.sendall(framed(asked))
+                client.shutdown(socket.SHUT_WR)
+                is_answer(take_frame(client), asked)
+                took.append(time.monotonic() - began)
+        for client in others:
+            client.close()
+        if sorted(took)[-2] > 0.05:
+            raise AssertionError(f"answered after {', '.join(f'{1000 * each:.0f}' for each in took)} ms")
+
+
+@case
+def small_replies_are_not_held_back(program):
+    """Two replies on a connection, 5 ms apart, arrive so, as a rule. The client delays its acknowledgement of the first,
+    for which a sender might wait before it sends the second (RFC 1122 4.2.3.2 and 4.2.3.4)."""
+    server = Server(by_udp=lambda query: time.sleep(0.005) or reply_to(query) if b"late" in query else reply_to(query))
+    with Forwarder(program, [server.port]) as forwarder, forwarder.tcp() as client:
+        apart = []
+        for n in range(15):
+            client.setsockopt(socket.IPPROTO_TCP, socket.TCP_QUICKACK, 0)
+            asked = [question(f"n{n}.example", identifier=1), question(f"late{n}.example", identifier=2)]
+            client.sendall(b"".join(map(framed, asked)))
+            replies = [take_frame(client)]
+            first = time.monotonic()
+            replies.append(take_frame(client))
+            apart.append(time.monotonic() - first)
+            for reply, message in zip(sorted(replies), asked):
+                is_answer(reply, message)
+        if statistics.median(apart) > 0.02:
+            raise AssertionError(f"{1000 * statistics.median(apart):.0f} ms apart")
 
 
 @case

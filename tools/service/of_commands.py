@@ -167,6 +167,65 @@ def names_of_files_are_octets(program):
 
 
 @case
+def names_of_files_with_control_characters(program):
+    """They are shown with escapes, so that the line stays one line and does nothing to a terminal."""
+    rows = [
+        (b"a\nb.toml", b"a\\nb.toml"), (b"\x1b[31m", b"\\x1b[31m"), (b"a\tb\x7f", b"a\\tb\\x7f"), (b"\xc2\x85", b"\\xc2\\x85"),
+        (b"\xc3\xa4\r", b"\\xc3\\xa4\\r")]
+    for missing, shown in rows:
+        said = shown + b": No such file or directory (os error 2)\n"
+        for words in (["check", missing], ["serve", missing, "1"]):
+            expect(run_of(program, *words), (said, b"device\n", 5))
+
+
+@case
+def a_name_of_a_file_of_4095_octets(program):
+    """The longest name that the system takes, of a file that exists and of one that does not."""
+    with tempfile.TemporaryDirectory() as folder:
+        there = pathlib.Path(folder, "a.toml")
+        there.write_bytes((TOP / "examples" / "office.toml").read_bytes())
+        for last, wanted in (("a.toml", (b"ok 3\n", b"", 0)), ("b.toml", None)):
+            head = folder + "/" * (1 + (4095 - len(folder) - len(last) - 1) % 2)
+            name = head + "./" * ((4095 - len(head) - len(last)) // 2) + last
+            expect(len(name), 4095)
+            expect(run_of(program, "check", name), wanted or (no_file(name.encode()), b"device\n", 5))
+
+
+@case
+def statuses_where_a_standard_stream_fails(program):
+    """Each status, if standard error is closed or full, and if standard output is. A command that has lines to print then
+    fails with `device`, also a script that is refused after such lines; any other keeps its status."""
+    office, script = TOP / "examples" / "office.toml", pathlib.Path(MAIN / "stdin").read_bytes()
+    head = script[:script.index(b"---\n") + 4]
+    device, server = (b"device\n", 5), Server()
+    with tempfile.NamedTemporaryFile("w") as refused, Forwarder(program, [server.port]) as other, \
+            Forwarder(program, [server.port], turns=1) as once:
+        refused.write("version = 1\nlimits = { tries = 17 }\n")
+        refused.flush()
+        once.process.communicate()
+        rows = [
+            ((b"", 0), device, ["check", office], {}),
+            ((b"", 0), device, ["serve", once.file.name, "1"], {}),
+            ((b"", 0), device, ["replay"], {"given": script}),
+            ((b"usage: forwarder check FILE, replay, or serve FILE TURNS\n", 1), None, ["other"], {}),
+            ((b"fault 7\n", 2), None, ["check", refused.name], {}),
+            ((b"fault 7\n", 2), None, ["serve", refused.name, "1"], {}),
+            ((b"line 1\n", 3), None, ["replay"], {"given": head + b"x\n"}),
+            ((b"line 3\n", 3), device, ["replay"], {"given": script + b"x\n"}),
+            ((b"memory\n", 4), None, ["replay"], {"given": script + bytes(2**24 - len(script)), "memory": 2**24}),
+            (device, None, ["check", "/no/such/file"], {}),
+            (device, None, ["serve", other.file.name, "1"], {}),
+        ]
+        with open("/dev/full", "wb") as full:
+            for (told, status), instead, words, more in rows:
+                expect((words, *run_of(program, *words, **more)[1:]), (words, told, status))
+                for broken in ({"told": full}, {"told": None, "closed": 2}):
+                    expect((words, run_of(program, *words, **more, **broken)[2]), (words, status))
+                for broken in ({"out": full}, {"out": None, "closed": 1}):
+                    expect((words, *run_of(program, *words, **more, **broken)[1:]), (words, *(instead or (told, status))))
+
+
+@case
 def statuses_of_replay(program):
     script, printed = (pathlib.Path(MAIN / part).read_bytes() for part in ("stdin", "stdout"))
     expect(run_of(program, "replay", given=script), (printed, b"", 0))

@@ -7,7 +7,7 @@ import time
 
 from .messages import (
     REFUSED, SERVFAIL, UNKNOWN, code, expect, framed, is_answer, long_reply_to, question, reply_to, take_frame)
-from .running import Forwarder, Server, case, free_port, spent
+from .running import Forwarder, Server, case, descriptors, free_port, in_a_network_of_its_own, spent, waits
 
 
 @case
@@ -63,14 +63,99 @@ def no_descriptor_is_left(program):
 
 @case
 def a_service_that_is_idle(program):
+    """It takes at most 3 % of a processor and wakes at most 300 times a second: 200 times if each wait is 5 ms."""
     server = Server()
     with Forwarder(program, [server.port]) as forwarder:
+        pid = forwarder.process.pid
         time.sleep(1)
-        before = spent(forwarder.process.pid)
+        before, waited = spent(pid), waits(pid)
         time.sleep(3)
-        share = (spent(forwarder.process.pid) - before) / 3
-        if share > 0.03:
-            raise AssertionError(f"{100 * share:.1f} % of a processor")
+        share, each = (spent(pid) - before) / 3, (waits(pid) - waited) / 3
+        if share > 0.03 or not 0 < each <= 300:
+            raise AssertionError(f"{100 * share:.1f} % of a processor, {each:.0f} wake-ups a second")
+
+
+@case
+def clients_that_ask_and_close_leave_nothing(program):
+    """Thirty clients ask and close: their descriptors are free within a second."""
+    server = Server()
+    with Forwarder(program, [server.port]) as forwarder:
+        pid = forwarder.process.pid
+        forwarder.is_well()
+        time.sleep(1)
+        before = descriptors(pid)
+        clients = [forwarder.tcp() for _ in range(30)]
+        for n, client in enumerate(clients):
+            client.sendall(framed(question(f"n{n}.example")))
+        for n, client in enumerate(clients):
+            is_answer(take_frame(client), question(f"n{n}.example"))
+        for client in clients:
+            client.close()
+        until = time.monotonic() + 1
+        while descriptors(pid) > before and time.monotonic() < until:
+            time.sleep(0.01)
+        if descriptors(pid) > before:
+            raise AssertionError(f"{descriptors(pid)} descriptors are open, and {before} before")
+
+
+def rests(forwarder):
+    """A client that has been idle for more than a second: it is closed if no descriptor is left."""
+    client = forwarder.tcp()
+    client.sendall(framed(question()))
+    is_answer(take_frame(client), question())
+    time.sleep(1.2)
+    return client
+
+
+def is_served(client):
+    client.sendall(framed(question("again.example")))
+    is_answer(take_frame(client), question("again.example"))
+
+
+@case
+def a_client_that_rests_while_a_server_cannot_be_reached(program):
+    """It stays open, since descriptors are left. Sending to a broadcast address is not permitted (EACCES)."""
+    server = Server()
+    with Forwarder(program, [server.port], others=[("test", "255.255.255.255:53")]) as forwarder, rests(forwarder) as client:
+        expect(code(forwarder.ask_udp(question("away.test"))), SERVFAIL)
+        is_served(client)
+
+
+@case
+def a_client_that_rests_while_no_network_is_there(program):
+    """It stays open if there is no route to the server (ENETUNREACH)."""
+    def body():
+        server = Server()
+        with Forwarder(program, [server.port], others=[("test", "192.0.2.1:53")]) as forwarder, rests(forwarder) as client:
+            expect(code(forwarder.ask_udp(question("away.test"))), SERVFAIL)
+            is_served(client)
+
+    in_a_network_of_its_own("", body)
+
+
+@case
+def a_client_that_rests_while_drawn_ports_are_taken(program):
+    """It stays open while other programs have up to 4,000 of the 64,512 ports. Of 200 questions with one try each, those
+    whose query draws such a port fail."""
+    server, most = Server(), resource.getrlimit(resource.RLIMIT_NOFILE)[0]
+    limits = "ask_ms = 1500\ndeadline_ms = 5000\ntries = 1\n"
+    with Forwarder(program, [server.port], limits=limits) as forwarder, rests(forwarder) as client:
+        taken = []
+        for port in range(1024, 65536, max(16, 64512 // max(1, most - 500))):
+            other = socket.socket(socket.AF_INET, socket.SOCK_DGRAM)
+            taken.append(other)
+            try:
+                other.bind(("0.0.0.0", port))
+            except OSError:  # it is some other program's
+                pass
+        try:
+            codes = [code(forwarder.ask_udp(question(f"n{n}.example"))) for n in range(200)]
+        finally:
+            for other in taken:
+                other.close()
+        if codes.count(SERVFAIL) == 0 or codes.count(0) == 0:
+            raise AssertionError(f"{codes.count(SERVFAIL)} of {len(codes)} failed")
+        is_served(client)
 
 
 @case

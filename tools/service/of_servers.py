@@ -4,7 +4,7 @@ import struct
 import time
 
 from .messages import SERVFAIL, UNKNOWN, code, cut_reply_to, expect, framed, is_answer, is_long_answer, long_reply_to, question, reply_to
-from .running import Forwarder, Server, case, free_port
+from .running import Forwarder, Server, case, free_port, in_a_network_of_its_own
 
 
 @case
@@ -116,6 +116,49 @@ def runs_draw_other_identifiers_and_ports(program):
     drawn = len(set.union(*runs))
     if min(map(len, runs)) < 200 or drawn < sum(map(len, runs)):
         raise AssertionError(f"{' and '.join(str(len(run)) for run in runs)} pairs are {drawn} in all")
+
+
+def are_drawn_everywhere(drawn, first, behind):
+    """Each quarter of the range has at least 80 of 600 random values: 150 are expected, with a deviation of 11."""
+    quarter = (behind - first) // 4
+    counts = [sum(first + k * quarter <= value < first + (k + 1) * quarter for value in drawn) for k in range(4)]
+    if sum(counts) != len(drawn) or min(counts) < 80:
+        raise AssertionError(f"of {len(drawn)} from {first} to {behind - 1} the quarters have {counts}")
+
+
+@case
+def ports_and_identifiers_are_drawn_from_all_that_there_are(program):
+    """600 queries leave from ports of 1,024 to 65,535, and their identifiers use all 16 bits (RFC 5452 9.2)."""
+    server = Server()
+    with Forwarder(program, [server.port]) as forwarder:
+        for n in range(600):
+            is_answer(forwarder.ask_udp(question(f"n{n}.example")), question(f"n{n}.example"))
+    identifiers = [struct.unpack(">H", query[:2])[0] for query in server.asked]
+    expect(len(identifiers), 600)
+    are_drawn_everywhere(server.asked_from, 1024, 65536)
+    are_drawn_everywhere(identifiers, 0, 65536)
+    for bit in range(16):
+        ones = sum(value >> bit & 1 for value in identifiers)
+        if not 200 < ones < 400:
+            raise AssertionError(f"bit {bit} is set in {ones} of 600 identifiers")
+
+
+@case
+def a_query_that_the_system_refuses_to_send(program):
+    """The try fails (EPERM), and the next server is asked at once, not after the five seconds that a query may take."""
+    refused = free_port()
+
+    def body():
+        first, second = Server(port=refused), Server()
+        with Forwarder(program, [first.port, second.port], limits="ask_ms = 5000\ndeadline_ms = 9000\n") as forwarder:
+            began = time.monotonic()
+            is_answer(forwarder.ask_udp(question()), question())
+            if time.monotonic() - began > 1:
+                raise AssertionError(f"answered after {time.monotonic() - began:.1f} s")
+            expect(first.asked, [])
+
+    chain = "add table ip own; add chain ip own sent { type filter hook output priority 0; }"
+    in_a_network_of_its_own(f"{chain}; add rule ip own sent udp dport {refused} drop", body)
 
 
 @case

@@ -1,7 +1,9 @@
 """The program and the name servers that it is run with, on ports that are free."""
+import ctypes
 import os
 import pathlib
 import resource
+import shutil
 import socket
 import subprocess
 import tempfile
@@ -22,6 +24,10 @@ def case(function):
     return function
 
 
+class NotHere(Exception):
+    """The case can't run on this machine or for this user, and why."""
+
+
 def free_port():
     """A port that is free by UDP and TCP, below those that the system gives out by itself; each is given once."""
     for port in PORTS:
@@ -37,10 +43,10 @@ def free_port():
 class Server:
     """A name server: what it does with a query, by UDP and over TCP, is chosen by the case."""
 
-    def __init__(self, by_udp=reply_to, over_tcp=lambda stream, query: stream.sendall(framed(reply_to(query)))):
+    def __init__(self, by_udp=reply_to, over_tcp=lambda stream, query: stream.sendall(framed(reply_to(query))), port=None):
         self.by_udp, self.over_tcp = by_udp, over_tcp
         self.asked, self.asked_from = [], []
-        self.port = free_port()
+        self.port = port or free_port()
         self.tcp = socket.create_server(("127.0.0.1", self.port), backlog=64)
         self.udp = socket.socket(socket.AF_INET, socket.SOCK_DGRAM)
         self.udp.bind(("127.0.0.1", self.port))
@@ -76,19 +82,24 @@ class Server:
                 pass
 
 
+def route(suffix, servers):
+    """A route; a server is a port on this machine, or an address and a port."""
+    listed = ", ".join(f'"127.0.0.1:{server}"' if isinstance(server, int) else f'"{server}"' for server in servers)
+    return f'[[route]]\nsuffix = "{suffix}"\nservers = [{listed}]\n'
+
+
 class Forwarder:
     """The program, serving the servers."""
 
     def __init__(
-        self, program, servers, turns=WHOLE_LIFE, limits="ask_ms = 1500\ndeadline_ms = 5000\n", descriptors=None, others=()):
-        """The servers are those of `example`; each of the others is the suffix of a route more, and the port of its server."""
-        self.port = free_port()
+            self, program, servers, turns=WHOLE_LIFE, limits="ask_ms = 1500\ndeadline_ms = 5000\n", descriptors=None, others=(),
+            address="127.0.0.1"):
+        """The servers are those of `example`; each of the others is the suffix of a route more, and its server."""
+        self.address, self.port = address, free_port()
         self.file = tempfile.NamedTemporaryFile("w", suffix=".toml")
-        listed = ", ".join(f'"127.0.0.1:{server}"' for server in servers)
-        self.file.write(f'version = 1\nlisten = "127.0.0.1:{self.port}"\n[limits]\n{limits}')
-        self.file.write(f'[[route]]\nsuffix = "example"\nservers = [{listed}]\n')
+        self.file.write(f'version = 1\nlisten = "{address}:{self.port}"\n[limits]\n{limits}{route("example", servers)}')
         for suffix, server in others:
-            self.file.write(f'[[route]]\nsuffix = "{suffix}"\nservers = ["127.0.0.1:{server}"]\n')
+            self.file.write(route(suffix, [server]))
         self.file.flush()
 
         def narrow():
@@ -102,7 +113,7 @@ class Forwarder:
     def wait_until_it_listens(self):
         for _ in range(500):
             try:
-                socket.create_connection(("127.0.0.1", self.port)).close()
+                socket.create_connection((self.address, self.port)).close()
                 return
             except ConnectionRefusedError:
                 if self.process.poll() is not None:
@@ -122,11 +133,11 @@ class Forwarder:
     def udp(self):
         client = socket.socket(socket.AF_INET, socket.SOCK_DGRAM)
         client.settimeout(8)
-        client.connect(("127.0.0.1", self.port))
+        client.connect((self.address, self.port))
         return client
 
     def tcp(self):
-        client = socket.create_connection(("127.0.0.1", self.port))
+        client = socket.create_connection((self.address, self.port))
         client.settimeout(14)
         return client
 
@@ -146,16 +157,56 @@ class Forwarder:
         expect(self.process.poll(), None)
 
 
-def run_of(program, *words, given=b"", out=subprocess.PIPE, memory=None):
-    """What a run prints, what it tells on standard error, and its status."""
+def run_of(program, *words, given=b"", out=subprocess.PIPE, told=subprocess.PIPE, closed=None, memory=None):
+    """What a run prints on standard output and on standard error, and its status; `closed` is a descriptor to close first."""
     def narrow():
         if memory:
             resource.setrlimit(resource.RLIMIT_AS, (memory, memory))
+        if closed is not None:
+            os.close(closed)
 
-    ended = subprocess.run([program, *words], input=given, stdout=out, stderr=subprocess.PIPE, preexec_fn=narrow)
+    ended = subprocess.run([program, *words], input=given, stdout=out, stderr=told, preexec_fn=narrow)
     return ended.stdout, ended.stderr, ended.returncode
 
 
 def spent(pid):
     fields = pathlib.Path(f"/proc/{pid}/stat").read_text().rpartition(")")[2].split()
     return (int(fields[11]) + int(fields[12])) / os.sysconf("SC_CLK_TCK")
+
+
+def waits(pid):
+    """How often a process has waited for something so far."""
+    lines = pathlib.Path(f"/proc/{pid}/status").read_text().splitlines()
+    return next(int(line.split()[1]) for line in lines if line.startswith("voluntary_ctxt_switches"))
+
+
+def descriptors(pid):
+    """How many descriptors a process has open."""
+    return len(os.listdir(f"/proc/{pid}/fd"))
+
+
+CLONE_NEWNET = 0x40000000
+
+
+def in_a_network_of_its_own(rules, body):
+    """Runs the body in a network that has a loopback alone, under these rules for nft(8). Only root may make one."""
+    if not shutil.which("nft") or not shutil.which("ip"):
+        raise NotHere("it wants nft and ip")
+    faults = []
+
+    def run():
+        try:
+            if ctypes.CDLL(None, use_errno=True).unshare(CLONE_NEWNET) != 0:
+                raise NotHere(f"a network of its own: {os.strerror(ctypes.get_errno())}")
+            subprocess.run(["ip", "link", "set", "lo", "up"], check=True)
+            subprocess.run(["nft", rules], check=True)
+            body()
+        except Exception as fault:  # it is raised again where the case runs
+            faults.append(fault)
+
+    # Only this thread, with the threads and programs that it starts, is in the network.
+    thread = threading.Thread(target=run)
+    thread.start()
+    thread.join()
+    for fault in faults:
+        raise fault

@@ -43,7 +43,7 @@ fn refusals_of(table_heap: Global, kind: Kind, reply: &str) -> Result<(u64, u64)
 
 #[test]
 fn each_growth_of_an_answer_is_refused(rt: HostRuntime) -> Result<(), Fail> {
-    assert_eq!(rt; refusals_of(rt.alloc(), Kind::Left, ALIAS)?, (3, 3));
+    assert_eq!(rt; refusals_of(rt.alloc(), Kind::Left(0), ALIAS)?, (3, 3));
     Ok(())
 }
 

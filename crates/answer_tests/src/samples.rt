@@ -90,8 +90,8 @@ pub(crate) type Built<'h> = Result<Octets<&'h Refusing<Global>>, Fault>;
 /// Which answer is built of the pieces.
 #[derive(Clone, Copy)]
 pub(crate) enum Kind {
-    /// With what is left of each when they came.
-    Left,
+    /// With what is left of each, this many milliseconds after they came.
+    Left(u64),
     /// Past their end from this index on, when the address has just ended.
     Past(usize),
     /// Of a route that denies, a second after they came.
@@ -103,7 +103,7 @@ fn moment_of(kind: Kind) -> u64
     ensures { 1020 ≤ result }
 {
     match kind {
-        Kind::Left => ACCEPTED,
+        Kind::Left(after) => ACCEPTED.saturating_add(after),
         Kind::Past(_) => ACCEPTED + 300_000,
         Kind::Local => ACCEPTED + 1000,
     }
@@ -132,7 +132,7 @@ pub(crate) fn answer<'h>(
     let asked = asked(0x1234, MessageRef::view(case.question)?.question(heap)?);
     heap.allow(growths);
     let built = match case.kind {
-        Kind::Left => build(heap, &asked, chain, moment, transport),
+        Kind::Left(_) => build(heap, &asked, chain, moment, transport),
         Kind::Past(past) if past <= chain.len() => {
             build_stale(heap, &asked, chain, past, moment, transport)
         }

@@ -1,7 +1,8 @@
-//! The largest answer, and what is said of a fault.
+//! The octets of worked answers, the largest answer, and what is said of a fault.
 
 use crate::samples::{ADDRESS, ALIAS, Case, Kind, TO_LAN, text};
-use answer_builder::{Fault, Transport};
+use answer_builder::{Asked, Fault, Transport, failure};
+use dns_message::MessageRef;
 use refusing_allocator::Refusing;
 use std::alloc::Global;
 use std::test::Fail;
@@ -46,7 +47,7 @@ fn lengths_of(
 }
 
 /// The kinds of answers. No chain of aliases is as long as TCP allows, so a text stands for one.
-const KINDS: [Kind; 3] = [Kind::Left, Kind::Past(0), Kind::Local];
+const KINDS: [Kind; 3] = [Kind::Left(0), Kind::Past(0), Kind::Local];
 
 #[test]
 fn past_65535_octets_tcp_gets_nothing(rt: HostRuntime) -> Result<(), Fail> {
@@ -84,6 +85,66 @@ fn answered(heap: Global, kind: Kind, question: &str, reply: &str) -> Result<Str
         Some(text) => Ok(hex::encode(heap, text.as_slice())?),
         None => Err(Fail::from("too large")),
     }
+}
+
+/// The worked answer at once, and after 10.5 seconds, when 289 of the 300 seconds are left.
+const WORKED: [(u64, &str); 2] = [
+    (
+        0,
+        "1234818000010001000000000161076578616d706c650000010001c00c000100010000012c0004c6336405",
+    ),
+    (
+        10_500,
+        "1234818000010001000000000161076578616d706c650000010001c00c00010001000001210004c6336405",
+    ),
+];
+
+#[test]
+fn worked_answers_in_octets(rt: HostRuntime) -> Result<(), Fail> {
+    for (after, expected) in &WORKED {
+        let text = answered(rt.alloc(), Kind::Left(*after), ADDRESS, ADDRESS)?;
+        assert_eq!(rt; text.as_str(), *expected);
+    }
+    Ok(())
+}
+
+/// The opcode, whether the question is repeated, the response code, and the octets of the failure: SERVFAIL, FORMERR
+/// for a question that can't be read, and NOTIMP for a status request (RFC 1035 4.1.1).
+const FAILURES: [(u8, bool, u8, &str); 3] = [
+    (
+        0,
+        true,
+        2,
+        "1234818200010000000000000161076578616d706c650000010001",
+    ),
+    (0, false, 1, "123481810000000000000000"),
+    (2, false, 4, "123491840000000000000000"),
+];
+
+/// The failure of the worked question, in hexadecimal digits.
+fn failed(heap: Global, opcode: u8, is_repeated: bool, rcode: u8) -> Result<String, Fail> {
+    let octets = hex::decode(heap, ADDRESS)?;
+    let question = MessageRef::view(&octets)?.question(heap)?;
+    let asked = Asked {
+        id: 0x1234,
+        opcode,
+        rd: true,
+        question: if is_repeated { Some(question) } else { None },
+    };
+    if opcode >= 16 || rcode >= 16 {
+        return Err(Fail::from("four bits"));
+    }
+    let text = failure(heap, &asked, rcode)?;
+    Ok(hex::encode(heap, text.as_slice())?)
+}
+
+#[test]
+fn worked_failures_in_octets(rt: HostRuntime) -> Result<(), Fail> {
+    for (opcode, is_repeated, rcode, expected) in &FAILURES {
+        let text = failed(rt.alloc(), *opcode, *is_repeated, *rcode)?;
+        assert_eq!(rt; text.as_str(), *expected);
+    }
+    Ok(())
 }
 
 /// The address of a.example has ended, and has 30 seconds.

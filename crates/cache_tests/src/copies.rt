@@ -1,12 +1,12 @@
 //! Copies of what replies carry, and what is kept of one.
 
-use crate::samples::{ALIAS, NAME_ERROR, NO_DATA, pieces_of};
+use crate::samples::{ADDRESS, ALIAS, NAME_ERROR, NO_DATA, pieces_of};
 use dns_message::{DataRef, Record};
 use lru::DefaultHasher;
 use record_cache::{Cache, Offered};
 use std::alloc::Global;
 use std::test::Fail;
-use trust_rank::{Body, Piece, Rows};
+use trust_rank::{Body, Piece, Rows, Slot};
 
 /// The data are the same, in one order.
 fn is_same_rows(rows: &Rows, others: &Rows) -> bool {
@@ -73,33 +73,60 @@ fn equal_copies(alloc: Global, digits: &str) -> Result<(usize, usize), Fail> {
 #[test]
 fn copies_are_equal_in_each_part(rt: HostRuntime) -> Result<(), Fail> {
     let alloc = rt.alloc();
+    let address = equal_copies(alloc, ADDRESS)?;
     let sets = equal_copies(alloc, ALIAS)?;
     let no_data = equal_copies(alloc, NO_DATA)?;
     let name_error = equal_copies(alloc, NAME_ERROR)?;
-    assert!(rt; (sets, no_data, name_error) == ((2, 2), (1, 1), (1, 1)));
+    assert!(rt; (address, sets, no_data, name_error) == ((1, 1), (2, 2), (1, 1), (1, 1)));
     Ok(())
 }
 
-/// A copy of the piece is offered to a new cache, which is empty before: what came of it, and whether an equal piece
-/// is there.
-fn offered_copy(alloc: Global, piece: &Piece) -> Result<(usize, Offered, bool), Fail> {
-    let mut cache = Cache::new(alloc, 4, DefaultHasher::default())?;
-    let before = cache.len();
-    let answer = cache.offer(piece.copy(alloc)?, 1000);
-    let is_there = match cache.peek(&piece.slot()) {
-        Some(held) => held.accepted == 1000 && is_same(&held.piece, piece),
-        None => false,
+/// Whether the piece is that of the first worked reply: the address 198.51.100.5 of `a.example`, for 300 seconds, of
+/// rank 3.
+fn is_worked(piece: &Piece) -> bool {
+    let is_address = match &piece.body {
+        Body::Rows(rows) => match rows.data() {
+            DataRef::Row(row) => row.octets() == b"\xc6\x33\x64\x05".as_slice(),
+            DataRef::Rows(_) => false,
+        },
+        _ => false,
     };
-    Ok((before, answer, is_there))
+    let Slot { class, kind, .. } = piece.slot();
+    is_address
+        && piece.owner.octets() == b"\x01a\x07example".as_slice()
+        && (class, kind) == (1, Some(1))
+        && (piece.lifetime, piece.rank, piece.route.place) == (300, 3, 0)
+}
+
+/// Offers a copy of the piece: the number of entries before, what came of it, and the number after.
+fn offered_copy(
+    cache: &mut Cache<DefaultHasher>,
+    alloc: Global,
+    piece: &Piece,
+) -> Result<(usize, Offered, usize), Fail> {
+    let before = cache.len();
+    let answer = cache.offer(piece.copy(alloc)?, 1020);
+    Ok((before, answer, cache.len()))
+}
+
+/// Whether the cache has the worked piece in this slot, accepted at the moment of the offer.
+fn is_found(cache: &Cache<DefaultHasher>, slot: &Slot) -> bool {
+    match cache.peek(slot) {
+        Some(held) => held.accepted == 1020 && is_worked(&held.piece),
+        None => false,
+    }
 }
 
 #[test]
-fn a_copy_of_a_set_is_kept_and_found(rt: HostRuntime) -> Result<(), Fail> {
+fn a_cache_of_two_keeps_a_copy_of_the_worked_set(rt: HostRuntime) -> Result<(), Fail> {
     let alloc = rt.alloc();
-    let pieces = pieces_of(alloc, ALIAS)?;
-    let [_, set] = pieces.as_slice() else {
-        return Err(Fail::from("an alias and its set"));
+    let pieces = pieces_of(alloc, ADDRESS)?;
+    let [set] = pieces.as_slice() else {
+        return Err(Fail::from("a set alone"));
     };
-    assert!(rt; offered_copy(alloc, set)? == (0, Offered::Kept, true));
+    let mut cache = Cache::new(alloc, 2, DefaultHasher::default())?;
+    let offered = offered_copy(&mut cache, alloc, set)?;
+    let is_found = is_found(&cache, &set.slot());
+    assert!(rt; offered == (0, Offered::Kept, 1) && is_found);
     Ok(())
 }

@@ -7,6 +7,8 @@ mod agreement;
 #[cfg(test)]
 mod copies;
 #[cfg(test)]
+mod counted;
+#[cfg(test)]
 mod look_ups;
 #[cfg(test)]
 mod many;

@@ -29,6 +29,10 @@ suffix = "lan"
 deny = true
 "#;
 
+/// The first worked reply: a.example has an address for five minutes.
+pub(crate) const ADDRESS: &str =
+    "0008850000010001000000000161076578616d706c650000010001c00c000100010000012c0004c6336405";
+
 /// The address of a.example is asked for. It is an alias of b.example, which has two addresses; and there is a name
 /// server of example.
 pub(crate) const ALIAS: &str =

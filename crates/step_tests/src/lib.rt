@@ -3,7 +3,13 @@
 #![tactic(auto)]
 
 #[cfg(test)]
+mod growths;
+#[cfg(test)]
 mod hits;
+#[cfg(test)]
+mod lines;
+#[cfg(test)]
+mod many;
 #[cfg(test)]
 mod quiet;
 #[cfg(test)]

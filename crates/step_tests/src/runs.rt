@@ -71,7 +71,7 @@ fn the_steps_by_calls(rt: HostRuntime) -> Result<(), Fail> {
 
 /// Which growths are refused.
 #[derive(Clone, Copy)]
-enum Refused {
+pub(crate) enum Refused {
     /// One alone.
     One,
     /// One, and each one after it.
@@ -80,7 +80,7 @@ enum Refused {
 
 impl Refused {
     /// From now on so many growths are granted before one is refused.
-    fn begin(self, heap: &Refusing<Global>, granted: u64) {
+    pub(crate) fn begin(self, heap: &Refusing<Global>, granted: u64) {
         match self {
             Refused::One => heap.refuse_one(granted),
             Refused::Rest => heap.allow(granted),

@@ -1,0 +1,87 @@
+//! A look-up computes few hashes, however many labels the name has.
+
+use crate::samples::{CONFIG, Denial};
+use dns_name::{Name, NameFault};
+use lru::DefaultHasher;
+use negative_cache::{Found, find, find_stale, shown};
+use record_cache::Cache;
+use std::alloc::Global;
+use std::cell::Cell;
+use std::hash::{BuildHasher, FoldHasher};
+use std::test::Fail;
+use suffix_routes::Config;
+
+/// Counts the hashers that it makes: one for each hash.
+#[derive(Drop)]
+struct Counting<'a> {
+    begun: &'a Cell<u64>,
+    inner: DefaultHasher,
+}
+
+impl<'a> BuildHasher for Counting<'a> {
+    type Hasher = FoldHasher;
+
+    ghost build_hasher = { λ s. DefaultHasher.build_hasher s.inner };
+
+    fn build_hasher(&self) -> FoldHasher {
+        self.begun.set(self.begun.get().saturating_add(1));
+        self.inner.build_hasher()
+    }
+}
+
+/// A name of 127 labels, which is the longest (RFC 1035 2.3.4): of 254 octets, without the root's.
+const LONGEST: &str =
+    "a.a.a.a.a.a.a.a.a.a.a.a.a.a.a.a.a.a.a.a.a.a.a.a.a.a.a.a.a.a.a.a.a.a.a.a.a.a.a.a.a.a.\
+a.a.a.a.a.a.a.a.a.a.a.a.a.a.a.a.a.a.a.a.a.a.a.a.a.a.a.a.a.a.a.a.a.a.a.a.a.a.a.a.a.a.\
+a.a.a.a.a.a.a.a.a.a.a.a.a.a.a.a.a.a.a.a.a.a.a.a.a.a.a.a.a.a.a.a.a.a.a.a.a.a.a.a.a.a.a";
+
+/// Denied names, none of them at or above the longest: one that ends otherwise, one that ends in the same eight octets,
+/// and one with fewer. They have ten octets, ten, and two.
+const DENIED: [&str; 3] = ["x.example", "b.a.a.a.a", "b"];
+
+/// One for the set, one for an alias, and one for each size that a denied name has.
+const MOST: u64 = 4;
+
+/// The number of hashes of each call: a look-up, one that takes expired entries too, and `shown`. Both look-ups have to
+/// miss.
+fn begun_by(
+    begun: &Cell<u64>,
+    cache: &mut Cache<Counting<'_>>,
+    name: &Name,
+    config: &Config,
+) -> Option<[u64; 3]> {
+    begun.set(0);
+    let is_missed = matches!(find(cache, name, 1, 1, 2000, config), Found::Miss);
+    let alive = begun.replace(0);
+    let is_missed_past = matches!(find_stale(cache, name, 1, 1, 2000, 60), Found::Miss);
+    let past = begun.replace(0);
+    shown(cache, name, 1);
+    if is_missed && is_missed_past {
+        Some([alive, past, begun.get()])
+    } else {
+        None
+    }
+}
+
+/// The same for the longest name, in a cache with the denied names.
+fn begun_for_the_longest(alloc: Global) -> Result<Option<[u64; 3]>, Fail> {
+    let begun = Cell::new(0);
+    let hasher = Counting {
+        begun: &begun,
+        inner: DefaultHasher::default(),
+    };
+    let config = Config::read(alloc, alloc, CONFIG)?;
+    let name = Name::from_text(alloc, LONGEST)?;
+    let mut cache = Cache::new(alloc, 4, hasher)?;
+    for denied in DENIED {
+        cache.offer(Denial::of(denied, None).piece(alloc)?, 1000);
+    }
+    Ok(begun_by(&begun, &mut cache, &name, &config))
+}
+
+#[test]
+fn a_name_of_127_labels_takes_few_look_ups(rt: HostRuntime) -> Result<(), Fail> {
+    let counts = begun_for_the_longest(rt.alloc())?.ok_or("a miss")?;
+    assert!(rt; counts[0] > 0 && counts.iter().all(|count| *count <= MOST));
+    Ok(())
+}
