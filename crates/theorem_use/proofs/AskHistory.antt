@@ -1,17 +1,24 @@
 -- Where those who wait in a state and its asks serve each other, so they do in the history that explains it.
-use Rattle.std.proofs.Common.{◌≡◌, ℕ, List, [], ◌∷◌, true, subst, inl, inr, ◌⊎◌}
-use Rattle.std.specs.Prelude.{map}
+use Rattle.std.proofs.Common.{◌≡◌, ◌∙◌, ℕ, zero, suc, List, [], ◌∷◌, true, false, sym, ap, subst, inl, inr, arith, ◌⊎◌}
+use Rattle.std.specs.Prelude.{map, option_map}
 use Rattle.std.specs.List.{concat, AllByRecursion}
 use Rattle.dns_message.specs.Values.{Question}
+use Rattle.dns_message.specs.Questions.{same_question}
 use Rattle.suffix_routes.specs.Values.{Config}
+use Rattle.outstanding.specs.declared.ask.Path.{Path}
 use Rattle.outstanding.specs.Values.{Ask}
 use Rattle.step_values.specs.Values.{Step}
-use Rattle.step_history.specs.History.{ShownAsk, listed, Reads}
+use Rattle.step_history.specs.History.{ShownAsk, on_path, closes_path, NothingAccepted}
+use Rattle.step_history.specs.Causes.{ClosesAsk, LastFailed}
 use Rattle.step_table.specs.State.{State}
+use Rattle.step_table.proofs.CallerLemmas.{ask_on-is}
 use Rattle.waiting_questions.specs.Values.{Waiting, waits_for}
 use Rattle.theorem_sound.specs.Explains.{shown, Waits, Tried, Explains}
-use Rattle.theorem_use.specs.Asking.{AnyByRecursion, EachWants, Wants, Asks, IsSpelled, AsksForWaiting}
-use Rattle.theorem_use.proofs.Asked.{Spelled, AreServedOn}
+use Rattle.theorem_sound.proofs.Asking.{closes_none}
+use Rattle.theorem_sound.proofs.Listed.{on_path-shown}
+use Rattle.theorem_use.specs.Asking.{AnyByRecursion, EachWants, Wants, Asks, WasListed, FollowsFailed, IsSpelled}
+use Rattle.theorem_use.specs.Asking.{AsksForWaiting}
+use Rattle.theorem_use.proofs.Asked.{same_as_itself, Retries, Spelled, AreServedOn}
 
 -- ---- what the waiting questions want
 
@@ -60,11 +67,73 @@ all_shown : (R P : Ask → Type 0) (Q : ShownAsk → Type 0) → ((a : Ask) → 
 all_shown R P Q f [] reads all = tt
 all_shown R P Q f (a ∷ asks) reads all = (f a reads.0 all.0, all_shown R P Q f asks reads.1 all.1)
 
+-- ---- how an ask of the step is spelled
+
+module _ (c : Config) (past : List Step) (w : List (List ℕ)) (s : State) (x : Explains c past w s) (t : Step) (a : Ask)
+    (tried : Tried c (t ∷ past) a) where
+  -- it follows an ask that the step closed
+  module _ (r : Retries t.outcome.actions s.asks a) where
+    tried_before : Tried c past r.closed
+    tried_before = (ask_on-is (Tried c past) r.closed.path s.asks r.closed r.on x.tried).1
+
+    closes : ClosesAsk a.question t past
+    closes = record {
+      ask = shown r.closed;
+      asked = r.closed.question;
+      is_listed = ap (on_path r.closed.path) (sym x.asks) ∙ on_path-shown r.closed.path s.asks
+          ∙ ap (option_map shown) r.on;
+      closed = r.closes;
+      reads = tried_before.reads;
+      same = ap (same_question r.closed.question) (sym r.question) ∙ same_as_itself r.closed.question;
+    }
+
+    -- the tries before it failed, the newest one in the step
+    none_accepted : (k : ℕ) → a.used ≡ suc k → LastFailed c a.question (t ∷ past) k → NothingAccepted c t past
+    none_accepted zero used failed =
+        let later = r.used in let first = tried_before.used in absurd (omega (arith, used, later, first))
+    none_accepted (suc k) used failed = elim failed.1 [
+      | inl newest ↦ newest.1
+      | inr none ↦ absurd (none.0 closes)
+    ]
+
+    follows : FollowsFailed c t past a.question
+    unfolding closes
+    follows = record {
+      closes = closes;
+      failed = none_accepted tried.before tried.used tried.failed;
+      spelled = r.question;
+    }
+
+  opens_anew : ((path : Path) → closes_path path t.outcome.actions ≡ false) ⊎ (NothingAccepted c t past → ⊥)
+      → ClosesAsk a.question t past → NothingAccepted c t past → ⊥
+  opens_anew (inl none) k quiet = closes_none t past none a.question k
+  opens_anew (inr accepted) k quiet = accepted quiet
+
+  spelled_so : (waiting : List Waiting)
+      → Spelled (NothingAccepted c t past → ⊥) t.outcome.actions s.asks waiting a
+      → WasListed past (shown a) ⊎ IsSpelled c t past (map (λ y. y.wanted) waiting) (shown a)
+  spelled_so waiting (inl before) = inl (subst (AnyByRecursion (λ b. b ≡ shown a)) x.asks
+      (any_shown (Tried c past) (λ b. b ≡ a) (λ b. b ≡ shown a) (λ b _ same. ap shown same) s.asks x.tried before))
+  spelled_so waiting (inr (inl retries)) = inr (record {
+    question = a.question;
+    reads = tried.reads;
+    from = inr (follows retries);
+  })
+  spelled_so waiting (inr (inr opens)) = inr (record {
+    question = a.question;
+    reads = tried.reads;
+    from = inl (record {
+      anew = opens_anew opens.anew;
+      spelled = any_wanted (λ y. y.wanted ≡ a.question) (λ q. q ≡ a.question) (λ y same. same) waiting opens.wanted;
+    });
+  })
+
 -- ---- the history
 
 pub asks_for_waiting : (c : Config) (past : List Step) (w : List (List ℕ)) (s : State) (x : Explains c past w s)
     (t : Step) (w' : List (List ℕ)) (s' : State) (x' : Explains c (t ∷ past) w' s')
-    → AreServedOn s.asks s'.asks s'.waiting → AsksForWaiting c past (t ∷ past) (concat w')
+    → AreServedOn (NothingAccepted c t past → ⊥) t.outcome.actions s.asks s'.asks s'.waiting
+    → AsksForWaiting c t past (concat w')
 asks_for_waiting c past w s x t w' s' x' on = record {
   wanted = wanted;
   each = subst (λ (z : List ℕ × List Waiting). EachWants c now z.0 (map (λ y. y.wanted) z.1))
@@ -81,14 +150,10 @@ asks_for_waiting c past w s x t w' s' x' on = record {
       (λ a tried any. any_wanted (λ y. waits_for a.question y ≡ true) (Asks (shown a))
       (λ y same. record { question = a.question; reads = tried.reads; same = same }) s'.waiting any)
       s'.asks x'.tried on.served.wanting);
-  spelled = subst (AllByRecursion (IsSpelled (listed past) wanted)) x'.asks
-      (all_shown (Tried c now) (Spelled s.asks s'.waiting) (IsSpelled (listed past) wanted)
-      (λ a tried from. record {
-        question = a.question;
-        reads = tried.reads;
-        from =
-            spelled_so a from;
-      }) s'.asks x'.tried on.spelled);
+  spelled = subst (AllByRecursion (λ a. WasListed past a ⊎ IsSpelled c t past wanted a)) x'.asks
+      (all_shown (Tried c now) (Spelled (NothingAccepted c t past → ⊥) t.outcome.actions s.asks s'.waiting)
+      (λ a. WasListed past a ⊎ IsSpelled c t past wanted a)
+      (λ a tried from. spelled_so c past w s x t a tried s'.waiting from) s'.asks x'.tried on.spelled);
 }
   where
     now : List Step
@@ -96,11 +161,3 @@ asks_for_waiting c past w s x t w' s' x' on = record {
 
     wanted : List Question
     wanted = map (λ y. y.wanted) s'.waiting
-
-    spelled_so : (a : Ask) → Spelled s.asks s'.waiting a → AnyByRecursion (λ b. Reads b.octets a.question) (listed past)
-        ⊎ AnyByRecursion (λ q. q ≡ a.question) wanted
-    spelled_so a (inl listed_before) = inl (subst (AnyByRecursion (λ b. Reads b.octets a.question)) x.asks
-        (any_shown (Tried c past) (λ b. b.question ≡ a.question) (λ b. Reads b.octets a.question)
-        (λ b tried same. subst (Reads (shown b).octets) same tried.reads) s.asks x.tried listed_before))
-    spelled_so a (inr want) = inr (any_wanted (λ y. y.wanted ≡ a.question) (λ q. q ≡ a.question)
-        (λ y same. same) s'.waiting want)

@@ -15,6 +15,7 @@ use Rattle.suffix_routes.specs.Values.{Config}
 use Rattle.suffix_routes.specs.Routes.{route_of as route_among}
 use Rattle.suffix_routes.proofs.CallerLemmas.{serving_is}
 use Rattle.outstanding.specs.declared.ask.Path.{Path}
+use Rattle.outstanding.specs.declared.ask.Path.TheVariants.{Udp, Tcp}
 use Rattle.outstanding.specs.Draws.{udp_draw, drawn_by_tcp}
 use Rattle.outstanding.specs.Lists.{same_path, on_path as ask_on, of_question, without_path, AreInTurn}
 use Rattle.outstanding.specs.Values.{Ask}
@@ -42,7 +43,8 @@ use Rattle.step_table.specs.State.{State, turn}
 use Rattle.waiting_questions.specs.Values.{Waiting, waits_for}
 use Rattle.step_table.specs.Attempts.{peer_at, over_udp, over_tcp, preferred_on, first_ask_on, first_ask_for, freed_by, plan_of, next_ask}
 use Rattle.alias_chains.specs.LookingUp.{LookUp, look_up}
-use Rattle.step_table.specs.Steps.{Done, Fate, gets, waits, waiting_in, with_preferred_server, with_promoted, still_waiting, ask_list, without_ask, gives_up}
+use Rattle.step_history.specs.History.{closes_path}
+use Rattle.step_table.specs.Steps.{Done, Fate, gets, waits, waiting_in, with_preferred_server, with_promoted, still_waiting, asks_by, asks, ask_list, closes, without_ask, gives_up}
 use Rattle.step_table.specs.Row.{Happens}
 use Rattle.step_table.specs.Ticks.{question, attempt, Item, first_item, left_alone, expiry_step, row_of_item, row_of_tick, deadline_of}
 use Rattle.step_table.specs.Replies.{fate_by, ends_at, unless_many, used_by, to_be_asked, unless_open, without_port, unless_no_port, timeout_of, row_of_next_name, row_of_sent_on, row_of_end, row_of_acceptance, row_of_walk, row_of_message, row_of_verdict, row_of_delivery}
@@ -53,7 +55,7 @@ use Rattle.step_table.proofs.CallerLemmas.{All-weaker, looked_at_end, ask_on-is,
 use Rattle.theorem_sound.specs.Explains.{Tried}
 use Rattle.theorem_sound.proofs.Messages.{read_spells}
 use Rattle.theorem_use.specs.Asking.{AnyByRecursion, AreServed}
-use Rattle.theorem_use.proofs.Asked.{each_is_one, any_weaker, any_with, any_first, any_last, same_as_itself, same_turned, same_through, ask_on_any, of_question_any, FateHas, each_fate, each_was, any_picked, all_wait_on, NextHas, Spelled, AreServedOn, unchanged, taken_on, closed_on}
+use Rattle.theorem_use.proofs.Asked.{any_weaker, any_with, any_first, any_last, same_as_itself, same_turned, same_through, of_question_any, FateHas, each_fate, each_was, any_picked, all_wait_on, NextHas, Spelled, AreServedOn, all_spelled, unchanged, taken_on, closed_on}
 
 -- ---- a first ask is for its question
 
@@ -75,6 +77,45 @@ next_asks c n words a s (AskTcp server) d is =
     (ask_by-some n a.question a.route server (a.used + 1) (peer_at c a.route server)
     (over_tcp (drawn_by_tcp words s.tcp_asks)) d is).question
 next_asks c n words a s GiveUp d is = absurd (cc)
+
+-- an ask that follows one is one try later
+next_used : (c : Config) (n : ℕ) (words : List ℕ) (a : Ask) (s : State) (v : Next) (d : Ask)
+    → next_ask (turn c n words s) a v ≡ Some d → d.used ≡ a.used + 1
+next_used c n words a s (AskUdp server) d is =
+    (ask_by-some n a.question a.route server (a.used + 1) (peer_at c a.route server)
+    (over_udp (udp_draw words s.asks (freed_by a.path))) d is).used_is
+next_used c n words a s (AskTcp server) d is =
+    (ask_by-some n a.question a.route server (a.used + 1) (peer_at c a.route server)
+    (over_tcp (drawn_by_tcp words s.tcp_asks)) d is).used_is
+next_used c n words a s GiveUp d is = absurd (cc)
+
+-- ---- what actions close
+
+-- an ask closes nothing
+asks_close_none : (o : Option Ask) (path : Path) → closes_path path (map asks (ask_list o)) ≡ false
+asks_close_none None path = refl
+asks_close_none (Some a) path = by a.path
+  where
+    by : (p : Path) → closes_path path (asks_by p a ∷ []) ≡ false
+    by (Udp port) = refl
+    by (Tcp conn) = refl
+
+-- a path that is given up first is closed
+closes_first : (path : Path) (more : List Action) → closes_path path (closes path ∷ more) ≡ true
+closes_first (Udp port) more = ap (λ (v : Bool). v || closes_path (Udp port) more) (same_path_reflexive (Udp port))
+closes_first (Tcp conn) more = ap (λ (v : Bool). v || closes_path (Tcp conn) more) (same_path_reflexive (Tcp conn))
+
+-- ---- what an accepted delivery gives
+
+abbrev pub GivesIfHeard : Config → ℕ → State → Type 0 → Event → Type 0
+GivesIfHeard c n s Accepted (delivery path from octets) =
+    (a : Ask) → ask_on path s.asks ≡ Some a → (m : Message) → nat_lt n (timeout_of c a) ≡ true
+    → judge a from octets ≡ Whole → message_of octets ≡ Ok m
+    → is_lame (walk_of c m a.question a.route).end ≡ false → Accepted
+GivesIfHeard c n s Accepted (from_client client octets) = Unit {0}
+GivesIfHeard c n s Accepted (path_failed path) = Unit {0}
+GivesIfHeard c n s Accepted tick = Unit {0}
+GivesIfHeard c n s Accepted restart = Unit {0}
 
 -- ---- lists
 
@@ -110,13 +151,13 @@ nothing_any (x ∷ xs) (inr later) = nothing_any xs later
 -- ---- each row
 
 module _ (c : Config) (n : ℕ) (words : List ℕ) (s : State) (served : AreServed s.asks s.waiting)
-    (in_turn : AreInTurn s.asks) where
+    (in_turn : AreInTurn s.asks) (Accepted : Type 0) where
   -- after what was done those who wait and the asks serve each other
   abbrev pub K : Done → Type 0
-  K d = AreServedOn s.asks d.state.asks d.state.waiting
+  K d = AreServedOn Accepted d.actions s.asks d.state.asks d.state.waiting
 
-  same : AreServedOn s.asks s.asks s.waiting
-  same = unchanged s.asks s.waiting served
+  same : {actions : List Action} → AreServedOn Accepted actions s.asks s.asks s.waiting
+  same {actions} = unchanged Accepted actions s.asks s.waiting served
 
   -- ---- an ask is closed
 
@@ -128,9 +169,9 @@ module _ (c : Config) (n : ℕ) (words : List ℕ) (s : State) (served : AreServ
     Asked next y = AnyByRecursion (λ b. waits_for b.question y ≡ true) (others ++ ask_list next)
 
     -- all that wait for it get a reply
-    given_up : (given : Waiting → Action) → AreServedOn s.asks (others ++ [])
+    given_up : {actions : List Action} (given : Waiting → Action) → AreServedOn Accepted actions s.asks (others ++ [])
         (still_waiting (map (λ x. cond (waits_for a.question x) (gets (given x)) (waits x)) s.waiting))
-    given_up given = closed_on s.asks s.waiting served in_turn a on
+    given_up {actions} given = closed_on s.asks s.waiting served in_turn a on Accepted actions
         (λ x. cond (waits_for a.question x) (gets (given x)) (waits x)) None
         (λ x f. cond-false (waits_for a.question x) _ _ f)
         (all_of (λ x. waits_for a.question x ≡ true
@@ -145,9 +186,11 @@ module _ (c : Config) (n : ℕ) (words : List ℕ) (s : State) (served : AreServ
         (λ x. waits_for b.question x ≡ true) s.waiting) a.path s.asks a on served.wanting).1
 
     -- its question is asked again
-    asked_again : (d : Ask) → d.question ≡ a.question
-        → AreServedOn s.asks (others ++ d ∷ []) (still_waiting (map (λ x. waits x) s.waiting))
-    asked_again d same_question_is = closed_on s.asks s.waiting served in_turn a on (λ x. waits x) (Some d)
+    asked_again : {more : List Action} (d : Ask) → d.question ≡ a.question → d.used ≡ a.used + 1
+        → AreServedOn Accepted (closes a.path ∷ more) s.asks (others ++ d ∷ [])
+        (still_waiting (map (λ x. waits x) s.waiting))
+    asked_again {more} d same_question_is used_is = closed_on s.asks s.waiting served in_turn a on Accepted
+        (closes a.path ∷ more) (λ x. waits x) (Some d)
         (λ x f. refl)
         (all_of (λ x. waits_for a.question x ≡ true → FateHas (Asked (Some d)) (waits x))
         (λ x t. any_last (λ b. waits_for b.question x ≡ true) others (d ∷ [])
@@ -155,11 +198,17 @@ module _ (c : Config) (n : ℕ) (words : List ℕ) (s : State) (served : AreServ
         (subst (AnyByRecursion (λ y. waits_for d.question y ≡ true)) (sym (all_wait_on s.waiting))
         (any_weaker (λ x. waits_for a.question x ≡ true) (λ x. waits_for d.question x ≡ true)
         (λ x t. ap (same_question x.wanted) same_question_is ∙ t) s.waiting wanted))
-        (inl (ask_on_any (λ b. b.question ≡ d.question) a.path s.asks a on (sym same_question_is)))
+        (inr (inl (record {
+          closed = a;
+          on = on;
+          closes = closes_first a.path more;
+          question = sym same_question_is;
+          used = used_is;
+        })))
 
     attempt_row : (v : Next) (r : Option Ask) → next_ask (turn c n words s) a v ≡ r → K (row_of_attempt n a s r)
     attempt_row v None is = given_up (gives_up NoPort)
-    attempt_row v (Some d) is = asked_again d (next_asks c n words a s v d is)
+    attempt_row v (Some d) is = asked_again d (next_asks c n words a s v d is) (next_used c n words a s v d is)
 
     next_row : (v : Next) → K (row_of_next (turn c n words s) a v)
     next_row (AskUdp server) = attempt_row (AskUdp server) (next_ask (turn c n words s) a (AskUdp server)) refl
@@ -176,7 +225,7 @@ module _ (c : Config) (n : ℕ) (words : List ℕ) (s : State) (served : AreServ
   opening_row used y None is = same
   opening_row used y (Some a) is =
       let first : a.question ≡ y.wanted = first_asks c n words y.wanted (with_promoted used s) a is in
-      taken_on s.asks s.waiting y (Some a) served
+      taken_on Accepted (map asks (ask_list (Some a))) s.asks s.waiting y (Some a) served (asks_close_none (Some a))
       (any_last (λ b. waits_for b.question y ≡ true) s.asks (a ∷ [])
       (inl (ap (same_question y.wanted) first ∙ same_as_itself y.wanted))) first
 
@@ -185,7 +234,7 @@ module _ (c : Config) (n : ℕ) (words : List ℕ) (s : State) (served : AreServ
   inquiry_row used y None is = cond_both (nat_le c.limits.inquiries (length s.asks)) _ _ K (λ t. same)
       (λ f. opening_row used y (first_ask_for (turn c n words (with_promoted used s)) y.wanted) refl)
   inquiry_row used y (Some a) is =
-      taken_on s.asks s.waiting y None served (any_first (λ b. waits_for b.question y ≡ true) s.asks []
+      taken_on Accepted [] s.asks s.waiting y None served (asks_close_none None) (any_first (λ b. waits_for b.question y ≡ true) s.asks []
       (of_question_any y s.asks a is)) tt
 
   fate_row : (used : List Slot) (v : Fate) → K (row_of_fate (turn c n words (with_promoted used s)) v)
@@ -218,15 +267,15 @@ module _ (c : Config) (n : ℕ) (words : List ℕ) (s : State) (served : AreServ
     were = subst (AreServed s.asks) first served
 
     -- somebody else waits for the same
-    joined : AnyByRecursion (λ z. waits_for y.wanted z ≡ true) behind → AreServedOn s.asks s.asks behind
-    joined any = record {
+    joined : (actions : List Action) → AnyByRecursion (λ z. waits_for y.wanted z ≡ true) behind
+        → AreServedOn Accepted actions s.asks s.asks behind
+    joined actions any = record {
       served = record {
         asked = were.asked.1;
         wanting = All-weaker (λ a. AnyByRecursion (λ z. waits_for a.question z ≡ true) (y ∷ behind))
             (λ a. AnyByRecursion (λ z. waits_for a.question z ≡ true) behind) one s.asks were.wanting;
       };
-      spelled = All-weaker (λ a. AnyByRecursion (λ b. b.question ≡ a.question) s.asks) (Spelled s.asks behind)
-          (λ a has. inl has) s.asks (each_is_one (λ (a : Ask). a.question) s.asks);
+      spelled = all_spelled Accepted actions s.asks behind;
     }
       where
         one : (a : Ask) → AnyByRecursion (λ z. waits_for a.question z ≡ true) (y ∷ behind)
@@ -236,9 +285,10 @@ module _ (c : Config) (n : ℕ) (words : List ℕ) (s : State) (served : AreServ
         one a (inr later) = later
 
     -- nobody else does
-    alone : (a : Ask) → of_question y.wanted s.asks ≡ Some a → AllByRecursion (λ z. waits_for y.wanted z ≡ false) behind
-        → AreServedOn s.asks (without_path a.path s.asks ++ []) behind
-    alone a is none = subst (AreServedOn s.asks (without_path a.path s.asks ++ [])) waiting_is
+    alone : (actions : List Action) (a : Ask) → of_question y.wanted s.asks ≡ Some a
+        → AllByRecursion (λ z. waits_for y.wanted z ≡ false) behind
+        → AreServedOn Accepted actions s.asks (without_path a.path s.asks ++ []) behind
+    alone actions a is none = subst (AreServedOn Accepted actions s.asks (without_path a.path s.asks ++ [])) waiting_is
         (given_up a (own_on y.wanted s.asks a in_turn is) (gives_up Deadline))
       where
         fate : Waiting → Fate
@@ -273,16 +323,21 @@ module _ (c : Config) (n : ℕ) (words : List ℕ) (s : State) (served : AreServ
         (λ b f t. true≢false (sym (same_turned y.wanted b.question t) ∙ f)) s.asks
         (none_same y.wanted s.asks none) were.asked.0)
 
-    expired : (v : Bool) → list_any (waits_for y.wanted) behind ≡ v → (r : Option Ask) → of_question y.wanted s.asks ≡ r
-        → AreServedOn s.asks (without_ask (cond v None r) s.asks ++ []) behind
-    expired true some r is = subst (λ (as' : List Ask). AreServedOn s.asks as' behind) (sym (append-nil s.asks))
-        (joined (any_passes (waits_for y.wanted) behind some))
-    expired false none (Some a) is = alone a is (none_passes (waits_for y.wanted) behind none)
-    expired false none None is = absurd (has_ask is)
+    expired : (actions : List Action) (v : Bool) → list_any (waits_for y.wanted) behind ≡ v → (r : Option Ask)
+        → of_question y.wanted s.asks ≡ r
+        → AreServedOn Accepted actions s.asks (without_ask (cond v None r) s.asks ++ []) behind
+    expired actions true some r is = subst (λ (as' : List Ask). AreServedOn Accepted actions s.asks as' behind)
+        (sym (append-nil s.asks)) (joined actions (any_passes (waits_for y.wanted) behind some))
+    expired actions false none (Some a) is = alone actions a is (none_passes (waits_for y.wanted) behind none)
+    expired actions false none None is = absurd (has_ask is)
 
-    expiry_row : K (expiry_step n y behind (left_alone y.wanted behind s.asks) s)
-    expiry_row = subst (AreServedOn s.asks (without_ask (left_alone y.wanted behind s.asks) s.asks ++ []))
-        (sym (all_wait_on behind)) (expired (list_any (waits_for y.wanted) behind) refl
+    abbrev expires : Done
+    expires = expiry_step n y behind (left_alone y.wanted behind s.asks) s
+
+    expiry_row : K expires
+    expiry_row = subst (AreServedOn Accepted expires.actions s.asks (without_ask
+        (left_alone y.wanted behind s.asks) s.asks ++ []))
+        (sym (all_wait_on behind)) (expired expires.actions (list_any (waits_for y.wanted) behind) refl
         (of_question y.wanted s.asks) refl)
 
     pub question_row : K (row_of_item (turn c n words s) (question y behind))
@@ -343,9 +398,9 @@ module _ (c : Config) (n : ℕ) (words : List ℕ) (s : State) (served : AreServ
     ended_by R x held q (p ∷ ps) some = cond_both (nat_le (length (ends_at n held q (p ∷ ps)).held) most_aliases) _ _
         (λ (l : LookUp). FateHas R (fate_of c n x l)) (λ t. tt) (λ f. tt)
 
-    last_row : has_last w.end ≡ true → 1 ≤ length w.pieces
-        → AreServedOn s.asks (next_others ++ []) (still_waiting (map fate s.waiting))
-    last_row fine some = closed_on s.asks s.waiting served in_turn a on fate None keeps
+    last_row : {actions : List Action} → has_last w.end ≡ true → 1 ≤ length w.pieces
+        → AreServedOn Accepted actions s.asks (next_others ++ []) (still_waiting (map fate s.waiting))
+    last_row {actions} fine some = closed_on s.asks s.waiting served in_turn a on Accepted actions fate None keeps
         (all_of (λ x. waits_for a.question x ≡ true → FateHas (Asked a on None) (fate x))
         (λ x t. subst (FateHas (Asked a on None))
         (sym (cond-true (waits_for a.question x) _ _ t
@@ -374,14 +429,14 @@ module _ (c : Config) (n : ℕ) (words : List ℕ) (s : State) (served : AreServ
             × (fate x ≡ waits z))) are all).0
 
     -- with what all of them have, the ask is closed
-    sent_closed : (next : Option Ask) → AllByRecursion (Asked a on next) Ys
+    sent_closed : {actions : List Action} (next : Option Ask) → AllByRecursion (Asked a on next) Ys
         → NextHas (λ b. AnyByRecursion (λ y. waits_for b.question y ≡ true) (still_waiting (map fate s.waiting))) next
-        → NextHas (Spelled s.asks (still_waiting (map fate s.waiting))) next
-        → AreServedOn s.asks (next_others ++ ask_list next) (still_waiting (map fate s.waiting))
-    sent_closed next all wants spells = closed_on s.asks s.waiting served in_turn a on fate next keeps
-        (each_fate (Asked a on next) (waits_for a.question) fate s.waiting all) wants spells
+        → NextHas (Spelled Accepted actions s.asks (still_waiting (map fate s.waiting))) next
+        → AreServedOn Accepted actions s.asks (next_others ++ ask_list next) (still_waiting (map fate s.waiting))
+    sent_closed {actions} next all wants spells = closed_on s.asks s.waiting served in_turn a on Accepted actions fate
+        next keeps (each_fate (Asked a on next) (waits_for a.question) fate s.waiting all) wants spells
 
-    module _ (used : List Slot) (name : List (List ℕ)) (is : w.end ≡ elsewhere name) where
+    module _ (accepted : Accepted) (used : List Slot) (name : List (List ℕ)) (is : w.end ≡ elsewhere name) where
       abbrev after : State
       after = with_promoted used (with_preferred_server a s)
 
@@ -390,22 +445,26 @@ module _ (c : Config) (n : ℕ) (words : List ℕ) (s : State) (served : AreServ
         all_want = want_one name is y ys are
 
         -- an ask is for it, and comes next
-        next_named : (d : Ask) → d.question ≡ y.wanted
-            → AreServedOn s.asks (next_others ++ d ∷ []) (still_waiting (map fate s.waiting))
-        next_named d for_it = sent_closed (Some d)
+        next_named : {actions : List Action} (d : Ask) → d.question ≡ y.wanted
+            → AreServedOn Accepted actions s.asks (next_others ++ d ∷ []) (still_waiting (map fate s.waiting))
+        next_named {actions} d for_it = sent_closed {actions = actions} (Some d)
             (All-weaker (λ z. z.wanted ≡ y.wanted) (Asked a on (Some d))
             (λ z want. any_last (λ b. waits_for b.question z ≡ true) next_others (d ∷ [])
             (inl (ap (same_question z.wanted) (for_it ∙ sym want) ∙ same_as_itself z.wanted))) Ys all_want)
             (any_picked (λ z. waits_for d.question z ≡ true) (waits_for a.question) fate s.waiting
             (subst (AnyByRecursion (λ z. waits_for d.question z ≡ true)) (sym are)
             (inl (ap (same_question y.wanted) for_it ∙ same_as_itself y.wanted))))
-            (inr (any_picked (λ z. z.wanted ≡ d.question) (waits_for a.question) fate s.waiting
-            (subst (AnyByRecursion (λ z. z.wanted ≡ d.question)) (sym are) (inl (sym for_it)))))
+            (inr (inr (record {
+              anew = inr accepted;
+              wanted = any_picked (λ z. z.wanted ≡ d.question) (waits_for a.question) fate s.waiting
+                  (subst (AnyByRecursion (λ z. z.wanted ≡ d.question)) (sym are) (inl (sym for_it)));
+            })))
 
         -- no port is free
-        without_one : AreServedOn s.asks (next_others ++ [])
+        without_one : {actions : List Action} → AreServedOn Accepted actions s.asks (next_others ++ [])
             (still_waiting (map (unless_no_port fate a.question) s.waiting))
-        without_one = closed_on s.asks s.waiting served in_turn a on (unless_no_port fate a.question) None
+        without_one {actions} = closed_on s.asks s.waiting served in_turn a on Accepted actions
+            (unless_no_port fate a.question) None
             (λ x f. cond-false (waits_for a.question x) _ _ f)
             (all_of (λ x. waits_for a.question x ≡ true → FateHas (Asked a on None) (unless_no_port fate a.question x))
             (λ x t. subst (FateHas (Asked a on None)) (sym (cond-true (waits_for a.question x) _ _ t))
@@ -455,51 +514,61 @@ module _ (c : Config) (n : ℕ) (words : List ℕ) (s : State) (served : AreServ
         by (elsewhere name) h fine = absurd (false≢true fine)
         by lame h fine = absurd (false≢true fine)
 
-    end_row : (e : End) → w.end ≡ e → is_lame e ≡ false → K (row_of_end (turn c n words (with_preferred_server a s)) a w fate e)
-    end_row found is fine = last_row (ap has_last is) (some_pieces found is refl)
-    end_row ends_no_data is fine = last_row (ap has_last is) (some_pieces ends_no_data is refl)
-    end_row ends_denied is fine = last_row (ap has_last is) (some_pieces ends_denied is refl)
-    end_row (elsewhere name) is fine = sent_row (used_by c n s.cache.entries a w s.waiting) name is Ys refl
-    end_row lame is fine = absurd (true≢false fine)
+    end_row : Accepted → (e : End) → w.end ≡ e → is_lame e ≡ false
+        → K (row_of_end (turn c n words (with_preferred_server a s)) a w fate e)
+    end_row accepted found is fine = last_row (ap has_last is) (some_pieces found is refl)
+    end_row accepted ends_no_data is fine = last_row (ap has_last is) (some_pieces ends_no_data is refl)
+    end_row accepted ends_denied is fine = last_row (ap has_last is) (some_pieces ends_denied is refl)
+    end_row accepted (elsewhere name) is fine = sent_row accepted (used_by c n s.cache.entries a w s.waiting) name is Ys
+        refl
+    end_row accepted lame is fine = absurd (true≢false fine)
 
-    accepted_row : (rooms : List Bool) → is_lame w.end ≡ false → K (row_of_acceptance (turn c n words s) rooms a w)
-    accepted_row rooms fine = end_row w.end refl fine
+    accepted_row : (rooms : List Bool) → Accepted → is_lame w.end ≡ false
+        → K (row_of_acceptance (turn c n words s) rooms a w)
+    accepted_row rooms accepted fine = end_row accepted w.end refl fine
 
-    pub walk_row : (rooms : List Bool) → K (row_of_walk (turn c n words s) rooms a w)
-    walk_row rooms = cond_both (is_lame w.end) _ _ K (λ t. failure_row a on failure.Lame) (λ f. accepted_row rooms f)
+    pub walk_row : (rooms : List Bool) → (is_lame w.end ≡ false → Accepted)
+        → K (row_of_walk (turn c n words s) rooms a w)
+    walk_row rooms accepts = cond_both (is_lame w.end) _ _ K (λ t. failure_row a on failure.Lame)
+        (λ f. accepted_row rooms (accepts f) f)
 
   -- ---- a delivery
 
   module _ (past : List Step) (tried : AllByRecursion (Tried c past) s.asks) (path : Path) (from : Peer)
-      (octets : List ℕ) (rooms : List Bool) where
-    module _ (a : Ask) (on : ask_on a.path s.asks ≡ Some a) (route_is : route_of c a.question.name ≡ Some a.route) where
-      message_row : (r : Result Message Fault) → message_of octets ≡ r → K (row_of_message (turn c n words s) rooms a r)
-      message_row (Ok m) read = walk_row a on route_is m
+      (octets : List ℕ) (rooms : List Bool) (heard : GivesIfHeard c n s Accepted (delivery path from octets)) where
+    module _ (a : Ask) (there : ask_on path s.asks ≡ Some a) (live : nat_lt n (timeout_of c a) ≡ true) where
+      on : ask_on a.path s.asks ≡ Some a
+      on = own_path path a there
+
+      message_row : judge a from octets ≡ Whole → (r : Result Message Fault) → message_of octets ≡ r
+          → K (row_of_message (turn c n words s) rooms a r)
+      message_row whole (Ok m) read = walk_row a on (ask_on-is (Tried c past) path s.asks a there tried).1.on_route m
           (spelled_message_has_shapes octets m (read_spells octets m read)) rooms
-      message_row (Err fault) read = failure_row a on failure.Malformed
+          (λ fine. heard a there m live whole read fine)
+      message_row whole (Err fault) read = failure_row a on failure.Malformed
 
-      verdict_row : (v : Verdict) → K (row_of_verdict (turn c n words s) rooms a octets v)
-      verdict_row Stranger = same
-      verdict_row Truncated = failure_row a on failure.Truncated
-      verdict_row (Failed rcode) = failure_row a on failure.Rcode
-      verdict_row Malformed = failure_row a on failure.Malformed
-      verdict_row Whole = message_row (message_of octets) refl
+      verdict_row : (v : Verdict) → judge a from octets ≡ v → K (row_of_verdict (turn c n words s) rooms a octets v)
+      verdict_row Stranger is = same
+      verdict_row Truncated is = failure_row a on failure.Truncated
+      verdict_row (Failed rcode) is = failure_row a on failure.Rcode
+      verdict_row Malformed is = failure_row a on failure.Malformed
+      verdict_row Whole is = message_row is (message_of octets) refl
 
-    pub delivery_row : (r : Option Ask) → ask_on path s.asks ≡ r → K (row_of_delivery (turn c n words s) rooms from octets r)
-    delivery_row None on = same
-    delivery_row (Some a) on = cond_both (nat_lt n (timeout_of c a)) _ _ K
-        (λ t. verdict_row a (own_path path a on) (ask_on-is (Tried c past) path s.asks a on tried).1.on_route
-        (judge a from octets))
+    pub delivery_row : (r : Option Ask) → ask_on path s.asks ≡ r
+        → K (row_of_delivery (turn c n words s) rooms from octets r)
+    delivery_row None none = same
+    delivery_row (Some a) there = cond_both (nat_lt n (timeout_of c a)) _ _ K
+        (λ t. verdict_row a there t (judge a from octets) refl)
         (λ f. same)
 
   -- ---- each event
 
   pub event_row : (past : List Step) → AllByRecursion (Tried c past) s.asks → (e : Event) (d : Done)
-      → Happens (turn c n words s) e d → K d
-  event_row past tried (from_client client octets) d h = subst K (sym h) (request_row client octets)
-  event_row past tried (delivery path from octets) d h =
-      subst K (sym h.1) (delivery_row past tried path from octets h.0 (ask_on path s.asks) refl)
-  event_row past tried (path_failed path) d h = subst K (sym h) (path_row path (ask_on path s.asks) refl)
-  event_row past tried tick d h = subst K (sym h) tick_row
-  event_row past tried restart d h = subst K (sym h)
+      → GivesIfHeard c n s Accepted e → Happens (turn c n words s) e d → K d
+  event_row past tried (from_client client octets) d heard h = subst K (sym h) (request_row client octets)
+  event_row past tried (delivery path from octets) d heard h =
+      subst K (sym h.1) (delivery_row past tried path from octets h.0 heard (ask_on path s.asks) refl)
+  event_row past tried (path_failed path) d heard h = subst K (sym h) (path_row path (ask_on path s.asks) refl)
+  event_row past tried tick d heard h = subst K (sym h) tick_row
+  event_row past tried restart d heard h = subst K (sym h)
       (record { served = record { asked = tt; wanting = tt }; spelled = tt })

@@ -1,5 +1,5 @@
 -- Asks and those who wait for them: what one step leaves of both.
-use Rattle.std.proofs.Common.{◌≡◌, ◌∙◌, List, [], ◌∷◌, ◌++◌, Bool, true, false, cond, refl, sym, ap, subst, inl, inr, Option, Some, None, ◌⊎◌}
+use Rattle.std.proofs.Common.{◌≡◌, ◌∙◌, ◌+◌, List, [], ◌∷◌, ◌++◌, Bool, true, false, cond, refl, sym, ap, subst, inl, inr, Option, Some, None, ◌⊎◌}
 use Rattle.std.specs.Prelude.{map, filter, not}
 use Rattle.std.specs.List.{cons_option, AllByRecursion}
 use Rattle.std.proofs.lemmas.Bool.{true≢false, false≢true}
@@ -10,6 +10,8 @@ use Rattle.outstanding.specs.declared.ask.Path.{Path}
 use Rattle.outstanding.specs.Lists.{same_path, on_path as ask_on, of_question, without_path, AreInTurn, Follows}
 use Rattle.outstanding.specs.Values.{Ask}
 use Rattle.outstanding.proofs.CallerLemmas.{same_path_equal, all_without_path, question_free_without_path}
+use Rattle.step_values.specs.Values.{Action}
+use Rattle.step_history.specs.History.{closes_path}
 use Rattle.waiting_questions.specs.Values.{Waiting, waits_for}
 use Rattle.step_table.specs.Steps.{Fate, gets, waits, waiting_in, still_waiting, ask_list}
 use Rattle.step_table.proofs.CallerLemmas.{All-append, All-weaker, none_same}
@@ -45,12 +47,12 @@ any_cons P None xs any = any
 any_cons P (Some x) xs any = inr any
 
 -- of each list each is one of it
-pub each_is_one : {X Y : Type 0} (f : X → Y) (xs : List X) → AllByRecursion (λ x. AnyByRecursion (λ y. f y ≡ f x) xs) xs
-each_is_one f [] = tt
-each_is_one f (x ∷ xs) = (
+each_is_one : {X : Type 0} (xs : List X) → AllByRecursion (λ x. AnyByRecursion (λ y. y ≡ x) xs) xs
+each_is_one [] = tt
+each_is_one (x ∷ xs) = (
   inl refl,
-  All-weaker (λ z. AnyByRecursion (λ y. f y ≡ f z) xs)
-      (λ z. AnyByRecursion (λ y. f y ≡ f z) (x ∷ xs)) (λ z any. inr any) xs (each_is_one f xs),
+  All-weaker (λ z. AnyByRecursion (λ y. y ≡ z) xs) (λ z. AnyByRecursion (λ y. y ≡ z) (x ∷ xs)) (λ z any. inr any) xs
+      (each_is_one xs),
 )
 
 -- ---- equal questions
@@ -66,17 +68,6 @@ same_through p q r one two = (same_question_decides p r).1
     (same_question_transitive p q r ((same_question_decides p q).0 one) ((same_question_decides q r).0 two))
 
 -- ---- asks
-
--- what the ask on a path has, one of all has
-pub ask_on_any : (P : Ask → Type 0) (path : Path) (asks : List Ask) (a : Ask) → ask_on path asks ≡ Some a → P a
-    → AnyByRecursion P asks
-ask_on_any P path [] a e p = absurd (cc)
-ask_on_any P path (b ∷ asks) a e p = by (λ rest. ask_on_any P path asks a rest p) (same_path b.path path) e
-  where
-    by : (ask_on path asks ≡ Some a → AnyByRecursion P asks) → (v : Bool)
-        → cond v (Some b) (ask_on path asks) ≡ Some a → AnyByRecursion P (b ∷ asks)
-    by behind true e = let same : b ≡ a = cc in inl (subst P (sym same) p)
-    by behind false e = inr (behind e)
 
 -- the ask of a question is one of those that one who wants it waits for
 pub of_question_any : (x : Waiting) (asks : List Ask) (a : Ask) → of_question x.wanted asks ≡ Some a
@@ -223,22 +214,41 @@ all_wait_on (x ∷ xs) = ap (λ ys. x ∷ ys) (all_wait_on xs)
 
 -- ---- what a step leaves
 
--- the ask is spelled as one that was listed, or as what one wants who waits
-abbrev pub Spelled : List Ask → List Waiting → Ask → Type 0
-Spelled before waiting a = AnyByRecursion (λ b. b.question ≡ a.question) before
-    ⊎ AnyByRecursion (λ x. x.wanted ≡ a.question) waiting
+-- the ask follows one that these actions close: for its question, one try later
+pub record Retries (actions : List Action) (before : List Ask) (a : Ask) : Type 0 where
+  pub closed : Ask
+  pub on : ask_on closed.path before ≡ Some closed
+  pub closes : closes_path closed.path actions ≡ true
+  pub question : closed.question ≡ a.question
+  pub used : a.used ≡ closed.used + 1
+
+-- one wants it who waits, and these actions close nothing, or a reply was accepted
+pub record Opens (Accepted : Type 0) (actions : List Action) (waiting : List Waiting) (a : Ask) : Type 0 where
+  pub anew : ((path : Path) → closes_path path actions ≡ false) ⊎ Accepted
+  pub wanted : AnyByRecursion (λ x. x.wanted ≡ a.question) waiting
+
+-- the ask was there before, or follows one, or opens an inquiry
+abbrev pub Spelled : Type 0 → List Action → List Ask → List Waiting → Ask → Type 0
+Spelled Accepted actions before waiting a =
+    AnyByRecursion (λ b. b ≡ a) before ⊎ (Retries actions before a ⊎ Opens Accepted actions waiting a)
 
 -- those that wait and the asks serve each other, and each ask is spelled so
-pub record AreServedOn (before asks : List Ask) (waiting : List Waiting) : Type 0 where
+pub record AreServedOn (Accepted : Type 0) (actions : List Action) (before asks : List Ask) (waiting : List Waiting)
+    : Type 0 where
   pub served : AreServed asks waiting
-  pub spelled : AllByRecursion (Spelled before waiting) asks
+  pub spelled : AllByRecursion (Spelled Accepted actions before waiting) asks
 
-all_spelled : (asks : List Ask) (waiting : List Waiting) → AllByRecursion (Spelled asks waiting) asks
-all_spelled asks waiting = All-weaker (λ a. AnyByRecursion (λ b. b.question ≡ a.question) asks) (Spelled asks waiting)
-    (λ a any. inl any) asks (each_is_one (λ (a : Ask). a.question) asks)
+pub all_spelled : (Accepted : Type 0) (actions : List Action) (asks : List Ask) (waiting : List Waiting)
+    → AllByRecursion (Spelled Accepted actions asks waiting) asks
+all_spelled Accepted actions asks waiting = All-weaker (λ a. AnyByRecursion (λ b. b ≡ a) asks)
+    (Spelled Accepted actions asks waiting) (λ a any. inl any) asks (each_is_one asks)
 
-pub unchanged : (asks : List Ask) (waiting : List Waiting) → AreServed asks waiting → AreServedOn asks asks waiting
-unchanged asks waiting served = record { served = served; spelled = all_spelled asks waiting }
+pub unchanged : (Accepted : Type 0) (actions : List Action) (asks : List Ask) (waiting : List Waiting)
+    → AreServed asks waiting → AreServedOn Accepted actions asks asks waiting
+unchanged Accepted actions asks waiting served = record {
+  served = served;
+  spelled = all_spelled Accepted actions asks waiting;
+}
 
 -- what comes next, where something does
 abbrev pub NextHas : (Ask → Type 0) → Option Ask → Type 0
@@ -250,11 +260,14 @@ all_next : (P : Ask → Type 0) (asks : List Ask) (next : Option Ask) → AllByR
 all_next P asks None all has = All-append P asks [] all tt
 all_next P asks (Some a) all has = All-append P asks (a ∷ []) all (has, tt)
 
--- one more question waits, for a listed ask or for the next one
-pub taken_on : (asks : List Ask) (waiting : List Waiting) (x : Waiting) (next : Option Ask) → AreServed asks waiting
+-- one more question waits, for a listed ask or for the next one, and nothing is closed
+pub taken_on : (Accepted : Type 0) (actions : List Action) (asks : List Ask) (waiting : List Waiting) (x : Waiting)
+    (next : Option Ask)
+    → AreServed asks waiting → ((path : Path) → closes_path path actions ≡ false)
     → AnyByRecursion (λ a. waits_for a.question x ≡ true) (asks ++ ask_list next)
-    → NextHas (λ a. a.question ≡ x.wanted) next → AreServedOn asks (asks ++ ask_list next) (waiting ++ x ∷ [])
-taken_on asks waiting x next served own wanted = record {
+    → NextHas (λ a. a.question ≡ x.wanted) next
+    → AreServedOn Accepted actions asks (asks ++ ask_list next) (waiting ++ x ∷ [])
+taken_on Accepted actions asks waiting x next served none own wanted = record {
   served = record {
     asked = All-append (λ y. AnyByRecursion (λ a. waits_for a.question y ≡ true) (asks ++ ask_list next)) waiting
         (x ∷ [])
@@ -268,8 +281,8 @@ taken_on asks waiting x next served own wanted = record {
         (λ a any. any_first (λ y. waits_for a.question y ≡ true) waiting (x ∷ []) any) asks served.wanting)
         (wants next wanted);
   };
-  spelled = all_next (Spelled asks (waiting ++ x ∷ [])) asks next (all_spelled asks (waiting ++ x ∷ []))
-      (spells next wanted);
+  spelled = all_next (Spelled Accepted actions asks (waiting ++ x ∷ [])) asks next
+      (all_spelled Accepted actions asks (waiting ++ x ∷ [])) (spells next wanted);
 }
   where
     wants : (o : Option Ask) → NextHas (λ a. a.question ≡ x.wanted) o
@@ -278,9 +291,13 @@ taken_on asks waiting x next served own wanted = record {
     wants (Some a) has = any_last (λ y. waits_for a.question y ≡ true) waiting (x ∷ [])
         (inl (ap (same_question x.wanted) has ∙ same_as_itself x.wanted))
 
-    spells : (o : Option Ask) → NextHas (λ a. a.question ≡ x.wanted) o → NextHas (Spelled asks (waiting ++ x ∷ [])) o
+    spells : (o : Option Ask) → NextHas (λ a. a.question ≡ x.wanted) o
+        → NextHas (Spelled Accepted actions asks (waiting ++ x ∷ [])) o
     spells None has = tt
-    spells (Some a) has = inr (any_last (λ y. y.wanted ≡ a.question) waiting (x ∷ []) (inl (sym has)))
+    spells (Some a) has = inr (inr (record {
+      anew = inl none;
+      wanted = any_last (λ y. y.wanted ≡ a.question) waiting (x ∷ []) (inl (sym has));
+    }))
 
 module _ (asks : List Ask) (waiting : List Waiting) (served : AreServed asks waiting) (in_turn : AreInTurn asks)
     (a : Ask) (on : ask_on a.path asks ≡ Some a) where
@@ -294,15 +311,15 @@ module _ (asks : List Ask) (waiting : List Waiting) (served : AreServed asks wai
 
   -- An ask is closed. Who doesn't wait for it waits on as before; who does gets a reply, or waits on for another ask or
   -- the next one; and what comes next is wanted.
-  pub closed_on : (fate : Waiting → Fate) (next : Option Ask)
+  pub closed_on : (Accepted : Type 0) (actions : List Action) (fate : Waiting → Fate) (next : Option Ask)
       → ((x : Waiting) → waits_for a.question x ≡ false → fate x ≡ waits x)
       → AllByRecursion (λ x. waits_for a.question x ≡ true
       → FateHas (λ y. AnyByRecursion (λ b. waits_for b.question y ≡ true) (others ++ ask_list next))
       (fate x)) waiting
       → NextHas (λ b. AnyByRecursion (λ y. waits_for b.question y ≡ true) (still_waiting (map fate waiting))) next
-      → NextHas (Spelled asks (still_waiting (map fate waiting))) next
-      → AreServedOn asks (others ++ ask_list next) (still_waiting (map fate waiting))
-  closed_on fate next keeps sends wants spells = record {
+      → NextHas (Spelled Accepted actions asks (still_waiting (map fate waiting))) next
+      → AreServedOn Accepted actions asks (others ++ ask_list next) (still_waiting (map fate waiting))
+  closed_on Accepted actions fate next keeps sends wants spells = record {
     served = record {
       asked = all_still Asked fate waiting (each waiting served.asked sends);
       wanting = all_next (λ b. AnyByRecursion (λ y. waits_for b.question y ≡ true)
@@ -310,9 +327,9 @@ module _ (asks : List Ask) (waiting : List Waiting) (served : AreServed asks wai
           (both others apart (all_without_path (λ b. AnyByRecursion
           (λ y. waits_for b.question y ≡ true) waiting) a.path asks served.wanting)) wants;
     };
-    spelled = all_next (Spelled asks (still_waiting (map fate waiting))) others next
-        (all_without_path (Spelled asks (still_waiting (map fate waiting))) a.path asks
-        (all_spelled asks (still_waiting (map fate waiting)))) spells;
+    spelled = all_next (Spelled Accepted actions asks (still_waiting (map fate waiting))) others next
+        (all_without_path (Spelled Accepted actions asks (still_waiting (map fate waiting))) a.path asks
+        (all_spelled Accepted actions asks (still_waiting (map fate waiting)))) spells;
   }
     where
       Asked : Waiting → Type 0

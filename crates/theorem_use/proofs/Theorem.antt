@@ -20,7 +20,7 @@ use Rattle.record_cache.specs.Values.{Held, Cache}
 use Rattle.record_cache.specs.Entries.{AreHeld}
 use Rattle.step_values.specs.declared.event.Client.{Client}
 use Rattle.step_values.specs.Values.{Event, from_client, delivery, path_failed, tick, restart, Request, Delivered, Handed, Outcome, Step}
-use Rattle.step_history.specs.History.{is_restart, moment_at, Carries}
+use Rattle.step_history.specs.History.{is_restart, moment_at, Carries, NothingAccepted}
 use Rattle.step_values.specs.Requests.{is_taken}
 use Rattle.step_history.specs.Carried.{CarriedInEra, then_carried}
 use Rattle.step_history.specs.Sound.{unanswered}
@@ -43,7 +43,7 @@ use Rattle.theorem_use.specs.Use.{IsOneOf, HasFewSlots, FoundMemory, HasRoom, As
 use Rattle.theorem_use.specs.Mirrors.{Mirrors, IsMirrored, FullyExplains, StaysFullyExplained}
 use Rattle.theorem_use.specs.Service.{ServesTruly, ComesTo, ServesOnTruly}
 use Rattle.theorem_use.proofs.Asked.{AreServedOn}
-use Rattle.theorem_use.proofs.AskRows.{event_row}
+use Rattle.theorem_use.proofs.AskRows.{GivesIfHeard, event_row}
 use Rattle.theorem_use.proofs.AskHistory.{asks_for_waiting}
 use Rattle.theorem_use.proofs.AtOnce.{IsHit, is_hit, hit_is, is_hit_so, IsOwnAnswer, hit_is_owned}
 use Rattle.theorem_use.proofs.Ending.{Ends, look_up_ends}
@@ -357,9 +357,22 @@ row_fully_explained c past w s h o s' both r = (
     used = used_after c past w s both.explained both.mirrored h.now h.words o.unkept o.more h.event r.octets d r.happens
         r.more (row_explained c past w s h o s' both.explained r)
 
-    on : AreServedOn s.asks s'.asks s'.waiting
-    on = event_row c (effective h.now s) h.words s both.served both.explained.asks_are.in_turn past
-        both.explained.tried h.event d r.happens
+    -- an accepted delivery carries something
+    gives : (e : Event) → HandsOctets e
+        → GivesIfHeard c (effective h.now s) s (NothingAccepted c (record { handed = record h { event = e }; outcome = o })
+        past → ⊥) e
+    gives (from_client client octets) are = tt
+    gives (delivery path from octets) are = λ a there m live whole read fine quiet. quiet
+        ((walk_of c m a.question a.route).pieces ++ (walk_of c m a.question a.route).authority)
+        (carries c past w s both.explained h.now h.words o.unkept o.more path from octets [] are a there m live whole read
+        fine o.actions)
+    gives (path_failed path) are = tt
+    gives tick are = tt
+    gives restart are = tt
+
+    on : AreServedOn (NothingAccepted c t past → ⊥) o.actions s.asks s'.asks s'.waiting
+    on = event_row c (effective h.now s) h.words s both.served both.explained.asks_are.in_turn
+        (NothingAccepted c t past → ⊥) past both.explained.tried h.event d (gives h.event r.octets) r.happens
 
 pub row_stays_fully_explained : (c : Config) (s : State) (h : Handed) (o : Outcome) (s' : State) → Row c s h o s'
     → StaysFullyExplained c s h o s'

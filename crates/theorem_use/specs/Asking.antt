@@ -8,8 +8,9 @@ use Rattle.outstanding.specs.Values.{Ask}
 use Rattle.record_cache.specs.Values.{Held}
 use Rattle.step_values.specs.declared.event.Client.{Client}
 use Rattle.step_values.specs.Values.{Step}
-use Rattle.step_history.specs.History.{InEra, ShownAsk, listed, Reads, Sends}
+use Rattle.step_history.specs.History.{InEra, ShownAsk, listed, NothingAccepted, Reads, Sends}
 use Rattle.step_history.specs.Answers.{Leads}
+use Rattle.step_history.specs.Causes.{ClosesAsk}
 use Rattle.step_history.specs.Sound.{unanswered}
 use Rattle.waiting_questions.specs.Values.{Waiting, waits_for}
 
@@ -46,27 +47,45 @@ pub record Asks (a : ShownAsk) (wanted : Question) : Type 0 where
   pub reads : Reads a.octets question
   pub same : same_question wanted question ≡ true
 
--- what the ask asks is, in its spelling, what an ask that was listed before asked, or what a question wants
-pub record IsSpelled (before : List ShownAsk) (wanted : List Question) (a : ShownAsk) : Type 0 where
+-- the ask was listed before the newest step, as it is
+abbrev pub WasListed : List Step → ShownAsk → Type 0
+WasListed past a = AnyByRecursion (λ b. b ≡ a) (listed past)
+
+-- an ask for this opens an inquiry: the step closed none that failed for it, and a question that waits wants it, in this
+-- spelling
+pub record OpensInquiry (c : Config) (s : Step) (past : List Step) (wanted : List Question) (q : Question) : Type 0
+  where
+    pub anew : ClosesAsk q s past → NothingAccepted c s past → ⊥
+    pub spelled : AnyByRecursion (λ w. w ≡ q) wanted
+
+-- an ask for this follows a failed one: the step closed one for it, in this spelling, and accepted nothing
+pub record FollowsFailed (c : Config) (s : Step) (past : List Step) (q : Question) : Type 0 where
+  pub closes : ClosesAsk q s past
+  pub failed : NothingAccepted c s past
+  pub spelled : closes.asked ≡ q
+
+-- an ask of the step has the spelling of what is wanted where it opens an inquiry, and that of the failed ask where it
+-- follows one
+pub record IsSpelled (c : Config) (s : Step) (past : List Step) (wanted : List Question) (a : ShownAsk) : Type 0 where
   pub question : Question
   pub reads : Reads a.octets question
-  pub from : AnyByRecursion (λ b. Reads b.octets question) before ⊎ AnyByRecursion (λ q. q ≡ question) wanted
+  pub from : OpensInquiry c s past wanted question ⊎ FollowsFailed c s past question
 
--- After the newest step each question that waits wants what a listed ask asks, and each listed ask is wanted by one; an
--- ask that the step opened has the spelling of what one wants, one that follows another ask the spelling of that.
-pub record AsksForWaiting (c : Config) (past : List Step) (now : List Step) (owners : List ℕ) : Type 0 where
+-- After the newest step each question that waits wants what a listed ask asks, and each listed ask is wanted by one; and
+-- each that was not listed before is spelled so.
+pub record AsksForWaiting (c : Config) (s : Step) (past : List Step) (owners : List ℕ) : Type 0 where
   pub wanted : List Question
-  pub each : EachWants c now (unanswered now owners) wanted
-  pub asked : AllByRecursion (λ q. AnyByRecursion (λ a. Asks a q) (listed now)) wanted
-  pub wanting : AllByRecursion (λ a. AnyByRecursion (Asks a) wanted) (listed now)
-  pub spelled : AllByRecursion (IsSpelled (listed past) wanted) (listed now)
+  pub each : EachWants c (s ∷ past) (unanswered (s ∷ past) owners) wanted
+  pub asked : AllByRecursion (λ q. AnyByRecursion (λ a. Asks a q) (listed (s ∷ past))) wanted
+  pub wanting : AllByRecursion (λ a. AnyByRecursion (Asks a) wanted) (listed (s ∷ past))
+  pub spelled : AllByRecursion (λ a. WasListed past a ⊎ IsSpelled c s past wanted a) (listed (s ∷ past))
 
 -- So it is after every step. w has for each step, the newest first, the owners of its replies.
 abbrev pub AsksForThoseWhoWait : Config → List Step → List (List ℕ) → Type 0
 AsksForThoseWhoWait c [] w = Unit {0}
 AsksForThoseWhoWait c (s ∷ past) [] = ⊥
 AsksForThoseWhoWait c (s ∷ past) (is ∷ w) =
-    AsksForThoseWhoWait c past w × AsksForWaiting c past (s ∷ past) (concat (is ∷ w))
+    AsksForThoseWhoWait c past w × AsksForWaiting c s past (concat (is ∷ w))
 
 -- each of these waits for one of those asks, and one of them for each ask
 pub record AreServed (asks : List Ask) (waiting : List Waiting) : Type 0 where

@@ -21,7 +21,8 @@ pub record ServesTruly (c : Config) (steps : List Step) : Type 0 where
   -- 5452 9.2).
   pub asks : AsksWell c (reverse steps)
   -- After every step each waiting question wants what a listed ask asks, and each listed ask is wanted by one (RFC 1034
-  -- 3.6.2): in its spelling, where the step opened it, with the same owners.
+  -- 3.6.2). An ask of the step has the spelling of what is wanted, or of the failed ask that it follows. With the same
+  -- owners.
   pub waiting : AsksForThoseWhoWait c (reverse steps) sound.owners
   -- Of which enough stands of what was carried (RFC 2181 5.4.1), that is answered at once, where the cache has room: by
   -- one reply, which that question owns, with the same owners.
