@@ -41,12 +41,12 @@ none_is : (rank route : ℕ) (records : List Record) → set_of rank route recor
 none_is rank route [] e = refl
 none_is rank route (first ∷ others) e = absurd (cc)
 
-lacks : (r : Reply) (kind : ℕ) (name : List (List ℕ)) → answer_set r kind name ≡ None → LacksAt r kind name
+pub lacks : (r : Reply) (kind : ℕ) (name : List (List ℕ)) → answer_set r kind name ≡ None → LacksAt r kind name
 lacks r kind name e s fits =
     let q : Question = at_name r kind name in
     subst (IsOneOf s) (none_is (rank_at r name) r.route (records_for q r.answers) e) (is_for q r.answers s fits)
 
-no_set : (r : Reply) (kind : ℕ) (name : List (List ℕ)) → LacksAt r kind name → answer_set r kind name ≡ None
+pub no_set : (r : Reply) (kind : ℕ) (name : List (List ℕ)) → LacksAt r kind name → answer_set r kind name ≡ None
 no_set r kind name none = let q : Question = at_name r kind name in
     (elim (records_for q r.answers) as
     (λ l. records_for q r.answers ≡ l → set_of (rank_at r name) r.route l ≡ None) [
@@ -56,7 +56,7 @@ no_set r kind name none = let q : Question = at_name r kind name in
     ]) refl
 
 -- with no alias that counts, there is none: a question for CNAME has no set there either
-no_alias : (r : Reply) (name : List (List ℕ)) → answer_set r r.question.kind name ≡ None → alias_set r name ≡ None
+pub no_alias : (r : Reply) (name : List (List ℕ)) → answer_set r r.question.kind name ≡ None → alias_set r name ≡ None
     → LacksAt r 5 name
 no_alias r name set alias = (elim (r.question.kind == 5) as
     (λ b. (r.question.kind == 5) ≡ b → cond b None (answer_set r 5 name) ≡ None → LacksAt r 5 name) [
@@ -200,7 +200,7 @@ alias_leads q rank route answers p target b e =
     leads_alone (with_all_data (b.first.rdata ∷ []) b.others) target
     (ap (λ (x : Piece). target_of x.body) b.piece_is ∙ e)
 
-alias_at : (r : Reply) (is_first : Bool) (name target : List (List ℕ)) (p : Piece)
+pub alias_at : (r : Reply) (is_first : Bool) (name target : List (List ℕ)) (p : Piece)
     → met_at r is_first name ≡ met_alias p target → IsAliasAt r name target
 alias_at r is_first name target p e =
     let h : MetAlias target (is_on_route r name) (answer_set r r.question.kind name) (alias_set r name) p =
@@ -268,21 +268,28 @@ walk_denied r (suc left) is_first name e = go_denied r left is_first name (λ ta
 
 -- ---- and there it does
 
-error_met : (r : Reply) (is_first : Bool) (name : List (List ℕ)) → IsDeniedAt r name
-    → met_at r is_first name ≡ met_name_error (name_error_at r name)
-error_met r is_first name d =
+-- where neither the asked set nor an alias stands at a name on the route, its denial is met
+pub denial_is_met : (r : Reply) (is_first : Bool) (name : List (List ℕ))
+    → route_of r.config.routes name ≡ Some r.route → LacksAt r r.question.kind name → LacksAt r 5 name
+    → met_at r is_first name ≡ denial_at r is_first name
+denial_is_met r is_first name on_route set alias =
     let denial : AtName = denial_at r is_first name in
     cond-true (is_on_route r name) (set_or r.question.kind (answer_set r r.question.kind name)
-    (alias_or (alias_set r name) denial)) met_nothing (is_on r name d.on_route)
+    (alias_or (alias_set r name) denial)) met_nothing (is_on r name on_route)
     ∙ ap (λ (o : Option Piece). set_or r.question.kind o (alias_or (alias_set r name) denial))
-    (no_set r r.question.kind name d.no_set)
+    (no_set r r.question.kind name set)
     ∙ ap (λ (o : Option Piece). alias_or o denial)
-    (none_either (r.question.kind == 5) (answer_set r 5 name) (no_set r 5 name d.no_alias))
-    ∙ cond-true (r.rcode == 3) (met_name_error (name_error_at r name)) _ (eq-eqb r.rcode 3 d.rcode)
+    (none_either (r.question.kind == 5) (answer_set r 5 name) (no_set r 5 name alias))
   where
     none_either : (b : Bool) (o : Option Piece) → o ≡ None → cond b None o ≡ None
     none_either true o e = refl
     none_either false o e = e
+
+error_met : (r : Reply) (is_first : Bool) (name : List (List ℕ)) → IsDeniedAt r name
+    → met_at r is_first name ≡ met_name_error (name_error_at r name)
+error_met r is_first name d =
+    denial_is_met r is_first name d.on_route d.no_set d.no_alias
+    ∙ cond-true (r.rcode == 3) (met_name_error (name_error_at r name)) _ (eq-eqb r.rcode 3 d.rcode)
 
 -- a list of one datum, and no other
 one_list : (each : List (List ℕ)) (datum : List ℕ) → ((x : List ℕ) → IsOneOf x each → x ≡ datum) → NoneTwice each
@@ -301,12 +308,12 @@ same_data q records each datum a b =
     (let d = b.only datum (inl refl) in subst (λ (x : List ℕ). IsOneOf x each) d.datum_is (a.whole d.r d.fits))
 
 -- the alias piece of a name that has one
-record HasAlias (r : Reply) (name target : List (List ℕ)) : Type 0 where
+pub record HasAlias (r : Reply) (name target : List (List ℕ)) : Type 0 where
   pub alias : Piece
   pub there : answer_set r 5 name ≡ Some alias
   pub leads_to : target_of alias.body ≡ Some target
 
-has_alias : (r : Reply) (name target : List (List ℕ)) → IsAliasAt r name target → HasAlias r name target
+pub has_alias : (r : Reply) (name target : List (List ℕ)) → IsAliasAt r name target → HasAlias r name target
 has_alias r name target a = let q : Question = at_name r 5 name in
     (elim (records_for q r.answers) as (λ l. records_for q r.answers ≡ l → HasAlias r name target) [
       | [] ↦ λ is. let d = a.alone.only a.datum (inl refl) in
@@ -322,7 +329,7 @@ has_alias r name target a = let q : Question = at_name r 5 name in
           }
     ]) refl
 
-alias_met : (r : Reply) (is_first : Bool) (name target : List (List ℕ)) (a : IsAliasAt r name target)
+pub alias_met : (r : Reply) (is_first : Bool) (name target : List (List ℕ)) (a : IsAliasAt r name target)
     (h : HasAlias r name target) → met_at r is_first name ≡ met_alias h.alias target
 alias_met r is_first name target a h =
     let denial : AtName = denial_at r is_first name in

@@ -3,6 +3,8 @@ pub mod Sets
 pub mod Walks
 pub mod Ranks
 pub mod Denials
+pub mod Lifetimes
+pub mod Ends
 pub mod Servers
 pub mod LookUps
 pub mod Worked

@@ -1,6 +1,6 @@
 -- What stands in lists that are put together.
 use Rattle.std.proofs.Common.{◌≡◌, ◌⊎◌, inl, inr, List, [], ◌∷◌, ◌++◌, sym}
-use Rattle.cache_laws.specs.Lists.{IsOneOf, NoneTwice}
+use Rattle.cache_laws.specs.Lists.{IsOneOf, NoneTwice, IsBefore}
 
 pub before : {X : Type 0} (x : X) (xs ys : List X) → IsOneOf x xs → IsOneOf x (xs ++ ys)
 before x [] ys h = absurd h
@@ -34,3 +34,17 @@ once_more (x ∷ xs) y once new = (
   ],
   once_more xs y once.1 (λ there. new (inr there)),
 )
+
+-- one before another in a list with a new last one: both are old, or the second is the last
+pub before_last : {X : Type 0} (x y z : X) (xs : List X) → IsBefore x y (xs ++ z ∷ [])
+    → IsBefore x y xs ⊎ (IsOneOf x xs × (y ≡ z))
+before_last x y z [] (inl h) = absurd h.1
+before_last x y z [] (inr h) = absurd h
+before_last x y z (w ∷ xs) (inl h) = elim (one_of_both y xs (z ∷ []) h.1) [
+  | inl old ↦ inl (inl (h.0, old))
+  | inr last ↦ inr (inl h.0, only_one y z last)
+]
+before_last x y z (w ∷ xs) (inr h) = elim (before_last x y z xs h) [
+  | inl old ↦ inl (inr old)
+  | inr last ↦ inr (inr last.0, last.1)
+]

@@ -238,8 +238,18 @@ of_answers r = record {
       let q : Question = record { name = name; kind = kind; class = r.question.class } in
       let b = begins _ r.route (records_for q r.answers) p e in
       subst (IsSetFrom r.answers) b.piece_is (set_from q _ r.route r.answers b.first b.others b.records_are);
-  none = λ name. record { data_are = λ kind each _ body. absurd (cc); lives = λ kind each _ body. absurd (cc) };
-  errors = λ name. record { data_are = λ kind each _ body. absurd (cc); lives = λ kind each _ body. absurd (cc) };
+  none = λ name. record {
+    data_are = λ kind each _ body. absurd (cc);
+    in_order = λ kind each _ body. absurd (cc);
+    spelled = λ kind each _ body. absurd (cc);
+    lives = λ kind each _ body. absurd (cc);
+  };
+  errors = λ name. record {
+    data_are = λ kind each _ body. absurd (cc);
+    in_order = λ kind each _ body. absurd (cc);
+    spelled = λ kind each _ body. absurd (cc);
+    lives = λ kind each _ body. absurd (cc);
+  };
 }
 
 pub sets_are_whole : SetsAreWhole

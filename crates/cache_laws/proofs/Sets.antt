@@ -1,5 +1,5 @@
 -- The data and the lifetime of a set.
-use Rattle.std.proofs.Common.{◌≡◌, ℕ, ◌^◌, ◌≤◌, true, false, cond, ◌⊎◌, inl, inr, List, [], ◌∷◌, ◌++◌}
+use Rattle.std.proofs.Common.{◌≡◌, ◌≢◌, ℕ, ◌^◌, ◌≤◌, true, false, cond, ◌⊎◌, inl, inr, List, [], ◌∷◌, ◌++◌}
 use Rattle.std.proofs.Common.{Some, refl, sym, ap, ◌∙◌, subst, arith}
 use Rattle.std.specs.Prelude.{min, nat_le, ◌==◌, ◌&&◌, ◌||◌}
 use Rattle.std.specs.List.{list_any}
@@ -14,9 +14,10 @@ use Rattle.dns_message.specs.Values.{Question, Record}
 use Rattle.trust_rank.specs.Values.{rows, Piece}
 use Rattle.trust_rank.specs.Sets.{is_of, records_for, with_data, with_all_data, seconds_of, lifetime_within, longest}
 use Rattle.trust_rank.specs.Sets.{set_with, set_of}
-use Rattle.cache_laws.specs.Lists.{IsOneOf, NoneTwice}
-use Rattle.cache_laws.specs.Sets.{IsRecordFor, AreDataOf, HasSeconds, IsLowestTtl, IsSetFrom, TopBitIsNone}
-use Rattle.cache_laws.proofs.Lists.{before, behind, one_of_both, only_one, once_more}
+use Rattle.cache_laws.specs.Lists.{IsOneOf, NoneTwice, IsBefore}
+use Rattle.cache_laws.specs.Sets.{IsRecordFor, AreDataOf, ComesFirst, AreInOrder, FirstOwns, HasSeconds, IsLowestTtl}
+use Rattle.cache_laws.specs.Sets.{IsSetFrom, TopBitIsNone}
+use Rattle.cache_laws.proofs.Lists.{before, behind, one_of_both, only_one, once_more, before_last}
 
 -- ---- data that is there already is left out
 
@@ -174,6 +175,104 @@ data_of_set q records first others is = record {
   once = all_once (first.rdata ∷ []) others (λ none. none, tt);
 }
 
+-- ---- the order of the data, and the first owner
+
+-- of two data the first is met first
+abbrev MetFirst : List Record → List ℕ → List ℕ → Type 0
+MetFirst [] x y = ⊥
+MetFirst (r ∷ records) x y = (r.rdata ≡ x) ⊎ ((r.rdata ≢ y) × MetFirst records x y)
+
+-- the second is new, and the first is there or is met first
+abbrev Later : List (List ℕ) → List Record → List ℕ → List ℕ → Type 0
+Later kept records x y = (IsOneOf y kept → ⊥) × (IsOneOf x kept ⊎ MetFirst records x y)
+
+with_order : (kept : List (List ℕ)) (octets x y : List ℕ) → IsBefore x y (with_data kept octets)
+    → IsBefore x y kept ⊎ (IsOneOf x kept × (IsOneOf y kept → ⊥))
+with_order kept octets x y = cond_both (list_any (same_octets octets) kept) kept (kept ++ octets ∷ [])
+    (λ (l : List (List ℕ)). IsBefore x y l → IsBefore x y kept ⊎ (IsOneOf x kept × (IsOneOf y kept → ⊥)))
+    (λ _ h. inl h)
+    (λ f h. elim (before_last x y octets kept h) [
+      | inl old ↦ inl old
+      | inr last ↦ inr (
+        last.0,
+        λ there. is_not_there octets kept f (subst (λ (o : List ℕ). IsOneOf o kept) last.1 there),
+      )
+    ])
+
+later_on : (kept : List (List ℕ)) (s : Record) (records : List Record) (x y : List ℕ)
+    → Later (with_data kept s.rdata) records x y → Later kept (s ∷ records) x y
+later_on kept s records x y later =
+    let new : IsOneOf y kept → ⊥ = λ there. later.0 (with_keeps kept s.rdata y there) in
+    elim later.1 [
+      | inl one ↦ elim (with_only kept s.rdata x one) [
+        | inl old ↦ (new, inl old)
+        | inr own ↦ (new, inr (inl (sym own)))
+      ]
+      | inr rest ↦ (
+        new,
+        inr (inr (
+          λ is. later.0 (subst (λ (o : List ℕ). IsOneOf o (with_data kept s.rdata)) is (with_has kept s.rdata)),
+          rest,
+        )),
+      )
+    ]
+
+all_order : (kept : List (List ℕ)) (records : List Record) (x y : List ℕ) → IsBefore x y (with_all_data kept records)
+    → IsBefore x y kept ⊎ Later kept records x y
+all_order kept [] x y h = inl h
+all_order kept (s ∷ records) x y h = elim (all_order (with_data kept s.rdata) records x y h) [
+  | inl both ↦ elim (with_order kept s.rdata x y both) [
+    | inl old ↦ inl old
+    | inr new ↦ inr (new.1, inl new.0)
+  ]
+  | inr later ↦ inr (later_on kept s records x y later)
+]
+
+order_of_set : (first : Record) (others : List Record) (x y : List ℕ)
+    → IsBefore x y (with_all_data (first.rdata ∷ []) others) → MetFirst (first ∷ others) x y
+order_of_set first others x y h = elim (all_order (first.rdata ∷ []) others x y h) [
+  | inl both ↦ elim both [
+    | inl none ↦ absurd none.1
+    | inr none ↦ absurd none
+  ]
+  | inr later ↦ elim later.1 [
+    | inl one ↦ inl (sym (only_one x first.rdata one))
+    | inr rest ↦ inr (λ is. later.0 (inl (sym is)), rest)
+  ]
+]
+
+comes_first : (q : Question) (records : List Record) (x y : List ℕ) → MetFirst (records_for q records) x y
+    → ComesFirst q records x y
+comes_first q [] x y h = absurd h
+comes_first q (r ∷ records) x y h = (elim (is_of q r) as
+    (λ b. is_of q r ≡ b → MetFirst (cond b (r ∷ records_for q records) (records_for q records)) x y
+    → ComesFirst q (r ∷ records) x y) [
+      | true ↦ λ is met. elim met [
+        | inl first ↦ inl (of_test q (r ∷ records) r (inl refl) is, first)
+        | inr rest ↦ inr (λ fits. rest.0, comes_first q records x y rest.1)
+      ]
+      | false ↦ λ other met. inr (
+        λ fits is. both_ways (is_of q r) other (fits_test q (r ∷ records) r fits),
+        comes_first q records x y met,
+      )
+    ]) refl h
+
+first_owns : (q : Question) (records : List Record) (first : Record) (others : List Record)
+    → records_for q records ≡ first ∷ others → FirstOwns q records first.owner
+first_owns q [] first others e = absurd (cc)
+first_owns q (r ∷ records) first others e = (elim (is_of q r) as
+    (λ b. is_of q r ≡ b → cond b (r ∷ records_for q records) (records_for q records) ≡ first ∷ others
+    → FirstOwns q (r ∷ records) first.owner) [
+      | true ↦ λ is begun. inl (
+        of_test q (r ∷ records) r (inl refl) is,
+        ap (λ (x : Record). x.owner) (let same : r ≡ first = cc in same),
+      )
+      | false ↦ λ other begun. inr (
+        λ fits. both_ways (is_of q r) other (fits_test q (r ∷ records) r fits),
+        first_owns q records first others begun,
+      )
+    ]) refl e
+
 -- ---- lifetimes
 
 within_most : (most : ℕ) (records : List Record) → lifetime_within most records ≤ most
@@ -192,7 +291,7 @@ within_each most (s ∷ records) r (inl e) =
     least a b c h = omega (arith, h)
 within_each most (s ∷ records) r (inr rest) = within_each (min most (seconds_of s.ttl)) records r rest
 
-min_is_one : (a b : ℕ) → (min a b ≡ a) ⊎ (min a b ≡ b)
+pub min_is_one : (a b : ℕ) → (min a b ≡ a) ⊎ (min a b ≡ b)
 min_is_one a b = (elim (nat_le a b) as (λ t. nat_le a b ≡ t → (min a b ≡ a) ⊎ (min a b ≡ b)) [
   | true ↦ λ is. inl (grind (arith, nat_tests))
   | false ↦ λ is. inr (grind (arith, nat_tests))
@@ -266,6 +365,24 @@ own_data q first records each s h = record {
   once = h.once;
 }
 
+own_order : (q : Question) (first : Record) (records : List Record) (x y : List ℕ) → Slotted q first
+    → ComesFirst q records x y → ComesFirst (question_for first) records x y
+own_order q first [] x y s h = absurd h
+own_order q first (r ∷ records) x y s (inl h) = inl (other_for q first (r ∷ records) r s h.0, h.1)
+own_order q first (r ∷ records) x y s (inr h) = inr (
+  λ fits. h.0 (back_for q first (r ∷ records) r s fits),
+  own_order q first records x y s h.1,
+)
+
+own_spelling : (q : Question) (first : Record) (records : List Record) (owner : List (List ℕ)) → Slotted q first
+    → FirstOwns q records owner → FirstOwns (question_for first) records owner
+own_spelling q first [] owner s h = absurd h
+own_spelling q first (r ∷ records) owner s (inl h) = inl (other_for q first (r ∷ records) r s h.0, h.1)
+own_spelling q first (r ∷ records) owner s (inr h) = inr (
+  λ fits. h.0 (back_for q first (r ∷ records) r s fits),
+  own_spelling q first records owner s h.1,
+)
+
 own_life : (q : Question) (first : Record) (records : List Record) (lifetime : ℕ) → Slotted q first
     → IsLowestTtl q records lifetime → IsLowestTtl (question_for first) records lifetime
 own_life q first records lifetime s h =
@@ -294,6 +411,16 @@ set_from q rank route records first others is =
           (subst (AreDataOf (question_for first) records) (rows_are (with_all_data (first.rdata ∷ []) others) each body)
           (own_data q first records (with_all_data (first.rdata ∷ []) others) at
           (data_of_set q records first others is)));
+      in_order = λ kind each slot body.
+          subst (λ (k : ℕ). AreInOrder (record { name = first.owner; kind = k; class = first.class }) records each)
+          (some_is first.kind kind slot)
+          (subst (AreInOrder (question_for first) records) (rows_are (with_all_data (first.rdata ∷ []) others) each body)
+          (λ x y h. own_order q first records x y at (comes_first q records x y
+          (subst (λ (l : List Record). MetFirst l x y) (sym is) (order_of_set first others x y h)))));
+      spelled = λ kind each slot body.
+          subst (λ (k : ℕ). FirstOwns (record { name = first.owner; kind = k; class = first.class }) records first.owner)
+          (some_is first.kind kind slot)
+          (own_spelling q first records first.owner at (first_owns q records first others is));
       lives = λ kind each slot body.
           subst (λ (k : ℕ). IsLowestTtl (record { name = first.owner; kind = k; class = first.class }) records
           (lifetime_within (min longest (seconds_of first.ttl)) others)) (some_is first.kind kind slot)

@@ -10,3 +10,8 @@ IsOneOf x (y ∷ ys) = (x ≡ y) ⊎ IsOneOf x ys
 abbrev pub NoneTwice : {X : Type 0} → List X → Type 0
 NoneTwice [] = Unit {0}
 NoneTwice (x ∷ xs) = (IsOneOf x xs → ⊥) × NoneTwice xs
+
+-- the first of two stands before the second
+abbrev pub IsBefore : {X : Type 0} → X → X → List X → Type 0
+IsBefore x y [] = ⊥
+IsBefore x y (z ∷ zs) = ((x ≡ z) × IsOneOf y zs) ⊎ IsBefore x y zs

@@ -1,5 +1,5 @@
 -- The record sets of a reply: RFC 2181 5 and 8.
-use Rattle.std.specs.Prelude.{◌≡◌, ℕ, ◌^◌, ◌<◌, ◌≤◌, ◌⊎◌, List, Some}
+use Rattle.std.specs.Prelude.{◌≡◌, ◌≢◌, ℕ, ◌^◌, ◌<◌, ◌≤◌, ◌⊎◌, List, [], ◌∷◌, Some}
 use Rattle.std.specs.List.{AllByRecursion}
 use Rattle.dns_name.specs.Labels.{IsSame}
 use Rattle.dns_message.specs.Values.{Question, Record, Message}
@@ -7,7 +7,7 @@ use Rattle.suffix_routes.specs.Values.{Config}
 use Rattle.trust_rank.specs.Values.{rows, Piece}
 use Rattle.trust_rank.specs.Sets.{seconds_of}
 use Rattle.trust_rank.specs.Walks.{walk_of}
-use Rattle.cache_laws.specs.Lists.{IsOneOf, NoneTwice}
+use Rattle.cache_laws.specs.Lists.{IsOneOf, NoneTwice, IsBefore}
 
 -- a record of the section with the question's name (letter case aside), type and class
 pub record IsRecordFor (q : Question) (records : List Record) (r : Record) : Type 0 where
@@ -28,6 +28,22 @@ pub record AreDataOf (q : Question) (records : List Record) (each : List (List �
   pub whole : (r : Record) → IsRecordFor q records r → IsOneOf r.rdata each
   pub once : NoneTwice each
 
+-- a record of the section has the first datum, and none before it has the second
+abbrev pub ComesFirst : Question → List Record → List ℕ → List ℕ → Type 0
+ComesFirst q [] x y = ⊥
+ComesFirst q (r ∷ records) x y = (IsRecordFor q (r ∷ records) r × (r.rdata ≡ x))
+    ⊎ ((IsRecordFor q (r ∷ records) r → r.rdata ≢ y) × ComesFirst q records x y)
+
+-- the rows stand in the order in which their data comes first in the section
+abbrev pub AreInOrder : Question → List Record → List (List ℕ) → Type 0
+AreInOrder q records each = (x y : List ℕ) → IsBefore x y each → ComesFirst q records x y
+
+-- the first such record of the section has this owner, spelled so
+abbrev pub FirstOwns : Question → List Record → List (List ℕ) → Type 0
+FirstOwns q [] owner = ⊥
+FirstOwns q (r ∷ records) owner = (IsRecordFor q (r ∷ records) r × (r.owner ≡ owner))
+    ⊎ ((IsRecordFor q (r ∷ records) r → ⊥) × FirstOwns q records owner)
+
 -- a record of the section lives for so many seconds
 pub record HasSeconds (q : Question) (records : List Record) (seconds : ℕ) : Type 0 where
   pub r : Record
@@ -40,10 +56,15 @@ pub record IsLowestTtl (q : Question) (records : List Record) (lifetime : ℕ) :
   pub week : lifetime ≤ 604800
   pub one : (lifetime ≡ 604800) ⊎ HasSeconds q records lifetime
 
--- where a piece is a set: its rows and its lifetime are those of the section's records of its owner, type and class
+-- where a piece is a set: its rows, their order, the spelling of its owner and its lifetime are those of the section's
+-- records of its owner, type and class
 pub record IsSetFrom (records : List Record) (p : Piece) : Type 0 where
   pub data_are : (kind : ℕ) (each : List (List ℕ)) → p.slot.kind ≡ Some kind → p.body ≡ rows each
       → AreDataOf (record { name = p.owner; kind = kind; class = p.slot.class }) records each
+  pub in_order : (kind : ℕ) (each : List (List ℕ)) → p.slot.kind ≡ Some kind → p.body ≡ rows each
+      → AreInOrder (record { name = p.owner; kind = kind; class = p.slot.class }) records each
+  pub spelled : (kind : ℕ) (each : List (List ℕ)) → p.slot.kind ≡ Some kind → p.body ≡ rows each
+      → FirstOwns (record { name = p.owner; kind = kind; class = p.slot.class }) records p.owner
   pub lives : (kind : ℕ) (each : List (List ℕ)) → p.slot.kind ≡ Some kind → p.body ≡ rows each
       → IsLowestTtl (record { name = p.owner; kind = kind; class = p.slot.class }) records p.lifetime
 

@@ -6,5 +6,6 @@ mod replies;
 
 pub use entries::look_ups_find_in_order;
 pub use replies::{
-    denies_exactly, ranks_are_by_authority, servers_are_all, sets_are_whole, top_bit_is_none,
+    denials_live_by_their_soa, denies_exactly, no_data_exactly, ranks_are_by_authority,
+    servers_are_all, sets_are_whole, top_bit_is_none,
 };

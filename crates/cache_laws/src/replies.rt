@@ -1,13 +1,16 @@
 //! What a reply carries.
 
 ghost use Rattle.cache_laws.specs.Denials.{DeniesExactly};
+ghost use Rattle.cache_laws.specs.Ends.{AliasesAloneLeadOn, NoDataExactly, ReferralsAreLame};
+ghost use Rattle.cache_laws.specs.Lifetimes.{DenialsLiveByTheirSoa};
 ghost use Rattle.cache_laws.specs.Ranks.{RanksAreByAuthority};
 ghost use Rattle.cache_laws.specs.Servers.{OthersCarryNone, ServersAreAll, ServersAreApart};
 ghost use Rattle.cache_laws.specs.Sets.{ServerSetsAreWhole, SetsAreWhole, TopBitIsNone};
 
 /// Each set that a reply carries is the whole set that the section has of its name, type and class: each row is the
-/// data of a record, the data of each record is a row, and none is there twice (RFC 2181 5). It lives no longer than
-/// any of its records and than a week, and as long as one of them or a week (RFC 2181 5.2).
+/// data of a record, the data of each record is a row, and none is there twice (RFC 2181 5). Rows stand in the order in
+/// which their data comes first in the section, and the owner is spelled as in the first record. The set lives no
+/// longer than any of its records and than a week, and as long as one of them or a week (RFC 2181 5.2).
 pub fn sets_are_whole()
     ensures walk { SetsAreWhole }
     ensures servers { ServerSetsAreWhole }
@@ -28,6 +31,22 @@ pub fn ranks_are_by_authority()
 /// asked route to a name of which its answer section has neither the asked type nor an alias (RFC 2308 2.1).
 pub fn denies_exactly()
     ensures { DeniesExactly }
+{}
+
+/// A denial holds the first SOA of the authority section that is of the asked class and whose owner is at or above its
+/// name. It lives for the least of the SOA's TTL, of MINIMUM and of three hours, or with no SOA not at all (RFC 2308 5).
+pub fn denials_live_by_their_soa()
+    ensures { DenialsLiveByTheirSoa }
+{}
+
+/// Where fewer than eight aliases lead on the asked route to a name of which the answer section has neither the asked
+/// type nor an alias, and the response code is not 3: a reply with an SOA for that name ends with NODATA. With no SOA
+/// the name has to be asked for, where an alias leads to it. The asked name itself has then no data, but a referral to
+/// others is lame (RFC 2308 2.2). In no other case does a reply end with NODATA.
+pub fn no_data_exactly()
+    ensures no_data { NoDataExactly }
+    ensures aliases { AliasesAloneLeadOn }
+    ensures referral { ReferralsAreLame }
 {}
 
 /// An authoritative reply that is not lame carries each NS record of its authority section that is of the asked class,
