@@ -62,8 +62,9 @@ abbrev pub MayCloseResting : {R A Streams Listeners : Type 0} → (now : ℕ) �
 MayCloseResting now true before after = ClosesResting now before after
 MayCloseResting now false before after = after ≡ before
 
--- What follows from a refused call: where no descriptor is left, the oldest client that has waited for nothing for a
--- while is closed, if any; for any other reason nothing changes, as a taken port or a network that can't be reached.
+-- What follows from a refused call: where no descriptor is left, the oldest client that has waited
+-- for nothing for a while is closed, if any; for any other reason nothing changes, as a taken port
+-- or a network that can't be reached.
 abbrev pub FreesFor : {R A Streams Listeners : Type 0} → Refusal → (now : ℕ) → (is_closed : Bool)
     → (before after : Sockets R A Streams Listeners) → Type 0
 FreesFor NoDescriptor now is_closed before after =
@@ -80,13 +81,14 @@ abbrev pub FreesBy : {R A Streams Listeners T : Type 0} → Result T Error → (
 FreesBy (Ok value) now is_closed before after = (is_closed ≡ false) × (after ≡ before)
 FreesBy (Err error) now is_closed before after = FreesFor (refusal_of error) now is_closed before after
 
--- what came of a listener that refused: where a descriptor was freed, the next turn may have a connection
+-- what came of a listener that refused: where a descriptor was freed, the next turn may have a
+-- connection
 abbrev pub tried_if : {A : Type 0} → (is_closed : Bool) → Tried A
 tried_if true = Served
 tried_if false = Nothing
 
--- What trying the listener does, by its answer: a connection comes; or it refuses, and only for want of a descriptor one
--- is freed.
+-- What trying the listener does, by its answer: a connection comes; or it refuses, and only for
+-- want of a descriptor one is freed.
 abbrev pub AcceptsBy : {R A Streams Listeners T : Type 0} → Result T Error → (now : ℕ) → Tried A
     → (before after : Sockets R A Streams Listeners) → Type 0
 AcceptsBy (Ok accepted) now tried before after = (tried ≡ Served) × TakesIn now before after

@@ -40,16 +40,16 @@ IsDatagram buffer (Arrived arrival) = (from : Peer) × CarriesFront buffer (Clie
 IsDatagram buffer Served = Unit {0}
 IsDatagram buffer Nothing = Unit {0}
 
--- A datagram arrives from this peer with the octets of the buffer's front, as many as were received, unless memory ran
--- out. One of no peer, which came by IPv6, does not.
+-- A datagram arrives from this peer with the octets of the buffer's front, as many as were
+-- received, unless memory ran out. One of no peer, which came by IPv6, does not.
 abbrev pub IsReceived : {A : Type 0} → (count : ℕ) → Option Peer → (buffer : List ℕ) → (Peer → List ℕ → Arrival A)
     → Result (Tried A) AllocError → Type 0
 IsReceived count (Some from) buffer carrying (Ok tried) = tried ≡ Arrived (carrying from (take count buffer))
 IsReceived count (Some from) buffer carrying (Err _) = Unit {0}
 IsReceived count None buffer carrying result = result ≡ Ok Served
 
--- What comes of the socket for clients' datagrams, by its answer: a datagram; or where it refuses, nothing, whatever the
--- reason.
+-- What comes of the socket for clients' datagrams, by its answer: a datagram; or where it refuses,
+-- nothing, whatever the reason.
 abbrev pub HearsDatagram : {A : Type 0} → Result (ℕ × SocketAddr) Error → (buffer : List ℕ)
     → Result (Tried A) AllocError → Type 0
 HearsDatagram (Ok (count, from)) buffer result = IsReceived count (peer_at from) buffer ClientDatagram result
@@ -140,16 +140,16 @@ abbrev pub IsLost : {A X : Type 0} → (port : ℕ) → Tried A → (before afte
 IsLost port tried before after =
     (tried ≡ Arrived (PathGone (path.Udp port))) × (after ≡ remove_entry (is_at (nat_cmp port)) before)
 
--- The path of an ask whose socket refused to be read: where it would block nothing is there, and nothing changes; for
--- any other reason the path is gone, and its socket with it.
+-- The path of an ask whose socket refused to be read: where it would block nothing is there, and
+-- nothing changes; for any other reason the path is gone, and its socket with it.
 abbrev pub LosesAsk : {A X : Type 0} → (port : ℕ) → Refusal → Tried A → (before after : List (ℕ × X)) → Type 0
 LosesAsk port WouldBlock tried before after = (tried ≡ Nothing) × (after ≡ before)
 LosesAsk port Interrupted tried before after = IsLost port tried before after
 LosesAsk port NoDescriptor tried before after = IsLost port tried before after
 LosesAsk port Failed tried before after = IsLost port tried before after
 
--- What comes at the port of an ask, by the answer of its socket: a datagram; or where it refuses, nothing or the end of
--- its path.
+-- What comes at the port of an ask, by the answer of its socket: a datagram; or where it refuses,
+-- nothing or the end of its path.
 abbrev pub HearsAsk : {A X : Type 0} → (port : ℕ) → Result (ℕ × SocketAddr) Error → (buffer : List ℕ)
     → Result (Tried A) AllocError → (before after : List (ℕ × X)) → Type 0
 HearsAsk port (Ok (count, from)) buffer result before after =

@@ -61,8 +61,8 @@ impl<'a, R: Clock> Moments<'a, R> {
         self.last
     }
 
-    /// Notes the moment at which this time was spent, by the clock's answer, unless it is an earlier
-    /// one or the clock failed.
+    /// Notes the moment at which this time was spent, by the clock's answer, unless it is an
+    /// earlier one or the clock failed.
     fn note(&mut self, spent: io::Result<Duration>)
         ensures ok { IfOk spent (λ spent. self.new ≡ record self.old { last = max self.old.last (moment_of spent) }) }
         ensures err { OnErr spent (self.new ≡ self.old) }

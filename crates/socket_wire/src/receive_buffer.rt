@@ -10,7 +10,8 @@ use std::os::fd::AsRawFd;
 /// How many octets are asked for: some thousands of questions.
 const ROOM: i32 = 1 << 20;
 
-/// The value of the option: how many octets are asked for, in the machine's order, in its first four.
+/// The value of the option: how many octets are asked for, in the machine's order, in its first
+/// four.
 fn room_asked() -> [u8; 16]
     ensures { result ≡ to_le_bytes w32 (2 ^ 20) ++ replicate 12 0 }
 {

@@ -36,8 +36,9 @@ impl<'a, R: Net + Clock, A: Allocator> Model for MioWire<'a, R, A> {
 }
 
 impl<'a, R: Net + Clock + RandomSource, A: Allocator + Copy> MioWire<'a, R, A> {
-    /// A wire that listens at this address, and counted no fault. A question on a connection waits for its reply for as
-    /// long as the limits let it. `Err` where the system refuses, gives no random octets or no time, or memory ran out.
+    /// A wire that listens at this address, and counted no fault. A question on a connection waits for
+    /// its reply for as long as the limits let it. `Err` where the system refuses, gives no random
+    /// octets or no time, or memory ran out.
     pub fn new(rt: &'a R, alloc: A, listen: Peer, limits: &Limits) -> io::Result<MioWire<'a, R, A>>
         ensures faults { IfOk result (λ wire. wire.faults ≡ 0) }
         ensures deadline { IfOk result (λ wire. wire.deadline ≡ limits.now.deadline_ms) }

@@ -1,6 +1,7 @@
 -- What a call does to the connection of a client.
 use Rattle.std.specs.declared.io.Error.{Error}
-use Rattle.std.specs.Prelude.{◌≡◌, ℕ, zero, suc, ◌+◌, ◌-◌, ◌^◌, ◌<◌, ◌≤◌, ◌==◌, ◌++◌, ◌⊎◌, Bool, true, false, not, List, length}
+use Rattle.std.specs.Prelude.{◌≡◌, ℕ, zero, suc, ◌+◌, ◌-◌, ◌^◌, ◌<◌, ◌≤◌, ◌==◌, ◌++◌, ◌⊎◌}
+use Rattle.std.specs.Prelude.{Bool, true, false, not, List, length}
 use Rattle.std.specs.Prelude.{take, Option, Some, None, Result, Ok, Err, if◌then◌else◌}
 use Rattle.tcp_frames.specs.declared.fault.FrameFault.{FrameFault}
 use Rattle.tcp_frames.specs.declared.fault.FrameFault.TheVariants as fault
@@ -30,8 +31,8 @@ abbrev pub Sends : {A : Type 0} → (now : ℕ) → ClientStream A → ClientStr
 Sends now before after = Keeps before after ⊎ Takes now before after
 
 -- After a write of which the stream took this: octets are progress, none leaves all as it was.
-abbrev pub WroteBy : {A : Type 0} → Result ℕ Error → (now : ℕ) → Result (Unit {0}) Error → (before after : ClientStream A)
-    → Type 0
+abbrev pub WroteBy : {A : Type 0} → Result ℕ Error → (now : ℕ) → Result (Unit {0}) Error
+    → (before after : ClientStream A) → Type 0
 WroteBy (Ok zero) now result before after = (result ≡ Ok tt) × (after ≡ before)
 WroteBy (Ok (suc more)) now result before after = (result ≡ Ok tt) × (after ≡ record before { took = now })
 WroteBy (Err error) now result before after = (result ≡ Err error) × (after ≡ before)
@@ -72,10 +73,10 @@ TellsWhetherDone Nothing after = is_done after ≡ false
 TellsWhetherDone Done after = is_done after ≡ true
 TellsWhetherDone Failed after = Unit {0}
 
--- After a read by which this was heard of the stream: a piece at the beginning of the buffer, or the
--- client's end. Otherwise nothing has changed.
-abbrev pub HearsBy : {A : Type 0} → Heard → (now : ℕ) (buffer : List ℕ) → (result : Heard) → (before after : ClientStream A)
-    → Type 0
+-- After a read by which this was heard of the stream: a piece at the beginning of the buffer, or
+-- the client's end. Otherwise nothing has changed.
+abbrev pub HearsBy : {A : Type 0} → Heard → (now : ℕ) (buffer : List ℕ) → (result : Heard)
+    → (before after : ClientStream A) → Type 0
 HearsBy (Octets count) now buffer result before after =
     (result ≡ Octets count) × HearsPiece (take count buffer) now before after
 HearsBy Nothing now buffer result before after = (result ≡ Nothing) × (after ≡ before)

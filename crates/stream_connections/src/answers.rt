@@ -11,7 +11,8 @@ use std::io::ErrorKind;
 pub enum Refusal {
     /// It would have to wait (EAGAIN).
     WouldBlock,
-    /// A signal came first (EINTR). A call that never waits doesn't report it: it counts as a failure.
+    /// A signal came first (EINTR). A call that never waits doesn't report it: it counts as a
+    /// failure.
     Interrupted,
     /// The process has as many descriptors as it may have (EMFILE).
     NoDescriptor,
@@ -55,8 +56,8 @@ impl Refusal {
     }
 }
 
-/// How many octets a stream took, by its answer to a write: none where it would block. `Err` where it
-/// takes none any more.
+/// How many octets a stream took, by its answer to a write: none where it would block. `Err` where
+/// it takes none any more.
 pub(crate) fn taken_by(answer: io::Result<usize>) -> io::Result<usize>
     ensures { result ≡ taken_by answer }
 {

@@ -6,8 +6,8 @@ ghost use Rattle.stream_connections.specs.declared.answers.Heard.TheVariants.{Fa
 ghost use Rattle.stream_connections.specs.declared.lost.Lost.TheVariants.{Gone};
 ghost use Rattle.stream_connections.specs.Answers.{heard_by, taken_by};
 ghost use Rattle.stream_connections.specs.Waiting.{IsNew, is_done, is_idle, is_late, is_resting, silence_of};
-ghost use Rattle.stream_connections.specs.Serving.{HearsBy, HearsPiece, Keeps, Receives, Replies, Sends, Serves, WroteBy};
-ghost use Rattle.stream_connections.specs.Serving.{with_frame};
+ghost use Rattle.stream_connections.specs.Serving.{HearsBy, HearsPiece, Keeps, Receives, Replies, Sends};
+ghost use Rattle.stream_connections.specs.Serving.{Serves, WroteBy, with_frame};
 
 use crate::answers::{Heard, heard_by, taken_by};
 use crate::lost::Lost;
@@ -181,7 +181,8 @@ impl<A: Allocator + Copy> ClientStream<A> {
         }
     }
 
-    /// Notes what a read into the buffer gave, by the stream's answer: a piece, its end, or neither.
+    /// Notes what a read into the buffer gave, by the stream's answer: a piece, its end, or
+    /// neither.
     fn hear(&mut self, answer: io::Result<usize>, buffer: &[u8], now: u64) -> Heard
         requires within { ReadsAtMost answer buffer.now }
         ensures { HearsBy (heard_by answer) now buffer.now result self.old self.new }
@@ -233,7 +234,8 @@ impl<A: Allocator + Copy> ClientStream<A> {
         self.goes_on_after(sent)
     }
 
-    /// Whether the connection goes on after this send. `Err` where the stream takes nothing any more.
+    /// Whether the connection goes on after this send. `Err` where the stream takes nothing any
+    /// more.
     fn goes_on_after(&self, sent: io::Result<()>) -> Result<bool, Lost>
         ensures ok { OnOk sent (result ≡ Ok (not (is_done self.now))) }
         ensures err { OnErr sent (result ≡ Err Gone) }

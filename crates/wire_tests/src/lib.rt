@@ -9,6 +9,8 @@ mod refusals;
 #[cfg(test)]
 mod sockets;
 #[cfg(test)]
+mod system;
+#[cfg(test)]
 mod turns;
 #[cfg(test)]
 mod worked;

@@ -80,8 +80,8 @@ impl<R: Net, A: Allocator + Copy> Sockets<'_, R, A> {
         self.list_ask(port, socket, answer)
     }
 
-    /// Lists the socket of an ask, by its answer to the query that was sent: one that refused it goes. `Err` there, and
-    /// where memory ran out.
+    /// Lists the socket of an ask, by its answer to the query that was sent: one that refused it
+    /// goes. `Err` there, and where memory ran out.
     fn list_ask(
         &mut self,
         port: u16,

@@ -52,7 +52,8 @@ impl<R: Net, A: Allocator + Copy> Sockets<'_, R, A> {
         self.hear_datagram(answer)
     }
 
-    /// A client's datagram, by the answer of its socket: nothing is there where it refuses, whatever the reason.
+    /// A client's datagram, by the answer of its socket: nothing is there where it refuses,
+    /// whatever the reason.
     fn hear_datagram(
         &mut self,
         answer: io::Result<(usize, SocketAddr)>,
@@ -101,8 +102,9 @@ impl<R: Net, A: Allocator + Copy> Sockets<'_, R, A> {
         }
     }
 
-    /// Where a call answered that no descriptor is left, closes the oldest connection of a client that has waited for
-    /// nothing for a while. True where one was closed, and the call is worth another try.
+    /// Where a call answered that no descriptor is left, closes the oldest connection of a client
+    /// that has waited for nothing for a while. True where one was closed, and the call is worth
+    /// another try.
     pub(super) fn frees_for<T>(&mut self, answer: &io::Result<T>, now: u64) -> bool
         ensures by { FreesBy answer.now now result self.old self.new }
         ensures may { MayCloseResting now result self.old self.new }
@@ -113,8 +115,8 @@ impl<R: Net, A: Allocator + Copy> Sockets<'_, R, A> {
         }
     }
 
-    /// Where this refusal says that no descriptor is left, closes the oldest connection of a client that has waited for
-    /// nothing for a while. True where one was closed.
+    /// Where this refusal says that no descriptor is left, closes the oldest connection of a client
+    /// that has waited for nothing for a while. True where one was closed.
     fn frees_descriptor(&mut self, refusal: Refusal, now: u64) -> bool
         ensures by { FreesFor refusal now result self.old self.new }
         ensures may { MayCloseResting now result self.old self.new }
@@ -184,7 +186,8 @@ impl<R: Net, A: Allocator + Copy> Sockets<'_, R, A> {
         self.hear_ask(port, answer)
     }
 
-    /// A datagram at the port of an ask, by the answer of its socket. One that fails is dropped, and its end reported.
+    /// A datagram at the port of an ask, by the answer of its socket. One that fails is dropped,
+    /// and its end reported.
     fn hear_ask(
         &mut self,
         port: u16,
@@ -206,8 +209,8 @@ impl<R: Net, A: Allocator + Copy> Sockets<'_, R, A> {
         }
     }
 
-    /// Nothing of the socket of an ask that would block. One that refuses to be read for another reason is dropped, and
-    /// its end reported.
+    /// Nothing of the socket of an ask that would block. One that refuses to be read for another
+    /// reason is dropped, and its end reported.
     fn lose_ask(&mut self, port: u16, refusal: Refusal) -> Tried<A>
         ensures loses { LosesAsk port refusal result self.old.asks.entries self.new.asks.entries }
         ensures takes { TakesAsk port (Ok result) self.old self.new }

@@ -1,0 +1,317 @@
+//! A wire over sockets of this machine, with a system that is the test's own where a call goes
+//! through the runtime: its random octets, its clock, and the sockets for datagrams. Ports 15357 to
+//! 15369 have to be free. A wire is forgotten, as in `sockets`.
+
+use crate::worked::{QUERY, forwarder};
+use mio::net::TcpStream;
+use network_model::{Arrival, Wire, serve};
+use plain_list::PlainList;
+use refusing_allocator::Refusing;
+use socket_wire::MioWire;
+use std::alloc::Global;
+use std::cell::Cell;
+use std::io::{ErrorKind, Write};
+use std::mem::forget;
+use std::net::{Ipv4Addr, Net, SocketAddr, SocketAddrV4};
+use std::random::RandomSource;
+use std::rt::Clock;
+use std::test::Fail;
+use std::time::Duration;
+use std::{io, net};
+use step_values::Action;
+use suffix_routes::{Limits, Peer};
+
+/// How many turns are made at most until something has come.
+const TURNS: u32 = 400;
+
+/// The number of the error that says that no descriptor is left (EMFILE).
+const NO_DESCRIPTOR: i32 = 24;
+
+/// The number of the error that says that a port is taken (EADDRINUSE).
+const TAKEN_PORT: i32 = 98;
+
+/// The number of the error that says that a network can't be reached (ENETUNREACH).
+const NO_NETWORK: i32 = 101;
+
+/// Calls of this machine's system, each of which can be made to answer otherwise.
+#[derive(Drop)]
+struct System<'a> {
+    host: &'a HostRuntime,
+    /// How many random octets were asked for, in all calls.
+    octets: Cell<usize>,
+    /// No random octets are given.
+    has_no_octets: Cell<bool>,
+    /// What the clock reads.
+    time: Cell<Duration>,
+    /// The clock fails.
+    has_no_clock: Cell<bool>,
+    /// The address at which a socket for datagrams was bound last.
+    bound: Cell<Option<SocketAddr>>,
+    /// The error that the next bind of a socket for datagrams answers, if any.
+    refusal: Cell<Option<i32>>,
+}
+
+impl<'a> System<'a> {
+    /// A system that answers as the machine's does, but that its clock reads 7 s.
+    fn new(host: &'a HostRuntime) -> System<'a> {
+        System {
+            host,
+            octets: Cell::new(0),
+            has_no_octets: Cell::new(false),
+            time: Cell::new(Duration::from_millis(7_000)),
+            has_no_clock: Cell::new(false),
+            bound: Cell::new(None),
+            refusal: Cell::new(None),
+        }
+    }
+}
+
+impl RandomSource for System<'_> {
+    fn fill_bytes(&self, buf: &mut [u8]) -> io::Result<()> {
+        self.octets.set(self.octets.get().saturating_add(buf.len()));
+        if self.has_no_octets.get() {
+            return Err(io::Error::from(ErrorKind::Unsupported));
+        }
+        self.host.fill_bytes(buf)
+    }
+}
+
+impl Clock for System<'_> {
+    fn monotonic(&self) -> io::Result<Duration> {
+        if self.has_no_clock.get() {
+            return Err(io::Error::from(ErrorKind::Unsupported));
+        }
+        Ok(self.time.get())
+    }
+
+    fn since_1970(&self) -> io::Result<Duration> {
+        self.host.since_1970()
+    }
+}
+
+impl Net for System<'_> {
+    type Stream = net::TcpStream;
+
+    type Listener = net::TcpListener;
+
+    fn bind(&self, addr: SocketAddr) -> io::Result<net::TcpListener> {
+        self.host.bind(addr)
+    }
+
+    fn connect(&self, addr: SocketAddr) -> io::Result<net::TcpStream> {
+        self.host.connect(addr)
+    }
+
+    fn bind_udp(&self, addr: SocketAddr) -> io::Result<net::UdpSocket> {
+        if let Some(code) = self.refusal.take() {
+            return Err(io::Error::from_raw_os_error(code));
+        }
+        self.bound.set(Some(addr));
+        self.host.bind_udp(addr)
+    }
+}
+
+/// This port of this machine.
+const fn local(port: u16) -> Peer {
+    Peer {
+        ip: [127, 0, 0, 1],
+        port,
+    }
+}
+
+fn address(ip: Ipv4Addr, port: u16) -> SocketAddr {
+    SocketAddr::V4(SocketAddrV4::new(ip, port))
+}
+
+/// It is as it should be.
+fn expected(is_so: bool, what: &'static str) -> Result<(), Fail> {
+    if is_so { Ok(()) } else { Err(Fail::from(what)) }
+}
+
+/// A query by UDP from this port.
+fn query_from(alloc: Global, port: u16) -> Result<Action, Fail> {
+    Ok(Action::AskUdp {
+        port,
+        server: local(15369),
+        bytes: PlainList::copied(alloc, &QUERY)?,
+    })
+}
+
+#[test]
+fn without_random_octets_there_is_no_wire(rt: HostRuntime) -> Result<(), Fail> {
+    let system = System::new(&rt);
+    system.has_no_octets.set(true);
+    match MioWire::new(&system, rt.alloc(), local(15357), &Limits::defaults()) {
+        Ok(wire) => {
+            forget(wire);
+            Err(Fail::from("a wire without random octets"))
+        }
+        Err(_) => Ok(()),
+    }
+}
+
+#[test]
+fn without_a_clock_there_is_no_wire(rt: HostRuntime) -> Result<(), Fail> {
+    let system = System::new(&rt);
+    system.has_no_clock.set(true);
+    match MioWire::new(&system, rt.alloc(), local(15358), &Limits::defaults()) {
+        Ok(wire) => {
+            forget(wire);
+            Err(Fail::from("a wire without a clock"))
+        }
+        Err(_) => Ok(()),
+    }
+}
+
+/// The seed of ChaCha has 32 octets, all of them from the system. The datagrams of clients come at
+/// the address that the wire listens at, not at its port alone.
+#[test]
+fn a_wire_asks_for_32_octets_and_binds_where_it_listens(rt: HostRuntime) -> Result<(), Fail> {
+    let system = System::new(&rt);
+    let wire = MioWire::new(&system, rt.alloc(), local(15359), &Limits::defaults())?;
+    forget(wire);
+    assert_eq!(rt; system.octets.get(), 32);
+    assert!(rt; system.bound.get() == Some(address(Ipv4Addr::LOCALHOST, 15359)));
+    Ok(())
+}
+
+/// The moments of a wire in its turns.
+fn moment_in_turn(wire: &mut MioWire<'_, System<'_>>) -> u64 {
+    let _arrived = wire.arrival();
+    wire.moment()
+}
+
+/// 50 days are 4,320,000,000 ms, more than 32 bits can count. Where the clock goes back or fails
+/// the last moment stays.
+#[test]
+fn moments_go_on_after_49_days(rt: HostRuntime) -> Result<(), Fail> {
+    let system = System::new(&rt);
+    let mut wire = MioWire::new(&system, rt.alloc(), local(15360), &Limits::defaults())?;
+    system.time.set(Duration::from_millis(7_250));
+    let first = moment_in_turn(&mut wire);
+    system.time.set(Duration::new(7 + 50 * 86_400, 999_999));
+    let later = moment_in_turn(&mut wire);
+    system.time.set(Duration::from_millis(8_000));
+    let back = moment_in_turn(&mut wire);
+    system.has_no_clock.set(true);
+    let failed = moment_in_turn(&mut wire);
+    forget(wire);
+    assert_eq!(rt; first, 250);
+    assert_eq!(rt; later, 4_320_000_000);
+    assert_eq!(rt; back, 4_320_000_000);
+    assert_eq!(rt; failed, 4_320_000_000);
+    Ok(())
+}
+
+/// The socket of an ask is bound at its port on every address. A second one at the port is refused.
+#[test]
+fn an_ask_is_bound_at_its_port(rt: HostRuntime) -> Result<(), Fail> {
+    let system = System::new(&rt);
+    let mut wire = MioWire::new(&system, rt.alloc(), local(15361), &Limits::defaults())?;
+    let query = query_from(rt.alloc(), 15362)?;
+    let first = wire.put(&query).is_ok();
+    let second = wire.put(&query).is_ok();
+    let faults = wire.faults();
+    forget(wire);
+    assert!(rt; first);
+    assert!(rt; system.bound.get() == Some(address(Ipv4Addr::UNSPECIFIED, 15362)));
+    assert!(rt; !second);
+    assert_eq!(rt; faults, 1);
+    Ok(())
+}
+
+/// Turns until a piece of a client's stream has come: the number of its connection.
+fn client_that_came(wire: &mut MioWire<'_, System<'_>>) -> Option<u64> {
+    for _ in 0..TURNS {
+        let came = wire.arrival();
+        let _moment = wire.moment();
+        if let Ok(Arrival::ClientStream { conn, .. }) = came {
+            return Some(conn);
+        }
+    }
+    None
+}
+
+/// Puts a query the bind of whose socket answers this error. The answer is whether the query was
+/// sent all the same, and whether a client was closed for it.
+fn put_where_refused(
+    system: &System<'_>,
+    wire: &mut MioWire<'_, System<'_>>,
+    query: &Action,
+    code: i32,
+) -> (bool, bool) {
+    system.refusal.set(Some(code));
+    let is_sent = wire.put(query).is_ok();
+    let is_closed = match wire.arrival() {
+        Ok(Arrival::ClientClosed { .. }) => true,
+        _ => false,
+    };
+    (is_sent, is_closed)
+}
+
+/// What comes of queries where a port is taken, a network can't be reached and no descriptor is
+/// left, while a client's connection has been at rest for a second.
+fn puts_beside_a_resting_client(
+    system: &System<'_>,
+    wire: &mut MioWire<'_, System<'_>>,
+    query: &Action,
+) -> Result<[(bool, bool); 3], Fail> {
+    let mut client = TcpStream::connect(system.host, address(Ipv4Addr::LOCALHOST, 15363))?;
+    client.set_nodelay(true)?;
+    expected(client.write(b"\x00")? == 1, "an octet that was not taken")?;
+    expected(client_that_came(wire) == Some(0), "no client came")?;
+    system.time.set(Duration::from_millis(8_000));
+    expected(moment_in_turn(wire) == 1_000, "another moment")?;
+    Ok([
+        put_where_refused(system, wire, query, TAKEN_PORT),
+        put_where_refused(system, wire, query, NO_NETWORK),
+        put_where_refused(system, wire, query, NO_DESCRIPTOR),
+    ])
+}
+
+#[test]
+fn a_resting_client_is_closed_for_a_descriptor_alone(rt: HostRuntime) -> Result<(), Fail> {
+    let system = System::new(&rt);
+    let query = query_from(rt.alloc(), 15364)?;
+    let mut wire = MioWire::new(&system, rt.alloc(), local(15363), &Limits::defaults())?;
+    let came = puts_beside_a_resting_client(&system, &mut wire, &query);
+    forget(wire);
+    assert_eq!(rt; came?, [(false, false), (false, false), (true, true)]);
+    Ok(())
+}
+
+/// Whether calls of a turn end for want of memory for the frames of a client, while this heap has
+/// none for them.
+fn ends_without_memory<'a>(
+    rt: &HostRuntime,
+    ample: &'a Refusing<Global>,
+    heap: &'a Refusing<Global>,
+    wire: &mut MioWire<'_, HostRuntime, &'a Refusing<Global>>,
+) -> Result<bool, Fail> {
+    let mut forwarder = forwarder(ample)?;
+    let mut client = TcpStream::connect(rt, address(Ipv4Addr::LOCALHOST, 15365))?;
+    client.set_nodelay(true)?;
+    expected(
+        client.write(b"\x00\x1b\x12")? == 3,
+        "octets that were not taken",
+    )?;
+    heap.allow(0);
+    for _ in 0..TURNS {
+        if serve(heap, wire, &mut forwarder, 1).is_err() {
+            return Ok(true);
+        }
+    }
+    Ok(false)
+}
+
+/// The program ends with status 4 then, which is `forwarder_main`'s.
+#[test]
+fn a_stream_without_memory_ends_the_service(rt: HostRuntime) -> Result<(), Fail> {
+    let ample = Refusing::new(rt.alloc());
+    let heap = Refusing::new(rt.alloc());
+    let mut wire = MioWire::new(&rt, &ample, local(15365), &Limits::defaults())?;
+    let ended = ends_without_memory(&rt, &ample, &heap, &mut wire);
+    forget(wire);
+    assert!(rt; ended?);
+    Ok(())
+}
