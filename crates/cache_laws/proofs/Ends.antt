@@ -6,18 +6,17 @@ use Rattle.std.specs.Prelude.{◌==◌, ◌&&◌, ◌||◌, not, is_none}
 use Rattle.std.specs.List.{find, list_any}
 use Rattle.std.proofs.lemmas.Bool.{cond-false, cond_both, eqb-true, eq-eqb, false≢true, ne_eqb, both_ways, or_left}
 use Rattle.std.proofs.lemmas.Bool.{or_right, cases_Bool}
-use Rattle.dns_message.specs.Values.{Question, Record}
-use Rattle.suffix_routes.specs.Routes.{route_of}
+use Rattle.dns_message.specs.Values.{Record}
 use Rattle.trust_rank.specs.Values.{Piece, End, found, ends_no_data, ends_denied, elsewhere, lame, Walk, Reply}
 use Rattle.trust_rank.specs.Values.{reply_of}
 use Rattle.trust_rank.specs.Denials.{is_soa_for, soa_for}
 use Rattle.trust_rank.specs.Walks.{AtName, met_nothing, met_set, met_no_data, met_name_error, met_alias, met_lame}
 use Rattle.trust_rank.specs.Walks.{is_on_route, answer_set, alias_set, has_many, target_of, is_name_server}
-use Rattle.trust_rank.specs.Walks.{is_referral, name_error_at, no_data_at, denial_met, denial_at, leads, alias_or}
+use Rattle.trust_rank.specs.Walks.{is_referral, name_error_at, no_data_at, denial_met, leads, alias_or}
 use Rattle.trust_rank.specs.Walks.{set_or, met_at, most_aliases, lame_walk, is_lame, behind, go_on, walk_from}
 use Rattle.cache_laws.specs.Lists.{IsOneOf}
 use Rattle.cache_laws.specs.Denials.{AliasesLead}
-use Rattle.cache_laws.specs.Ends.{IsBareAt, LeadsToBare, HasSoaFor, IsReferral, LeadsToNoData, NoDataExactly}
+use Rattle.cache_laws.specs.Ends.{IsBareAt, LeadsToBare, HasSoaFor, IsReferral, NoDataExactly}
 use Rattle.cache_laws.specs.Ends.{AliasesAloneLeadOn, ReferralsAreLame}
 use Rattle.cache_laws.proofs.Walks.{own_walk, same_end, led_by}
 use Rattle.cache_laws.proofs.Lifetimes.{soa_of_test, test_of_soa}

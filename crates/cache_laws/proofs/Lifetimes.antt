@@ -1,5 +1,5 @@
 -- Which SOA a denial holds, and how long it lives by it.
-use Rattle.std.proofs.Common.{◌≡◌, ℕ, ◌+◌, ◌*◌, ◌-◌, true, false, cond, ◌⊎◌, inl, inr, List, [], ◌∷◌, ◌++◌, length}
+use Rattle.std.proofs.Common.{◌≡◌, ℕ, ◌+◌, ◌-◌, true, false, cond, ◌⊎◌, inl, inr, List, [], ◌∷◌, ◌++◌, length}
 use Rattle.std.proofs.Common.{Option, None, Some, refl, sym, ap, ◌∙◌, subst, arith}
 use Rattle.std.specs.Prelude.{◌==◌, ◌&&◌, min, slice_index}
 use Rattle.std.specs.List.{find}
@@ -7,11 +7,11 @@ use Rattle.std.proofs.lemmas.Bool.{and_parts, and_from, eqb-true, eq-eqb, both_w
 use Rattle.std.proofs.lemmas.List.{length-append, get_or-append-add}
 use Rattle.dns_name.specs.Labels.{is_under}
 use Rattle.dns_name.proofs.CallerLemmas.{is_under_decides}
-use Rattle.dns_message.specs.Values.{Question, Record}
+use Rattle.dns_message.specs.Values.{Record}
 use Rattle.trust_rank.specs.Values.{no_data, denied, Piece, Reply, reply_of}
-use Rattle.trust_rank.specs.Sets.{seconds_of, records_for, set_with}
+use Rattle.trust_rank.specs.Sets.{seconds_of, records_for}
 use Rattle.trust_rank.specs.Denials.{is_soa_for, soa_for, minimum_of, longest_denial, denial_lifetime}
-use Rattle.trust_rank.specs.Walks.{rank_at, at_name, answer_set, no_data_at, name_error_at}
+use Rattle.trust_rank.specs.Walks.{rank_at, at_name, no_data_at, name_error_at}
 use Rattle.cache_laws.specs.Lifetimes.{IsSoaFor, IsFirstSoa, four_octets, IsLeastOf, LivesBy, HoldsSoa, IsDenialFrom}
 use Rattle.cache_laws.specs.Lifetimes.{DenialsLiveByTheirSoa}
 use Rattle.cache_laws.proofs.Sets.{Begins, begins, min_is_one}
