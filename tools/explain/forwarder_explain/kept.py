@@ -134,6 +134,9 @@ class History:
     def reply(self, reply, now):
         query = reply.query
         asked = query.asked
+        if asked is None:
+            self.verdicts[reply] = "stranger"
+            return
         if query in self.closed or now >= query.moment // 1000 + self.configuration.limits["ask_ms"] + 5:
             self.verdicts[reply] = "late"
             return

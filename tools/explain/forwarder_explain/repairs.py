@@ -154,10 +154,10 @@ class Repairs:
         """A question that the script joins or answers, and for which the capture has a query of its own: what it used had
         ended by some milliseconds, or the reply that came with it was taken first."""
         line, found = self.window.maker.line_of.get(question), self.answers.get(question)
-        if line is None or found is None or found[1] not in (0, 12):
+        if line is None or found is None or found[1] not in (0, 8, 12) or not question.answer or question.answer.moment < query.moment:
             return False
-        near = [reply for reply in self.replies_near(of, question.moment, query.moment) if reply.query.moment < question.moment]
-        if near and self.may((question, "after"), 1):
+        near = self.arrivals_near(of, question.moment, query.moment)
+        if near and near[-1].query is not query and self.may((question, "after"), 1):
             line.order, line.moment = (near[-1].moment, 1e9), max(line.moment, self.window.maker.moment(near[-1]))
             return True
         count = self.tried[question, "later"]
@@ -203,12 +203,13 @@ class Repairs:
         """Questions that wanted this, taken in some span of time."""
         return [question for question in self.window.wanting.get(of, ()) if since <= question.moment <= until]
 
-    def replies_near(self, of, since, until):
-        return [reply for reply in self.window.replies_of.get(of, ()) if since <= reply.moment <= until]
+    def arrivals_near(self, of, since, until):
+        """Replies and failures of queries for this in some span of time."""
+        return [event for event in self.window.arrivals_of.get(of, ()) if since <= event.moment <= until]
 
     def reorder(self, question, of):
         """A question that was taken before a reply that the capture has just before it: it joined what was open."""
-        near = self.replies_near(of, question.moment - 20_000, question.moment)
+        near = self.arrivals_near(of, question.moment - 20_000, question.moment)
         line = self.window.maker.line_of.get(question)
         if not near or line is None or not self.may((question, "before"), 1):
             return False

@@ -69,7 +69,7 @@ class Script:
             return line.text or "tick\n"
         event = line.event
         target = line.target or pairs.get(event.query)
-        if target is None or target.number == 0:
+        if target is None or target.number == 0 or line.kind == "reply" and line.note != "before" and event.query.octets is None:
             return "tick\n"
         transport = event.query.transport if line.target is None else "udp" if line.note == "before" else line.text
         path = f"udp {1024 + 8 * target.number}" if transport == "udp" else f"tcp {self.connections.get(target, 0)}"

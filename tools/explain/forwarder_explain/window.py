@@ -78,6 +78,8 @@ class Window:
     def index(self):
         self.wanting = in_order(self.questions, self.wanted)
         self.queries_of = in_order(self.queries, lambda query: query.asked and query.asked.of())
+        self.arrivals_of = in_order(
+            sorted(self.replies + self.endings, key=lambda event: event.moment), lambda event: event.query.asked and event.query.asked.of())
         self.replies_of = in_order(self.replies, lambda reply: reply.query.asked and reply.query.asked.of())
         self.asked_by_body = {}
         self.waiting = defaultdict(list)
@@ -142,7 +144,20 @@ class Window:
     def results(self):
         """The result of each question that is to be judged."""
         self.settle()
+        self.exchange_twins()
         return {question: self.result(question) for question in self.judged}
+
+    def exchange_twins(self):
+        """Of questions that a client sent twice under one identifier nobody can say which answer is whose."""
+        for twins in in_order(self.questions, lambda question: (question.client, question.octets)).values():
+            for one in twins:
+                for other in twins:
+                    if one.answer and other.answer and self.text_for(one) != one.answer.octets and self.text_for(other) == one.answer.octets \
+                            and self.text_for(other) != other.answer.octets:
+                        self.answers[one], self.answers[other] = self.answers[other], self.answers.get(one, (None, None, b""))
+
+    def text_for(self, question):
+        return self.answers.get(question, (None, None, b""))[2]
 
     def result(self, question):
         line, reason, octets = self.answers.get(question, (None, None, b""))
