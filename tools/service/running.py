@@ -15,6 +15,7 @@ MAIN = TOP / "crates" / "forwarder_main"
 WHOLE_LIFE = 2**64 - 1
 PORTS = iter(range(20000, 30000))
 CASES = []
+STARTED = []  # the configurations of the forwarders that were started
 
 
 def case(function):
@@ -90,6 +91,7 @@ class Forwarder:
         for suffix, server in others:
             self.file.write(f'[[route]]\nsuffix = "{suffix}"\nservers = ["127.0.0.1:{server}"]\n')
         self.file.flush()
+        STARTED.append(pathlib.Path(self.file.name).read_text())
 
         def narrow():
             if descriptors:
