@@ -17,6 +17,7 @@ MAIN = TOP / "crates" / "forwarder_main"
 WHOLE_LIFE = 2**64 - 1
 PORTS = iter(range(20000, 30000))
 CASES = []
+STARTED = []  # the configurations of the forwarders that were started
 
 
 def case(function):
@@ -101,6 +102,7 @@ class Forwarder:
         for suffix, server in others:
             self.file.write(route(suffix, [server]))
         self.file.flush()
+        STARTED.append(pathlib.Path(self.file.name).read_text())
 
         def narrow():
             if descriptors:

@@ -4,8 +4,10 @@ from typing import NamedTuple
 
 MOST_OCTETS = 1 << 18  # of one packet, by any system's limits
 MAGIC = {
-    b"\xa1\xb2\xc3\xd4": (">", 1000), b"\xd4\xc3\xb2\xa1": ("<", 1000),
-    b"\xa1\xb2\x3c\x4d": (">", 1), b"\x4d\x3c\xb2\xa1": ("<", 1),
+    b"\xa1\xb2\xc3\xd4": (">", 1000),
+    b"\xd4\xc3\xb2\xa1": ("<", 1000),
+    b"\xa1\xb2\x3c\x4d": (">", 1),
+    b"\x4d\x3c\xb2\xa1": ("<", 1),
 }
 SECTION, INTERFACE, OLD_PACKET, SIMPLE_PACKET, STATISTICS, PACKET = 0x0A0D0D0A, 1, 2, 3, 5, 6
 
@@ -54,7 +56,7 @@ class Capture:
             at += 16
             if at + kept > end:
                 break
-            yield Packet(seconds * 1_000_000 + part * nanoseconds // 1000, link, self.octets[at:at + kept])
+            yield Packet(seconds * 1_000_000 + part * nanoseconds // 1000, link, self.octets[at : at + kept])
             at += kept
         if at < end:
             self.notes.append("the capture ends within a packet; what is before it was read")
@@ -64,7 +66,7 @@ class Capture:
         while at + 12 <= end:
             kind = struct.unpack_from(order + "I", self.octets, at)[0]
             if kind == SECTION:
-                order = ">" if self.octets[at + 8:at + 12] == b"\x1a\x2b\x3c\x4d" else "<"
+                order = ">" if self.octets[at + 8 : at + 12] == b"\x1a\x2b\x3c\x4d" else "<"
                 interfaces = []
             size = struct.unpack_from(order + "I", self.octets, at + 4)[0]
             if size < 12 or size % 4 or size > 16 * MOST_OCTETS:
@@ -72,7 +74,7 @@ class Capture:
                 return
             if at + size > end:
                 break
-            body = self.octets[at + 8:at + size - 4]
+            body = self.octets[at + 8 : at + size - 4]
             try:
                 packet = self._block(order, kind, body, interfaces)
             except (struct.error, IndexError):
@@ -96,11 +98,15 @@ class Capture:
                 number = struct.unpack_from(order + "H", body)[0]
             link, (units, per), offset = interfaces[number]
             moment = ((high << 32) | low) * units // per + struct.unpack(order + "q", offset)[0] * 1_000_000
-            return Packet(moment, link, body[20:20 + kept])
+            return Packet(moment, link, body[20 : 20 + kept])
         elif kind == SIMPLE_PACKET:
             self.note_once("packets without a time (simple packet blocks) are left out")
         elif kind == STATISTICS:
-            lost = [struct.unpack_from(order + "Q", value)[0] for code, value in options_of(order, body[12:]) if code in (5, 7)]
+            lost = [
+                struct.unpack_from(order + "Q", value)[0]
+                for code, value in options_of(order, body[12:])
+                if code in (5, 7)
+            ]
             if any(lost):
                 self.notes.append(f"the capture lost {sum(lost):,} packets, by its own count")
         return None
@@ -117,7 +123,7 @@ def options_of(order, octets):
         code, size = struct.unpack_from(order + "2H", octets, at)
         if code == 0:
             return
-        yield code, octets[at + 4:at + 4 + size]
+        yield code, octets[at + 4 : at + 4 + size]
         at += 4 + (size + 3) // 4 * 4
 
 

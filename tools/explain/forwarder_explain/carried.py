@@ -30,7 +30,7 @@ class Held(NamedTuple):
 
 
 class Walk(NamedTuple):
-    """The pieces of a reply; `leads_to` is a name that it does not answer, `lame` that it neither answers nor denies."""
+    """The pieces of a reply; `leads_to` is a name that it leaves open; a lame one neither answers nor denies."""
 
     pieces: tuple
     leads_to: object
@@ -90,8 +90,14 @@ class Reader:
 
     def denial(self, name, spelled, pieces):
         """The end of a walk at a name that has neither set nor alias."""
-        fitting = next((record for record in self.authority if record.kind == SOA and record.klass == self.asked.klass
-                        and messages.is_under(name, record.key)), None)
+        fitting = next(
+            (
+                record
+                for record in self.authority
+                if record.kind == SOA and record.klass == self.asked.klass and messages.is_under(name, record.key)
+            ),
+            None,
+        )
         if self.code != 3:
             if pieces and not fitting:
                 return Walk(tuple(pieces), spelled, False)
@@ -111,7 +117,9 @@ class Reader:
 
     def rows_piece(self, rows, name):
         first = next(iter(rows.values()))
-        return self.piece(name, first.kind, first.owner, tuple(rows.values()), False, lifetime(first.seconds), self.rank_at(name))
+        return self.piece(
+            name, first.kind, first.owner, tuple(rows.values()), False, lifetime(first.seconds), self.rank_at(name)
+        )
 
     def piece(self, key, kind, owner, rows, denies, seconds, rank):
         return Held(key, self.asked.klass, kind, owner, rows, denies, seconds, rank, self.moment, self.source)
@@ -121,12 +129,19 @@ class Reader:
         if self.authoritative:
             servers, there = {}, {(piece.key, piece.kind) for piece in pieces}
             for record in self.authority:
-                if (record.kind == NS and record.klass == self.asked.klass and messages.is_under(self.asked.key, record.key)
-                        and self.configuration.route_of(record.key) is self.route and (record.key, NS) not in there):
+                if (
+                    record.kind == NS
+                    and record.klass == self.asked.klass
+                    and messages.is_under(self.asked.key, record.key)
+                    and self.configuration.route_of(record.key) is self.route
+                    and (record.key, NS) not in there
+                ):
                     servers.setdefault(record.key, {}).setdefault(record.data, record)
             for key, rows in servers.items():
                 seconds = min(lifetime(record.seconds) for record in rows.values())
-                pieces.append(self.piece(key, NS, next(iter(rows.values())).owner, tuple(rows.values()), False, seconds, 2))
+                pieces.append(
+                    self.piece(key, NS, next(iter(rows.values())).owner, tuple(rows.values()), False, seconds, 2)
+                )
         return Walk(tuple(pieces), None, False)
 
 

@@ -21,20 +21,35 @@ SOON = 1.0  # seconds before progress is shown
 def arguments(words):
     parser = argparse.ArgumentParser(
         prog="forwarder-explain",
-        description="Explain what the DNS forwarder did, from a capture of its traffic: have its proved step answer the same "
-                    "questions, with the replies that its servers gave, say what became of each question, and compare each answer.",
-        epilog="Status: 0 if no answer differs from the step's, 1 if one does, 2 if something can't be read. See forwarder-explain(1).")
+        description="Explain what the DNS forwarder did, from a capture of its traffic: have its proved step answer the "
+        "same questions, with the replies that its servers gave, say what became of each, and compare each answer.",
+        epilog="Status: 0 if no answer differs from the step's, 1 if one does, 2 if something can't be read. "
+        "See forwarder-explain(1).",
+    )
     parser.add_argument("configuration", metavar="CONFIG", help="the configuration that the forwarder had")
-    parser.add_argument("capture", metavar="CAPTURE", help="a file of tcpdump -w, in pcap or pcapng; - for standard input")
-    parser.add_argument("--from", dest="since", metavar="TIME", help="questions from this time on: 14:03, 14:03:02.5, 2026-11-28T14:03, or seconds since 1970")
+    parser.add_argument(
+        "capture", metavar="CAPTURE", help="a file of tcpdump -w, in pcap or pcapng; - for standard input"
+    )
+    parser.add_argument(
+        "--from",
+        dest="since",
+        metavar="TIME",
+        help="questions from this time on: 14:03, 14:03:02.5, 2026-11-28T14:03, or seconds since 1970",
+    )
     parser.add_argument("--to", dest="until", metavar="TIME", help="questions before this time")
-    parser.add_argument("--client", metavar="ADDRESS", help="questions of this client alone: 10.0.0.7 or 10.0.0.7:40000")
+    parser.add_argument(
+        "--client", metavar="ADDRESS", help="questions of this client alone: 10.0.0.7 or 10.0.0.7:40000"
+    )
     parser.add_argument("--name", metavar="NAME", help="questions for this name and those below it alone")
     parser.add_argument("--failures", action="store_true", help="failed questions alone, and answers that differ")
-    parser.add_argument("--summary", action="store_true", help="counts by reason, server and client, and no line for each question")
+    parser.add_argument(
+        "--summary", action="store_true", help="counts by reason, server and client, and no line for each question"
+    )
     parser.add_argument("--script", metavar="FILE", help="write the script of the questions, for forwarder replay")
     parser.add_argument("--json", action="store_true", help="one JSON object a line, for programs")
-    parser.add_argument("--program", metavar="PATH", default="forwarder", help="the forwarder's program (default: forwarder)")
+    parser.add_argument(
+        "--program", metavar="PATH", default="forwarder", help="the forwarder's program (default: forwarder)"
+    )
     return parser.parse_args(words)
 
 
@@ -66,8 +81,14 @@ def moment_of(text, first):
     if re.fullmatch(r"\d{9,}(\.\d+)?", text):
         return int(float(text) * 1_000_000)
     day = datetime.datetime.fromtimestamp(first / 1_000_000).date()
-    for form, dated in (("%Y-%m-%dT%H:%M:%S.%f", True), ("%Y-%m-%dT%H:%M:%S", True), ("%Y-%m-%dT%H:%M", True),
-                        ("%H:%M:%S.%f", False), ("%H:%M:%S", False), ("%H:%M", False)):
+    for form, dated in (
+        ("%Y-%m-%dT%H:%M:%S.%f", True),
+        ("%Y-%m-%dT%H:%M:%S", True),
+        ("%Y-%m-%dT%H:%M", True),
+        ("%H:%M:%S.%f", False),
+        ("%H:%M:%S", False),
+        ("%H:%M", False),
+    ):
         try:
             found = datetime.datetime.strptime(text, form)
         except ValueError:
@@ -178,7 +199,9 @@ def tell(options, rows, summary):
 
 def write_scripts(options, explained, events):
     """Writes the scripts of the windows, each with comments that say which answers differ."""
-    differing = {explained.windows[place] for place, result in explained.results.items() if result.same == comparing.DIFFERENT}
+    differing = {
+        explained.windows[place] for place, result in explained.results.items() if result.same == comparing.DIFFERENT
+    }
     numbers = sorted(differing) or range(len(explained.scripts))
     for count, number in enumerate(numbers, 1):
         path = options.script if len(numbers) == 1 else f"{options.script}.{count}"

@@ -68,6 +68,6 @@ def differ_by_a_second(one, other):
     if len(left) != len(right) or any(a.at != b.at or abs(a.seconds - b.seconds) > 1 for a, b in zip(left, right)):
         return False
     for record in left:
-        one = one[:record.at] + bytes(4) + one[record.at + 4:]
-        other = other[:record.at] + bytes(4) + other[record.at + 4:]
+        one = one[: record.at] + bytes(4) + one[record.at + 4 :]
+        other = other[: record.at] + bytes(4) + other[record.at + 4 :]
     return one == other

@@ -1,4 +1,4 @@
-"""The configuration of the forwarder, as far as an explanation needs it; whether it is right, the program itself says."""
+"""The configuration of the forwarder, as far as an explanation needs it. The program says whether it is right."""
 import subprocess
 import tomllib
 from typing import NamedTuple
@@ -6,7 +6,15 @@ from typing import NamedTuple
 from .capture import Unreadable
 from .messages import from_text, is_under
 
-DEFAULTS = {"questions": 1024, "inquiries": 256, "cache": 4096, "tries": 4, "ask_ms": 1500, "deadline_ms": 8000, "stale_s": 0}
+DEFAULTS = {
+    "questions": 1024,
+    "inquiries": 256,
+    "cache": 4096,
+    "tries": 4,
+    "ask_ms": 1500,
+    "deadline_ms": 8000,
+    "stale_s": 0,
+}
 
 
 class Route(NamedTuple):
@@ -27,8 +35,14 @@ class Configuration:
         self.listen = peer(table.get("listen", "127.0.0.1:53"))
         self.limits = {**DEFAULTS, **table.get("limits", {})}
         self.routes = [
-            Route(from_text(each["suffix"]), each["suffix"], tuple(map(peer, each.get("servers", ()))), each.get("deny", False))
-            for each in table["route"]]
+            Route(
+                from_text(each["suffix"]),
+                each["suffix"],
+                tuple(map(peer, each.get("servers", ()))),
+                each.get("deny", False),
+            )
+            for each in table["route"]
+        ]
         self.routes.sort(key=lambda route: -len(route.suffix))
         self.servers = {server for route in self.routes for server in route.servers}
         self._found = {}
@@ -64,7 +78,10 @@ def read(path, program):
     except OSError as fault:
         raise Unreadable(f"the program can't be run: {fault.strerror}", program) from None
     if checked.returncode:
-        said = " ".join(checked.stdout.decode("utf-8", "replace").split()) or checked.stderr.decode("utf-8", "replace").strip()
+        said = (
+            " ".join(checked.stdout.decode("utf-8", "replace").split())
+            or checked.stderr.decode("utf-8", "replace").strip()
+        )
         raise Unreadable(f"is refused: {said}", path)
     with open(path, encoding="utf-8-sig") as file:
         return Configuration(file.read())

@@ -104,7 +104,13 @@ class History:
 
     def follow(self, at_event=lambda place, cache: None):
         """Goes through all events; `at_event` is called before each with its place and the cache."""
-        by_kind = {Question: self.question, Answer: self.answer, Query: self.query, Reply: self.reply, Ending: self.ending}
+        by_kind = {
+            Question: self.question,
+            Answer: self.answer,
+            Query: self.query,
+            Reply: self.reply,
+            Ending: self.ending,
+        }
         for place, event in enumerate(self.events):
             self.place = place
             at_event(place, self.cache)
@@ -134,6 +140,9 @@ class History:
     def reply(self, reply, now):
         query = reply.query
         asked = query.asked
+        if asked is None:
+            self.verdicts[reply] = "stranger"
+            return
         if query in self.closed or now >= query.moment // 1000 + self.configuration.limits["ask_ms"] + 5:
             self.verdicts[reply] = "late"
             return
@@ -150,8 +159,13 @@ class History:
 
     def judge(self, reply, asked, now):
         octets, query = reply.octets, reply.query
-        if (len(octets) < 12 or octets[:2] != query.octets[:2] or octets[2] & 0xF8 != 0x80 or reply.source != query.server
-                or (messages.question_of(octets) or asked._replace(kind=-1)).of() != asked.of()):
+        if (
+            len(octets) < 12
+            or octets[:2] != query.octets[:2]
+            or octets[2] & 0xF8 != 0x80
+            or reply.source != query.server
+            or (messages.question_of(octets) or asked._replace(kind=-1)).of() != asked.of()
+        ):
             return "stranger"
         if messages.is_cut(octets):
             return "cut"
@@ -210,11 +224,22 @@ class History:
             if not rows and not alias:
                 if authority:
                     denied = messages.code(octets) == 3
-                    piece = self.before(key, asked.klass, None if denied else asked.kind, key, (authority,), True, authority.seconds, now)
+                    piece = self.before(
+                        key,
+                        asked.klass,
+                        None if denied else asked.kind,
+                        key,
+                        (authority,),
+                        True,
+                        authority.seconds,
+                        now,
+                    )
                     pieces += [piece] if piece else []
                 return pieces
             first = (rows or alias)[0]
-            piece = self.before(key, asked.klass, first.kind, first.owner, tuple(rows or alias), False, first.seconds, now)
+            piece = self.before(
+                key, asked.klass, first.kind, first.owner, tuple(rows or alias), False, first.seconds, now
+            )
             pieces += [piece] if piece else []
             if rows:
                 return pieces
@@ -222,8 +247,10 @@ class History:
         return pieces
 
     def before(self, key, klass, kind, owner, rows, denies, left, now):
-        """A set or denial with so many seconds left at a moment, kept since before the capture; None if that can't be."""
-        if any((above, klass, kind) in self.ever_carried for above in (messages.parents(key) if kind is None else (key,))):
+        """A set or denial kept since before the capture, with `left` seconds at a moment; None if that can't be."""
+        if any(
+            (above, klass, kind) in self.ever_carried for above in (messages.parents(key) if kind is None else (key,))
+        ):
             return None
         end = now + 1000 * left + 500
         accepted = self.first - BEFORE + (end - self.first) % 1000

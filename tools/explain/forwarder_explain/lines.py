@@ -111,10 +111,22 @@ class Maker:
         kind = held.kind if held.kind is not None else 1
         question = held.owner if not held.denies else held.key
         body = question + kind.to_bytes(2, "big") + held.klass.to_bytes(2, "big")
-        asked = self.add(moment, "client", order=held.accepted * 1000, note="before",
-                         text=f"client udp {HELPER} {HEADER}{body.hex()}\n")
-        self.add(moment, "reply", order=held.accepted * 1000, target=asked, note="before",
-                 text=f"{shown(server)} ", event=reply_body(held, body))
+        asked = self.add(
+            moment,
+            "client",
+            order=held.accepted * 1000,
+            note="before",
+            text=f"client udp {HELPER} {HEADER}{body.hex()}\n",
+        )
+        self.add(
+            moment,
+            "reply",
+            order=held.accepted * 1000,
+            target=asked,
+            note="before",
+            text=f"{shown(server)} ",
+            event=reply_body(held, body),
+        )
 
     def prefer(self, route, steps, server, kind):
         """Lines after which a route prefers another server: a question whose first tries fail, and then a denial."""
@@ -134,7 +146,12 @@ def reply_body(held, question):
     if held.rank == 2:  # name servers beside an authoritative denial of a type that nobody has
         flags, counts = 0x8580, (1, 0, len(held.rows), 0)
     rows = b"".join(
-        row.owner + row.kind.to_bytes(2, "big") + row.klass.to_bytes(2, "big") + held.seconds.to_bytes(4, "big")
-        + len(row.data).to_bytes(2, "big") + row.data for row in held.rows)
+        row.owner
+        + row.kind.to_bytes(2, "big")
+        + row.klass.to_bytes(2, "big")
+        + held.seconds.to_bytes(4, "big")
+        + len(row.data).to_bytes(2, "big")
+        + row.data
+        for row in held.rows
+    )
     return (flags | code).to_bytes(2, "big") + b"".join(count.to_bytes(2, "big") for count in counts) + question + rows
-

@@ -1,4 +1,4 @@
-"""Messages of the DNS (RFC 1035 4.1), as far as an explanation needs them. Names are kept in octets, as in a message."""
+"""Messages of the DNS (RFC 1035 4.1), as far as an explanation needs them. Names are in octets, as in a message."""
 import functools
 import struct
 from typing import NamedTuple
@@ -8,17 +8,69 @@ STRING = "string"
 # The parts of RDATA of each type whose names may be compressed, or are written out; numbers are octets.
 SHAPES = {
     **{kind: (NAME,) for kind in (2, 3, 4, 5, 7, 8, 9, 12)},
-    6: (NAME, NAME, 20), 14: (NAME, NAME), 17: (NAME, NAME), 15: (2, NAME), 18: (2, NAME), 21: (2, NAME),
-    26: (2, NAME, NAME), 33: (6, NAME), 35: (4, STRING, STRING, STRING, NAME),
+    6: (NAME, NAME, 20),
+    14: (NAME, NAME),
+    17: (NAME, NAME),
+    15: (2, NAME),
+    18: (2, NAME),
+    21: (2, NAME),
+    26: (2, NAME, NAME),
+    33: (6, NAME),
+    35: (4, STRING, STRING, STRING, NAME),
 }
 TYPES = {
-    1: "A", 2: "NS", 5: "CNAME", 6: "SOA", 12: "PTR", 13: "HINFO", 15: "MX", 16: "TXT", 17: "RP", 18: "AFSDB", 28: "AAAA",
-    29: "LOC", 33: "SRV", 35: "NAPTR", 39: "DNAME", 41: "OPT", 43: "DS", 44: "SSHFP", 46: "RRSIG", 47: "NSEC",
-    48: "DNSKEY", 50: "NSEC3", 51: "NSEC3PARAM", 52: "TLSA", 64: "SVCB", 65: "HTTPS", 99: "SPF", 250: "TSIG",
-    251: "IXFR", 252: "AXFR", 255: "ANY", 256: "URI", 257: "CAA",
+    1: "A",
+    2: "NS",
+    5: "CNAME",
+    6: "SOA",
+    12: "PTR",
+    13: "HINFO",
+    15: "MX",
+    16: "TXT",
+    17: "RP",
+    18: "AFSDB",
+    28: "AAAA",
+    29: "LOC",
+    33: "SRV",
+    35: "NAPTR",
+    39: "DNAME",
+    41: "OPT",
+    43: "DS",
+    44: "SSHFP",
+    46: "RRSIG",
+    47: "NSEC",
+    48: "DNSKEY",
+    50: "NSEC3",
+    51: "NSEC3PARAM",
+    52: "TLSA",
+    64: "SVCB",
+    65: "HTTPS",
+    99: "SPF",
+    250: "TSIG",
+    251: "IXFR",
+    252: "AXFR",
+    255: "ANY",
+    256: "URI",
+    257: "CAA",
 }
-CODES = ("NOERROR", "FORMERR", "SERVFAIL", "NXDOMAIN", "NOTIMP", "REFUSED", "YXDOMAIN", "YXRRSET", "NXRRSET", "NOTAUTH",
-         "NOTZONE", "code 11", "code 12", "code 13", "code 14", "code 15")
+CODES = (
+    "NOERROR",
+    "FORMERR",
+    "SERVFAIL",
+    "NXDOMAIN",
+    "NOTIMP",
+    "REFUSED",
+    "YXDOMAIN",
+    "YXRRSET",
+    "NXRRSET",
+    "NOTAUTH",
+    "NOTZONE",
+    "code 11",
+    "code 12",
+    "code 13",
+    "code 14",
+    "code 15",
+)
 CNAME, SOA, NS, OPT = 5, 6, 2, 41
 ANSWER, AUTHORITY = 0, 1
 
@@ -91,7 +143,7 @@ def name_at(octets, at):
             total += size + 1
             if size > 63 or total > 255 or at + 1 + size > len(octets):
                 raise Malformed("a label")
-            parts.append(octets[at:at + 1 + size])
+            parts.append(octets[at : at + 1 + size])
             at += 1 + size
     except IndexError:
         raise Malformed("a name") from None
@@ -161,10 +213,17 @@ def text(name):
     """A name in letters; what is no letter, digit, hyphen or underscore is escaped as RFC 1035 5.1 has it."""
     labels, at = [], 0
     while name[at]:
-        label = name[at + 1:at + 1 + name[at]]
-        labels.append("".join(
-            chr(o) if 48 <= o < 58 or 65 <= o < 91 or 97 <= o < 123 or o in b"-_" else
-            f"\\{chr(o)}" if 33 <= o < 127 else f"\\{o:03}" for o in label))
+        label = name[at + 1 : at + 1 + name[at]]
+        labels.append(
+            "".join(
+                chr(o)
+                if 48 <= o < 58 or 65 <= o < 91 or 97 <= o < 123 or o in b"-_"
+                else f"\\{chr(o)}"
+                if 33 <= o < 127
+                else f"\\{o:03}"
+                for o in label
+            )
+        )
         at += 1 + name[at]
     return ".".join(labels) or "."
 
@@ -183,7 +242,7 @@ def parents(key):
         yield key
         if key == b"\0":
             return
-        key = key[1 + key[0]:]
+        key = key[1 + key[0] :]
 
 
 def is_under(key, suffix):

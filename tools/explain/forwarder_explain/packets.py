@@ -63,11 +63,12 @@ class Decoder:
         total, number, fragment = struct.unpack_from(">3H", octets, start + 2)
         if total == 0:  # left to the network card
             total = len(octets) - start
-        if link in (COOKED, COOKED_2) and self.is_double(moment, octets[start:start + 8] + octets[start + 9:start + 10]
-                                                         + octets[start + 12:start + total]):
+        if link in (COOKED, COOKED_2) and self.is_double(
+            moment, octets[start : start + 8] + octets[start + 9 : start + 10] + octets[start + 12 : start + total]
+        ):
             return None
-        protocol, source, target = octets[start + 9], octets[start + 12:start + 16], octets[start + 16:start + 20]
-        payload = octets[start + header:start + total]
+        protocol, source, target = octets[start + 9], octets[start + 12 : start + 16], octets[start + 16 : start + 20]
+        payload = octets[start + header : start + total]
         if len(payload) < total - header:
             self.cut += 1
             return None
@@ -80,7 +81,7 @@ class Decoder:
     def transport(self, moment, protocol, source, target, payload):
         if protocol == UDP and len(payload) >= 8:
             from_port, to_port, size = struct.unpack_from(">3H", payload)
-            return Datagram(moment, (source, from_port), (target, to_port), payload[8:max(size, 8)])
+            return Datagram(moment, (source, from_port), (target, to_port), payload[8 : max(size, 8)])
         if protocol == TCP and len(payload) >= 20:
             from_port, to_port, sequence = struct.unpack_from(">2HI", payload)
             offset = 4 * (payload[12] >> 4)
@@ -117,8 +118,10 @@ class Decoder:
         """What was met that could not be used, a line each; raises where no packet could."""
         unknown = {link: count for link, count in self.links.items() if link not in KNOWN_LINKS}
         if unknown and len(unknown) == len(self.links):
-            raise Unreadable(f"has packets of link type {', '.join(map(str, unknown))} alone, which is not known here; "
-                             "known are Ethernet, loopback, raw IP and the two forms of Linux's any")
+            raise Unreadable(
+                f"has packets of link type {', '.join(map(str, unknown))} alone, which is not known here; "
+                "known are Ethernet, loopback, raw IP and the two forms of Linux's any"
+            )
         for link, count in unknown.items():
             yield f"left out: {counted(count, 'packet')} of link type {link}, which is not known here"
         if self.cut:
@@ -139,9 +142,9 @@ def ip_start(link, octets):
     """Where the header of IPv4 begins, or None."""
     if link == ETHERNET:
         at = 12
-        while octets[at:at + 2] in (b"\x81\x00", b"\x88\xa8", b"\x91\x00"):
+        while octets[at : at + 2] in (b"\x81\x00", b"\x88\xa8", b"\x91\x00"):
             at += 4
-        return at + 2 if octets[at:at + 2] == b"\x08\x00" else None
+        return at + 2 if octets[at : at + 2] == b"\x08\x00" else None
     if link == COOKED_2:
         return 20 if octets[:2] == b"\x08\x00" else None
     if link == COOKED:

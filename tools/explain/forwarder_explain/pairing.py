@@ -25,7 +25,7 @@ class Pairing:
     """Pairs of one run."""
 
     def __init__(self, queries, asked, latest, moment):
-        """`queries` are those captured, `asked` those of the script; `latest` is how late a captured one may be, in ms."""
+        """`queries` are captured, `asked` are the script's; `latest` is how many ms late a captured one may be."""
         self.line_of, self.query_of, self.unexplained, self.unseen = {}, {}, [], []
         self.moment, self.latest = moment, latest
         by_key = defaultdict(lambda: ([], []))

@@ -1,8 +1,8 @@
 """Small changes of a script where it and the capture part, for what a capture can't show.
 
 The two clocks are not in phase, what came at about one moment may have been taken in another order, and a query that
-could not be sent is in no capture. Each change moves something by some milliseconds at most, or ends a try earlier: none
-of them changes an octet, nor can it hide an answer that is past its end, of another route or of another question.
+could not be sent is in no capture. Each change moves something by some milliseconds, or ends a try earlier. None of them
+changes an octet, nor can it hide an answer that is past its end, of another route or of another question.
 """
 from collections import defaultdict
 
@@ -26,8 +26,9 @@ class Repairs:
         self.changed, self.touched = False, set()
 
     def after(self, outcome, pairing, answers, moved):
-        """The changes that a run calls for; `answers` has the script's reply to each question, `moved` the queries that have
-        just been paired anew. Changes go in the order of time: what comes long after the first may be gone with it."""
+        """The changes that a run calls for, in the order of time: what comes long after the first may be gone with it.
+
+        `answers` has the script's reply to each question, `moved` the queries that have just been paired anew."""
         self.changed, self.touched = False, {query.asked.of() for query in moved if query.asked}
         self.outcome, self.pairing, self.answers = outcome, pairing, answers
         self.by_question = defaultdict(list)
@@ -54,11 +55,20 @@ class Repairs:
             if each.line.note != "before" and (each.closed is None or not each.closed.note):
                 yield each.line.order[0], number, self.window.asked_in(each), self.unseen, each
         for number, question in enumerate(self.window.questions, number):
-            if question.answer and question not in self.answers and question in self.window.maker.line_of and question.asked:
+            if (
+                question.answer
+                and question not in self.answers
+                and question in self.window.maker.line_of
+                and question.asked
+            ):
                 yield question.answer.moment, number, question.asked.of(), self.unanswered, question
         for number, reply in enumerate(self.window.replies, number):
             line = self.window.maker.line_of.get(reply)
-            if line is not None and line.number in self.outcome.quiet and self.window.verdicts.get(reply) not in ("stranger", "late"):
+            if (
+                line is not None
+                and line.number in self.outcome.quiet
+                and self.window.verdicts.get(reply) not in ("stranger", "late")
+            ):
                 yield reply.moment, number, reply.query.asked.of(), self.late_reply, reply
         for number, line in enumerate(self.window.lines, number):
             if line.server is not None and not self.is_meant(line):
@@ -76,14 +86,21 @@ class Repairs:
 
     def insert(self, order, moment, kind, each=None, note=""):
         """A tick, or the failure of a query of the script."""
-        line = Line(order, moment, kind, None, each and each.line, each.transport if each else "", note, each and each.server)
+        line = Line(
+            order, moment, kind, None, each and each.line, each.transport if each else "", note, each and each.server
+        )
         self.window.lines.append(line)
 
     def let_time_pass(self):
-        """Ticks where the script leaves something undone for long that was due: the service never does. Such ticks go again
-        where they do nothing."""
+        """Ticks where the script leaves something undone for long that was due: the service never does.
+
+        Such ticks are taken out again where they do nothing."""
         lines, dues = self.window.lines, {}
-        lines[:] = [line for line in lines if line.kind != "tick" or line.event is not None or line.number not in self.outcome.quiet]
+        lines[:] = [
+            line
+            for line in lines
+            if line.kind != "tick" or line.event is not None or line.number not in self.outcome.quiet
+        ]
         for each in self.outcome.asked:
             due = each.moment + self.limits["ask_ms"]
             if self.is_late(due, each.closed):
@@ -106,7 +123,11 @@ class Repairs:
 
     def is_meant(self, line):
         each = self.outcome.by_line.get(line.target)
-        return each is not None and each.server == line.server and (line.note != "never left" or each not in self.pairing.query_of)
+        return (
+            each is not None
+            and each.server == line.server
+            and (line.note != "never left" or each not in self.pairing.query_of)
+        )
 
     def says_failure(self, answer):
         """Whether an answer is what clients get once all tries failed: a failure, or expired data."""
@@ -119,8 +140,14 @@ class Repairs:
 
     def open_at(self, of, order):
         """The script's query of this question that is open at a place, or None."""
-        return next((each for each in reversed(self.by_question.get(of, ())) if each.line.order <= order
-                     and (each.closed is None or each.closed.order >= order)), None)
+        return next(
+            (
+                each
+                for each in reversed(self.by_question.get(of, ()))
+                if each.line.order <= order and (each.closed is None or each.closed.order >= order)
+            ),
+            None,
+        )
 
     def end_try(self, each, event, moment):
         """Ends a try of the script before an event that left: by its time if that is near, else as failed unseen."""
@@ -151,13 +178,20 @@ class Repairs:
         return False
 
     def take_later(self, question, of, query):
-        """A question that the script joins or answers, and for which the capture has a query of its own: what it used had
-        ended by some milliseconds, or the reply that came with it was taken first."""
+        """A question that the script joins or answers, and for which the capture has a query of its own.
+
+        What it used had ended by some milliseconds, or the reply that came with it was taken first."""
         line, found = self.window.maker.line_of.get(question), self.answers.get(question)
-        if line is None or found is None or found[1] not in (0, 12):
+        if (
+            line is None
+            or found is None
+            or found[1] not in (0, 8, 12)
+            or not question.answer
+            or question.answer.moment < query.moment
+        ):
             return False
-        near = [reply for reply in self.replies_near(of, question.moment, query.moment) if reply.query.moment < question.moment]
-        if near and self.may((question, "after"), 1):
+        near = self.arrivals_near(of, question.moment, query.moment)
+        if near and near[-1].query is not query and self.may((question, "after"), 1):
             line.order, line.moment = (near[-1].moment, 1e9), max(line.moment, self.window.maker.moment(near[-1]))
             return True
         count = self.tried[question, "later"]
@@ -173,18 +207,35 @@ class Repairs:
         micros = each.line.order[0]
         event = each.line.event
         until = micros + 1000 * (self.limits["ask_ms"] - SLACK)
-        later = [query for query in self.window.queries_of.get(of, ())
-                 if micros < query.moment < until and self.window.is_on_route(query)]
+        later = [
+            query
+            for query in self.window.queries_of.get(of, ())
+            if micros < query.moment < until and self.window.is_on_route(query)
+        ]
         question = event if each.line.kind == "client" else None
         if question is not None and not later and question.answer is None:
             return self.not_taken(question, micros)
-        if question is not None and question.answer and question.answer.moment - micros < 1000 * SOON and not later \
-                and code(question.answer.octets) in (0, 3):
+        if (
+            question is not None
+            and question.answer
+            and question.answer.moment - micros < 1000 * SOON
+            and not later
+            and code(question.answer.octets) in (0, 3)
+        ):
             return self.reorder(question, of) or self.keep_longer(of, moment)
-        waiting = [each_ for each_ in self.window.waiting_for(of) if each_.moment <= micros + 1000 * SOON
-                   and micros <= each_.answer.moment < until and self.says_failure(each_.answer)]
+        waiting = [
+            each_
+            for each_ in self.window.waiting_for(of)
+            if each_.moment <= micros + 1000 * SOON
+            and micros <= each_.answer.moment < until
+            and self.says_failure(each_.answer)
+        ]
         if (later and later[0] in self.pairing.unexplained) or waiting:
-            return self.end_try(each, later[0] if later else waiting[0].answer, moment) if self.not_due(each, later, waiting) else False
+            return (
+                self.end_try(each, later[0] if later else waiting[0].answer, moment)
+                if self.not_due(each, later, waiting)
+                else False
+            )
         return False
 
     def not_due(self, each, later, waiting):
@@ -203,12 +254,13 @@ class Repairs:
         """Questions that wanted this, taken in some span of time."""
         return [question for question in self.window.wanting.get(of, ()) if since <= question.moment <= until]
 
-    def replies_near(self, of, since, until):
-        return [reply for reply in self.window.replies_of.get(of, ()) if since <= reply.moment <= until]
+    def arrivals_near(self, of, since, until):
+        """Replies and failures of queries for this in some span of time."""
+        return [event for event in self.window.arrivals_of.get(of, ()) if since <= event.moment <= until]
 
     def reorder(self, question, of):
         """A question that was taken before a reply that the capture has just before it: it joined what was open."""
-        near = self.replies_near(of, question.moment - 20_000, question.moment)
+        near = self.arrivals_near(of, question.moment - 20_000, question.moment)
         line = self.window.maker.line_of.get(question)
         if not near or line is None or not self.may((question, "before"), 1):
             return False
@@ -254,8 +306,14 @@ class Repairs:
         line = self.window.maker.line_of[reply]
         target = self.window.pairs.get(reply.query)
         each = self.outcome.by_line.get(target)
-        if each and each.closed and each.closed.kind == "tick" and each.closed.order < line.order \
-                and line.moment - each.closed.moment <= SLACK and self.may((reply, "earlier"), 1):
+        if (
+            each
+            and each.closed
+            and each.closed.kind == "tick"
+            and each.closed.order < line.order
+            and line.moment - each.closed.moment <= SLACK
+            and self.may((reply, "earlier"), 1)
+        ):
             line.order = (each.closed.order[0], each.closed.order[1] - 1e-6)
             line.moment = min(line.moment, each.closed.moment)
             return True
@@ -278,4 +336,3 @@ def in_order(events, key):
         if of is not None:
             found[of].append(event)
     return found
-

@@ -69,7 +69,13 @@ class Script:
             return line.text or "tick\n"
         event = line.event
         target = line.target or pairs.get(event.query)
-        if target is None or target.number == 0:
+        if (
+            target is None
+            or target.number == 0
+            or line.kind == "reply"
+            and line.note != "before"
+            and event.query.octets is None
+        ):
             return "tick\n"
         transport = event.query.transport if line.target is None else "udp" if line.note == "before" else line.text
         path = f"udp {1024 + 8 * target.number}" if transport == "udp" else f"tcp {self.connections.get(target, 0)}"
@@ -89,7 +95,9 @@ class Script:
         ran = subprocess.run([self.program, "replay"], input=self.text(lines, pairs).encode(), capture_output=True)
         if ran.returncode:
             said = ran.stderr.decode("utf-8", "replace").strip()
-            raise Unreadable(f"could not replay a script of {len(lines)} lines: {said} (status {ran.returncode})", self.program)
+            raise Unreadable(
+                f"could not replay a script of {len(lines)} lines: {said} (status {ran.returncode})", self.program
+            )
         outcome = Outcome(lines, ran.stdout.decode())
         self.connections = {asked.line: asked.connection for asked in outcome.asked if asked.transport == "tcp"}
         return outcome

@@ -9,19 +9,31 @@ from .story import clock, duration
 from .traffic import Query
 
 REASONS = {
-    0: "answered", 1: "not one question", 2: "operation not served", 3: "type or class not served", 4: "no route",
-    5: "questions full", 6: "inquiries full", 7: "no port", 8: "all tries failed", 9: "deadline", 10: "aliases", 11: "too large",
-    12: "expired data", 13: "denied by the configuration",
+    0: "answered",
+    1: "not one question",
+    2: "operation not served",
+    3: "type or class not served",
+    4: "no route",
+    5: "questions full",
+    6: "inquiries full",
+    7: "no port",
+    8: "all tries failed",
+    9: "deadline",
+    10: "aliases",
+    11: "too large",
+    12: "expired data",
+    13: "denied by the configuration",
 }
 
 MOST_SHOWN, MOST_CLIENTS = 10, 20  # of queries that are not the step's, and of the clients that asked most
-UNCOMPARED = {
-    comparing.BEFORE: "on what was kept before the capture began",
-    comparing.UNANSWERED: "no answer that was captured, and the step gives one",
-    comparing.GONE: "no answer, since the connection had ended",
-    comparing.OPEN: "no answer: the capture ended, or the question was not taken",
-    comparing.DROPPED: "dropped: no question",
-}
+# What is told of questions that are not compared: the verb for one and for more, and the rest.
+UNCOMPARED = (
+    (comparing.BEFORE, ("rests", "rest"), "on what was kept before the capture began"),
+    (comparing.UNANSWERED, ("got", "got"), "no answer that was captured, and the step gives one"),
+    (comparing.GONE, ("got", "got"), "no answer, since the connection had ended"),
+    (comparing.OPEN, ("got", "got"), "no answer: the capture ended, or the question was not taken"),
+    (comparing.DROPPED, ("was", "were"), "dropped: no question"),
+)
 
 
 class Row:
@@ -42,11 +54,16 @@ class Row:
         """Whether `--failures` shows it."""
         if self.result.same == comparing.DROPPED:
             return False
-        return self.code not in ("NOERROR", "NXDOMAIN") or self.result.same == comparing.DIFFERENT or self.result.reason == 12
+        return (
+            self.code not in ("NOERROR", "NXDOMAIN")
+            or self.result.same == comparing.DIFFERENT
+            or self.result.reason == 12
+        )
 
     def line(self):
         took = f"{duration(self.took)} ms" if self.took is not None else "-"
-        return f"{clock(self.question.moment)} {self.client} {self.transport} {self.name} {self.kind} {self.code} {took}: {self.words}"
+        asked = f"{self.client} {self.transport} {self.name} {self.kind}"
+        return f"{clock(self.question.moment)} {asked} {self.code} {took}: {self.words}"
 
     def differs(self):
         """Both messages of an answer that is not the step's."""
@@ -61,11 +78,28 @@ class Row:
     def object(self):
         result = self.result
         told = {
-            "time": self.question.moment / 1_000_000, "client": self.client, "transport": self.transport, "name": self.name,
-            "type": self.kind, "code": self.code, "milliseconds": self.took, "reason": result.reason, "words": self.words,
-            "compared": result.same, "script_line": result.line,
-            "tries": [{"name": messages.text(attempt.name), "server": attempt.server, "transport": attempt.transport,
-                       "milliseconds": attempt.lasted, "how": attempt.how} for attempt in result.attempts]}
+            "time": self.question.moment / 1_000_000,
+            "client": self.client,
+            "transport": self.transport,
+            "name": self.name,
+            "type": self.kind,
+            "code": self.code,
+            "milliseconds": self.took,
+            "reason": result.reason,
+            "words": self.words,
+            "compared": result.same,
+            "script_line": result.line,
+            "tries": [
+                {
+                    "name": messages.text(attempt.name),
+                    "server": attempt.server,
+                    "transport": attempt.transport,
+                    "milliseconds": attempt.lasted,
+                    "how": attempt.how,
+                }
+                for attempt in result.attempts
+            ],
+        }
         if result.same == comparing.DIFFERENT:
             told["captured"], told["step"] = self.answer.octets.hex(), result.octets.hex()
         return told
@@ -84,26 +118,27 @@ class Summary:
         """The last lines: how many answers are the step's own octets."""
         same = self.same
         answered = sum(1 for row in self.rows if row.answer)
-        yield f"{counted(len(self.rows), 'question')}, {counted(answered, 'answer')}: {are(same[comparing.SAME])} the step's own octets, " \
-              f"{same[comparing.SECOND]:,} but for a second, {same[comparing.DIFFERENT]:,} different"
-        for word, one, more in (
-                (comparing.BEFORE, "rests", "rest"), (comparing.UNANSWERED, "got", "got"), (comparing.GONE, "got", "got"),
-                (comparing.OPEN, "got", "got"), (comparing.DROPPED, "was", "were")):
+        asked = f"{counted(len(self.rows), 'question')}, {counted(answered, 'answer')}"
+        parted = f"{same[comparing.SECOND]:,} but for a second, {same[comparing.DIFFERENT]:,} different"
+        yield f"{asked}: {are(same[comparing.SAME])} the step's own octets, {parted}"
+        for word, verb, text in UNCOMPARED:
             if same[word]:
-                yield f"{same[word]:,} {one if same[word] == 1 else more} {UNCOMPARED[word]}"
+                yield f"{same[word]:,} {verb[same[word] != 1]} {text}"
         yield from self.queries_text()
 
     def queries_text(self):
-        explained = self.explained
-        yield f"{counted(explained.paired + len(explained.others), 'query')} to servers: {are(explained.paired)} the step's" \
-            + (f", {are(len(explained.others))} not" if explained.others else "") \
-            + (f"; {explained.never_left:,} of the step's could not be sent" if explained.never_left else "")
-        for moment, server, transport, asked, on_route in explained.others[:MOST_SHOWN]:
-            yield f"    {clock(moment)} {shown(server)}{' over TCP' if transport == 'tcp' else ''} was asked for " \
-                  f"{messages.text(asked.name)} {messages.kind_text(asked.kind, asked.klass)}, and not by the step" \
-                  + ("" if on_route else ": it is not of the route of this name")
-        if len(explained.others) > MOST_SHOWN:
-            yield f"    and {len(explained.others) - MOST_SHOWN:,} more"
+        """How many of the captured queries are the step's, and what the others are."""
+        paired, never_left, others = self.explained.paired, self.explained.never_left, self.explained.others
+        said = f"{counted(paired + len(others), 'query')} to servers: {are(paired)} the step's"
+        said += f", {are(len(others))} not" if others else ""
+        yield said + (f"; {never_left:,} of the step's could not be sent" if never_left else "")
+        for moment, server, transport, asked, on_route in others[:MOST_SHOWN]:
+            over = " over TCP" if transport == "tcp" else ""
+            what = f"{messages.text(asked.name)} {messages.kind_text(asked.kind, asked.klass)}"
+            why = "" if on_route else ": it is not of the route of this name"
+            yield f"    {clock(moment)} {shown(server)}{over} was asked for {what}, and not by the step{why}"
+        if len(others) > MOST_SHOWN:
+            yield f"    and {len(others) - MOST_SHOWN:,} more"
 
     def tables(self):
         """Counts by reason, by server and by client."""
@@ -137,13 +172,22 @@ class Summary:
             took, how = [], Counter()
             for query in queries:
                 moment, verdict = self.history.closed.get(query, (None, "silent"))
-                reply = next((reply for reply in query.replies if self.history.verdicts.get(reply) not in ("stranger", None)), None)
+                reply = next(
+                    (reply for reply in query.replies if self.history.verdicts.get(reply) not in ("stranger", None)),
+                    None,
+                )
                 if reply:
                     took.append((reply.moment - query.moment) / 1000)
                 if verdict != "answered":
                     how[verdict] += 1
             failed = ", ".join(f"{count} {word}" for word, count in how.most_common()) or "-"
-            yield server, (f"{len(queries):,}", f"{100 * len(queries) / len(self.queries):.0f} %", *spread(took), f"{sum(how.values()):,}", failed)
+            yield server, (
+                f"{len(queries):,}",
+                f"{100 * len(queries) / len(self.queries):.0f} %",
+                *spread(took),
+                f"{sum(how.values()):,}",
+                failed,
+            )
 
     def by_client(self):
         groups = defaultdict(list)
@@ -152,13 +196,24 @@ class Summary:
         for client, rows in sorted(groups.items(), key=lambda group: -len(group[1]))[:MOST_CLIENTS]:
             cached = sum(1 for row in rows if row.result.reason == 0 and not row.result.attempts)
             failed = sum(row.failed() for row in rows)
-            yield client, (f"{len(rows):,}", f"{100 * cached / len(rows):.0f} %", f"{failed:,}", spread([row.took for row in rows if row.took is not None])[0])
+            yield client, (
+                f"{len(rows):,}",
+                f"{100 * cached / len(rows):.0f} %",
+                f"{failed:,}",
+                spread([row.took for row in rows if row.took is not None])[0],
+            )
 
     def object(self):
-        return {"summary": {
-            "questions": len(self.rows), "answers": sum(1 for row in self.rows if row.answer), **self.same,
-            "queries_of_the_step": self.explained.paired, "other_queries": len(self.explained.others),
-            "never_left": self.explained.never_left}}
+        return {
+            "summary": {
+                "questions": len(self.rows),
+                "answers": sum(1 for row in self.rows if row.answer),
+                **self.same,
+                "queries_of_the_step": self.explained.paired,
+                "other_queries": len(self.explained.others),
+                "never_left": self.explained.never_left,
+            }
+        }
 
 
 def are(number):
@@ -185,8 +240,10 @@ def table(title, heads, rows):
     widths = [max(len(str(row[place])) for row in cells) for place in range(len(heads) + 1)]
     for row in cells:
         shown = [str(row[0]).ljust(widths[0])]
-        shown += [str(cell).ljust(width) if head == "how" else str(cell).rjust(width)
-                  for cell, width, head in zip(row[1:], widths[1:], heads)]
+        shown += [
+            str(cell).ljust(width) if head == "how" else str(cell).rjust(width)
+            for cell, width, head in zip(row[1:], widths[1:], heads)
+        ]
         yield "  ".join(shown).rstrip()
     yield ""
 

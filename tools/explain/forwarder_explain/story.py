@@ -5,14 +5,25 @@ from . import comparing, messages
 from .messages import CNAME
 
 FAILED = {
-    "silent": "silent for {} ms", "deadline": "silent for {} ms, up to the deadline", "cut": "a cut reply after {} ms", "malformed": "a reply that can't be read after {} ms",
-    "referral": "a referral after {} ms", "lame": "a reply that neither answers nor denies after {} ms",
-    "answered": "answered in {} ms", "never left": "could not be sent", "open": "no reply", "unasked": "the capture has no such query",
+    "silent": "silent for {} ms",
+    "deadline": "silent for {} ms, up to the deadline",
+    "cut": "a cut reply after {} ms",
+    "malformed": "a reply that can't be read after {} ms",
+    "referral": "a referral after {} ms",
+    "lame": "a reply that neither answers nor denies after {} ms",
+    "answered": "answered in {} ms",
+    "never left": "could not be sent",
+    "open": "no reply",
+    "unasked": "the capture has no such query",
     "unseen": "given up after {} ms, for a reason that the capture does not have",
 }
 PLAIN = {
-    1: "not exactly one question that can be read", 2: "an operation that is not served", 3: "a type or class that is not served",
-    7: "no free port was drawn", 10: "more than 8 aliases, or they lead in a circle", 11: "the answer has more than 65,535 octets",
+    1: "not exactly one question that can be read",
+    2: "an operation that is not served",
+    3: "a type or class that is not served",
+    7: "no free port was drawn",
+    10: "more than 8 aliases, or they lead in a circle",
+    11: "the answer has more than 65,535 octets",
 }
 
 
@@ -163,7 +174,8 @@ def message_text(octets):
     parts = [messages.CODES[messages.code(octets)], *(["cut"] if messages.is_cut(octets) else [])]
     try:
         for record in messages.records(octets):
-            parts.append(f"{messages.text(record.owner)} {record.seconds} {messages.kind_text(record.kind, record.klass)} {data_text(record)}")
+            kind = messages.kind_text(record.kind, record.klass)
+            parts.append(f"{messages.text(record.owner)} {record.seconds} {kind} {data_text(record)}")
     except messages.Malformed:
         parts.append("records that can't be read")
     return "; ".join(parts)

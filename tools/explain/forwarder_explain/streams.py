@@ -64,8 +64,8 @@ class Side:
             size = struct.unpack_from(">H", self.buffer)[0]
             if len(self.buffer) < 2 + size:
                 return
-            yield self.buffer[2:2 + size]
-            self.buffer = self.buffer[2 + size:]
+            yield self.buffer[2 : 2 + size]
+            self.buffer = self.buffer[2 + size :]
 
 
 class Connection:

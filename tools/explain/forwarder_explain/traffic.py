@@ -1,4 +1,4 @@
-"""Who of the forwarder's partners sent what: clients their questions, servers their replies, and what it sent to them."""
+"""Who sent what: clients their questions, servers their replies, and the forwarder what it sent to them."""
 from . import messages
 from .configuration import shown
 from .packets import FIN, RST, SYN, Datagram, Segment, Unreachable, counted
@@ -7,8 +7,16 @@ from .streams import Connection
 ACK = 16
 QUERY_FLAGS = b"\x01\0\0\1\0\0\0\0\0\0"  # RD, and one question, as the forwarder asks
 ANY_ADDRESS = bytes(4)
-UNREACHABLE = {0: "network unreachable", 1: "host unreachable", 2: "no such protocol", 3: "port closed", 4: "too large for the way",
-               9: "network forbidden", 10: "host forbidden", 13: "forbidden by a packet filter"}
+UNREACHABLE = {
+    0: "network unreachable",
+    1: "host unreachable",
+    2: "no such protocol",
+    3: "port closed",
+    4: "too large for the way",
+    9: "network forbidden",
+    10: "host forbidden",
+    13: "forbidden by a packet filter",
+}
 
 
 class Event:
@@ -21,7 +29,7 @@ class Event:
 
 
 class Question(Event):
-    """A client's message. `client` is as a script has it, `answer` what it got; `gone` is when the client's connection ended."""
+    """A client's message: `client` as a script has it, `answer` what it got, `connection` over TCP."""
 
     __slots__ = ("client", "peer", "octets", "asked", "answer", "connection")
 
@@ -101,14 +109,23 @@ class Traffic:
         self.events.sort(key=lambda event: event.moment)
 
     def own_peers(self, listen, packets):
-        """Where clients reach the forwarder: one peer, or with 0.0.0.0 the port at each address that seems to be its own."""
+        """Where clients reach the forwarder: one peer, or with 0.0.0.0 the port at each of its own addresses."""
         if listen[0] != ANY_ADDRESS:
             return {listen}
         own = {packet.source[0] for packet in packets if isinstance(packet, Datagram) and packet.target in self.servers}
-        own |= {packet.source[0] for packet in packets
-                if isinstance(packet, Datagram) and packet.source[1] == listen[1] and packet.source not in self.servers
-                and packet.target[0] not in own and len(packet.octets) >= 12 and messages.is_response(packet.octets)}
-        loopback = {packet.target[0] for packet in packets if not isinstance(packet, Unreachable) and packet.target[0][0] == 127}
+        own |= {
+            packet.source[0]
+            for packet in packets
+            if isinstance(packet, Datagram)
+            and packet.source[1] == listen[1]
+            and packet.source not in self.servers
+            and packet.target[0] not in own
+            and len(packet.octets) >= 12
+            and messages.is_response(packet.octets)
+        }
+        loopback = {
+            packet.target[0] for packet in packets if not isinstance(packet, Unreachable) and packet.target[0][0] == 127
+        }
         return {(address, listen[1]) for address in own | loopback}
 
     def datagram(self, packet):
@@ -145,7 +162,9 @@ class Traffic:
     def connection_of(self, packet):
         """The connection of a segment that is a client's or a query's; a new one if it begins one."""
         begins = packet.flags & SYN and not packet.flags & ACK
-        known = self.connections.get((packet.source, packet.target)) or self.connections.get((packet.target, packet.source))
+        known = self.connections.get((packet.source, packet.target)) or self.connections.get(
+            (packet.target, packet.source)
+        )
         if known and not (begins and known.first != packet.sequence):
             return known
         if packet.flags & RST:
@@ -189,7 +208,12 @@ class Traffic:
         for connection in self.connections.values():
             self.finish_connection(connection)
         for event in self.events:
-            if isinstance(event, Query) and event.transport == "tcp" and event.octets and event.octets[2:12] != QUERY_FLAGS:
+            if (
+                isinstance(event, Query)
+                and event.transport == "tcp"
+                and event.octets
+                and event.octets[2:12] != QUERY_FLAGS
+            ):
                 self.foreign += 1
         self.events = [event for event in self.events if not is_foreign(event)]
 
@@ -205,7 +229,7 @@ class Traffic:
             self.pending.setdefault(key, []).append(question)
 
     def answer(self, answer):
-        """Notes the answer with the first open question that it fits: client, identifier, and question if it has one."""
+        """Notes the answer with the first open question that it fits, by client, identifier and question."""
         waiting = self.pending.get((answer.client, answer.octets[:2]), [])
         body = answer.octets[12:]
         for place, question in enumerate(waiting):
@@ -239,7 +263,7 @@ class Traffic:
     def notes(self, configuration):
         """What is to be said of the traffic, a line each."""
         if self.foreign:
-            yield f"left out, another program's: {counted(self.foreign, 'query')} to the servers, not of the forwarder's form"
+            yield f"left out: {counted(self.foreign, 'query')} to servers, not of the forwarder's form: another program's"
         if self.unasked:
             yield f"left out: {counted(self.unasked, 'answer')} without a question in the capture"
         if self.gaps:

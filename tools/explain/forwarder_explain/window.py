@@ -6,7 +6,7 @@ from . import comparing
 from .lines import Maker
 from .messages import question_in
 from .pairing import Pairing
-from .repairs import Repairs, in_order
+from .repairs import SOON, Repairs, in_order
 from .replay import Script
 from .traffic import Ending, Query, Question, Reply
 
@@ -39,8 +39,10 @@ class Window:
     """Events of a capture with what was kept when they began."""
 
     def __init__(self, configuration, history, program, events, judged, before, span):
-        """`before` are Held to begin with, and routes' preferred servers; `judged` the questions whose result is wanted;
-        `span` is when the window begins, before which events are there for what is open, and when the capture ends."""
+        """`before` are Held to begin with, and the servers that routes prefer; `judged` the questions to give results for.
+
+        `span` is when the window begins, before which `events` are there for what is open, and when the capture ends.
+        """
         self.configuration, self.history, self.judged = configuration, history, judged
         self.begins, self.ends = span
         self.verdicts = history.verdicts
@@ -78,6 +80,10 @@ class Window:
     def index(self):
         self.wanting = in_order(self.questions, self.wanted)
         self.queries_of = in_order(self.queries, lambda query: query.asked and query.asked.of())
+        self.arrivals_of = in_order(
+            sorted(self.replies + self.endings, key=lambda event: event.moment),
+            lambda event: event.query.asked and event.query.asked.of(),
+        )
         self.replies_of = in_order(self.replies, lambda reply: reply.query.asked and reply.query.asked.of())
         self.asked_by_body = {}
         self.waiting = defaultdict(list)
@@ -91,7 +97,11 @@ class Window:
         if question.asked is None:
             return None
         found = self.history.found.get(question)
-        return question.asked.of() if found is None or found.answers else (found.missed, question.asked.kind, question.asked.klass)
+        return (
+            question.asked.of()
+            if found is None or found.answers
+            else (found.missed, question.asked.kind, question.asked.klass)
+        )
 
     def chain(self, question):
         """What is asked for a question, along the aliases that replies led on to."""
@@ -142,11 +152,40 @@ class Window:
     def results(self):
         """The result of each question that is to be judged."""
         self.settle()
+        self.exchange_twins()
         return {question: self.result(question) for question in self.judged}
+
+    def exchange_twins(self):
+        """Of questions that a client sent twice under one identifier nobody can say which answer is whose."""
+        for twins in in_order(self.questions, lambda question: (question.client, question.octets)).values():
+            for one in twins:
+                for other in twins:
+                    if (
+                        one.answer
+                        and other.answer
+                        and self.text_for(one) != one.answer.octets
+                        and self.text_for(other) == one.answer.octets
+                        and self.text_for(other) != other.answer.octets
+                    ):
+                        self.answers[one], self.answers[other] = self.answers[other], self.answers.get(
+                            one, (None, None, b"")
+                        )
+
+    def text_for(self, question):
+        return self.answers.get(question, (None, None, b""))[2]
 
     def result(self, question):
         line, reason, octets = self.answers.get(question, (None, None, b""))
-        same = comparing.compare(question, octets, question in self.history.rests_on_before, question in self.maker.line_of)
+        if (
+            line is not None
+            and question.answer
+            and question.answer.octets != octets
+            and self.is_much_later(line, question.answer)
+        ):
+            line, reason, octets = None, None, b""
+        same = comparing.compare(
+            question, octets, question in self.history.rests_on_before, question in self.maker.line_of
+        )
         attempts, joined = self.attempts(question, line) if line is not None else (self.open_tries(question), False)
         own = self.maker.line_of.get(question)
         return Result(same, reason, octets, own.number if own else 0, attempts, joined)
@@ -162,7 +201,9 @@ class Window:
             tries.append(last)
             if last.line.order <= own.order:
                 break
-            last = self.ended_at.get(last.line) or (self.moved_from(question, own, last) if last.line.kind == "client" else None)
+            last = self.ended_at.get(last.line) or (
+                self.moved_from(question, own, last) if last.line.kind == "client" else None
+            )
         joined = bool(tries) and tries[-1].line.order < own.order
         return tuple(map(self.attempt, reversed(tries))), joined
 
@@ -183,8 +224,20 @@ class Window:
     def open_for(self, question, order):
         """The try that a question waits for whose deadline has come, while others wait on."""
         wanted = self.chain(question)
-        return next((each for each in reversed(self.outcome.asked) if self.asked_in(each) in wanted and each.line.order <= order
-                     and (each.closed is None or each.closed.order >= order)), None)
+        return next(
+            (
+                each
+                for each in reversed(self.outcome.asked)
+                if self.asked_in(each) in wanted
+                and each.line.order <= order
+                and (each.closed is None or each.closed.order >= order)
+            ),
+            None,
+        )
+
+    def is_much_later(self, line, answer):
+        """Whether the step gives its reply only long after the captured answer."""
+        return self.outcome.moments[line.number - 1] > self.maker.moment(answer) + SOON
 
     def open_tries(self, question):
         """The try that a question waits for when it was answered otherwise."""
@@ -196,8 +249,17 @@ class Window:
     def moved_from(self, question, own, last):
         """The try whose reply led a question on to a name that others had asked for already."""
         wanted = self.wanted(question)
-        return next((each for each in self.outcome.asked if self.asked_in(each) == wanted and each is not last and each.closed is not None
-                     and own.order <= each.closed.order), None)
+        return next(
+            (
+                each
+                for each in self.outcome.asked
+                if self.asked_in(each) == wanted
+                and each is not last
+                and each.closed is not None
+                and own.order <= each.closed.order
+            ),
+            None,
+        )
 
     def attempt(self, each):
         query, closed = self.pairing.query_of.get(each), each.closed

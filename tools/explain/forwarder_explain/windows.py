@@ -55,7 +55,7 @@ class Cutter:
 
     def window(self, cut, end, judged, program):
         """The window between two places."""
-        events = self.open_before(cut) + self.events[cut.place:end]
+        events = self.open_before(cut) + self.events[cut.place : end]
         before = self.needed(cut, end, events)
         span = self.events[cut.place].moment, self.events[-1].moment
         return Window(self.configuration, self.history, program, events, judged, (before, cut.preferred), span)
@@ -69,7 +69,7 @@ class Cutter:
         place = cut.place
         while place > 0 and self.events[place - 1].moment >= since:
             place -= 1
-        near = self.events[place:cut.place]
+        near = self.events[place : cut.place]
         leads = {}
         for event in near:
             walk = self.history.walks.get(event) if isinstance(event, Reply) else None
@@ -81,7 +81,11 @@ class Cutter:
             if isinstance(event, Question) and event.asked and event.answer and event.answer.moment >= start:
                 open_.add(event)
                 found = self.history.found.get(event)
-                of = event.asked.of() if found is None or found.answers else (found.missed, event.asked.kind, event.asked.klass)
+                of = (
+                    event.asked.of()
+                    if found is None or found.answers
+                    else (found.missed, event.asked.kind, event.asked.klass)
+                )
                 while of is not None and wanted.get(of, event.moment + 1) > event.moment:
                     wanted[of] = event.moment
                     of = leads.get(of)
@@ -151,8 +155,11 @@ def explain(cutter, chosen, program, progress):
     places = {event: place for place, event in enumerate(cutter.events) if isinstance(event, (Question, Answer))}
     jobs = []
     for cut, end in cutter.ranges():
-        judged = [place for event, place in places.items() if isinstance(event, Question) and event in chosen
-                  and cut.place <= places.get(event.answer, place) < end]
+        judged = [
+            place
+            for event, place in places.items()
+            if isinstance(event, Question) and event in chosen and cut.place <= places.get(event.answer, place) < end
+        ]
         if judged:
             jobs.append((cut, end, judged))
     explained = Explained()
@@ -185,6 +192,9 @@ def run_one(number):
         raise TooLong
     by_event = window.results()
     results = {place: by_event[cutter.events[place]] for place in judged}
-    others = [(query.moment, query.server, query.transport, query.asked, window.is_on_route(query)) for query in window.other_queries()
-              if query.asked]
+    others = [
+        (query.moment, query.server, query.transport, query.asked, window.is_on_route(query))
+        for query in window.other_queries()
+        if query.asked
+    ]
     return results, window.queries_of_step(), others, window.script.text(window.lines, window.pairs)

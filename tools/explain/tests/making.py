@@ -50,7 +50,11 @@ class Capturing:
         if number is None:
             self.number += 1
             number = self.number
-        header = struct.pack(">BBHHHBBH", 0x45, 0, 20 + len(payload), number & 0xFFFF, fragment, 64, protocol, 0) + source + target
+        header = (
+            struct.pack(">BBHHHBBH", 0x45, 0, 20 + len(payload), number & 0xFFFF, fragment, 64, protocol, 0)
+            + source
+            + target
+        )
         if self.link == COOKED_2:
             front = struct.pack(">HHIHBB8s", 0x0800, 0, 2, 1, 0, 6, bytes(8))
         else:
@@ -70,8 +74,15 @@ class Capturing:
     def unreachable(self, milliseconds, router, source, target, code=3):
         """ICMP says that a datagram from source did not reach target."""
         from_, to = peer(source), peer(target)
-        inner = struct.pack(">BBHHHBBH", 0x45, 0, 60, 1, 0, 64, 17, 0) + from_[0] + to[0] + struct.pack(">4H", from_[1], to[1], 40, 0)
-        self.ip(milliseconds, bytes(map(int, router.split("."))), from_[0], 1, struct.pack(">2BHI", 3, code, 0, 0) + inner)
+        inner = (
+            struct.pack(">BBHHHBBH", 0x45, 0, 60, 1, 0, 64, 17, 0)
+            + from_[0]
+            + to[0]
+            + struct.pack(">4H", from_[1], to[1], 40, 0)
+        )
+        self.ip(
+            milliseconds, bytes(map(int, router.split("."))), from_[0], 1, struct.pack(">2BHI", 3, code, 0, 0) + inner
+        )
 
     def pcap(self):
         """The capture as classic pcap."""
@@ -82,8 +93,10 @@ class Capturing:
 
     def pcapng(self):
         """The capture as pcapng, with big numbers first and a time in nanoseconds."""
-        parts = [block(0x0A0D0D0A, struct.pack(">I2Hq", 0x1A2B3C4D, 1, 0, -1)),
-                 block(1, struct.pack(">2HI", self.link, 0, 262144) + struct.pack(">2HB3x2H", 9, 1, 9, 0, 0))]
+        parts = [
+            block(0x0A0D0D0A, struct.pack(">I2Hq", 0x1A2B3C4D, 1, 0, -1)),
+            block(1, struct.pack(">2HI", self.link, 0, 262144) + struct.pack(">2HB3x2H", 9, 1, 9, 0, 0)),
+        ]
         for moment, packet in sorted(self.packets, key=lambda each: each[0]):
             nanoseconds = moment * 1000
             head = struct.pack(">5I", 0, nanoseconds >> 32, nanoseconds & 0xFFFFFFFF, len(packet), len(packet))

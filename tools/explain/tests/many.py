@@ -7,7 +7,7 @@ OWN_PORTS = 60000
 
 
 def many(count, each=1.0):
-    """So many questions, one each millisecond: the first for a name is asked of a server, the others are answered from cache."""
+    """Questions, one each millisecond: the first for a name is asked, the others are answered from the cache."""
     scene, known, number = Scene(), {}, 1
     for place in range(count):
         at = place * each
@@ -15,7 +15,10 @@ def many(count, each=1.0):
         # Names that are asked often, and ever more that are seldom asked.
         rank = (number >> 8) % 100
         which = (number >> 16) % 50 if rank < 80 else 50 + (number >> 12) % NAMES
-        question, client = asked(f"n{which}.example.com"), f"10.0.{place % 5}.{1 + place % 200}:{1024 + place % OWN_PORTS}"
+        question, client = (
+            asked(f"n{which}.example.com"),
+            f"10.0.{place % 5}.{1 + place % 200}:{1024 + place % OWN_PORTS}",
+        )
         identifier, numbers = place % 65536, (192, 0, 2, which % 256)
         accepted = known.get(which)
         if accepted is not None and at > accepted + 3 and at < accepted + 1000 * SECONDS - 3:
@@ -26,5 +29,3 @@ def many(count, each=1.0):
             scene.fetched(at, client, identifier, question, SECONDS, numbers)
             known[which] = at + 10.2
     return scene.pcap()
-
-

@@ -1,6 +1,20 @@
 """The captures of the tests: who sends what, at which millisecond. Answers are worked out from the rules, by hand."""
 from making import (
-    ANY, CNAME, COOKED_2, DENIAL, MX, TXT, Capturing, address, asked, framed, message, name, octets, record)
+    ANY,
+    CNAME,
+    COOKED_2,
+    DENIAL,
+    MX,
+    TXT,
+    Capturing,
+    address,
+    asked,
+    framed,
+    message,
+    name,
+    octets,
+    record,
+)
 
 FORWARDER, FIRST, SECOND, CORPORATE = "10.0.0.53:53", "192.0.2.1:53", "192.0.2.2:53", "10.0.0.10:53"
 ONE, OTHER = "10.0.0.7:40000", "10.0.0.8:40001"
@@ -122,7 +136,9 @@ def failures():
     port = scene.query(20000.2, FIRST, other)
     scene.unreachable(20000.6, "192.0.2.1", f"10.0.0.53:{port}", FIRST)
     port = scene.query(20001, SECOND, other)
-    scene.reply(20006, SECOND, port, other, 0x8180, authority=[record(name("example.com"), 2, 60, name("ns.example.com"))])
+    scene.reply(
+        20006, SECOND, port, other, 0x8180, authority=[record(name("example.com"), 2, 60, name("ns.example.com"))]
+    )
     scene.answer(20006.5, ONE, 3, other, 0x8182)
     # The only server of corp.example can't be reached from this machine: no query ever leaves.
     lost = asked("lost.corp.example")
@@ -145,7 +161,7 @@ def failures():
 
 
 def connections():
-    """Over TCP: two questions in pieces that come in another order, a cut reply, a server that closes the connection."""
+    """Over TCP: two questions in pieces that come in another order, a cut reply, a refused connection."""
     scene = Scene(COOKED_2)
     www, text = asked("www.example.com"), asked("text.example.com", TXT)
     scene.fetched(0, ONE, 1, www, 300, (192, 0, 2, 80))

@@ -1,0 +1,78 @@
+"""What the service did, held against its step: a capture of a case is explained, and no answer may differ.
+
+It takes root, tcpdump and python3-dpkt; without them cases run as ever, and that is said. `tools/explain` does the comparing.
+"""
+import os
+import pathlib
+import shutil
+import signal
+import subprocess
+import tempfile
+import time
+
+EXPLAIN = pathlib.Path(__file__).resolve().parent.parent / "explain" / "forwarder-explain"
+# Cases whose traffic is not the step's alone, on purpose.
+NOT_HELD = {
+    "a_question_over_tcp_beside_a_flood": "more datagrams come than a capture or the service takes",
+    "events_that_find_no_memory_are_counted": "events are lost for want of memory",
+}
+
+
+def missing():
+    """What is not there for a capture, or None."""
+    if os.geteuid() != 0:
+        return "root"
+    if not shutil.which("tcpdump", path=os.environ["PATH"] + ":/usr/sbin"):
+        return "tcpdump"
+    reads = subprocess.run(["/usr/bin/python3", "-c", "import dpkt"], stderr=subprocess.DEVNULL)
+    return None if reads.returncode == 0 else "python3-dpkt"
+
+
+class Watch:
+    """Captures the loopback while its block runs."""
+
+    def __init__(self):
+        self.folder = tempfile.TemporaryDirectory()
+        self.file = pathlib.Path(self.folder.name) / "capture"
+        self.lost = 0
+
+    def __enter__(self):
+        tcpdump = shutil.which("tcpdump", path=os.environ["PATH"] + ":/usr/sbin")
+        self.process = subprocess.Popen(
+            [tcpdump, "-i", "lo", "-n", "-U", "-B", "65536", "-Z", "root", "-w", self.file, "udp or tcp or icmp"],
+            stderr=subprocess.PIPE,
+            text=True,
+        )
+        while "listening" not in (line := self.process.stderr.readline()):
+            if not line:
+                raise AssertionError("tcpdump ended")
+        return self
+
+    def __exit__(self, *_):
+        time.sleep(0.2)
+        self.process.send_signal(signal.SIGINT)
+        said = self.process.communicate()[1]
+        self.lost = next((int(line.split()[0]) for line in said.splitlines() if "dropped by kernel" in line), 0)
+
+    def differs(self, program, configuration):
+        """What differs from the step in the traffic of a service with this configuration, or None."""
+        if self.lost:
+            return f"the capture lost {self.lost} packets"
+        config = pathlib.Path(self.folder.name) / "config.toml"
+        config.write_text(configuration)
+        ran = subprocess.run(
+            [EXPLAIN, "--program", os.path.abspath(program), "--summary", config, self.file],
+            capture_output=True,
+            text=True,
+        )
+        if ran.returncode == 0 or "has no question to" in ran.stderr:
+            return None
+        kept = os.environ.get("KEEP")
+        if kept:
+            shutil.copytree(self.folder.name, kept, dirs_exist_ok=True)
+        place = ran.stdout.find("DIFFERENT")
+        begins = ran.stdout.rfind("\n", 0, ran.stdout.rfind("\n", 0, place)) + 1 if place >= 0 else 0
+        return f"an answer is not the step's: {ran.stdout[begins:place + 1000] or ran.stderr}"
+
+    def close(self):
+        self.folder.cleanup()
