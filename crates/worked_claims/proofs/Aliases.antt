@@ -26,7 +26,7 @@ use Rattle.step_history.specs.Causes.{Cause, FollowsTooMany}
 use Rattle.step_table.proofs.Played.{a, address, name_data, server, config}
 use Rattle.worked_claims.proofs.Texts.{question_text, client, step_of}
 use Rattle.worked_claims.proofs.Silent.{nothing_heard, nothing_justified}
-use Rattle.worked_claims.proofs.Accepted.{asked, ask}
+use Rattle.worked_claims.proofs.Accepted.{asked, ask, with_limits}
 
 -- ---- a.e is an alias of itself
 
@@ -49,11 +49,11 @@ unfolding message_at header_of counted question_at octets_end record_at data_at 
 reply_is_read = refl
 
 -- the question is sent on to the same name
-abbrev sent_on : Step
+abbrev pub sent_on : Step
 sent_on = step_of 1020 (1048592 ∷ []) (delivery (Udp 1032) server reply_text)
     (close_udp 1032 ∷ ask_udp 1040 server (question_text 16 1) ∷ [])
 
-abbrev alias : Piece
+abbrev pub alias : Piece
 alias = record {
   owner = a;
   slot = record { key = a; class = 1; kind = Some 5 };
@@ -63,14 +63,15 @@ alias = record {
   route = 0;
 }
 
-abbrev loop : Held
+abbrev pub loop : Held
 loop = record { piece = alias; accepted = 1020 }
 
 -- a walk takes it eight times
-carries : Carries config sent_on (asked ∷ []) (alias ∷ alias ∷ alias ∷ alias ∷ alias ∷ alias ∷ alias ∷ alias ∷ [])
+pub carries : (tries stale_s : ℕ)
+    → Carries (with_limits tries stale_s) sent_on (asked ∷ []) (alias ∷ alias ∷ alias ∷ alias ∷ alias ∷ alias ∷ alias ∷ alias ∷ [])
 unfolding first_question question_at octets_end name_within walk_in name_step route_of walk_from servers_from
     name_of_rdata
-carries = record {
+carries tries stale_s = record {
   ask = ask;
   asked = address a;
   route = 0;
@@ -101,7 +102,7 @@ carries = record {
 }
 
 -- it, so many times
-abbrev loops : ℕ → List Held
+abbrev pub loops : ℕ → List Held
 loops zero = []
 loops (suc n) = loop ∷ loops n
 
@@ -119,7 +120,7 @@ carried_before = inr (inl (refl, nothing_heard config asked [] refl, refl))
 
 carried_now : CarriedInEra config (sent_on ∷ asked ∷ []) eight
 carried_now = inr
-    (inr (refl, alias ∷ alias ∷ alias ∷ alias ∷ alias ∷ alias ∷ alias ∷ alias ∷ [], [], carries, carried_before, refl))
+    (inr (refl, alias ∷ alias ∷ alias ∷ alias ∷ alias ∷ alias ∷ alias ∷ alias ∷ [], [], carries 4 0, carried_before, refl))
 
 justified : Justified seen a loop
 unfolding route_of
@@ -134,7 +135,7 @@ justified = record {
 
 -- ---- eight and nine
 
-no_alias_asked : (address a).kind ≢ 5
+pub no_alias_asked : (address a).kind ≢ 5
 no_alias_asked same = let kinds : 1 ≡ 5 = same in omega (arith, kinds)
 
 follows_one_more : (os : List Held) → FollowsAliases seen (address a) os (address a)

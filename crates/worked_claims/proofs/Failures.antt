@@ -22,9 +22,11 @@ use Rattle.step_values.specs.declared.action.Why.TheVariants.{Exhausted, Deadlin
 use Rattle.step_values.specs.Values.{Event, from_client, delivery, tick, ask_udp, close_udp, Step}
 use Rattle.step_history.specs.History.{Look, ShownAsk, moment_at}
 use Rattle.step_history.specs.Answers.{Chain}
-use Rattle.step_history.specs.Replies.{answer_text}
+use Rattle.step_history.specs.Replies.{answer_text, full_text, stale_sections}
 use Rattle.answer_builder.specs.Values.{asked_in}
+use Rattle.step_history.specs.Stale.{ChainPastEnds}
 use Rattle.step_history.specs.Causes.{Cause, AllTriesFailed, ClosesAsk, LastFailed, AnswerIsTooLarge}
+use Rattle.step_history.specs.Causes.{StaleAnswerIsTooLarge}
 use Rattle.step_table.proofs.Played.{a, b, address, server, config}
 use Rattle.worked_claims.proofs.Texts.{question_text, client, stream_client, step_of, the_only_ask, none_listed}
 use Rattle.worked_claims.proofs.Silent.{IsSilent, nothing_heard, nothing_followed}
@@ -71,7 +73,7 @@ own_question l silent h =
     (nothing_followed l h.question h.last h.aliases silent h.leads.follows).1 ∙ sym same
 
 -- no ask came before the first
-the_first_closes_none : (q : Question) → ClosesAsk q asked [] → ⊥
+pub the_first_closes_none : (q : Question) → ClosesAsk q asked [] → ⊥
 the_first_closes_none q h = none_listed h.is_listed
 
 -- one ask is none of two tries
@@ -151,7 +153,7 @@ by_a_delivery h = true≢false (sym (ap is_tick h.passed))
 -- ---- an answer that is too large
 
 -- a set of one record of type 1000, of which nothing is known, with this data
-abbrev large : List ℕ → Held
+abbrev pub large : List ℕ → Held
 large octets = record {
   piece = record {
     owner = a;
@@ -164,16 +166,16 @@ large octets = record {
   accepted = 1020;
 }
 
-abbrev of_1000 : Question
+abbrev pub of_1000 : Question
 of_1000 = record (address a) { kind = 1000 }
 
-abbrev text_of_1000 : List ℕ
+abbrev pub text_of_1000 : List ℕ
 text_of_1000 = 0 ∷ 7 ∷ 1 ∷ 0 ∷ 0 ∷ 1 ∷ 0 ∷ 0 ∷ 0 ∷ 0 ∷ 0 ∷ 0 ∷ 1 ∷ 97 ∷ 1 ∷ 101 ∷ 0 ∷ 3 ∷ 232 ∷ 0 ∷ 1 ∷ []
 
-abbrev answer_of : List ℕ → ℕ → List ℕ
+abbrev pub answer_of : List ℕ → ℕ → List ℕ
 answer_of octets t = answer_text (asked_in (header_in text_of_1000) (Some of_1000)) [] (large octets) t
 
-answer_takes : (octets : List ℕ) (t : ℕ) → length (answer_of octets t) ≡ 33 + length octets
+pub answer_takes : (octets : List ℕ) (t : ℕ) → length (answer_of octets t) ≡ 33 + length octets
 unfolding written ◌▹◌ each name_text data_text with_length shape_of
 answer_takes octets t =
     let one = length-append octets [] in
@@ -207,6 +209,59 @@ as_large_as_may_be l octets h none end many =
     (moment_at l.now)) in
     let takes = answer_takes octets (moment_at l.now) in
     let passes_it : 65535 < length (answer_of octets (moment_at l.now)) = subst (λ (n : ℕ). 65535 < n) text h.large in
+    omega (arith, takes, many, passes_it)
+
+-- so it is past its end, once all tries failed for it, where there is a window: the text takes as many octets
+stale_answer_takes : (octets : List ℕ) (t : ℕ)
+    → length (full_text (asked_in (header_in text_of_1000) (Some of_1000)) (stale_sections t [] [] (large octets)))
+    ≡ 33 + length octets
+unfolding written ◌▹◌ each name_text data_text with_length shape_of
+stale_answer_takes octets t =
+    let one = length-append octets [] in
+    let two = length-append (octets ++ []) [] in
+    let three = length-append ((octets ++ []) ++ []) [] in
+    omega (arith, one, two, three)
+
+-- what is known of it, but its length
+pub record FailedAndEnded (l : Look) (octets : List ℕ) : Type 0 where
+  pub tries : AllTriesFailed l text_of_1000
+  pub question : tries.question ≡ of_1000
+  pub no_alias : tries.aliases ≡ []
+  pub last : tries.last ≡ of_1000
+  pub chain : ChainPastEnds l [] of_1000 [] (large octets)
+
+too_large_past_its_end : (l : Look) (octets : List ℕ) → FailedAndEnded l octets → 1 ≤ l.config.limits.stale_s
+    → length octets ≡ 65503 → Cause l stream_client text_of_1000 0 TooLarge
+too_large_past_its_end l octets known window many = inr (inl (record {
+  tries = known.tries;
+  window = window;
+  past = [];
+  end = large octets;
+  chain = subst (λ (z : List Held × Question). ChainPastEnds l z.0 z.1 [] (large octets))
+      (λ k. (sym known.no_alias k, sym known.last k)) known.chain;
+  large = subst (λ (z : Question × List Held). 65535 < length (full_text
+      (asked_in (header_in text_of_1000) (Some z.0)) (stale_sections (moment_at l.now) z.1 [] (large octets))))
+      (λ k. (sym known.question k, sym known.no_alias k))
+      (let takes = stale_answer_takes octets (moment_at l.now) in omega (arith, takes, many));
+}))
+
+without_a_window : (l : Look) (octets : List ℕ) → l.config.limits.stale_s ≡ 0 → StaleAnswerIsTooLarge l octets → ⊥
+without_a_window l octets none h = let some = h.window in omega (arith, none, some)
+
+as_large_as_may_be_past_its_end : (l : Look) (octets : List ℕ) (h : StaleAnswerIsTooLarge l text_of_1000)
+    → h.tries.aliases ≡ [] → h.past ≡ [] → h.end ≡ large octets → length octets ≡ 65502 → ⊥
+unfolding first_question question_at octets_end name_within walk_in name_step
+as_large_as_may_be_past_its_end l octets h none past end many =
+    let reads : Some of_1000 ≡ Some h.tries.question = h.tries.reads in
+    let own : of_1000 ≡ h.tries.question = cc in
+    let text : length (full_text (asked_in (header_in text_of_1000) (Some h.tries.question))
+    (stale_sections (moment_at l.now) h.tries.aliases h.past h.end))
+    ≡ length (full_text (asked_in (header_in text_of_1000) (Some of_1000))
+    (stale_sections (moment_at l.now) [] [] (large octets))) =
+    λ k. length (full_text (asked_in (header_in text_of_1000) (Some (sym own k)))
+    (stale_sections (moment_at l.now) (none k) (past k) (end k))) in
+    let takes = stale_answer_takes octets (moment_at l.now) in
+    let passes_it = subst (λ (n : ℕ). 65535 < n) text h.large in
     omega (arith, takes, many, passes_it)
 
 -- over UDP an answer is cut, and never too large

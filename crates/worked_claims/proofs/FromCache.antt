@@ -1,6 +1,6 @@
 -- When an answer from cache is the same as an earlier one, computed: at the same moment and to an equal question it has
 -- to be.
-use Rattle.std.proofs.Common.{◌≡◌, ℕ, List, [], ◌∷◌, Bool, true, false, refl, sym, ap, subst, inl, inr}
+use Rattle.std.proofs.Common.{◌≡◌, ℕ, List, [], ◌∷◌, Bool, Some, None, true, false, refl, sym, ap, subst, inl, inr}
 use Rattle.std.proofs.Common.{arith}
 use Rattle.std.proofs.lemmas.Bool.{true≢false}
 use Rattle.dns_message.specs.Names.{step as name_step, walk_in, name_within}
@@ -9,8 +9,8 @@ use Rattle.dns_message.specs.Messages.{first_question}
 use Rattle.dns_message.specs.Values.{Question}
 use Rattle.step_values.specs.declared.action.Why.{Why}
 use Rattle.step_values.specs.declared.action.Why.TheVariants.{Answered, LocalDenied}
-use Rattle.step_values.specs.Values.{from_client, restart, send_reply, Step}
-use Rattle.step_history.specs.Sound.{FromCache, Replies, SameSections, SameAsEarlierFromCache}
+use Rattle.step_values.specs.Values.{from_client, restart, tick, send_reply, Step}
+use Rattle.step_history.specs.Sound.{AsksIn, FromCache, Replies, SameSections, SameAsEarlierFromCache, Sound}
 use Rattle.step_table.proofs.Played.{a, address, config}
 use Rattle.worked_claims.proofs.Texts.{question_text, client, step_of}
 use Rattle.worked_claims.proofs.Silent.{nothing_heard}
@@ -70,3 +70,44 @@ restarted = step_of 2000 [] restart []
 
 after_a_restart : SameAsEarlierFromCache config 2000 (address a) (answer 7 128 59 5 6) (restarted ∷ hit ∷ [])
 after_a_restart runs now quiet = absurd (true≢false runs)
+
+-- the same holds of one a step before, where nothing was accepted since
+abbrev passes : Step
+passes = step_of 2000 [] tick []
+
+the_same_two_steps_back : SameAsEarlierFromCache config 2000 (address a) (answer 7 128 60 5 6) (passes ∷ hit ∷ [])
+the_same_two_steps_back runs now quiet = (λ q octets from. absurd (no_question q from.0), the_same_again)
+  where
+    no_question : (q : Question) → AsksIn None q → ⊥
+    no_question q never = never
+
+with_another_ttl_two_steps_back : SameAsEarlierFromCache config 2000 (address a) (answer 7 128 59 5 6)
+    (passes ∷ hit ∷ []) → ⊥
+with_another_ttl_two_steps_back h =
+    with_another_ttl (h refl refl (nothing_heard config passes (hit ∷ []) refl)).1
+
+-- ---- two answers from cache in one era
+
+-- a second one at the same moment, with these octets
+abbrev hit_again : List ℕ → Step
+hit_again octets = step_of 2000 [] (from_client client (question_text 7 1)) (send_reply client octets Answered ∷ [])
+
+-- with other TTLs than the first they are not sound, whoever owns them
+they_differ : (w : List (List ℕ)) → Sound config (hit_again (answer 7 128 59 5 6) ∷ hit ∷ []) w → ⊥
+unfolding first_question question_at octets_end name_within walk_in name_step
+they_differ [] s = s
+they_differ (is ∷ w) s = with_another_ttl (s.2 (address a) (answer 7 128 59 5 6) (refl, inl (refl, refl)))
+
+-- with another identifier they agree
+they_agree : (q : Question) (octets : List ℕ) → FromCache (hit_again (answer 7 128 60 5 6)) q octets
+    → SameAsEarlierFromCache config 2000 q octets (hit ∷ [])
+unfolding first_question question_at octets_end name_within walk_in name_step
+they_agree q octets from = subst (λ (z : Question × List ℕ). SameAsEarlierFromCache config 2000 z.0 z.1 (hit ∷ []))
+    (λ k. (question_is k, octets_are from.1 k)) the_same_again
+  where
+    question_is : address a ≡ q
+    question_is = let reads : Some (address a) ≡ Some q = from.0 in cc
+
+    octets_are : Replies (hit_again (answer 7 128 60 5 6)).outcome.actions octets → answer 7 128 60 5 6 ≡ octets
+    octets_are (inl is) = is.1
+    octets_are (inr more) = absurd more

@@ -19,3 +19,10 @@ mod Denied
 mod Told
 mod Whole
 mod Eras
+mod Carried
+mod ServerDenials
+mod Use
+mod StaleChains
+mod Tries
+mod Transports
+mod Truly

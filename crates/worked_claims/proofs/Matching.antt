@@ -1,7 +1,7 @@
 -- Which octets match a listed ask, and which match is accepted, computed: the reply that does, and neighbours that
 -- differ in one
 -- thing: server, path, identifier, flags, question, result code, and what they tell.
-use Rattle.std.proofs.Common.{◌≡◌, ℕ, ◌+◌, ◌<◌, ◌≤◌, List, [], ◌∷◌, get_or, Option, Some, None, Ok, true, false, Bool, refl, sym, ap, ◌∙◌, ◌⊎◌, inl, inr, arith}
+use Rattle.std.proofs.Common.{◌≡◌, ℕ, ◌+◌, ◌<◌, ◌≤◌, List, [], ◌∷◌, length, get_or, Option, Some, None, Ok, true, false, Bool, refl, sym, ap, ◌∙◌, ◌⊎◌, inl, inr, arith}
 use Rattle.std.proofs.lemmas.Bool.{true≢false}
 use Rattle.dns_message.specs.Names.{step as name_step, walk_in, name_within}
 use Rattle.dns_message.specs.Data.{octets_within, parts_at, data_at}
@@ -112,6 +112,30 @@ of_another_opcode s x q h = let opcode : 2 ≡ 0 = h.opcode in omega (arith, opc
 too_short : (s : Step) (x : ShownAsk) (q : Question)
     → Matches config s (asked ∷ []) x (0 ∷ 8 ∷ 133 ∷ 0 ∷ 0 ∷ 1 ∷ 0 ∷ 0 ∷ 0 ∷ 0 ∷ 0 ∷ []) q → ⊥
 too_short s x q h = let long : 12 ≤ 11 = h.long_enough in omega (arith, long)
+
+-- as long as a message may be, and an octet longer: octets whose header and question match
+as_long_as_may_be : (octets : List ℕ) → length octets ≡ 65535 → (header_in octets).qr ≡ true
+    → (header_in octets).opcode ≡ 0 → (header_in octets).id ≡ 8 → one_question octets ≡ Some (address a)
+    → Matches config (comes (Udp 1032) server octets) (asked ∷ []) ask octets (address a)
+unfolding first_question question_at octets_end name_within walk_in name_step
+as_long_as_may_be octets long is_reply opcode identifier reads = record {
+  delivered = refl;
+  is_listed = refl;
+  is_live = omega arith;
+  long_enough = omega (arith, long);
+  not_too_long = omega (arith, long);
+  is_reply = is_reply;
+  opcode = opcode;
+  identifier = identifier;
+  ask_reads = refl;
+  question = address a;
+  reads = reads;
+  same_question_as_ask = refl;
+}
+
+too_long : (s : Step) (x : ShownAsk) (q : Question) (octets : List ℕ) → length octets ≡ 65536
+    → Matches config s (asked ∷ []) x octets q → ⊥
+too_long s x q octets long h = let most = h.not_too_long in omega (arith, long, most)
 
 -- for type 28 where type 1 was asked for
 to_another_question : (s : Step) (x : ShownAsk) (q : Question)

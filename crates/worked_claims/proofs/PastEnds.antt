@@ -1,7 +1,7 @@
 -- A worked answer past the end of a set, whole: the address of a.e was carried for 60 seconds, ended, and is told once
 -- all tries
 -- failed; without a window, for a message of another opcode, and while the tries go on, no such answer is right.
-use Rattle.std.proofs.Common.{◌≡◌, ℕ, ◌≤◌, List, [], ◌∷◌, Ok, refl, sym, subst}
+use Rattle.std.proofs.Common.{◌≡◌, ℕ, ◌≤◌, List, [], ◌∷◌, Some, Ok, refl, sym, ap, ◌∙◌, subst}
 use Rattle.std.proofs.Common.{inl, inr, arith}
 use Rattle.std.proofs.lemmas.Bool.{true≢false}
 use Rattle.dns_message.specs.Names.{step as name_step, walk_in, name_within}
@@ -10,12 +10,15 @@ use Rattle.dns_message.specs.Shapes.{shape_of}
 use Rattle.dns_message.specs.Header.{header_of, header_in}
 use Rattle.dns_message.specs.Records.{octets_end, question_at, record_at, counted}
 use Rattle.dns_message.specs.Messages.{message_at, message_of, first_question}
-use Rattle.dns_message.specs.Values.{Message}
+use Rattle.dns_message.specs.Questions.{is_unserved}
+use Rattle.dns_message.specs.Values.{Question, Message}
 use Rattle.dns_message.specs.Writing.{◌▹◌, each, name_text, data_text, with_length, written}
 use Rattle.dns_message.proofs.CallerLemmas.{message_read_is_spelled}
 use Rattle.suffix_routes.specs.Routes.{route_of}
 use Rattle.outstanding.specs.declared.ask.Path.TheVariants.{Udp}
 use Rattle.record_cache.specs.Laws.{Among}
+use Rattle.answer_builder.specs.Answers.{told_past}
+use Rattle.answer_builder.specs.Values.{Told}
 use Rattle.step_values.specs.declared.action.Why.TheVariants.{Stale}
 use Rattle.step_values.specs.Values.{from_client, tick, send_reply, ask_udp, close_udp, Step}
 use Rattle.step_history.specs.History.{Look, ShownAsk}
@@ -129,6 +132,17 @@ without_a_window n request octets h = let some : 1 ≤ 0 = h.window in omega (ar
 for_another_opcode : (l : Look) (octets : List ℕ) → RightStaleAnswer l client (status_text 7) octets → ⊥
 for_another_opcode l octets h = let opcode : 2 ≡ 0 = h.opcode in omega (arith, opcode)
 
+-- what is asked for every type at once is not served
+abbrev for_every_type : Question
+for_every_type = record (address a) { kind = 255 }
+
+no_answer_for_every_type : (l : Look) (octets : List ℕ) → RightStaleAnswer l client (question_text 7 255) octets → ⊥
+unfolding first_question question_at octets_end name_within walk_in name_step
+no_answer_for_every_type l octets h =
+    let reads : Some for_every_type ≡ Some h.tries.question = h.tries.reads in
+    let same : for_every_type ≡ h.tries.question = cc in
+    true≢false (ap is_unserved same ∙ h.served)
+
 -- in a step that closes no ask
 abbrev goes_on : Look
 goes_on = record (seen 1 600) { now = step_of 71499 [] tick [] ∷ again ∷ past }
@@ -144,3 +158,23 @@ what_came_just_now : JustifiedPastItsEnd just_carried a held → ⊥
 what_came_just_now j =
     subst (Among held)
     (nothing_carried (with_limits 1 600) (asked ∷ []) j.old (refl, tt) j.carried_before) j.came_before
+
+-- ---- for how long it is told
+
+-- up to its last millisecond by what is left of it, and from then on for 30 seconds
+until_it_ends : (told_past 2000 held ≡ record { piece = held.piece; seconds = 59 })
+    × (told_past 61019 held ≡ record { piece = held.piece; seconds = 0 })
+until_it_ends = (refl, refl)
+
+once_it_ended : (told_past 61020 held ≡ record { piece = held.piece; seconds = 30 })
+    × (told_past 661019 held ≡ record { piece = held.piece; seconds = 30 })
+once_it_ended = (refl, refl)
+
+abbrev seconds_of : Told → ℕ
+seconds_of t = t.seconds
+
+for_its_whole_lifetime_again : told_past 61020 held ≡ record { piece = held.piece; seconds = 60 } → ⊥
+for_its_whole_lifetime_again same = let seconds : 30 ≡ 60 = ap seconds_of same in omega (arith, seconds)
+
+for_half_a_minute_while_it_lives : told_past 2000 held ≡ record { piece = held.piece; seconds = 30 } → ⊥
+for_half_a_minute_while_it_lives same = let seconds : 59 ≡ 30 = ap seconds_of same in omega (arith, seconds)

@@ -16,7 +16,7 @@ use Rattle.worked_claims.proofs.Texts.{question_text, client, in_two}
 use Rattle.worked_claims.proofs.Accepted.{asked, answered, client_text}
 use Rattle.worked_claims.proofs.RightAnswers.{right_answer}
 
-abbrev history : List Step
+abbrev pub history : List Step
 history = answered ∷ asked ∷ []
 
 abbrev reply : SentReply
@@ -35,7 +35,7 @@ owns = record {
 }
 
 -- the first step owns the reply of the second
-it_is_sound : Sound config history ((0 ∷ []) ∷ [] ∷ [])
+pub it_is_sound : Sound config history ((0 ∷ []) ∷ [] ∷ [])
 it_is_sound = ((tt, refl, λ q octets hit. tt), (owns, refl, refl), λ q octets hit. absurd hit.0)
 
 no_step_with_another_number : Sound config history ((2 ∷ []) ∷ [] ∷ []) → ⊥
@@ -57,7 +57,7 @@ it_has_two_owners : Sound config history ((0 ∷ 0 ∷ []) ∷ [] ∷ []) → �
 it_has_two_owners h = let none : 1 ≡ 0 = ap (λ (is : List ℕ). length is) h.1.2 in omega (arith, none)
 
 -- the ask is for the question, to its route's server, with what its word gives
-it_asks_well : AsksWell config history
+pub it_asks_well : AsksWell config history
 unfolding written ◌▹◌ each name_text first_question question_at octets_end name_within walk_in name_step route_of
 it_asks_well = (
   (
@@ -84,5 +84,5 @@ it_asks_well = (
   (tt, (tt, tt)),
 )
 
-it_tells_that_nothing_is_due : TellsMore config history ((0 ∷ []) ∷ [] ∷ [])
+pub it_tells_that_nothing_is_due : TellsMore config history ((0 ∷ []) ∷ [] ∷ [])
 it_tells_that_nothing_is_due = ((tt, refl), refl)

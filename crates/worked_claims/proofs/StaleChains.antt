@@ -1,0 +1,595 @@
+-- Chains past their ends, computed: along an alias that has ended, and behind one that is held; eight aliases over both,
+-- and not nine; and a set that another one replaced is not told.
+use Rattle.std.proofs.Common.{◌≡◌, ℕ, ◌+◌, ◌<◌, ◌≤◌, ◌++◌, zero, suc, List, [], ◌∷◌, Some, Ok, refl, sym, ap, ◌∙◌, subst}
+use Rattle.std.proofs.Common.{inl, inr, arith}
+use Rattle.std.proofs.lemmas.Bool.{true≢false}
+use Rattle.dns_message.specs.Names.{step as name_step, walk_in, name_within}
+use Rattle.dns_message.specs.Data.{octets_within, parts_at, data_at, name_of_rdata}
+use Rattle.dns_message.specs.Shapes.{shape_of}
+use Rattle.dns_message.specs.Header.{header_of, header_in}
+use Rattle.dns_message.specs.Records.{octets_end, question_at, record_at, counted}
+use Rattle.dns_message.specs.Messages.{message_at, message_of, first_question}
+use Rattle.dns_message.specs.Values.{Question, Message}
+use Rattle.dns_message.specs.Fields.{first_field, fields_of}
+use Rattle.dns_message.specs.Writing.{◌▹◌, each, name_text, data_text, with_length, written}
+use Rattle.dns_message.proofs.CallerLemmas.{message_read_is_spelled}
+use Rattle.suffix_routes.specs.Values.{Config}
+use Rattle.suffix_routes.specs.Routes.{route_of}
+use Rattle.trust_rank.specs.Values.{rows, Piece}
+use Rattle.trust_rank.specs.Walks.{walk_from, servers_from}
+use Rattle.record_cache.specs.Values.{Held}
+use Rattle.outstanding.specs.declared.ask.Path.TheVariants.{Udp}
+use Rattle.step_values.specs.declared.action.Why.TheVariants.{Answered, Stale}
+use Rattle.step_values.specs.Values.{from_client, delivery, tick, send_reply, ask_udp, close_udp, Step}
+use Rattle.step_history.specs.History.{Look, ShownAsk, listed, on_path, moment_at, Carries}
+use Rattle.step_history.specs.Carried.{CarriedInEra, NotReplaced, Justified}
+use Rattle.step_history.specs.Answers.{has_slot, FollowsAliases}
+use Rattle.step_history.specs.Causes.{AllTriesFailed, ClosesAsk}
+use Rattle.step_history.specs.Stale.{JustifiedPastItsEnd, FollowsPastEnds, ChainPastEnds, StaleAnswers}
+use Rattle.step_history.specs.Sound.{RightReply}
+use Rattle.step_table.proofs.Played.{a, b, address, name_data, server}
+use Rattle.worked_claims.proofs.Texts.{question_text, client, step_of}
+use Rattle.worked_claims.proofs.Silent.{nothing_heard}
+use Rattle.worked_claims.proofs.Carried.{one_era}
+use Rattle.worked_claims.proofs.Accepted.{asked, ask, answered, answer_with, held, with_limits, carried_before, carried_now}
+use Rattle.worked_claims.proofs.Aliases as aliases
+
+-- one try, and a window of 600 seconds
+abbrev pub c : Config
+c = with_limits 1 600
+
+-- ---- a.e is an alias of b.e for 200 seconds, and that has an address for 60
+
+-- with this identifier and these octets of flags, and so many seconds for both
+abbrev aliased : ℕ → ℕ → ℕ → ℕ → ℕ → List ℕ
+aliased id high low alias_ttl set_ttl =
+    0 ∷ id ∷ high ∷ low ∷ 0 ∷ 1 ∷ 0 ∷ 2 ∷ 0 ∷ 0 ∷ 0 ∷ 0 ∷ 1 ∷ 97 ∷ 1 ∷ 101 ∷ 0 ∷ 0 ∷ 1 ∷ 0 ∷ 1
+    ∷ 192 ∷ 12 ∷ 0 ∷ 5 ∷ 0 ∷ 1 ∷ 0 ∷ 0 ∷ 0 ∷ alias_ttl ∷ 0 ∷ 4 ∷ 1 ∷ 98 ∷ 192 ∷ 14
+    ∷ 192 ∷ 33 ∷ 0 ∷ 1 ∷ 0 ∷ 1 ∷ 0 ∷ 0 ∷ 0 ∷ set_ttl ∷ 0 ∷ 4 ∷ 198 ∷ 51 ∷ 100 ∷ 5 ∷ []
+
+abbrev says : List ℕ → ℕ → ℕ → Message
+says octets alias_ttl set_ttl = record {
+  header = header_in octets;
+  questions = address a ∷ [];
+  answers = record { owner = a; kind = 5; class = 1; ttl = alias_ttl; rdata = name_data 98 }
+      ∷ record { owner = b; kind = 1; class = 1; ttl = set_ttl; rdata = 198 ∷ 51 ∷ 100 ∷ 5 ∷ [] } ∷ [];
+  authority = [];
+  additional = [];
+}
+
+abbrev reply_text : List ℕ
+reply_text = aliased 8 133 0 200 60
+
+reply_is_read : message_of reply_text ≡ Ok (says reply_text 200 60)
+unfolding message_at header_of counted question_at octets_end record_at data_at octets_within parts_at shape_of
+    name_within walk_in name_step
+reply_is_read = refl
+
+abbrev heard : Step
+heard = step_of 1020 [] (delivery (Udp 1032) server reply_text)
+    (close_udp 1032 ∷ send_reply client (aliased 7 129 128 200 60) Answered ∷ [])
+
+abbrev alias : Held
+alias = record {
+  piece = record {
+    owner = a;
+    slot = record { key = a; class = 1; kind = Some 5 };
+    body = rows (name_data 98 ∷ []);
+    lifetime = 200;
+    rank = 3;
+    route = 0;
+  };
+  accepted = 1020;
+}
+
+abbrev set : Held
+set = record {
+  piece = record {
+    owner = b;
+    slot = record { key = b; class = 1; kind = Some 1 };
+    body = rows ((198 ∷ 51 ∷ 100 ∷ 5 ∷ []) ∷ []);
+    lifetime = 60;
+    rank = 1;
+    route = 0;
+  };
+  accepted = 1020;
+}
+
+carries : Carries c heard (asked ∷ []) (alias.piece ∷ set.piece ∷ [])
+unfolding first_question question_at octets_end name_within walk_in name_step route_of walk_from servers_from
+    name_of_rdata
+carries = record {
+  ask = ask;
+  asked = address a;
+  route = 0;
+  message = says reply_text 200 60;
+  accepts = record {
+    octets = reply_text;
+    matches = record {
+      delivered = refl;
+      is_listed = refl;
+      is_live = omega arith;
+      long_enough = omega arith;
+      not_too_long = omega arith;
+      is_reply = refl;
+      opcode = refl;
+      identifier = refl;
+      ask_reads = refl;
+      question = address a;
+      reads = refl;
+      same_question_as_ask = refl;
+    };
+    spells = message_read_is_spelled reply_text (says reply_text 200 60) reply_is_read;
+    untruncated = refl;
+    rcode = inl refl;
+    route_is = refl;
+    not_lame = refl;
+  };
+  are = refl;
+}
+
+abbrev both : List Held
+both = set ∷ alias ∷ []
+
+abbrev past : List Step
+past = heard ∷ asked ∷ []
+
+both_carried : CarriedInEra c past both
+both_carried = inr (inr (refl, alias.piece ∷ set.piece ∷ [], [], carries, carried_before 1 600, refl))
+
+-- ---- along an alias that has ended
+
+-- it is asked for again when both have ended, the only try fails, and this is told
+abbrev again : Step
+again = step_of 210000 (1048592 ∷ []) (from_client client (question_text 7 1))
+    (ask_udp 1040 server (question_text 16 1) ∷ [])
+
+abbrev stale_text : List ℕ
+stale_text = aliased 7 129 128 30 30
+
+abbrev gives_up : Step
+gives_up = step_of 211500 [] tick (close_udp 1040 ∷ send_reply client stale_text Stale ∷ [])
+
+abbrev seen : Look
+seen = record { config = c; asked = again; before = past; now = gives_up ∷ again ∷ past }
+
+carried_until_asked : CarriedInEra c (again ∷ past) both
+carried_until_asked = inr (inl (refl, nothing_heard c again past refl, both_carried))
+
+carried_until_now : CarriedInEra c (gives_up ∷ again ∷ past) both
+carried_until_now = inr (inl (refl, nothing_heard c gives_up (again ∷ past) refl, carried_until_asked))
+
+alias_past_its_end : JustifiedPastItsEnd seen a alias
+unfolding route_of
+alias_past_its_end = record {
+  old = both;
+  new = [];
+  carried_before = carried_until_asked;
+  carried_now = carried_until_now;
+  came_before = inr (inl refl);
+  not_replaced = inr (refl, inl refl);
+  on_route = refl;
+  is_set = tt;
+  has_lifetime = omega arith;
+  within = omega arith;
+}
+
+set_past_its_end : JustifiedPastItsEnd seen b set
+unfolding route_of
+set_past_its_end = record {
+  old = both;
+  new = [];
+  carried_before = carried_until_asked;
+  carried_now = carried_until_now;
+  came_before = inl refl;
+  not_replaced = inl refl;
+  on_route = refl;
+  is_set = tt;
+  has_lifetime = omega arith;
+  within = omega arith;
+}
+
+along_an_alias : ChainPastEnds seen [] (address a) (alias ∷ []) set
+unfolding name_of_rdata name_within walk_in name_step
+along_an_alias = record {
+  last = address b;
+  follows = (aliases.no_alias_asked, alias_past_its_end, refl, b, refl, refl);
+  few = omega arith;
+  justified = set_past_its_end;
+  slot = refl;
+}
+
+abbrev ask_again : ShownAsk
+ask_again = record { path = Udp 1040; server = server; octets = question_text 16 1; moment = 210000 }
+
+closes : ClosesAsk (address a) gives_up (again ∷ past)
+unfolding first_question question_at octets_end name_within walk_in name_step
+closes = record { ask = ask_again; asked = address a; is_listed = refl; closed = refl; reads = refl; same = refl }
+
+tries : AllTriesFailed seen (question_text 7 1)
+unfolding first_question question_at octets_end name_within walk_in name_step
+tries = record {
+  question = address a;
+  reads = refl;
+  aliases = [];
+  last = address a;
+  leads = record { few = omega arith; follows = refl };
+  failed = (refl, inl (closes, nothing_heard c gives_up (again ∷ past) refl, tt));
+  closed = closes;
+  none_left = tt;
+}
+
+stale_is_read : message_of stale_text ≡ Ok (says stale_text 30 30)
+unfolding message_at header_of counted question_at octets_end record_at data_at octets_within parts_at shape_of
+    name_within walk_in name_step
+stale_is_read = refl
+
+-- both are told for 30 seconds
+stale_answers : StaleAnswers seen client (header_in (question_text 7 1)) (address a) [] (address a) stale_text
+unfolding written ◌▹◌ each name_text data_text with_length fields_of first_field name_within walk_in name_step
+    shape_of
+stale_answers = record {
+  past = alias ∷ [];
+  end = set;
+  chain = along_an_alias;
+  text = refl;
+  fits = tt;
+  message = says stale_text 30 30;
+  spells = message_read_is_spelled stale_text (says stale_text 30 30) stale_is_read;
+}
+
+an_answer_along_an_alias : RightReply seen client (question_text 7 1) 1 Stale stale_text
+unfolding tries
+an_answer_along_an_alias =
+    record { opcode = refl; tries = tries; served = refl; window = omega arith; answers = stale_answers }
+
+-- an alias leads from its own name, and to its own target
+from_another_name : (l : Look) (last : Question) → FollowsPastEnds l (address b) (alias ∷ []) last → ⊥
+from_another_name l last h = true≢false (sym h.2)
+
+to_its_target_alone : (l : Look) (last : Question) → FollowsPastEnds l (address a) (alias ∷ []) last
+    → last ≡ address b
+unfolding name_of_rdata name_within walk_in name_step
+to_its_target_alone l last h =
+    let leads : Some b ≡ Some h.3 = h.4 in
+    let target : b ≡ h.3 = cc in
+    h.5 ∙ ap address (sym target)
+
+-- a set answers for its own type
+of_another_type : (l : Look) → ChainPastEnds l [] (record (address b) { kind = 28 }) [] set → ⊥
+of_another_type l h =
+    true≢false (sym h.slot ∙ ap (λ (q : Question). has_slot set.piece q.name q.class (Some q.kind)) h.follows)
+
+-- ---- behind an alias that is held
+
+-- it is asked for again while the alias lives, so b.e is asked for; the only try fails
+abbrev text_of_b : List ℕ
+text_of_b = 0 ∷ 16 ∷ 1 ∷ 0 ∷ 0 ∷ 1 ∷ 0 ∷ 0 ∷ 0 ∷ 0 ∷ 0 ∷ 0 ∷ 1 ∷ 98 ∷ 1 ∷ 101 ∷ 0 ∷ 0 ∷ 1 ∷ 0 ∷ 1 ∷ []
+
+abbrev sooner : Step
+sooner = step_of 70000 (1048592 ∷ []) (from_client client (question_text 7 1)) (ask_udp 1040 server text_of_b ∷ [])
+
+-- the alias has 129 seconds left then
+abbrev held_text : List ℕ
+held_text = aliased 7 129 128 129 30
+
+abbrev gives_up_sooner : Step
+gives_up_sooner = step_of 71500 [] tick (close_udp 1040 ∷ send_reply client held_text Stale ∷ [])
+
+abbrev seen_sooner : Look
+seen_sooner = record { config = c; asked = sooner; before = past; now = gives_up_sooner ∷ sooner ∷ past }
+
+carried_sooner : CarriedInEra c (sooner ∷ past) both
+carried_sooner = inr (inl (refl, nothing_heard c sooner past refl, both_carried))
+
+carried_sooner_now : CarriedInEra c (gives_up_sooner ∷ sooner ∷ past) both
+carried_sooner_now = inr (inl (refl, nothing_heard c gives_up_sooner (sooner ∷ past) refl, carried_sooner))
+
+alias_lives : Justified seen_sooner a alias
+unfolding route_of
+alias_lives = record {
+  old = both;
+  new = [];
+  carried_before = carried_sooner;
+  carried_now = carried_sooner_now;
+  on_route = refl;
+  counts = inl (inr (refl, inl refl), omega arith);
+}
+
+follows_it : FollowsAliases seen_sooner (address a) (alias ∷ []) (address b)
+unfolding name_of_rdata name_within walk_in name_step
+follows_it = (aliases.no_alias_asked, alias_lives, refl, b, refl, refl)
+
+set_has_ended : JustifiedPastItsEnd seen_sooner b set
+unfolding route_of
+set_has_ended = record {
+  old = both;
+  new = [];
+  carried_before = carried_sooner;
+  carried_now = carried_sooner_now;
+  came_before = inl refl;
+  not_replaced = inl refl;
+  on_route = refl;
+  is_set = tt;
+  has_lifetime = omega arith;
+  within = omega arith;
+}
+
+abbrev ask_for_b : ShownAsk
+ask_for_b = record { path = Udp 1040; server = server; octets = text_of_b; moment = 70000 }
+
+closes_b : ClosesAsk (address b) gives_up_sooner (sooner ∷ past)
+unfolding first_question question_at octets_end name_within walk_in name_step
+closes_b = record { ask = ask_for_b; asked = address b; is_listed = refl; closed = refl; reads = refl; same = refl }
+
+tries_behind : AllTriesFailed seen_sooner (question_text 7 1)
+unfolding first_question question_at octets_end name_within walk_in name_step
+tries_behind = record {
+  question = address a;
+  reads = refl;
+  aliases = alias ∷ [];
+  last = address b;
+  leads = record { few = omega arith; follows = follows_it };
+  failed = (refl, inl (closes_b, nothing_heard c gives_up_sooner (sooner ∷ past) refl, tt));
+  closed = closes_b;
+  none_left = tt;
+}
+
+held_is_read : message_of held_text ≡ Ok (says held_text 129 30)
+unfolding message_at header_of counted question_at octets_end record_at data_at octets_within parts_at shape_of
+    name_within walk_in name_step
+held_is_read = refl
+
+held_answers : StaleAnswers seen_sooner client (header_in (question_text 7 1)) (address a) (alias ∷ []) (address b)
+    held_text
+unfolding written ◌▹◌ each name_text data_text with_length fields_of first_field name_within walk_in name_step
+    shape_of
+held_answers = record {
+  past = [];
+  end = set;
+  chain = record { last = address b; follows = refl; few = omega arith; justified = set_has_ended; slot = refl };
+  text = refl;
+  fits = tt;
+  message = says held_text 129 30;
+  spells = message_read_is_spelled held_text (says held_text 129 30) held_is_read;
+}
+
+an_answer_behind_a_held_alias : RightReply seen_sooner client (question_text 7 1) 1 Stale held_text
+unfolding tries_behind
+an_answer_behind_a_held_alias =
+    record { opcode = refl; tries = tries_behind; served = refl; window = omega arith; answers = held_answers }
+
+-- ---- a second reply, to an ask on the port 1040 with the identifier 16: the address for 5 seconds
+
+abbrev pub second_text : List ℕ
+second_text = answer_with 16 133 0 5
+
+abbrev says_again : Message
+says_again = record {
+  header = header_in second_text;
+  questions = address a ∷ [];
+  answers = record { owner = a; kind = 1; class = 1; ttl = 5; rdata = 198 ∷ 51 ∷ 100 ∷ 5 ∷ [] } ∷ [];
+  authority = [];
+  additional = [];
+}
+
+second_is_read : message_of second_text ≡ Ok says_again
+unfolding message_at header_of counted question_at octets_end record_at data_at octets_within parts_at shape_of
+    name_within walk_in name_step
+second_is_read = refl
+
+abbrev pub heard_again : ℕ → Step
+heard_again now = step_of now [] (delivery (Udp 1040) server second_text)
+    (close_udp 1040 ∷ send_reply client (answer_with 7 129 128 5) Answered ∷ [])
+
+abbrev pub five_seconds : Piece
+five_seconds = record held.piece { lifetime = 5 }
+
+abbrev newer : ℕ → Held
+newer now = record { piece = five_seconds; accepted = now }
+
+-- it carried that, to whatever step's ask on that port, as long as it was open
+pub second_carries : (now asked_at : ℕ) (before : List Step)
+    → on_path (Udp 1040) (listed before)
+    ≡ Some (record { path = Udp 1040; server = server; octets = question_text 16 1; moment = asked_at })
+    → moment_at (heard_again now ∷ before) < asked_at + 1500
+    → Carries c (heard_again now) before (five_seconds ∷ [])
+unfolding first_question question_at octets_end name_within walk_in name_step route_of walk_from servers_from
+second_carries now asked_at before on live = record {
+  ask = record { path = Udp 1040; server = server; octets = question_text 16 1; moment = asked_at };
+  asked = address a;
+  route = 0;
+  message = says_again;
+  accepts = record {
+    octets = second_text;
+    matches = record {
+      delivered = refl;
+      is_listed = on;
+      is_live = live;
+      long_enough = omega arith;
+      not_too_long = omega arith;
+      is_reply = refl;
+      opcode = refl;
+      identifier = refl;
+      ask_reads = refl;
+      question = address a;
+      reads = refl;
+      same_question_as_ask = refl;
+    };
+    spells = message_read_is_spelled second_text says_again second_is_read;
+    untruncated = refl;
+    rcode = inl refl;
+    route_is = refl;
+    not_lame = refl;
+  };
+  are = refl;
+}
+
+-- ---- eight aliases over both
+
+-- a.e was an alias of itself, and then has an address
+abbrev looped : List Step
+looped = heard_again 1040 ∷ aliases.sent_on ∷ asked ∷ []
+
+loops_carried : CarriedInEra c (aliases.sent_on ∷ asked ∷ []) (aliases.loops 8)
+loops_carried = inr (inr (
+  refl,
+  aliases.alias ∷ aliases.alias ∷ aliases.alias ∷ aliases.alias ∷ aliases.alias ∷ aliases.alias ∷ aliases.alias
+      ∷ aliases.alias ∷ [],
+  [],
+  aliases.carries 1 600,
+  carried_before 1 600,
+  refl,
+))
+
+looped_carried : CarriedInEra c looped (newer 1040 ∷ aliases.loops 8)
+looped_carried = inr (inr (
+  refl,
+  five_seconds ∷ [],
+  aliases.loops 8,
+  second_carries 1040 1020 (aliases.sent_on ∷ asked ∷ []) refl (omega arith),
+  loops_carried,
+  refl,
+))
+
+-- then time passes
+abbrev waits : Step
+waits = step_of 70000 [] tick []
+
+abbrev seen_looped : Look
+seen_looped = record { config = c; asked = asked; before = []; now = waits ∷ looped }
+
+looped_until_now : CarriedInEra c (waits ∷ looped) (newer 1040 ∷ aliases.loops 8)
+looped_until_now = inr (inl (refl, nothing_heard c waits looped refl, looped_carried))
+
+loop_past_its_end : JustifiedPastItsEnd seen_looped a aliases.loop
+unfolding route_of
+loop_past_its_end = record {
+  old = newer 1040 ∷ aliases.loops 8;
+  new = [];
+  carried_before = looped_carried;
+  carried_now = looped_until_now;
+  came_before = inr (inl refl);
+  not_replaced = inr (refl, inl refl);
+  on_route = refl;
+  is_set = tt;
+  has_lifetime = omega arith;
+  within = omega arith;
+}
+
+address_past_its_end : JustifiedPastItsEnd seen_looped a (newer 1040)
+unfolding route_of
+address_past_its_end = record {
+  old = newer 1040 ∷ aliases.loops 8;
+  new = [];
+  carried_before = looped_carried;
+  carried_now = looped_until_now;
+  came_before = inl refl;
+  not_replaced = inl refl;
+  on_route = refl;
+  is_set = tt;
+  has_lifetime = omega arith;
+  within = omega arith;
+}
+
+one_more : (os : List Held) → FollowsPastEnds seen_looped (address a) os (address a)
+    → FollowsPastEnds seen_looped (address a) (aliases.loop ∷ os) (address a)
+unfolding name_of_rdata name_within walk_in name_step
+one_more os rest = (aliases.no_alias_asked, loop_past_its_end, refl, a, refl, rest)
+
+so_many : (n : ℕ) → FollowsPastEnds seen_looped (address a) (aliases.loops n) (address a)
+so_many zero = refl
+so_many (suc n) = one_more (aliases.loops n) (so_many n)
+
+eight_past_their_ends : ChainPastEnds seen_looped [] (address a) (aliases.loops 8) (newer 1040)
+eight_past_their_ends = record {
+  last = address a;
+  follows = so_many 8;
+  few = omega arith;
+  justified = address_past_its_end;
+  slot = refl;
+}
+
+five_behind_three_that_are_held : ChainPastEnds seen_looped (aliases.loops 3) (address a) (aliases.loops 5) (newer 1040)
+five_behind_three_that_are_held = record {
+  last = address a;
+  follows = so_many 5;
+  few = omega arith;
+  justified = address_past_its_end;
+  slot = refl;
+}
+
+nine_past_their_ends : (l : Look) (q : Question) (o : Held) → ChainPastEnds l [] q (aliases.loops 9) o → ⊥
+nine_past_their_ends l q o h = let few : 9 ≤ 8 = h.few in omega (arith, few)
+
+five_behind_four_that_are_held : (l : Look) (q : Question) (o : Held)
+    → ChainPastEnds l (aliases.loops 4) q (aliases.loops 5) o → ⊥
+five_behind_four_that_are_held l q o h = let few : 9 ≤ 8 = h.few in omega (arith, few)
+
+-- ---- a set that another one replaced
+
+-- the address ended, and came anew for 5 seconds; then all tries fail
+abbrev renews : Step
+renews = step_of 62000 (1048592 ∷ []) (from_client client (question_text 7 1))
+    (ask_udp 1040 server (question_text 16 1) ∷ [])
+
+abbrev renewed : List Step
+renewed = heard_again 62020 ∷ renews ∷ answered ∷ asked ∷ []
+
+abbrev seen_renewed : Look
+seen_renewed = record { config = c; asked = renews; before = answered ∷ asked ∷ []; now = waits ∷ renewed }
+
+abbrev two_sets : List Held
+two_sets = newer 62020 ∷ held ∷ []
+
+renewed_carried : CarriedInEra c renewed two_sets
+renewed_carried = inr (inr (
+  refl,
+  five_seconds ∷ [],
+  held ∷ [],
+  second_carries 62020 62000 (renews ∷ answered ∷ asked ∷ []) refl (omega arith),
+  inr (inl (refl, nothing_heard c renews (answered ∷ asked ∷ []) refl, carried_now 1 600)),
+  refl,
+))
+
+renewed_until_now : CarriedInEra c (waits ∷ renewed) two_sets
+renewed_until_now = inr (inl (refl, nothing_heard c waits renewed refl, renewed_carried))
+
+the_newer_set : JustifiedPastItsEnd seen_renewed a (newer 62020)
+unfolding route_of
+the_newer_set = record {
+  old = two_sets;
+  new = [];
+  carried_before = renewed_carried;
+  carried_now = renewed_until_now;
+  came_before = inl refl;
+  not_replaced = inl refl;
+  on_route = refl;
+  is_set = tt;
+  has_lifetime = omega arith;
+  within = omega arith;
+}
+
+-- of the older one all holds, but that it was replaced
+not_the_older_set : JustifiedPastItsEnd seen_renewed a held → ⊥
+not_the_older_set j = by (subst (NotReplaced held)
+    (one_era c (waits ∷ renewed) (j.new ++ j.old) two_sets j.carried_now renewed_until_now) j.not_replaced)
+  where
+    by : NotReplaced held two_sets → ⊥
+    by (inl same) = let moments : 62020 ≡ 1020 = ap (λ (o : Held). o.accepted) same in omega (arith, moments)
+    by (inr behind) = true≢false behind.0
+
+but_for_its_place : NotReplaced held two_sets → JustifiedPastItsEnd seen_renewed a held
+unfolding route_of
+but_for_its_place not_replaced = record {
+  old = two_sets;
+  new = [];
+  carried_before = renewed_carried;
+  carried_now = renewed_until_now;
+  came_before = inr (inl refl);
+  not_replaced = not_replaced;
+  on_route = refl;
+  is_set = tt;
+  has_lifetime = omega arith;
+  within = omega arith;
+}

@@ -1,0 +1,144 @@
+-- What a question is answered with at once, computed: a denial that stands, of its type or of its whole name; until it
+-- ends, and of nothing else. Where it is asked for again, what stands was not used.
+use Rattle.std.proofs.Common.{ℕ, List, [], ◌∷◌, Bool, Some, false, refl, sym, ap, inl, inr, arith}
+use Rattle.std.specs.Prelude.{not, is_none}
+use Rattle.std.proofs.lemmas.Bool.{true≢false}
+use Rattle.dns_message.specs.Data.{name_of_rdata}
+use Rattle.dns_message.specs.Names.{step as name_step, walk_in, name_within}
+use Rattle.dns_message.specs.Records.{octets_end, question_at}
+use Rattle.dns_message.specs.Messages.{first_question}
+use Rattle.dns_message.specs.Values.{Question}
+use Rattle.suffix_routes.specs.Routes.{route_of}
+use Rattle.trust_rank.specs.Values.{rows}
+use Rattle.record_cache.specs.Values.{Held}
+use Rattle.step_values.specs.Values.{Action, reply_in_action, from_client, ask_udp, Step}
+use Rattle.step_table.proofs.Played.{a, b, name_data, address, server, config}
+use Rattle.theorem_use.specs.Standing.{standing}
+use Rattle.theorem_use.specs.Use.{HasRoom, AsksToLookUp, LeadsToEnd, UsesWhatStands}
+use Rattle.worked_claims.proofs.Texts.{question_text, client, step_of}
+use Rattle.worked_claims.proofs.Accepted.{asked}
+use Rattle.worked_claims.proofs.ServerDenials.{there_is_none, is_not_there, no_address, name_error, none_carried}
+use Rattle.worked_claims.proofs.ServerDenials.{error_carried}
+
+-- ---- at which pieces a look-up in what stands ends
+
+abbrev Known : ℕ → List Held → Question → Type 0
+Known n carried q = LeadsToEnd config.routes n (standing n carried) 8 q
+
+-- at a.e for this type, or in this class
+abbrev of_type : ℕ → Question
+of_type kind = record (address a) { kind = kind }
+
+abbrev of_class : ℕ → Question
+of_class class = record (address a) { class = class }
+
+-- NODATA came at 1020 for 30 seconds
+no_data_is_known : Known 31019 (no_address ∷ []) (address a)
+unfolding route_of
+no_data_is_known = tt
+
+no_data_has_ended : Known 31020 (no_address ∷ []) (address a) → ⊥
+unfolding route_of
+no_data_has_ended known = known
+
+no_data_of_another_type : Known 2000 (no_address ∷ []) (of_type 28) → ⊥
+unfolding route_of
+no_data_of_another_type known = known
+
+no_data_of_another_class : Known 2000 (no_address ∷ []) (of_class 3) → ⊥
+unfolding route_of
+no_data_of_another_class known = known
+
+-- so did a name error, of each type and of each name under its own
+an_error_is_known : Known 31019 (name_error ∷ []) (address a) × Known 31019 (name_error ∷ []) (of_type 28)
+    × Known 31019 (name_error ∷ []) (address ((98 ∷ []) ∷ a))
+unfolding route_of
+an_error_is_known = (tt, tt, tt)
+
+an_error_has_ended : Known 31020 (name_error ∷ []) (address a) → ⊥
+unfolding route_of
+an_error_has_ended known = known
+
+an_error_of_another_class : Known 2000 (name_error ∷ []) (of_class 3) → ⊥
+unfolding route_of
+an_error_of_another_class known = known
+
+an_error_of_a_sibling : Known 2000 (name_error ∷ []) (address b) → ⊥
+unfolding route_of
+an_error_of_a_sibling known = known
+
+-- behind an alias of b.e too
+abbrev alias : Held
+alias = record {
+  piece = record {
+    owner = b;
+    slot = record { key = b; class = 1; kind = Some 5 };
+    body = rows (name_data 97 ∷ []);
+    lifetime = 60;
+    rank = 3;
+    route = 0;
+  };
+  accepted = 1020;
+}
+
+behind_an_alias : Known 2000 (alias ∷ no_address ∷ []) (address b) × Known 2000 (alias ∷ name_error ∷ []) (address b)
+unfolding name_of_rdata name_within walk_in name_step route_of
+behind_an_alias = (tt, tt)
+
+nothing_behind_an_alias : Known 2000 (alias ∷ []) (address b) → ⊥
+unfolding name_of_rdata name_within walk_in name_step route_of
+nothing_behind_an_alias known = known
+
+-- ---- asked for again
+
+-- the client asks again at 2000, and this is done
+abbrev again : List Action → Step
+again actions = step_of 2000 (1048592 ∷ []) (from_client client (question_text 7 1)) actions
+
+-- a server is asked
+abbrev asks_on : List Action
+asks_on = ask_udp 1040 server (question_text 16 1) ∷ []
+
+looks_up : (actions : List Action) → AsksToLookUp config (again actions) client (address a)
+unfolding first_question question_at octets_end name_within walk_in name_step route_of
+looks_up actions = record {
+  octets = question_text 7 1;
+  sends = refl;
+  taken = refl;
+  opcode = refl;
+  reads = refl;
+  served = refl;
+  route = 0;
+  on_route = refl;
+}
+
+room_for_none : HasRoom config (there_is_none ∷ asked ∷ []) (no_address ∷ [])
+room_for_none = record {
+  slots = record { slots = no_address.piece.slot ∷ []; few = omega arith; each = (inl refl, tt) };
+  memory = inr (refl, inr (refl, tt));
+}
+
+room_for_error : HasRoom config (is_not_there ∷ asked ∷ []) (name_error ∷ [])
+room_for_error = record {
+  slots = record { slots = name_error.piece.slot ∷ []; few = omega arith; each = (inl refl, tt) };
+  memory = inr (refl, inr (refl, tt));
+}
+
+abbrev is_reply : List Action → Bool
+is_reply [] = false
+is_reply (x ∷ more) = not (is_none (reply_in_action x))
+
+-- a question that is known gets a reply, and is not sent on
+a_known_denial_is_used : (w : List (List ℕ)) (is : List ℕ)
+    → UsesWhatStands config (again asks_on ∷ there_is_none ∷ asked ∷ []) (is ∷ w) → ⊥
+unfolding route_of
+a_known_denial_is_used w is uses =
+    let once = uses.1 client (address a) (no_address ∷ []) (looks_up asks_on) none_carried room_for_none tt in
+    true≢false (sym (ap is_reply once.actions))
+
+a_known_error_is_used : (w : List (List ℕ)) (is : List ℕ)
+    → UsesWhatStands config (again asks_on ∷ is_not_there ∷ asked ∷ []) (is ∷ w) → ⊥
+unfolding route_of
+a_known_error_is_used w is uses =
+    let once = uses.1 client (address a) (name_error ∷ []) (looks_up asks_on) error_carried room_for_error tt in
+    true≢false (sym (ap is_reply once.actions))
