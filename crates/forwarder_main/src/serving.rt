@@ -2,6 +2,7 @@
 
 ghost use Rattle.std.specs.Prelude.{◌≡◌, IfOk, OnOk};
 ghost use Rattle.step_table.specs.Steps.{start};
+ghost use Rattle.wires.specs.Wire.{telling};
 ghost use Rattle.forwarder_main.specs.Service.{IsWireOf, ServesAndTells, ServesFrom};
 
 use crate::counted::Counted;
@@ -61,8 +62,9 @@ where
     A: Allocator + Copy,
     W: Wire<A>,
     T: Write,
-    ensures { OnOk result (ServesAndTells forwarder.old (W.told wire.old) turns forwarder.new (W.told wire.new)
-        (T.contents writer.old) (T.contents writer.new)) }
+    ensures { OnOk result (ServesAndTells forwarder.old (telling (W.told wire.old) (W.fault_count wire.old)) turns
+        forwarder.new (telling (W.told wire.new) (W.fault_count wire.new)) (T.contents writer.old)
+        (T.contents writer.new)) }
 {
     let served = match serve(alloc, wire, forwarder, turns) {
         Ok(served) => served,

@@ -14,7 +14,7 @@ use Rattle.step_table.specs.Row.{Row, is_due_at, effective}
 use Rattle.step_table.specs.Progress.{left_to_do, ServesSomething}
 use Rattle.theorem_sound.specs.Runs.{Run}
 use Rattle.network_model.specs.declared.counts.Served.{Served}
-use Rattle.wires.specs.Wire.{Told, Put, ◌then◌, TellsMore, moment_was, words_were}
+use Rattle.wires.specs.Wire.{Told, Telling, Put, ◌then◌, TellsMore, moment_was, words_were}
 use Rattle.network_model.specs.Events.{Taken, PutsItsActions, step_in, steps_in, failed_of, more_in, joined, IsChain, AreTicks}
 use Rattle.network_model.specs.Serving.{Standing, Does, Adds, left, told_of_all, lost_in, refused_in}
 use Rattle.network_model.specs.Handing.{told_of_puts, Puts, most_left, IsOwn, StepsDown, Hands, HandsOn, Ticks}
@@ -93,12 +93,12 @@ own_falls c config' s s' now words tick o failed puts row same less is actions o
     by (inl due) = inl (less due)
     by (inr none) = let quiet = quiet_tick c s s' now words o row none in idle_down c (effective now s) s s' config' o tick failed puts o.more same quiet.0 is actions (λ _. quiet.1)
 
-tells_step : (o p q r : Option Told) (now : ℕ) (words : List ℕ) (x : Taken) → x.handed.now ≡ now → x.handed.words ≡ words → TellsMore o (moment_was now) p → TellsMore p (words_were words) q → TellsMore q (told_of_puts x.puts) r → TellsMore o (told_of_all (x ∷ [])) r
+tells_step : (o p q r : Telling) (now : ℕ) (words : List ℕ) (x : Taken) → x.handed.now ≡ now → x.handed.words ≡ words → TellsMore o (moment_was now) p → TellsMore p (words_were words) q → TellsMore q (told_of_puts x.puts) r → TellsMore o (told_of_all (x ∷ [])) r
 tells_step o p q r now words x same_now same_words a b c =
     subst (λ (t : Told). TellsMore o t r) (λ i. record { arrivals = []; puts = sym (append-nil x.puts) i; moments = sym same_now i ∷ []; words = sym same_words i ∷ [] })
     (tells_on o q r (moment_was now then words_were words) (told_of_puts x.puts) (tells_on o p q (moment_was now) (words_were words) a b) c)
 
-pub hands_ok : (before after : Running) (o p q r : Option Told) (counts counts' : Served) (now : ℕ) (words : List ℕ) (e : Event) (out : Outcome) (failed : Option Path)
+pub hands_ok : (before after : Running) (o p q r : Telling) (counts counts' : Served) (now : ℕ) (words : List ℕ) (e : Event) (out : Outcome) (failed : Option Path)
     → Row before.config before.state (record { now = now; words = words; event = e }) out after.state → after.config ≡ before.config → left before ≤ most_left before
     → (ServesSomething before.config (effective now before.state) before.state e → left_to_do before.config after.state < left before)
     → TellsMore o (moment_was now) p → TellsMore p (words_were words) q → Puts None out.actions failed q r counts counts'
@@ -124,7 +124,7 @@ hands_ok before after o p q r counts counts' now words e out failed row config b
       falls = own_falls before.config after.config before.state after.state now words e out failed puts.puts row config (λ serves. let fewer = less serves in let same = ap (λ (k : Config). left_to_do k after.state) config in omega (arith, fewer, same)) puts.failed_is puts.actions_are;
     }
 
-pub hands_err : (before after : Running) (o p q : Option Told) (counts counts' : Served) (now : ℕ) (words : List ℕ) (e : Event)
+pub hands_err : (before after : Running) (o p q : Telling) (counts counts' : Served) (now : ℕ) (words : List ℕ) (e : Event)
     → after ≡ before → left before ≤ most_left before → TellsMore o (moment_was now) p → TellsMore p (words_were words) q
     → Adds counts.lost 1 counts'.lost → counts'.refused_puts ≡ counts.refused_puts → counts'.turns ≡ counts.turns → counts'.refused_arrivals ≡ counts.refused_arrivals
     → Hands e None false (record { running = before; told = o; counts = counts }) (record { running = after; told = q; counts = counts' })

@@ -1,11 +1,11 @@
 -- What a wire tells grows, and a count that grows stays at its last value.
-use Rattle.std.proofs.Common.{◌≡◌, ◌∙◌, refl, sym, ap, ℕ, ◌+◌, List, [], ◌∷◌, ◌++◌, append_assoc, append-nil, Option, Some, None, false, arith}
-use Rattle.std.specs.Prelude.{option_map, map}
+use Rattle.std.proofs.Common.{◌≡◌, ◌∙◌, refl, sym, ap, ℕ, zero, suc, ◌+◌, ◌≤◌, length, List, [], ◌∷◌, ◌++◌, append_assoc, append-nil, Option, Some, None, false, arith}
+use Rattle.std.specs.Prelude.{option_map, map, slice_get}
 use Rattle.std.proofs.lemmas.List.{map-append}
 use Rattle.outstanding.specs.declared.ask.Path.{Path}
 use Rattle.step_values.specs.Values.{SentAsk, Action}
 use Rattle.network_model.specs.declared.counts.Served.{Served}
-use Rattle.wires.specs.Wire.{Told, Put, silence, ◌then◌, TellsMore}
+use Rattle.wires.specs.Wire.{Told, Telling, Put, silence, ◌then◌, told_more, TellsMore}
 use Rattle.network_model.specs.Events.{Taken, later, refused_path, failed_of}
 use Rattle.network_model.specs.Serving.{Adds, told_of, told_of_all, lost_in, refused_by, refused_of, refused_in}
 use Rattle.network_model.specs.Handing.{told_of_puts, Puts}
@@ -18,14 +18,37 @@ then_silence a i = record { arrivals = append-nil a.arrivals i; puts = append-ni
 pub then_then : (a b c : Told) → (a then b) then c ≡ a then (b then c)
 then_then a b c i = record { arrivals = append_assoc a.arrivals b.arrivals c.arrivals i; puts = append_assoc a.puts b.puts c.puts i; moments = append_assoc a.moments b.moments c.moments i; words = append_assoc a.words b.words c.words i }
 
-pub tells_nothing : (o : Option Told) → TellsMore o silence o
-tells_nothing o now is = (now, is, sym (then_silence now))
+pub told_no_more : (o : Option Told) → o ≡ told_more o silence
+told_no_more None = refl
+told_no_more (Some told) = ap (λ (t : Told). Some t) (sym (then_silence told))
 
-pub tells_on : (o p q : Option Told) (a b : Told) → TellsMore o a p → TellsMore p b q → TellsMore o (a then b) q
-tells_on o p q a b first more now is =
-    let last = more now is in
-    let was = first last.0 last.1 in
-    (was.0, was.1, last.2 ∙ ap (λ (t : Told). t then b) was.2 ∙ then_then was.0 a b)
+pub told_twice : (o : Option Told) (a b : Told) → told_more (told_more o a) b ≡ told_more o (a then b)
+told_twice None a b = refl
+told_twice (Some told) a b = ap (λ (t : Told). Some t) (then_then told a b)
+
+pub tells_nothing : (o : Telling) → TellsMore o silence o
+tells_nothing o = record {
+  tells = λ now is. (now, is, sym (then_silence now));
+  counts = omega arith;
+  stays = λ same below. told_no_more o.told;
+}
+
+pub tells_on : (o p q : Telling) (a b : Told) → TellsMore o a p → TellsMore p b q → TellsMore o (a then b) q
+tells_on o p q a b first more =
+    let one = first.counts in
+    let two = more.counts in
+    record {
+      tells = λ now is.
+          let last = more.tells now is in
+          let was = first.tells last.0 last.1 in
+          (was.0, was.1, last.2 ∙ ap (λ (t : Told). t then b) was.2 ∙ then_then was.0 a b);
+      counts = omega (arith, one, two);
+      stays = λ same below.
+          let mid : p.faults ≡ o.faults = omega (arith, one, two, same) in
+          more.stays (omega (arith, mid, same)) (omega (arith, mid, below))
+          ∙ ap (λ (t : Option Told). told_more t b) (first.stays mid below)
+          ∙ told_twice o.told a b;
+    }
 
 pub told_append : (xs ys : List Taken) → told_of_all (xs ++ ys) ≡ told_of_all xs then told_of_all ys
 told_append [] ys = refl
@@ -56,6 +79,12 @@ refused_append (x ∷ xs) ys = let rest = refused_append xs ys in omega (arith, 
 
 -- ---- what is put
 
+-- Where a list has nothing at a place, it ends before.
+pub ends_before : {X : Type 0} (xs : List X) (i : ℕ) → slice_get xs i ≡ None → length xs ≤ i
+ends_before [] i none = omega arith
+ends_before (x ∷ xs) zero none = absurd (cc)
+ends_before (x ∷ xs) (suc i) none = let rest = ends_before xs i none in omega (arith, rest)
+
 pub refused_ask : (o : Option SentAsk) (path : Path) → Some path ≡ option_map (λ (ask : SentAsk). ask.path) o → refused_by o false ≡ 0
 refused_ask None path is = absurd (cc)
 refused_ask (Some ask) path is = refl
@@ -68,10 +97,10 @@ failed_append : (last : Option Path) (xs ys : List Put) → failed_of last (xs +
 failed_append last [] ys = refl
 failed_append last (x ∷ xs) ys = failed_append (later last (refused_path x)) xs ys
 
-pub puts_none : (o : Option Told) (counts : Served) → Puts None [] None o o counts counts
+pub puts_none : (o : Telling) (counts : Served) → Puts None [] None o o counts counts
 puts_none o counts = record { puts = []; actions_are = refl; failed_is = refl; tells = tells_nothing o; refused = adds_none _ _ refl; turns = refl; lost = refl; arrivals = refl }
 
-pub puts_more : (last mid end : Option Path) (xs ys : List Action) (o p q : Option Told) (a b c : Served) → Puts last xs mid o p a b → Puts mid ys end p q b c → Puts last (xs ++ ys) end o q a c
+pub puts_more : (last mid end : Option Path) (xs ys : List Action) (o p q : Telling) (a b c : Served) → Puts last xs mid o p a b → Puts mid ys end p q b c → Puts last (xs ++ ys) end o q a c
 puts_more last mid end xs ys o p q a b c first more = record {
   puts = first.puts ++ more.puts;
   actions_are = map-append (λ (x : Put). x.action) first.puts more.puts ∙ ap (λ (zs : List Action). zs ++ map (λ (x : Put). x.action) more.puts) first.actions_are ∙ ap (λ (zs : List Action). xs ++ zs) more.actions_are;

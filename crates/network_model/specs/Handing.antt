@@ -5,7 +5,7 @@ use Rattle.outstanding.specs.declared.ask.Path.{Path}
 use Rattle.step_values.specs.Values.{Event, from_client, delivery, path_failed, tick, restart, Action}
 use Rattle.step_table.specs.State.{Running}
 use Rattle.network_model.specs.declared.counts.Served.{Served}
-use Rattle.wires.specs.Wire.{Put, Told, silence, TellsMore}
+use Rattle.wires.specs.Wire.{Put, Told, Telling, silence, TellsMore}
 use Rattle.network_model.specs.Events.{Taken, failed_of, more_in, tells_more, joined, IsChain, AreTicks}
 use Rattle.network_model.specs.Serving.{Standing, Does, Adds, refused_of, left}
 
@@ -13,7 +13,7 @@ abbrev pub told_of_puts : List Put → Told
 told_of_puts puts = record silence { puts = puts }
 
 -- These actions were put in order; behind the path that failed last before, this one has.
-pub record Puts (last : Option Path) (actions : List Action) (failed : Option Path) (told told_after : Option Told)
+pub record Puts (last : Option Path) (actions : List Action) (failed : Option Path) (told told_after : Telling)
     (counts counts_after : Served) : Type 0 where
   pub puts : List Put
   pub actions_are : map (λ (p : Put). p.action) puts ≡ actions

@@ -9,7 +9,7 @@ use Rattle.step_table.specs.Progress.{left_to_do}
 use Rattle.theorem_sound.specs.Runs.{Run}
 use Rattle.theorem_use.specs.Service.{ServesOnTruly}
 use Rattle.network_model.specs.declared.counts.Served.{Served}
-use Rattle.wires.specs.Wire.{Arrival, Put, Told, silence, ◌then◌, TellsMore, arrived}
+use Rattle.wires.specs.Wire.{Arrival, Put, Told, Telling, silence, ◌then◌, TellsMore, arrived}
 use Rattle.network_model.specs.Events.{Taken, PutsItsActions, steps_in, Turn, taken_in_turn, taken_in, AreTurns}
 use Rattle.network_model.specs.Events.{IsCutShort}
 
@@ -74,13 +74,13 @@ Adds before n after = before ≤ 2 ^ 64 - 1 → after ≡ capped (before + n)
 
 -- ---- what is done
 
--- where the loop stands: the forwarder, what the wire told, and the counts
+-- where the loop stands: the forwarder, what the wire told with its faults, and the counts
 pub record Standing : Type 0 where
   pub running : Running
-  pub told : Option Told
+  pub told : Telling
   pub counts : Served
 
-abbrev pub standing : Running → Option Told → Served → Standing
+abbrev pub standing : Running → Telling → Served → Standing
 standing running told counts = record { running = running; told = told; counts = counts }
 
 -- Between the two these events were handed to the forwarder: the steps are a run of it, and all that they do was put.
@@ -112,10 +112,11 @@ Ends before wanted turns (Err refused) = (whole : List Turn)
     × IsCutShort (map (λ (t : Turn). t.arrival) whole) last)
 
 -- What `serve` does: its turns are those of the wire's arrivals, the steps are a run of the forwarder, what was put are
--- the actions in order, and the wire tells of nothing else. From a new forwarder these steps serve truly, and so they
--- do behind whatever steps a forwarder made before since it was new.
-pub record Serves (before : Running) (told_before : Option Told) (wanted : ℕ) (result : Result Served AllocError)
-    (after : Running) (told_after : Option Told) : Type 0 where
+-- the actions in order, and the wire tells of nothing else, and of all of it where it told before and counted no fault.
+-- From a new forwarder these steps serve truly, and so they do behind whatever steps a forwarder made before since it
+-- was new.
+pub record Serves (before : Running) (told_before : Telling) (wanted : ℕ) (result : Result Served AllocError)
+    (after : Running) (told_after : Telling) : Type 0 where
   pub turns : List Turn
   pub ends : Ends before wanted turns result
   pub config : after.config ≡ before.config

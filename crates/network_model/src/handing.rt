@@ -2,6 +2,7 @@
 
 ghost use Rattle.std.specs.Prelude.{◌≡◌, ◌∷◌, [], None, option_map};
 ghost use Rattle.step_values.specs.Values.{event_of, action_of, actions_of, ask_in, tick};
+ghost use Rattle.wires.specs.Wire.{telling};
 ghost use Rattle.network_model.specs.Serving.{standing};
 ghost use Rattle.network_model.specs.Handing.{Puts, Hands, HandsOn, Ticks};
 
@@ -39,7 +40,7 @@ fn put<A: Allocator, W: Wire<A>>(
     action: &Action<A>,
     failed: Option<Path>,
 ) -> Option<Path>
-    ensures { Puts failed (action_of action.now ∷ []) result (W.told wire.old) (W.told wire.new) counts.old counts.new }
+    ensures { Puts failed (action_of action.now ∷ []) result (telling (W.told wire.old) (W.fault_count wire.old)) (telling (W.told wire.new) (W.fault_count wire.new)) counts.old counts.new }
 {
     match wire.put(action) {
         Ok(()) => failed,
@@ -59,7 +60,7 @@ fn put_all<A: Allocator + Copy, W: Wire<A>>(
     counts: &mut Served,
     actions: &Actions<A>,
 ) -> Option<Path>
-    ensures { Puts None (actions_of actions.now) result (W.told wire.old) (W.told wire.new) counts.old counts.new }
+    ensures { Puts None (actions_of actions.now) result (telling (W.told wire.old) (W.fault_count wire.old)) (telling (W.told wire.new) (W.fault_count wire.new)) counts.old counts.new }
 {
     let mut failed = None;
     for place in 0..actions.len() {
@@ -78,8 +79,8 @@ fn hand<H: BuildHasher + Drop, A: Allocator + Copy, W: Wire<A>>(
     counts: &mut Served,
     event: &Event<A>,
 ) -> Handled
-    ensures { Hands (event_of event.now) result.failed result.more (standing forwarder.old (W.told wire.old) counts.old)
-        (standing forwarder.new (W.told wire.new) counts.new) }
+    ensures { Hands (event_of event.now) result.failed result.more (standing forwarder.old (telling (W.told wire.old) (W.fault_count wire.old)) counts.old)
+        (standing forwarder.new (telling (W.told wire.new) (W.fault_count wire.new)) counts.new) }
 {
     let now = wire.moment();
     let words = wire.words();
@@ -106,8 +107,8 @@ pub(crate) fn hand_on<H: BuildHasher + Drop, A: Allocator + Copy, W: Wire<A>>(
     counts: &mut Served,
     event: &Event<A>,
 ) -> bool
-    ensures { HandsOn (event_of event.now) result (standing forwarder.old (W.told wire.old) counts.old)
-        (standing forwarder.new (W.told wire.new) counts.new) }
+    ensures { HandsOn (event_of event.now) result (standing forwarder.old (telling (W.told wire.old) (W.fault_count wire.old)) counts.old)
+        (standing forwarder.new (telling (W.told wire.new) (W.fault_count wire.new)) counts.new) }
 {
     let handled = hand(wire, forwarder, counts, event);
     let mut failed = handled.failed;
@@ -125,8 +126,8 @@ pub(crate) fn hand_datagram<H: BuildHasher + Drop, A: Allocator + Copy, W: Wire<
     counts: &mut Served,
     mut event: Event<A>,
 ) -> bool
-    ensures { HandsOn (event_of event) result (standing forwarder.old (W.told wire.old) counts.old)
-        (standing forwarder.new (W.told wire.new) counts.new) }
+    ensures { HandsOn (event_of event) result (standing forwarder.old (telling (W.told wire.old) (W.fault_count wire.old)) counts.old)
+        (standing forwarder.new (telling (W.told wire.new) (W.fault_count wire.new)) counts.new) }
 {
     let more = hand_on(wire, forwarder, counts, &event);
     match &mut event {
@@ -142,8 +143,8 @@ pub(crate) fn tick_on<H: BuildHasher + Drop, A: Allocator + Copy, W: Wire<A>>(
     forwarder: &mut Forwarder<H, A>,
     counts: &mut Served,
 )
-    ensures { Ticks (standing forwarder.old (W.told wire.old) counts.old)
-        (standing forwarder.new (W.told wire.new) counts.new) }
+    ensures { Ticks (standing forwarder.old (telling (W.told wire.old) (W.fault_count wire.old)) counts.old)
+        (standing forwarder.new (telling (W.told wire.new) (W.fault_count wire.new)) counts.new) }
 {
     while hand_on(wire, forwarder, counts, &Event::Tick) {}
 }

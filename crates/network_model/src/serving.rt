@@ -1,7 +1,7 @@
 //! The loop over a wire.
 
 ghost use Rattle.std.specs.Prelude.{◌≡◌, OnErr, OnOk, Some};
-ghost use Rattle.wires.specs.Wire.{arrival_of, path_gone};
+ghost use Rattle.wires.specs.Wire.{telling, arrival_of, path_gone};
 ghost use Rattle.network_model.specs.Events.{IsPiece};
 ghost use Rattle.network_model.specs.Serving.{standing, Serves};
 ghost use Rattle.network_model.specs.Streams.{events_by, Follows, ServesEvents, TakesArrival, TakesTurn};
@@ -39,7 +39,7 @@ fn serve_arrival<H: BuildHasher + Drop, A: Allocator + Copy, W: Wire<A>>(
     arrival: Arrival<A>,
 ) -> Result<(), AllocError>
     ensures serves { ServesEvents (events_by streams.old (Some (arrival_of arrival))) result
-        (standing forwarder.old (W.told wire.old) counts.old) (standing forwarder.new (W.told wire.new) counts.new) }
+        (standing forwarder.old (telling (W.told wire.old) (W.fault_count wire.old)) counts.old) (standing forwarder.new (telling (W.told wire.new) (W.fault_count wire.new)) counts.new) }
     ensures follows { OnOk result (Follows streams.old (Some (arrival_of arrival)) streams.new) }
     ensures piece { OnErr result (IsPiece (Some (arrival_of arrival))) }
 {
@@ -103,8 +103,8 @@ fn take_arrival<H: BuildHasher + Drop, A: Allocator + Copy, W: Wire<A>>(
     counts: &mut Served,
     streams: &mut Streams<A>,
 ) -> Result<(), AllocError>
-    ensures { TakesArrival streams.old result streams.new (standing forwarder.old (W.told wire.old) counts.old)
-        (standing forwarder.new (W.told wire.new) counts.new) }
+    ensures { TakesArrival streams.old result streams.new (standing forwarder.old (telling (W.told wire.old) (W.fault_count wire.old)) counts.old)
+        (standing forwarder.new (telling (W.told wire.new) (W.fault_count wire.new)) counts.new) }
 {
     match wire.arrival() {
         Ok(arrival) => serve_arrival(alloc, wire, forwarder, counts, streams, arrival),
@@ -123,8 +123,8 @@ fn take_turn<H: BuildHasher + Drop, A: Allocator + Copy, W: Wire<A>>(
     counts: &mut Served,
     streams: &mut Streams<A>,
 ) -> Result<(), AllocError>
-    ensures { TakesTurn streams.old result streams.new (standing forwarder.old (W.told wire.old) counts.old)
-        (standing forwarder.new (W.told wire.new) counts.new) }
+    ensures { TakesTurn streams.old result streams.new (standing forwarder.old (telling (W.told wire.old) (W.fault_count wire.old)) counts.old)
+        (standing forwarder.new (telling (W.told wire.new) (W.fault_count wire.new)) counts.new) }
 {
     take_arrival(alloc, wire, forwarder, counts, streams)?;
     tick_on(wire, forwarder, counts);
@@ -146,7 +146,7 @@ pub fn serve<H: BuildHasher + Drop, A: Allocator + Copy, W: Wire<A>>(
     forwarder: &mut Forwarder<H, A>,
     turns: u64,
 ) -> Result<Served, AllocError>
-    ensures { Serves forwarder.old (W.told wire.old) turns result forwarder.new (W.told wire.new) }
+    ensures { Serves forwarder.old (telling (W.told wire.old) (W.fault_count wire.old)) turns result forwarder.new (telling (W.told wire.new) (W.fault_count wire.new)) }
 {
     pieces_continue();
     let mut counts = Served {

@@ -3,6 +3,7 @@
 ghost use Rattle.std.specs.Prelude.{◌≡◌, ◌==◌, ◌++◌, ℕ, [], if◌then◌else◌, map, OnOk};
 ghost use Rattle.tcp_frames.specs.Frames.{frames_of, unfinished_of};
 ghost use Rattle.step_values.specs.Values.{event_of};
+ghost use Rattle.wires.specs.Wire.{telling};
 ghost use Rattle.network_model.specs.Serving.{standing};
 ghost use Rattle.network_model.specs.Streams.{left_on, message_from, ServesFrames, ServesEvents};
 
@@ -90,8 +91,8 @@ fn serve_frames<H: BuildHasher + Drop, A: Allocator + Copy, W: Wire<A>>(
     reader: &mut FrameReader<A>,
     sender: Sender,
 ) -> Result<(), AllocError>
-    ensures { ServesFrames sender reader.old result reader.new (standing forwarder.old (W.told wire.old) counts.old)
-        (standing forwarder.new (W.told wire.new) counts.new) }
+    ensures { ServesFrames sender reader.old result reader.new (standing forwarder.old (telling (W.told wire.old) (W.fault_count wire.old)) counts.old)
+        (standing forwarder.new (telling (W.told wire.new) (W.fault_count wire.new)) counts.new) }
 {
     cut_does_not_matter();
     all_frames_are_taken();
@@ -112,7 +113,7 @@ pub(crate) fn serve_piece<H: BuildHasher + Drop, A: Allocator + Copy, W: Wire<A>
     piece: &[u8],
 ) -> Result<(), AllocError>
     ensures serves { ServesEvents (map (message_from sender) (frames_of (reader.old ++ piece.now))) result
-        (standing forwarder.old (W.told wire.old) counts.old) (standing forwarder.new (W.told wire.new) counts.new) }
+        (standing forwarder.old (telling (W.told wire.old) (W.fault_count wire.old)) counts.old) (standing forwarder.new (telling (W.told wire.new) (W.fault_count wire.new)) counts.new) }
     ensures reader { OnOk result (reader.new ≡ unfinished_of (reader.old ++ piece.now)) }
 {
     reader.feed(piece)?;

@@ -1,23 +1,51 @@
 -- A wire in memory stores one thing more of what it tells.
-use Rattle.std.proofs.Common.{◌≡◌, ◌∙◌, refl, sym, subst, ap, ℕ, ◌+◌, List, ◌++◌, Option, Some, None, Bool, true, false}
-use Rattle.std.specs.Prelude.{IfSome, [], ◌∷◌, map, slice_get}
+use Rattle.std.proofs.Common.{◌≡◌, ◌∙◌, refl, sym, subst, ap, ℕ, ◌+◌, ◌-◌, ◌^◌, ◌<◌, ◌≤◌, inl, inr, arith, List, ◌++◌, Option, Some, None, Bool, true, false}
+use Rattle.std.specs.Prelude.{IfSome, [], ◌∷◌, map, slice_get, nat_lt, cond}
+use Rattle.std.proofs.lemmas.Bool.{ltb-false}
 use Rattle.script_wire.specs.declared.script_wire.ScriptTurn.{ScriptTurn}
-use Rattle.wires.specs.Wire.{Arrival, Put, Told, TellsMore}
-use Rattle.script_wire.specs.Scripts.{stored, Script, standing, no_turn, turn_of, begun, calls_once, faults_once, refuses}
+use Rattle.wires.specs.Wire.{Arrival, Put, Told, ◌then◌, told_more, telling, TellsMore}
+use Rattle.script_wire.specs.Scripts.{stored, Script, standing, no_turn, turn_of, begun, calls_once, faults_once, refuses, Stores}
 
-pub tells_by_none : (o : Option Told) (more : Told) (new : Option Told) → new ≡ None → TellsMore o more new
-tells_by_none o more new silent now is = absurd (cc)
-
--- what is stored, with more behind each list
-pub stores : (tells : Bool) (a a' : List (Option Arrival)) (p p' : List Put) (m m' : List ℕ) (w w' : List (List ℕ)) (more : Told)
-    → a' ≡ a ++ more.arrivals → p' ≡ p ++ more.puts → m' ≡ m ++ more.moments → w' ≡ w ++ more.words
-    → TellsMore (stored tells a p m w) more (stored tells a' p' m' w')
-stores true a a' p p' m m' w w' more ea ep em ew now is =
-    (record { arrivals = a; puts = p; moments = m; words = w }, refl, sym (some_is _ now is) ∙ (λ i. record { arrivals = ea i; puts = ep i; moments = em i; words = ew i }))
+told_before : (o : Option Told) (more now : Told) → told_more o more ≡ Some now → (before : Told) × (o ≡ Some before) × (now ≡ before then more)
+told_before None more now is = absurd (cc)
+told_before (Some before) more now is = (before, refl, some_is _ _ is)
   where
-    some_is : (s t : Told) → Some s ≡ Some t → s ≡ t
+    some_is : (s t : Told) → Some s ≡ Some t → t ≡ s
     some_is s t e = cc
-stores false a a' p p' m m' w w' more ea ep em ew now is = absurd (cc)
+
+-- A call that stores what it tells tells just this, whether it counts a fault or not.
+pub tells_stored : (o new : Option Told) (more : Told) (f f' : ℕ) → f ≤ f' → new ≡ told_more o more → TellsMore (telling o f) more (telling new f')
+tells_stored o new more f f' counts is = record {
+  tells = λ now now_is. told_before o more now (sym is ∙ now_is);
+  counts = counts;
+  stays = λ same below. is;
+}
+
+-- A call that counts a fault may fall silent, and so may one where the count is at its last value.
+pub tells_by_none : (o new : Option Told) (more : Told) (f f' : ℕ) → f ≤ f' → (f' ≡ f → f < 2 ^ 64 - 1 → ⊥) → new ≡ None → TellsMore (telling o f) more (telling new f')
+tells_by_none o new more f f' counts risen silent = record {
+  tells = λ now is. absurd (cc);
+  counts = counts;
+  stays = λ same below. absurd (risen same below);
+}
+
+never_falls : (b : Bool) (f : ℕ) → f ≤ cond b (f + 1) f
+never_falls true f = omega arith
+never_falls false f = omega arith
+
+never_same : (b : Bool) (f : ℕ) → cond b (f + 1) f ≡ f → nat_lt f (2 ^ 64 - 1) ≡ b → f < 2 ^ 64 - 1 → ⊥
+never_same true f same is below = omega (arith, same)
+never_same false f same is below = let least = ltb-false f (2 ^ 64 - 1) is in omega (arith, least, below)
+
+-- A call that stores what it tells, or counts a want of memory, tells just this.
+pub tells_if_stores : (old new : Script) (more : Told) → Stores old more new → TellsMore (telling old.told old.faults) more (telling new.told new.faults)
+tells_if_stores old new more (inl is) =
+    let same = ap (λ (s : Script). s.faults) is in
+    tells_stored old.told new.told more old.faults new.faults (omega (arith, same)) (ap (λ (s : Script). s.told) is)
+tells_if_stores old new more (inr is) =
+    let rises = ap (λ (s : Script). s.faults) is in
+    tells_by_none old.told new.told more old.faults new.faults (subst (λ (f : ℕ). old.faults ≤ f) (sym rises) (never_falls (nat_lt old.faults (2 ^ 64 - 1)) old.faults))
+    (λ same below. never_same (nat_lt old.faults (2 ^ 64 - 1)) old.faults (sym rises ∙ same) refl below) (ap (λ (s : Script). s.told) is)
 
 -- what is stored of the puts is what is told of them
 pub shows : (tells : Bool) (a : List (Option Arrival)) (p : List Put) (m : List ℕ) (w : List (List ℕ)) (xs : List Put) (o : Option Told) → stored tells a p m w ≡ o → xs ≡ p → IfSome o (λ (told : Told). xs ≡ told.puts)

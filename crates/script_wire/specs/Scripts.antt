@@ -1,11 +1,12 @@
 -- A wire in memory: what it stores, and its script.
-use Rattle.std.specs.Prelude.{◌≡◌, ℕ, ◌+◌, ◌-◌, ◌^◌, ◌==◌, min, Bool, List, [], ◌∷◌, Option, Some, None, if◌then◌else◌}
+use Rattle.std.specs.Prelude.{◌≡◌, ◌⊎◌, ℕ, ◌+◌, ◌-◌, ◌^◌, ◌==◌, min, Bool, List, [], ◌∷◌, Option, Some, None}
+use Rattle.std.specs.Prelude.{nat_lt, if◌then◌else◌}
 use Rattle.std.specs.Prelude.{drop}
 use Rattle.std.specs.List.{list_any}
 use Rattle.step_values.specs.declared.action.Action.{Action as OwnedAction}
 use Rattle.step_values.specs.Values.{action_of}
 use Rattle.script_wire.specs.declared.script_wire.ScriptTurn.{ScriptTurn}
-use Rattle.wires.specs.Wire.{Arrival, Put, Told, arrival_of}
+use Rattle.wires.specs.Wire.{Arrival, Put, Told, told_more, arrival_of}
 use Rattle.wires.specs.Wire.Arrival.{nothing}
 
 abbrev pub put_of : {A : Type 0} → OwnedAction A × Bool → Put
@@ -75,6 +76,25 @@ calls_once script = record script { calls = min (script.calls + 1) (2 ^ 64 - 1) 
 abbrev pub faults_once : Script → Script
 faults_once script = record script { faults = script.faults + 1 }
 
+-- the script once memory ran out in a call: the count of faults rises, but for its last value
+abbrev pub counts_want : Script → Script
+counts_want script = record script {
+  faults = if nat_lt script.faults (2 ^ 64 - 1) then script.faults + 1 else script.faults;
+}
+
 -- A script as it is to be, in all but what it tells.
 abbrev pub AllButTold : Script → Script → Type 0
 AllButTold wanted script = script ≡ record wanted { told = script.told }
+
+-- A script as it is to be, that tells this more than the one before told.
+abbrev pub Tells : Script → Option Told → Told → Script → Type 0
+Tells wanted told more script = script ≡ record wanted { told = told_more told more }
+
+-- A script as it is to be, which is silent from now on.
+abbrev pub IsSilent : Script → Script → Type 0
+IsSilent wanted script = script ≡ record wanted { told = None }
+
+-- What the call of a script tells is stored, and nothing else changes; or memory ran out, which counts as a fault, and
+-- nothing is told from now on.
+abbrev pub Stores : Script → Told → Script → Type 0
+Stores old more new = Tells old old.told more new ⊎ IsSilent (counts_want old) new

@@ -1,11 +1,12 @@
 //! A wire in memory, whose arrivals and refusals the caller chooses.
 
-ghost use Rattle.std.specs.Prelude.{◌≡◌, ◌+◌, ◌-◌, ◌<◌, ◌^◌, None, Some, false, true, OnOk, OnErr, IfSome, is_ok, map};
+ghost use Rattle.std.specs.Prelude.{◌≡◌, ◌⊎◌, ◌+◌, ◌-◌, ◌<◌, ◌^◌, None, Some, false, true, OnOk, OnErr, IfSome, is_ok, map};
 ghost use Rattle.step_values.specs.Values.{action_of};
-ghost use Rattle.wires.specs.Wire.{silence, TellsMore, arrival_of, given, arrived, was_put, moment_was, words_were};
+ghost use Rattle.wires.specs.Wire.{silence, told_more, telling, TellsMore, arrival_of, given, arrived, was_put};
+ghost use Rattle.wires.specs.Wire.{moment_was, words_were};
 ghost use Rattle.wires.specs.Wire.Arrival.{nothing};
 ghost use Rattle.script_wire.specs.Scripts.{put_of, turn_of, next_turn, begun, calls_once, faults_once, refuses};
-ghost use Rattle.script_wire.specs.Scripts.{standing, AllButTold};
+ghost use Rattle.script_wire.specs.Scripts.{standing, counts_want, AllButTold, Tells, Stores};
 
 use plain_list::Octets;
 use std::alloc::{AllocError, Allocator, Global};
@@ -68,42 +69,42 @@ impl<A: Allocator + Copy> Stored<A> {
     }
 
     fn push_arrival(&mut self, arrival: Result<Arrival<A>, WireFault>) -> Result<(), AllocError>
-        ensures { OnOk result (TellsMore self.old (arrived (given arrival)) self.new) }
+        ensures { OnOk result (self.new ≡ told_more self.old (arrived (given arrival))) }
     {
         self.arrivals.push(arrival)?;
         Ok(())
     }
 
     fn push_put(&mut self, action: Action<A>, sent: bool) -> Result<(), AllocError>
-        ensures { OnOk result (TellsMore self.old (was_put (action_of action) sent) self.new) }
+        ensures { OnOk result (self.new ≡ told_more self.old (was_put (action_of action) sent)) }
     {
         self.puts.push((action, sent))?;
         Ok(())
     }
 
     fn push_moment(&mut self, moment: u64) -> Result<(), AllocError>
-        ensures { OnOk result (TellsMore self.old (moment_was moment) self.new) }
+        ensures { OnOk result (self.new ≡ told_more self.old (moment_was moment)) }
     {
         self.moments.push(moment)?;
         Ok(())
     }
 
     fn push_words(&mut self, words: [u32; 8]) -> Result<(), AllocError>
-        ensures { OnOk result (TellsMore self.old (words_were words) self.new) }
+        ensures { OnOk result (self.new ≡ told_more self.old (words_were words)) }
     {
         self.words.push(words)?;
         Ok(())
     }
 
     fn copy_arrival(&mut self, arrival: &Arrival<A>) -> Result<(), AllocError>
-        ensures { OnOk result (TellsMore self.old (arrived (Some (arrival_of arrival.now))) self.new) }
+        ensures { OnOk result (self.new ≡ told_more self.old (arrived (Some (arrival_of arrival.now)))) }
     {
         let copy = arrival.copy(self.alloc)?;
         self.push_arrival(Ok(copy))
     }
 
     fn copy_put(&mut self, action: &Action<A>, sent: bool) -> Result<(), AllocError>
-        ensures { OnOk result (TellsMore self.old (was_put (action_of action.now) sent) self.new) }
+        ensures { OnOk result (self.new ≡ told_more self.old (was_put (action_of action.now) sent)) }
     {
         let copy = action.copy(self.alloc)?;
         self.push_put(copy, sent)
@@ -111,8 +112,8 @@ impl<A: Allocator + Copy> Stored<A> {
 
     /// Stores an arrival. `Err` where memory ran out, and then nothing more is told.
     fn keep_arrival(&mut self, arrival: &Arrival<A>) -> Result<(), AllocError>
-        ensures kept { TellsMore self.old (arrived (Some (arrival_of arrival.now))) self.new }
-        ensures lost { OnErr result (TellsMore self.old (arrived None) self.new) }
+        ensures kept { OnOk result (self.new ≡ told_more self.old (arrived (Some (arrival_of arrival.now)))) }
+        ensures lost { OnErr result (self.new ≡ None) }
     {
         match self.copy_arrival(arrival) {
             Ok(()) => Ok(()),
@@ -123,9 +124,9 @@ impl<A: Allocator + Copy> Stored<A> {
         }
     }
 
-    /// Stores that an arrival was refused.
+    /// Stores that an arrival was refused. Where memory ran out nothing more is told.
     fn keep_refusal(&mut self)
-        ensures { TellsMore self.old (arrived None) self.new }
+        ensures { (self.new ≡ told_more self.old (arrived None)) ⊎ (self.new ≡ None) }
     {
         match self.push_arrival(Err(WireFault)) {
             Ok(()) => {}
@@ -135,8 +136,8 @@ impl<A: Allocator + Copy> Stored<A> {
 
     /// Stores an action and whether it was sent. `Err` where memory ran out, and then nothing more is told.
     fn keep_put(&mut self, action: &Action<A>, sent: bool) -> Result<(), AllocError>
-        ensures kept { TellsMore self.old (was_put (action_of action.now) sent) self.new }
-        ensures lost { OnErr result (TellsMore self.old (was_put (action_of action.now) false) self.new) }
+        ensures kept { OnOk result (self.new ≡ told_more self.old (was_put (action_of action.now) sent)) }
+        ensures lost { OnErr result (self.new ≡ None) }
     {
         match self.copy_put(action, sent) {
             Ok(()) => Ok(()),
@@ -147,21 +148,31 @@ impl<A: Allocator + Copy> Stored<A> {
         }
     }
 
-    fn keep_moment(&mut self, moment: u64)
-        ensures { TellsMore self.old (moment_was moment) self.new }
+    /// Stores a moment. `Err` where memory ran out, and then nothing more is told.
+    fn keep_moment(&mut self, moment: u64) -> Result<(), AllocError>
+        ensures kept { OnOk result (self.new ≡ told_more self.old (moment_was moment)) }
+        ensures lost { OnErr result (self.new ≡ None) }
     {
         match self.push_moment(moment) {
-            Ok(()) => {}
-            Err(_) => self.fall_silent(),
+            Ok(()) => Ok(()),
+            Err(refusal) => {
+                self.fall_silent();
+                Err(refusal)
+            }
         }
     }
 
-    fn keep_words(&mut self, words: [u32; 8])
-        ensures { TellsMore self.old (words_were words) self.new }
+    /// Stores words. `Err` where memory ran out, and then nothing more is told.
+    fn keep_words(&mut self, words: [u32; 8]) -> Result<(), AllocError>
+        ensures kept { OnOk result (self.new ≡ told_more self.old (words_were words)) }
+        ensures lost { OnErr result (self.new ≡ None) }
     {
         match self.push_words(words) {
-            Ok(()) => {}
-            Err(_) => self.fall_silent(),
+            Ok(()) => Ok(()),
+            Err(refusal) => {
+                self.fall_silent();
+                Err(refusal)
+            }
         }
     }
 
@@ -275,6 +286,39 @@ impl<A: Allocator + Copy> ScriptWire<A> {
         self.calls = number.saturating_add(1);
         self.refuse.contains(&number)
     }
+
+    /// Counts a fault, unless the count is at its last value.
+    fn count_fault(&mut self)
+        ensures { self.new ≡ counts_want self.old }
+    {
+        if self.faults < u64::MAX {
+            self.faults += 1;
+        }
+    }
+
+    /// The moment of the turn, which is stored. A want of memory counts as a fault, and then nothing more is told.
+    fn tell_moment(&mut self) -> u64
+        ensures of_the_turn { result ≡ self.old.moment }
+        ensures stores { Stores self.old (moment_was result) self.new }
+    {
+        let moment = self.moment;
+        if self.stored.keep_moment(moment).is_err() {
+            self.count_fault();
+        }
+        moment
+    }
+
+    /// The words of the turn, which are stored. A want of memory counts as a fault, and then nothing more is told.
+    fn tell_words(&mut self) -> [u32; 8]
+        ensures of_the_turn { result ≡ self.old.words }
+        ensures stores { Stores self.old (words_were result) self.new }
+    {
+        let words = self.words;
+        if self.stored.keep_words(words).is_err() {
+            self.count_fault();
+        }
+        words
+    }
 }
 
 impl<A: Allocator + Copy> Wire<A> for ScriptWire<A> {
@@ -283,13 +327,17 @@ impl<A: Allocator + Copy> Wire<A> for ScriptWire<A> {
     ghost fault_count = { λ w. w.faults };
 
     fn arrival(&mut self) -> Result<Arrival<A>, WireFault>
-        ensures tells { TellsMore self.old.told (arrived (given result)) self.new.told }
+        ensures tells { TellsMore (telling self.old.told self.old.faults) (arrived (given result))
+            (telling self.new.told self.new.faults) }
         ensures faults { OnErr result (self.old.faults < self.new.faults) }
         ensures last { self.old.faults ≡ 2 ^ 64 - 1 → (given result ≡ Some nothing) × AllButTold self.old self.new }
         ensures gives { self.old.faults < 2 ^ 64 - 1 → OnOk result ((given result ≡ Some (next_turn self.old).arrival)
-            × (refuses self.old ≡ false) × AllButTold (calls_once (begun self.old)) self.new) }
+            × (refuses self.old ≡ false)
+            × Tells (calls_once (begun self.old)) self.old.told (arrived (given result)) self.new) }
         ensures refuses { OnErr result (AllButTold (faults_once (calls_once (begun self.old))) self.new
             × (refuses self.old ≡ false → self.new.told ≡ None)) }
+        ensures refusal { OnErr result ((self.new.told ≡ told_more self.old.told (arrived None))
+            ⊎ (self.new.told ≡ None)) }
     {
         if self.faults == u64::MAX {
             let _ = self.stored.keep_arrival(&Arrival::Nothing);
@@ -311,13 +359,16 @@ impl<A: Allocator + Copy> Wire<A> for ScriptWire<A> {
     }
 
     fn put(&mut self, action: &Action<A>) -> Result<(), WireFault>
-        ensures tells { TellsMore self.old.told (was_put (action_of action.now) (is_ok result)) self.new.told }
+        ensures tells { TellsMore (telling self.old.told self.old.faults)
+            (was_put (action_of action.now) (is_ok result)) (telling self.new.told self.new.faults) }
         ensures faults { OnErr result (self.old.faults < self.new.faults) }
         ensures last { self.old.faults ≡ 2 ^ 64 - 1 → (is_ok result ≡ true) × AllButTold self.old self.new }
         ensures takes { self.old.faults < 2 ^ 64 - 1 → OnOk result ((refuses self.old ≡ false)
-            × AllButTold (calls_once self.old) self.new) }
+            × Tells (calls_once self.old) self.old.told (was_put (action_of action.now) true) self.new) }
         ensures refuses { OnErr result (AllButTold (faults_once (calls_once self.old)) self.new
             × (refuses self.old ≡ false → self.new.told ≡ None)) }
+        ensures refusal { OnErr result ((self.new.told ≡ told_more self.old.told (was_put (action_of action.now) false))
+            ⊎ (self.new.told ≡ None)) }
     {
         if self.faults == u64::MAX {
             let _ = self.stored.keep_put(action, true);
@@ -344,19 +395,21 @@ impl<A: Allocator + Copy> Wire<A> for ScriptWire<A> {
     {}
 
     fn moment(&mut self) -> u64
-        ensures tells { TellsMore self.old.told (moment_was result) self.new.told }
-        ensures of_the_turn { (result ≡ self.old.moment) × AllButTold self.old self.new }
+        ensures tells { TellsMore (telling self.old.told self.old.faults) (moment_was result)
+            (telling self.new.told self.new.faults) }
+        ensures of_the_turn { result ≡ self.old.moment }
+        ensures stores { Stores self.old (moment_was result) self.new }
     {
-        self.stored.keep_moment(self.moment);
-        self.moment
+        self.tell_moment()
     }
 
     fn words(&mut self) -> [u32; 8]
-        ensures tells { TellsMore self.old.told (words_were result) self.new.told }
-        ensures of_the_turn { (result ≡ self.old.words) × AllButTold self.old self.new }
+        ensures tells { TellsMore (telling self.old.told self.old.faults) (words_were result)
+            (telling self.new.told self.new.faults) }
+        ensures of_the_turn { result ≡ self.old.words }
+        ensures stores { Stores self.old (words_were result) self.new }
     {
-        self.stored.keep_words(self.words);
-        self.words
+        self.tell_words()
     }
 
     fn faults(&self) -> u64 {

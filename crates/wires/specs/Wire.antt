@@ -1,5 +1,6 @@
 -- What a wire gives and takes, as plain values, and what it tells of it.
-use Rattle.std.specs.Prelude.{◌≡◌, ℕ, Bool, List, [], ◌∷◌, ◌++◌, Option, Some, None, Result, Ok, Err}
+use Rattle.std.specs.Prelude.{◌≡◌, ℕ, ◌-◌, ◌^◌, ◌<◌, ◌≤◌, Bool, List, [], ◌∷◌, ◌++◌, Option, Some, None, option_map}
+use Rattle.std.specs.Prelude.{Result, Ok, Err}
 use Rattle.suffix_routes.specs.declared.peer.Peer.{Peer}
 use Rattle.outstanding.specs.declared.ask.Path.{Path}
 use Rattle.step_values.specs.Values.{Action}
@@ -71,7 +72,22 @@ moment_was now = record silence { moments = now ∷ [] }
 abbrev pub words_were : List ℕ → Told
 words_were words = record silence { words = words ∷ [] }
 
--- A wire that still tells told before what it tells now, but for this.
-abbrev pub TellsMore : Option Told → Told → Option Told → Type 0
-TellsMore old more new = (now : Told) → new ≡ Some now → (before : Told) × (old ≡ Some before)
-    × (now ≡ before then more)
+-- what is told, with more after it
+abbrev pub told_more : Option Told → Told → Option Told
+told_more told more = option_map (λ before. before then more) told
+
+-- What a wire tells, and how many faults it counted.
+pub record Telling : Type 0 where
+  pub told : Option Told
+  pub faults : ℕ
+
+abbrev pub telling : Option Told → ℕ → Telling
+telling told faults = record { told = told; faults = faults }
+
+-- Between the two a wire told just this. What it tells now it told before, but for this; its count of faults never
+-- falls; and what it told stays told, with this after it, unless it counted a fault. A count that is at its last value
+-- can't rise.
+pub record TellsMore (old : Telling) (more : Told) (new : Telling) : Type 0 where
+  pub tells : (now : Told) → new.told ≡ Some now → (before : Told) × (old.told ≡ Some before) × (now ≡ before then more)
+  pub counts : old.faults ≤ new.faults
+  pub stays : new.faults ≡ old.faults → old.faults < 2 ^ 64 - 1 → new.told ≡ told_more old.told more

@@ -2,12 +2,14 @@
 
 ghost use Rattle.std.specs.Prelude.{◌≡◌, ℕ, ◌<◌, Option, IfOk, OnErr, is_ok};
 ghost use Rattle.step_values.specs.Values.{action_of};
-ghost use Rattle.wires.specs.Wire.{Told, TellsMore, arrival_of, given, arrived, was_put, moment_was, words_were};
+ghost use Rattle.wires.specs.Wire.{Told, TellsMore, telling, arrival_of, given, arrived, was_put, moment_was};
+ghost use Rattle.wires.specs.Wire.{words_were};
 
 use plain_list::{Octets, PlainList};
 use std::alloc::{AllocError, Allocator, Global};
 use step_values::{Action, Path};
 use suffix_routes::Peer;
+use thiserror::Error;
 
 /// What a wire gives.
 #[derive(Drop)]
@@ -77,12 +79,13 @@ impl<A: Allocator + Copy> Arrival<A> {
 }
 
 /// The wire refused the call.
-#[derive(Clone, Copy, PartialEq, Eq, Debug, Drop)]
+#[derive(Clone, Copy, PartialEq, Eq, Debug, Drop, Error)]
+#[error("the wire refused the call")]
 pub struct WireFault;
 
 /// What carries messages to and from the forwarder, and knows the time.
 pub trait Wire<A: Allocator> {
-    /// What it gave and took so far; `None` claims nothing.
+    /// What it gave and took so far; `None` claims nothing. What is told stays told while no fault is counted.
     ghost told: { Self → Option Told };
 
     /// How many faults it counted.
@@ -90,12 +93,14 @@ pub trait Wire<A: Allocator> {
 
     /// What arrived next. `Err` only where the wire met a fault and counted it; what arrived is lost then.
     fn arrival(&mut self) -> Result<Arrival<A>, WireFault>
-        ensures tells { TellsMore (told self.old) (arrived (given result)) (told self.new) }
+        ensures tells { TellsMore (telling (told self.old) (fault_count self.old)) (arrived (given result))
+            (telling (told self.new) (fault_count self.new)) }
         ensures faults { OnErr result (fault_count self.old < fault_count self.new) };
 
     /// Does an action. `Err` only where the wire met a fault and counted it; the action is lost then.
     fn put(&mut self, action: &Action<A>) -> Result<(), WireFault>
-        ensures tells { TellsMore (told self.old) (was_put (action_of action.now) (is_ok result)) (told self.new) }
+        ensures tells { TellsMore (telling (told self.old) (fault_count self.old))
+            (was_put (action_of action.now) (is_ok result)) (telling (told self.new) (fault_count self.new)) }
         ensures faults { OnErr result (fault_count self.old < fault_count self.new) };
 
     /// May take the memory of octets back that it gave, once they are served: what arrives next may lie in it.
@@ -105,11 +110,13 @@ pub trait Wire<A: Allocator> {
 
     /// The moment, in milliseconds.
     fn moment(&mut self) -> u64
-        ensures tells { TellsMore (told self.old) (moment_was result) (told self.new) };
+        ensures tells { TellsMore (telling (told self.old) (fault_count self.old)) (moment_was result)
+            (telling (told self.new) (fault_count self.new)) };
 
     /// Random words, of which nobody was sent any.
     fn words(&mut self) -> [u32; 8]
-        ensures tells { TellsMore (told self.old) (words_were result) (told self.new) };
+        ensures tells { TellsMore (telling (told self.old) (fault_count self.old)) (words_were result)
+            (telling (told self.new) (fault_count self.new)) };
 
     /// How many faults it counted; the count stays at its last value.
     fn faults(&self) -> u64

@@ -1,9 +1,10 @@
+use Rattle.wires.specs.Wire.{telling}
 use Rattle.network_model.specs.Serving.{left}
 use Rattle.network_model.proofs.Handling.{TicksSoFar}
 use Rattle.network_model.proofs.handing.tick_on.Given as goal
 
 abbrev pub invariant-loop : goal.invariant-loop
-invariant-loop g l = TicksSoFar (record { running = l.fn.forwarder; told = g.W.Wire.told l.fn.wire; counts = l.fn.counts }) (record { running = l.forwarder; told = g.W.Wire.told l.wire; counts = l.counts })
+invariant-loop g l = TicksSoFar (record { running = l.fn.forwarder; told = telling (g.W.Wire.told l.fn.wire) (g.W.Wire.fault_count l.fn.wire); counts = l.fn.counts }) (record { running = l.forwarder; told = telling (g.W.Wire.told l.wire) (g.W.Wire.fault_count l.wire); counts = l.counts })
 
 abbrev pub decreases-loop : goal.decreases-loop
 decreases-loop g l = left l.forwarder

@@ -1,5 +1,6 @@
 use Rattle.std.proofs.Common.{◌≡◌, ℕ, arith, refl, subst}
 use Rattle.std.proofs.lemmas.Result.{err_from_is_err_and}
+use Rattle.wires.specs.Wire.{telling}
 use Rattle.network_model.specs.declared.counts.Served.{Served}
 use Rattle.network_model.specs.Serving.{standing}
 use Rattle.network_model.proofs.Turns.{TurnsSoFar, turns_none, turns_more, turns_end, turns_cut}
@@ -20,7 +21,7 @@ returns g c =
     let test = c.loop-turn-test.false in
     let all : c.loop-turn._turn ≡ c.args.turns = omega (arith, far, test) in
     let none : Served = record { turns = c.args.turns; lost = 0; refused_puts = 0; refused_arrivals = 0 } in
-    let x = standing c.args.forwarder.now (g.W.Wire.told c.args.wire.now) none in
-    let y = standing c.loop-turn.forwarder (g.W.Wire.told c.loop-turn.wire) c.loop-turn.counts in
+    let x = standing c.args.forwarder.now (telling (g.W.Wire.told c.args.wire.now) (g.W.Wire.fault_count c.args.wire.now)) none in
+    let y = standing c.loop-turn.forwarder (telling (g.W.Wire.told c.loop-turn.wire) (g.W.Wire.fault_count c.loop-turn.wire)) c.loop-turn.counts in
     turns_end c.args.turns c.loop-turn.streams x y refl
     (subst (λ (n : ℕ). TurnsSoFar n c.loop-turn.streams x y) all c.loop-turn.invariant)
