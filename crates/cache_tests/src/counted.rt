@@ -7,23 +7,23 @@ use negative_cache::{Found, find, find_stale, shown};
 use record_cache::Cache;
 use std::alloc::Global;
 use std::cell::Cell;
-use std::hash::{BuildHasher, FoldHasher};
+use std::hash::BuildHasher;
 use std::test::Fail;
 use suffix_routes::Config;
 
 /// Counts the hashers that it makes: one for each hash.
 #[derive(Drop)]
-struct Counting<'a> {
+struct Counting<'a, S> {
     begun: &'a Cell<u64>,
-    inner: DefaultHasher,
+    inner: S,
 }
 
-impl<'a> BuildHasher for Counting<'a> {
-    type Hasher = FoldHasher;
+impl<'a, S: BuildHasher> BuildHasher for Counting<'a, S> {
+    type Hasher = S::Hasher;
 
-    ghost build_hasher = { λ s. DefaultHasher.build_hasher s.inner };
+    ghost build_hasher = { λ s. S.build_hasher s.inner };
 
-    fn build_hasher(&self) -> FoldHasher {
+    fn build_hasher(&self) -> S::Hasher {
         self.begun.set(self.begun.get().saturating_add(1));
         self.inner.build_hasher()
     }
@@ -46,7 +46,7 @@ const MOST: u64 = 4;
 /// miss.
 fn begun_by(
     begun: &Cell<u64>,
-    cache: &mut Cache<Counting<'_>>,
+    cache: &mut Cache<Counting<'_, DefaultHasher>>,
     name: &Name,
     config: &Config,
 ) -> Option<[u64; 3]> {
