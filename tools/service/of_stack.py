@@ -19,7 +19,7 @@ class Narrow(Forwarder):
         self.address, self.port = "127.0.0.1", free_port()
         self.file = tempfile.NamedTemporaryFile("w", suffix=".toml")
         self.file.write(f'version = 2\nlisten = "{self.address}:{self.port}"\n')
-        self.file.write("[limits]\ntries = 2\nask_ms = 300\nstale_s = 60\n")
+        self.file.write("[limits]\ntries = 2\nask_ms = 1500\nstale_s = 60\n")
         for suffix, port in (("example", server), ("test", tcp_server)):
             self.file.write(f'[[route]]\nsuffix = "{suffix}"\nservers = ["127.0.0.1:{port}"]\n')
         self.file.write('[[route]]\nsuffix = "lan"\ndeny = true\n')
@@ -30,14 +30,13 @@ class Narrow(Forwarder):
         self.wait_until_it_listens()
 
 
-def chain_of(seconds):
-    """The records of eight aliases, each of the next name, and of an address."""
+def aliases(seconds):
+    """The records of eight aliases, each of the next name."""
     names = [name(f"chain{k}.example") for k in range(9)]
-    records = [owner + struct.pack(">2HIH", 5, 1, seconds, len(target)) + target for owner, target in zip(names, names[1:])]
-    return b"".join(records) + names[-1] + struct.pack(">2HIH", 1, 1, seconds, 4) + b"\xc6\x33\x64\x05"
+    return b"".join(owner + struct.pack(">2HIH", 5, 1, seconds, len(target)) + target for owner, target in zip(names, names[1:]))
 
 
-def many_addresses_for(query, count=4000):
+def many_addresses_for(query, count):
     records = b"".join(b"\xc0\x0c" + struct.pack(">2HIHI", 1, 1, 0, 4, k) for k in range(count))
     return query[:2] + struct.pack(">5H", 0x8580, 1, count, 0, 0) + query[12:] + records
 
@@ -61,14 +60,16 @@ def is_dead(forwarder):
 
 
 def serves_with(program, kibibytes):
-    """UDP, TCP, replies of 60,000 and 65,000 octets, 4,000 addresses, a denied name, and a chain of aliases past its end."""
+    """UDP, TCP, replies of 60,000 and 65,000 octets, 4,000 addresses, a denied name, and an expired chain of aliases."""
     silent = False
 
     def by_udp(query):
         if silent:
             return None
         if b"chain0" in query:
-            return query[:2] + struct.pack(">5H", 0x8580, 1, 9, 0, 0) + query[12:] + chain_of(1)
+            return query[:2] + struct.pack(">5H", 0x8580, 1, 8, 0, 0) + query[12:] + aliases(1)
+        if b"chain8" in query:
+            return reply_to(query, seconds=1)
         if b"addresses" in query:
             return many_addresses_for(query, 4000)
         return long_reply_to(query, 60000) if b"long" in query else reply_to(query)
