@@ -10,6 +10,7 @@ from beside_parts import programs
 from beside_parts.programs import Bare, Failed
 
 OUTSTANDING, SLOW = 64, 1000
+TRIES = 3
 # Ten connections, each for a hundred questions: dnsmasq ends one after a hundred.
 OVER_TCP = ["-m", "tcp", "-c", "10", "-O", "num-queries-per-conn=100"]
 TICKS = os.sysconf("SC_CLK_TCK")
@@ -172,12 +173,30 @@ def see_what_was_asked(name, of_hundred):
         raise Failed(f"of 100 questions it asked the server {of_hundred:.1f}")
 
 
+def once(bench, name, program, asked):
+    """One measurement. It is repeated where it fails, since questions are lost on a busy machine."""
+    for left in reversed(range(TRIES)):
+        try:
+            figures = getattr(bench, name)(program, asked)
+            see_what_was_asked(name, figures["asked"])
+            return figures
+        except Failed:
+            if not left:
+                raise
+
+
 def middle(rounds, bare):
-    """The middle one of each figure and of the ratios to the bare program's of the same rounds."""
-    found = {name: round(statistics.median(each[name] for each in rounds), 3) for name in rounds[0]}
+    """The middle one of each figure and of the ratios to the bare program's of the same rounds.
+
+    User's and system's shares are those of all rounds, since they are counted in ticks.
+    """
+    found = {name: statistics.median(one[name] for one in rounds) for name in rounds[0]}
+    user, system = (sum(one[name] for one in rounds) for name in ("user", "system"))
+    share = found["us"] / (user + system or 1)
+    found.update(user=user * share, system=system * share)
     ratios = [each["us"] / beside["us"] for each, beside in zip(rounds, bare)]
-    found.update(ratio=round(statistics.median(ratios), 3), least=round(min(ratios), 3), most=round(max(ratios), 3))
-    return found
+    found.update(ratio=statistics.median(ratios), least=min(ratios), most=max(ratios))
+    return {name: round(value, 3) for name, value in found.items()}
 
 
 def measured(bench, asked, measured_programs, rounds, say):
@@ -188,8 +207,7 @@ def measured(bench, asked, measured_programs, rounds, say):
             say(f"round {number + 1} of {rounds}: {name}")
             for program in [Bare(bench.bare, way), *measured_programs]:
                 try:
-                    figures = getattr(bench, name)(program, asked)
-                    see_what_was_asked(name, figures["asked"])
+                    figures = once(bench, name, program, asked)
                     found.setdefault(name, {}).setdefault(program.key, []).append(figures)
                 except Failed as fault:
                     faults[(name, program.key)] = str(fault)

@@ -76,18 +76,39 @@ def is_idle(found):
     return found["load"] < 0.5 and found["busy"] < 5
 
 
+def a_second(run, name):
+    """How many of these the forwarder answers in a second of a processor, in two digits."""
+    rate = 1e6 / run["figures"][name]["forwarder"]["us"]
+    return f"{float(f'{rate:.2g}'):,.0f}"
+
+
+def serves(run):
+    """What one processor serves, where the forwarder was measured."""
+    if any("forwarder" not in run["figures"].get(name, {}) for name in ("cached", "miss")):
+        return ""
+    cached, new = a_second(run, "cached"), a_second(run, "miss")
+    return f"At these figures one processor serves {cached} cached answers or {new} new names in a second."
+
+
 def about(run):
     """Sentences on the machine, how busy it was, the versions and how often was measured."""
     on = run["machine"]
-    busy = "The machine was idle before" if is_idle(on) else "The machine was NOT idle"
+    idle = is_idle(on)
+    busy = "The machine was idle before" if idle else "The machine was NOT idle"
     waited = max((each["waited"] for of_name in run["figures"].values() for each in of_name.values()), default=0)
     versions = [f"{each['title']} {each['version']}" for each in run["programs"].values() if each["version"]]
     lines = [f"{on['processors']} processors, {on['model']}; {on['system']}, Linux {on['kernel']}.",
              f"{busy}: a load of {on['load']}, and processors {on['busy']} % busy.",
              f"What was measured waited for its processor for up to {waited:.0f} % of the time in which it could run.",
+             "" if idle else "So how long a client waits says more of the machine than of a program.",
              f"Rounds: {run['rounds']}, of {run['seconds']:g} s for each load.",
              ", ".join([f"dnsperf {run['dnsperf']}", *versions]) + "."]
-    return textwrap.wrap(" ".join(lines), 120, break_on_hyphens=False)
+    return textwrap.wrap(" ".join(filter(None, lines)), 120, break_on_hyphens=False)
+
+
+def whole(run):
+    """The lines of the table, and of what it rests on."""
+    return [*table(run), "", *([serves(run), ""] if serves(run) else []), *about(run)]
 
 
 def with_table(text, run):
@@ -96,4 +117,4 @@ def with_table(text, run):
     _, end, after = rest.partition(END)
     if not begin or not end:
         raise ValueError(f"{BEGIN} or {END} is missing")
-    return before + begin + "\n".join(["", *table(run), "", *about(run), ""]) + "\n" + end + after
+    return before + begin + "\n".join(["", *whole(run), ""]) + "\n" + end + after
