@@ -138,11 +138,14 @@ def what_the_page_for_administrators_shows(program):
 
 @case
 def why_a_text_is_no_configuration(program):
-    """Where the reader of TOML stopped it says why; a missing `version` is told with the key below which one stands."""
+    """Where the reader of TOML stopped it says why, with a hint; of a missing `version`, which key may be meant."""
     missing = "`version` is missing, and has to be the integer 1 or 2"
     rows = [
         ("version = 1\nversion = 1\n", "the text is no TOML: see line 2, column 1: duplicate key", 1),
-        ('version = 1\nlisten = "127.0.0.1:53\n', "the text is no TOML: see line 2, column 23: invalid string", 1),
+        ('version = 1\nlisten = "127.0.0.1:53\n',
+         "the text is no TOML: see line 2, column 23: invalid string; what line 2, column 10 opens is not closed", 1),
+        ("Version = 1\n", f'{missing}: there is "Version"; keys are in small letters: `version`', 3),
+        ("verison = 1\n", f'{missing}: there is "verison"; did you mean `version`?', 3),
         ("colour = 1\n", missing, 3),
         ("limits = { version = 1 }\n", f'{missing}: the one below "limits" is a key of that table', 3),
         ('[[route]]\nsuffix = "."\n[[route]]\nversion = 1\n',
