@@ -46,6 +46,7 @@ class Window:
         self.configuration, self.history, self.judged = configuration, history, judged
         self.begins, self.ends = span
         self.verdicts = history.verdicts
+        events = [event for event in events if getattr(event, "query", event) not in history.foreign]
         self.script = Script(program, configuration.text)
         self.maker = Maker(history, history.first)
         preferred = self.put_preferred(before[1])
