@@ -8,7 +8,7 @@ import time
 from . import comparing, configuration, messages
 from .capture import Capture, Unreadable
 from .configuration import address_text, shown
-from .packets import Decoder
+from .packets import Decoder, counted
 from .report import Row, Summary, written
 from .story import Teller, clock
 from .traffic import Question, Traffic
@@ -168,6 +168,9 @@ def run(options, progress):
     wanted = chosen(options, questions, packets[0].moment)
     cutter, explained = cut_and_explained(settings, traffic.events, first, set(wanted), options.program, progress)
     progress.end()
+    foreign = len(cutter.history.foreign)
+    if foreign:
+        note(options.capture, f"left out: {counted(foreign, 'query')} for which no question called: another program's")
     teller = Teller(settings, cutter.history)
     rows = [Row(traffic.events[place], result, teller) for place, result in sorted(explained.results.items())]
     if options.failures:

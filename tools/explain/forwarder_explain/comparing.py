@@ -38,15 +38,17 @@ def fits(question, line, octets):
     return line.kind != "client" and (question.asked is None or octets[24:].startswith(question.asked.name.hex()))
 
 
-def compare(question, octets, rests_on_before, in_script):
-    """One word for how the captured answer and the step's are to each other."""
+def compare(question, octets, rests_on_before, may_come):
+    """One word for how the captured answer and the step's are to each other.
+
+    `may_come` says whether the capture goes on long enough for an answer of a question that was taken."""
     if question.answer is None:
         if not question.wants_answer():
             return DROPPED
         connection = question.connection
         if connection and (connection.reset or False in connection.fin):
             return GONE
-        return UNANSWERED if octets or not in_script else OPEN
+        return UNANSWERED if octets and may_come else OPEN
     captured = question.answer.octets
     if captured == octets:
         return BEFORE if rests_on_before else SAME

@@ -2,7 +2,7 @@
 
 This serves explanations, and the beginnings of scripts. What is right the script's run says, never this.
 """
-from collections import OrderedDict
+from collections import OrderedDict, defaultdict
 from typing import NamedTuple
 
 from . import carried, messages
@@ -101,6 +101,7 @@ class History:
         self.found, self.verdicts, self.walks, self.closed = {}, {}, {}, {}
         self.from_before, self.rests_on_before = [], set()
         self.preferred, self.place = {}, 0
+        self.wanting, self.answered, self.foreign = defaultdict(list), set(), set()
 
     def follow(self, at_event=lambda place, cache: None):
         """Goes through all events; `at_event` is called before each with its place and the cache."""
@@ -122,14 +123,34 @@ class History:
         found = self.cache.look_up(question.asked, now)
         wanted = found.missed, question.asked.kind, question.asked.klass
         self.found[question] = found._replace(was_asked=wanted in self.open)
+        if not found.answers:
+            self.wanting[wanted].append(question)
 
     def query(self, query, now):
-        if query.asked:
-            self.open[query.asked.of()] = query
-            self.last_asked[query.asked.of()] = query.moment
+        """Notes a query as open; one that no question calls for is another program's."""
+        if query.asked is None:
+            return
+        since = query.moment - 1000 * (self.configuration.limits["deadline_ms"] + 1000)
+        waiting = [question for question in self.wanting[query.asked.of()] if self.waits(question, since)]
+        self.wanting[query.asked.of()] = waiting
+        if not waiting:
+            self.foreign.add(query)
+            return
+        self.open[query.asked.of()] = query
+        self.last_asked[query.asked.of()] = query.moment
+
+    def waits(self, question, since):
+        return question not in self.answered and question.moment >= since
+
+    def lead_on(self, of, target, now):
+        """Those who wait for a query want the name that its reply led on to, or what is kept of that leads to."""
+        onward = self.cache.look_up(messages.Question(target, target.lower(), of[1], of[2]), now)
+        for name in {target.lower(), onward.missed}:
+            self.wanting[name, of[1], of[2]] += self.wanting[of]
 
     def ending(self, ending, now):
-        self.close(ending.query, now, ending.why)
+        if ending.query not in self.foreign:
+            self.close(ending.query, now, ending.why)
 
     def close(self, query, now, verdict):
         if query not in self.closed:
@@ -140,7 +161,7 @@ class History:
     def reply(self, reply, now):
         query = reply.query
         asked = query.asked
-        if asked is None:
+        if asked is None or query in self.foreign:
             self.verdicts[reply] = "stranger"
             return
         if query in self.closed or now >= query.moment // 1000 + self.configuration.limits["ask_ms"] + 5:
@@ -153,6 +174,8 @@ class History:
         self.close(query, now, verdict)
         if verdict == "answered":
             self.preferred[self.configuration.route_of(asked.key)] = query.server
+            if self.walks[reply].leads_to is not None:
+                self.lead_on(asked.of(), self.walks[reply].leads_to, now)
             for piece in self.walks[reply].pieces:
                 self.cache.offer(piece, now)
                 self.ever_carried.add(piece.slot())
@@ -183,6 +206,7 @@ class History:
     def answer(self, answer, now):
         """Looks whether an answer came of nothing that the capture has: then that was kept before."""
         question = answer.question
+        self.answered.add(question)
         found = self.found.get(question)
         if found is None or messages.code(answer.octets) not in (0, 3):
             return

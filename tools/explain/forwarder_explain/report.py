@@ -111,7 +111,7 @@ class Summary:
     def __init__(self, rows, events, history, explained):
         self.rows, self.explained = rows, explained
         self.same = Counter(row.result.same for row in rows)
-        self.queries = [event for event in events if isinstance(event, Query)]
+        self.queries = [event for event in events if isinstance(event, Query) and event not in history.foreign]
         self.history = history
 
     def verdict(self):

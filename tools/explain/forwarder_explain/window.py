@@ -46,6 +46,7 @@ class Window:
         self.configuration, self.history, self.judged = configuration, history, judged
         self.begins, self.ends = span
         self.verdicts = history.verdicts
+        events = [event for event in events if getattr(event, "query", event) not in history.foreign]
         self.script = Script(program, configuration.text)
         self.maker = Maker(history, history.first)
         preferred = self.put_preferred(before[1])
@@ -183,9 +184,8 @@ class Window:
             and self.is_much_later(line, question.answer)
         ):
             line, reason, octets = None, None, b""
-        same = comparing.compare(
-            question, octets, question in self.history.rests_on_before, question in self.maker.line_of
-        )
+        may_come = self.ends - question.moment > 1000 * SOON
+        same = comparing.compare(question, octets, question in self.history.rests_on_before, may_come)
         attempts, joined = self.attempts(question, line) if line is not None else (self.open_tries(question), False)
         own = self.maker.line_of.get(question)
         return Result(same, reason, octets, own.number if own else 0, attempts, joined)
