@@ -116,8 +116,9 @@ def a_client_that_ended_its_sending_gets_its_answers(program):
 
 @case
 def a_client_that_ended_its_sending_beside_many_others(program):
-    """Next to 1,000 idle ones it has its reply within 50 ms. One of fifteen may take longer, on a busy machine."""
-    server = Server()
+    """Next to 1,000 idle ones it has its reply within 50 ms, 10 of which the server takes, so that the end comes first.
+    One of fifteen may take longer, on a busy machine."""
+    server = Server(by_udp=lambda query: time.sleep(0.01) or reply_to(query))
     with Forwarder(program, [server.port], descriptors=4096) as forwarder:
         others, took = [forwarder.tcp() for _ in range(1000)], []
         forwarder.is_well()
