@@ -1,14 +1,11 @@
 """Captures as tcpdump and Wireshark write them: classic pcap, and pcapng."""
+import io
 import struct
 from typing import NamedTuple
 
+import dpkt
+
 MOST_OCTETS = 1 << 18  # of one packet, by any system's limits
-MAGIC = {
-    b"\xa1\xb2\xc3\xd4": (">", 1000),
-    b"\xd4\xc3\xb2\xa1": ("<", 1000),
-    b"\xa1\xb2\x3c\x4d": (">", 1),
-    b"\x4d\x3c\xb2\xa1": ("<", 1),
-}
 SECTION, INTERFACE, OLD_PACKET, SIMPLE_PACKET, STATISTICS, PACKET = 0x0A0D0D0A, 1, 2, 3, 5, 6
 
 
@@ -24,17 +21,28 @@ class Packet(NamedTuple):
     octets: bytes
 
 
+class Source(io.BytesIO):
+    """A capture as a file. dpkt passes over both: a read that got less than it wanted, and a size that can't be."""
+
+    def read(self, size=-1):
+        if size > MOST_OCTETS:
+            raise dpkt.UnpackError(f"a packet of {size} octets can't be: reading stops at octet {self.tell() - 16}")
+        octets = super().read(size)
+        self.is_short = len(octets) < size
+        return octets
+
+
 class Capture:
     """The packets of a capture, and in `notes` what was wrong with it, a line each."""
 
     def __init__(self, octets):
         self.octets, self.notes = octets, []
-        if octets[:4] in MAGIC:
-            self.reader = self._classic
-        elif octets[:4] == b"\x0a\x0d\x0d\x0a":
-            self.reader = self._next_generation
-        elif len(octets) == 0:
+        if len(octets) == 0:
             raise Unreadable("is empty")
+        if octets[:4] == b"\x0a\x0d\x0d\x0a":
+            self.reader = self._next_generation
+        elif int.from_bytes(octets[:4], "big") in dpkt.pcap.MAGIC_TO_PKT_HDR:
+            self.reader = self._classic
         else:
             raise Unreadable("is no capture: neither pcap nor pcapng")
 
@@ -43,25 +51,25 @@ class Capture:
         return self.reader()
 
     def _classic(self):
-        order, nanoseconds = MAGIC[self.octets[:4]]
-        if len(self.octets) < 24:
+        if len(self.octets) < dpkt.pcap.FileHdr.__hdr_len__:
             raise Unreadable("ends within its header")
-        link = struct.unpack_from(order + "I", self.octets, 20)[0] & 0xFFFF
-        header, at, end = struct.Struct(order + "4I"), 24, len(self.octets)
-        while at + 16 <= end:
-            seconds, part, kept, _ = header.unpack_from(self.octets, at)
-            if kept > MOST_OCTETS:
-                self.notes.append(f"a packet of {kept} octets can't be: reading stops at octet {at}")
-                return
-            at += 16
-            if at + kept > end:
-                break
-            yield Packet(seconds * 1_000_000 + part * nanoseconds // 1000, link, self.octets[at : at + kept])
-            at += kept
-        if at < end:
+        source = Source(self.octets)
+        reader = dpkt.pcap.Reader(source)
+        try:
+            for moment, octets in reader:
+                if source.is_short:
+                    raise dpkt.NeedData
+                # Nanoseconds come as a Decimal, microseconds as a float, which is off by less than half of one.
+                exact = round if isinstance(moment, float) else int
+                yield Packet(exact(moment * 1_000_000), reader.datalink() & 0xFFFF, octets)
+        except dpkt.NeedData:
             self.notes.append("the capture ends within a packet; what is before it was read")
+        except dpkt.UnpackError as fault:
+            self.notes.append(str(fault))
 
     def _next_generation(self):
+        """Without dpkt: its reader has each packet on the first interface, with the link type and the clock of that
+        one, passes over what a capture lost, and takes a block that the file's end cuts for a whole one."""
         order, interfaces, at, end = "<", [], 0, len(self.octets)
         while at + 12 <= end:
             kind = struct.unpack_from(order + "I", self.octets, at)[0]

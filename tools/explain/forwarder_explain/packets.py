@@ -2,13 +2,29 @@
 import struct
 from typing import NamedTuple
 
+from dpkt import pcap
+from dpkt.ethernet import Ethernet
+from dpkt.icmp import ICMP, ICMP_UNREACH
+from dpkt.ip import IP, IP_PROTO_TCP, IP_PROTO_UDP
+from dpkt.loopback import Loopback
+from dpkt.sll import SLL
+from dpkt.sll2 import SLL2
+from dpkt.tcp import TCP
+from dpkt.tcp import TH_FIN as FIN
+from dpkt.tcp import TH_RST as RST
+from dpkt.tcp import TH_SYN as SYN
+from dpkt.udp import UDP
+
 from .capture import Unreadable
 
-ETHERNET, COOKED, COOKED_2, NULL, LOOP = 1, 113, 276, 0, 108
-RAW = (12, 14, 101, 228)
-KNOWN_LINKS = {ETHERNET, COOKED, COOKED_2, NULL, LOOP, *RAW}
-ICMP, TCP, UDP = 1, 6, 17
-FIN, SYN, RST = 1, 2, 4
+LINKS = {
+    pcap.DLT_EN10MB: Ethernet,
+    pcap.DLT_NULL: Loopback,
+    108: Loopback,  # of loopback and raw IP the systems have several numbers, and dpkt has those of the system it is on
+    **dict.fromkeys((12, 14, 101, pcap.DLT_IPV4), IP),
+    pcap.DLT_LINUX_SLL: SLL,
+    pcap.DLT_LINUX_SLL2: SLL2,
+}
 SAME_PACKET = 5000  # microseconds within which a packet is seen on several interfaces
 
 
@@ -46,7 +62,7 @@ class Decoder:
     """Reads packets one by one; counts what it can't use."""
 
     def __init__(self):
-        self.cut = self.fragments = self.others = 0
+        self.cut = self.fragments = 0
         self.links = {}
         self.seen = {}
         self.pieces = {}
@@ -55,40 +71,25 @@ class Decoder:
         """A Datagram, a Segment, an Unreachable, or None."""
         moment, link, octets = packet
         self.links[link] = self.links.get(link, 0) + 1
-        start = ip_start(link, octets)
-        if start is None or len(octets) < start + 20 or octets[start] >> 4 != 4:
-            self.others += 1
+        try:
+            frame = LINKS[link](octets)
+            ip = frame if isinstance(frame, IP) else frame.data
+            if not isinstance(ip, IP) or ip.v != 4:
+                return None
+            octets = octets[len(frame) - len(ip) :][: ip.len or None]  # a length of 0 is left to the network card
+        except Exception:  # dpkt reads all protocols that it knows, and refuses with more than errors of its own
             return None
-        header = 4 * (octets[start] & 15)
-        total, number, fragment = struct.unpack_from(">3H", octets, start + 2)
-        if total == 0:  # left to the network card
-            total = len(octets) - start
-        if link in (COOKED, COOKED_2) and self.is_double(
-            moment, octets[start : start + 8] + octets[start + 9 : start + 10] + octets[start + 12 : start + total]
-        ):
+        if isinstance(frame, (SLL, SLL2)) and self.is_double(moment, octets[:8] + octets[9:10] + octets[12:]):
             return None
-        protocol, source, target = octets[start + 9], octets[start + 12 : start + 16], octets[start + 16 : start + 20]
-        payload = octets[start + header : start + total]
-        if len(payload) < total - header:
+        if len(octets) < ip.len:
             self.cut += 1
             return None
-        if fragment & 0x3FFF:
-            payload = self.whole((source, target, number, protocol), fragment, payload)
+        if ip.mf or ip.offset:
+            payload = self.whole(ip, octets[4 * ip.hl :])
             if payload is None:
                 return None
-        return self.transport(moment, protocol, source, target, payload)
-
-    def transport(self, moment, protocol, source, target, payload):
-        if protocol == UDP and len(payload) >= 8:
-            from_port, to_port, size = struct.unpack_from(">3H", payload)
-            return Datagram(moment, (source, from_port), (target, to_port), payload[8 : max(size, 8)])
-        if protocol == TCP and len(payload) >= 20:
-            from_port, to_port, sequence = struct.unpack_from(">2HI", payload)
-            offset = 4 * (payload[12] >> 4)
-            return Segment(moment, (source, from_port), (target, to_port), sequence, payload[13], payload[offset:])
-        if protocol == ICMP and len(payload) >= 36 and payload[0] == 3:
-            return unreachable(moment, payload)
-        return None
+            ip = IP(IP(p=ip.p, src=ip.src, dst=ip.dst, len=0).pack_hdr() + payload)
+        return carried(moment, ip)
 
     def is_double(self, moment, octets):
         """Whether the same packet was just seen on another interface, as it happens with `tcpdump -i any`."""
@@ -98,10 +99,11 @@ class Decoder:
             self.seen = {key: when for key, when in self.seen.items() if moment - when <= SAME_PACKET}
         return last is not None and moment - last <= SAME_PACKET
 
-    def whole(self, key, fragment, payload):
+    def whole(self, ip, payload):
         """The payload once all fragments are there (RFC 791 3.2), else None."""
+        key = ip.src, ip.dst, ip.id, ip.p
         pieces = self.pieces.setdefault(key, {})
-        pieces[8 * (fragment & 0x1FFF)] = (payload, bool(fragment & 0x2000))
+        pieces[8 * ip.offset] = (payload, bool(ip.mf))
         octets = b""
         while len(octets) in pieces:
             piece, more = pieces[len(octets)]
@@ -116,7 +118,7 @@ class Decoder:
 
     def notes(self):
         """What was met that could not be used, a line each; raises where no packet could."""
-        unknown = {link: count for link, count in self.links.items() if link not in KNOWN_LINKS}
+        unknown = {link: count for link, count in self.links.items() if link not in LINKS}
         if unknown and len(unknown) == len(self.links):
             raise Unreadable(
                 f"has packets of link type {', '.join(map(str, unknown))} alone, which is not known here; "
@@ -138,27 +140,22 @@ def counted(number, noun):
     return f"{number:,} {noun if number == 1 else plural}"
 
 
-def ip_start(link, octets):
-    """Where the header of IPv4 begins, or None."""
-    if link == ETHERNET:
-        at = 12
-        while octets[at : at + 2] in (b"\x81\x00", b"\x88\xa8", b"\x91\x00"):
-            at += 4
-        return at + 2 if octets[at : at + 2] == b"\x08\x00" else None
-    if link == COOKED_2:
-        return 20 if octets[:2] == b"\x08\x00" else None
-    if link == COOKED:
-        return 16 if octets[14:16] == b"\x08\x00" else None
-    if link in (NULL, LOOP):
-        return 4 if octets[:4] in (b"\x02\0\0\0", b"\0\0\0\x02") else None
-    return 0 if link in RAW else None
+def carried(moment, ip):
+    """What a packet carries: a Datagram, a Segment, an Unreachable, or None."""
+    data = ip.data
+    if isinstance(data, UDP):
+        return Datagram(moment, (ip.src, data.sport), (ip.dst, data.dport), data.data[: max(0, data.ulen - 8)])
+    if isinstance(data, TCP):
+        return Segment(moment, (ip.src, data.sport), (ip.dst, data.dport), data.seq, data.flags, data.data)
+    if isinstance(data, ICMP) and data.type == ICMP_UNREACH and isinstance(data.data, ICMP.Unreach):
+        return unreachable(moment, data.code, data.data.ip)
+    return None
 
 
-def unreachable(moment, payload):
-    """The news of ICMP, with the beginning of the datagram that it is about."""
-    inner = payload[8:]
-    header = 4 * (inner[0] & 15)
-    if inner[0] >> 4 != 4 or len(inner) < header + 4:
+def unreachable(moment, code, ip):
+    """The news of ICMP about a packet, of which it has the beginning."""
+    octets = bytes(ip.data) if ip.v == 4 and ip.p in (IP_PROTO_TCP, IP_PROTO_UDP) else b""
+    if len(octets) < 4:
         return None
-    from_port, to_port = struct.unpack_from(">2H", inner, header)
-    return Unreachable(moment, (inner[12:16], from_port), (inner[16:20], to_port), inner[9], payload[1])
+    from_port, to_port = struct.unpack_from(">2H", octets)
+    return Unreachable(moment, (ip.src, from_port), (ip.dst, to_port), ip.p, code)
