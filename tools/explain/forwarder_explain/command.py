@@ -99,7 +99,7 @@ def moment_of(text, first):
 
 
 def packets_of(path, progress):
-    """What the packets of a capture carry, by time, with what is to be noted of it."""
+    """What the packets of a capture carry, by time, what is to be noted of it, and the moment of its last packet."""
     try:
         if path == "-":
             octets = sys.stdin.buffer.read()
@@ -108,9 +108,9 @@ def packets_of(path, progress):
                 octets = file.read()
     except OSError as fault:
         raise Unreadable(fault.strerror, path) from None
-    capture, decoder, packets, done = Capture(octets), Decoder(), [], 0
+    capture, decoder, packets, done, last = Capture(octets), Decoder(), [], 0, 0
     for number, packet in enumerate(capture.packets()):
-        found = decoder.read(packet)
+        found, last = decoder.read(packet), max(last, packet.moment)
         if found is not None:
             packets.append(found)
         done += 16 + len(packet.octets)
@@ -118,7 +118,7 @@ def packets_of(path, progress):
             progress("reading", done, len(octets))
     notes = capture.notes + list(decoder.notes())
     packets.sort(key=lambda found: found.moment)
-    return packets, notes
+    return packets, notes, last
 
 
 def chosen(options, questions, first):
@@ -141,11 +141,12 @@ def chosen(options, questions, first):
     return [question for question in questions if is_chosen(question)]
 
 
-def cut_and_explained(settings, events, first, wanted, program, progress):
-    """The history and the results; windows become smaller where one has too many lines."""
+def cut_and_explained(settings, events, span, wanted, program, progress):
+    """The history and the results; windows become smaller where one has too many lines. `span` is from the first event, in
+    milliseconds, to the last packet, in microseconds."""
     aim = None
     while True:
-        cutter = Cutter(settings, events, first, *([aim] if aim else []))
+        cutter = Cutter(settings, events, span, *([aim] if aim else []))
         try:
             return cutter, explain(cutter, wanted, program, lambda done, total: progress("replaying", done, total))
         except TooLong:
@@ -157,16 +158,16 @@ def cut_and_explained(settings, events, first, wanted, program, progress):
 def run(options, progress):
     """Does all of it; gives the status."""
     settings = configuration.read(options.configuration, options.program)
-    packets, notes = packets_of(options.capture, progress)
+    packets, notes, last = packets_of(options.capture, progress)
     traffic = Traffic(settings, packets)
     for text in [*notes, *traffic.notes(settings)]:
         note(options.capture, text)
     questions = [event for event in traffic.events if isinstance(event, Question)]
     if not questions:
         raise Unreadable(f"has no question to {shown(settings.listen)}, where the configuration listens")
-    first = traffic.events[0].moment // 1000
+    span = traffic.events[0].moment // 1000, last
     wanted = chosen(options, questions, packets[0].moment)
-    cutter, explained = cut_and_explained(settings, traffic.events, first, set(wanted), options.program, progress)
+    cutter, explained = cut_and_explained(settings, traffic.events, span, set(wanted), options.program, progress)
     progress.end()
     foreign = len(cutter.history.foreign)
     if foreign:

@@ -28,8 +28,9 @@ class Cut:
 class Cutter:
     """Follows the history and notes where windows begin."""
 
-    def __init__(self, configuration, events, first, aim=AIM_LINES):
+    def __init__(self, configuration, events, span, aim=AIM_LINES):
         self.configuration, self.events, self.aim = configuration, events, aim
+        first, self.last = span
         self.history = History(configuration, events, first)
         self.cuts, self.lines, self.octets = [Cut(0, [], {})], 0, 0
         self.total = [0, 0]
@@ -57,7 +58,7 @@ class Cutter:
         """The window between two places."""
         events = self.open_before(cut) + self.events[cut.place : end]
         before = self.needed(cut, end, events)
-        span = self.events[cut.place].moment, self.events[-1].moment
+        span = self.events[cut.place].moment, self.last
         return Window(self.configuration, self.history, program, events, judged, (before, cut.preferred), span)
 
     def open_before(self, cut):
