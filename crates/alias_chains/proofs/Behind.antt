@@ -1,4 +1,5 @@
--- Look-ups that begin with held aliases, that miss, and of questions that differ by letter case alone.
+-- Look-ups that begin with held aliases, that miss, and of questions that differ by letter case
+-- alone.
 use Rattle.std.proofs.Common.{◌≡◌, ℕ, zero, suc, List, [], ◌∷◌, ◌++◌, append_assoc, Option, Some, None, refl, sym, ap, subst, ◌∙◌, inl, inr}
 use Rattle.std.specs.Prelude.{map}
 use Rattle.std.proofs.lemmas.List.{append-nil}
@@ -54,7 +55,7 @@ begins_with_held routes n entries (suc more) held q =
     ∙ ap (λ (m : LookUp). behind held (through e m)) (sym (begins_with_held routes n entries more (e ∷ []) (at q target))))
     (found routes n entries q)
 
--- what holds of the look-up behind one alias holds of the one that takes it first
+-- a property of the look-up after one alias is one of the look-up that takes it first
 alone_holds : (P : LookUp → Type 0) (routes : List Route) (n : ℕ) (entries : List Held) (more : ℕ) (q : Question) (e : Held)
     → P (through e (behind (e ∷ []) (look_up routes n entries more [] q))) → P (through e (look_up routes n entries more (e ∷ []) q))
 alone_holds P routes n entries more q e holds = subst (λ (l : LookUp). P (through e l)) (sym (begins_with_held routes n entries more (e ∷ []) q)) holds

@@ -8,7 +8,7 @@ use Rattle.plain_list.specs.Borrowed.{lent}
 abbrev pub held_with : Piece → ℕ → Held
 held_with p n = record { piece = p; accepted = n }
 
--- one more is put behind those that were there
+-- one more is put after those that were there
 pub lent_more : {X : Type 0} (base : List X) (refs more : List (Bor X)) (r : Bor X) (xs : List X) (i : ℕ) → i < length xs → r.now ≡ get_or xs i r.now → lent refs ≡ base ++ take i xs → more ≡ refs ++ r ∷ []
     → lent more ≡ base ++ take (i + 1) xs
 lent_more {X = X} base refs more r xs i lt is so_far pushed =

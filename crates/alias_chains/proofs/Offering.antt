@@ -92,7 +92,7 @@ next_left capacity n ps before p left left' now now' count b k were is same one 
     (subst (λ (j : ℕ). AreLeft capacity n ps before left (put capacity n room p now.entries) (count + j)) counted
     (one_offered capacity n ps before p left now.entries count (subst (λ (xs : List Piece). AreLeft capacity n ps before xs now.entries count) is were) room))
 
--- what a list of offers comes to
+-- the outcome of a list of offers
 abbrev pub WereOffered : ℕ → List Piece → Cache → Cache → ℕ → Type 0
 WereOffered n ps before after count =
     (rooms : List Bool) × (length rooms ≡ length ps) × (after ≡ record before { entries = put_all before.capacity n rooms ps before.entries }) × (count ≡ unkept_of before.capacity n rooms ps before.entries)

@@ -1,4 +1,4 @@
--- A look-up past the ends of entries on its way.
+-- A look-up of stale entries on its way.
 use Rattle.std.proofs.Common.{◌≡◌, ℕ, zero, suc, ◌+◌, ◌-◌, ◌≤◌, List, [], ◌∷◌, ◌++◌, length, length-append, Option, Some, None, refl, sym, ap, ◌∙◌, inl, inr, subst, ◌⊎◌, arith}
 use Rattle.std.specs.Prelude.{option_map}
 use Rattle.std.proofs.lemmas.List.{append_assoc}
@@ -16,7 +16,7 @@ use Rattle.alias_chains.specs.PastEnds.{past_led, past_followed, look_up_past}
 use Rattle.alias_chains.proofs.Seeing.{lent_put}
 use Rattle.alias_chains.proofs.Few.{AreAmong, put_among}
 
--- behind these entries
+-- after these entries
 abbrev pub behind : List Held → Option (List Held) → Option (List Held)
 behind used rest = option_map (λ chain. used ++ chain) rest
 

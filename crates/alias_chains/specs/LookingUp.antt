@@ -1,4 +1,4 @@
--- How a question is looked up among the entries, along the aliases that it meets: RFC 1034 3.6.2.
+-- Look-ups of a question among the entries, along the aliases that it meets: RFC 1034 3.6.2.
 use Rattle.std.specs.Prelude.{ℕ, zero, suc, List, [], ◌∷◌, ◌++◌, Option, Some, None}
 use Rattle.dns_message.specs.Values.{Question}
 use Rattle.suffix_routes.specs.Values.{Route}
@@ -10,22 +10,25 @@ use Rattle.negative_cache.specs.Values.{Found, local, rows, alias, no_data, deni
 use Rattle.negative_cache.specs.Finding.{found}
 use Rattle.dns_message.specs.Questions.{asked_at}
 
--- how a look-up ends: at a set or a denial, at one alias too many, or at a name of which nothing is known
+-- the end of a look-up: a set or a denial, one alias too many, or a name without a living entry
 pub data LookUpEnd : Type 0 where
   ends : Held → LookUpEnd
   too_long : LookUpEnd
   missed : LookUpEnd
 
--- the aliases that are held at its end, what is wanted then, how it ended, and the slots that it used, in order
+-- the aliases that are held at its end, the question wanted then, its end, and the slots that it
+-- used, in order
 pub record LookUp : Type 0 where
   pub held : List Held
   pub wanted : Question
   pub met : LookUpEnd
   pub used : List Slot
 
+-- a look-up that ends in this entry
 abbrev pub ended : List Held → Question → Held → LookUp
 ended held q e = record { held = held; wanted = q; met = ends e; used = e.piece.slot ∷ [] }
 
+-- a look-up that found nothing
 abbrev pub missing : List Held → Question → LookUp
 missing held q = record { held = held; wanted = q; met = missed; used = [] }
 
@@ -35,6 +38,7 @@ abbrev pub look_up_behind : List Held → Question → (Held → List (List ℕ)
 look_up_behind held q onward e None = missing held q
 look_up_behind held q onward e (Some target) = onward e target
 
+-- a look-up after what was found at one name
 abbrev pub look_up_after : List Held → Question → (Held → List (List ℕ) → LookUp) → Found → LookUp
 look_up_after held q onward local = missing held q
 look_up_after held q onward (rows e) = ended held q e
@@ -43,6 +47,7 @@ look_up_after held q onward (no_data e) = ended held q e
 look_up_after held q onward (denied e) = ended held q e
 look_up_after held q onward miss = missing held q
 
+-- a look-up that would follow a ninth alias
 abbrev pub one_too_many : List Held → Question → Held → List (List ℕ) → LookUp
 one_too_many held q e target = record {
   held = held ++ e ∷ [];
@@ -51,17 +56,18 @@ one_too_many held q e target = record {
   used = e.piece.slot ∷ [];
 }
 
+-- a look-up that also used this alias
 abbrev pub through : Held → LookUp → LookUp
 through e l = record l { used = e.piece.slot ∷ l.used }
 
--- the look-up of a question that holds these aliases, and may take so many more
+-- the look-up of a question that holds these aliases, and may take this number more
 abbrev pub look_up : List Route → ℕ → List Held → ℕ → List Held → Question → LookUp
 look_up routes n entries zero held q = look_up_after held q (one_too_many held q) (found routes n entries q)
 look_up routes n entries (suc more) held q =
     look_up_after held q (λ e target. through e (look_up routes n entries more (held ++ e ∷ []) (asked_at q target)))
     (found routes n entries q)
 
--- what a look-up used is the most recently used now
+-- the entries that a look-up used are the most recently used now
 abbrev pub promoted_all : List Slot → List Held → List Held
 promoted_all [] entries = entries
 promoted_all (slot ∷ used) entries = promoted_all used (promoted slot entries)

@@ -1,4 +1,4 @@
--- How the pieces of an accepted reply are offered to the cache: RFC 2181 5.4.1, RFC 8020 2.
+-- Offers of the pieces of an accepted reply to the cache: RFC 2181 5.4.1, RFC 8020 2.
 use Rattle.std.specs.Prelude.{ℕ, ◌+◌, Bool, true, if◌then◌else◌, List, [], ◌∷◌, map}
 use Rattle.trust_rank.specs.Values.{Piece}
 use Rattle.trust_rank.specs.Replacing.{is_name_error}
@@ -12,27 +12,30 @@ use Rattle.negative_cache.specs.Showing.{shown}
 abbrev pub shown_by : Piece → List Held → List Held
 shown_by p entries = if is_name_error p then entries else shown p.owner p.slot.class entries
 
--- how the offer of a piece ends, where room tells whether there is memory for one entry more
+-- how the offer of a piece ends; room says whether there is memory for one more entry
 abbrev pub ended_so : ℕ → Bool → Piece → List Held → Offered
 ended_so n room p entries = answer n room p (shown_by p entries)
 
--- the entries after it: what the piece shows to be there is denied no more, then it is offered
+-- the entries after an offer: the denials that the piece refutes go, whatever becomes of it; then
+-- it is offered
 abbrev pub put : ℕ → ℕ → Bool → Piece → List Held → List Held
 put capacity n room p entries = offered (ended_so n room p entries) capacity n p (shown_by p entries)
 
+-- 1 where an offer found no memory, otherwise 0
 abbrev pub count_of : Offered → ℕ
 count_of Unkept = 1
 count_of Kept = 0
 count_of Outranked = 0
 count_of NotKept = 0
 
--- the pieces are offered in order; rooms tells of each in turn whether there is memory, and where it ends, there is
+-- the pieces are offered in order; rooms says of each in turn whether there is memory, and there is
+-- for those after its end
 abbrev pub put_all : ℕ → ℕ → List Bool → List Piece → List Held → List Held
 put_all capacity n rooms [] entries = entries
 put_all capacity n [] (p ∷ ps) entries = put_all capacity n [] ps (put capacity n true p entries)
 put_all capacity n (room ∷ rooms) (p ∷ ps) entries = put_all capacity n rooms ps (put capacity n room p entries)
 
--- how many of them found no memory
+-- the number of those that found no memory
 abbrev pub unkept_of : ℕ → ℕ → List Bool → List Piece → List Held → ℕ
 unkept_of capacity n rooms [] entries = 0
 unkept_of capacity n [] (p ∷ ps) entries =
@@ -40,9 +43,10 @@ unkept_of capacity n [] (p ∷ ps) entries =
 unkept_of capacity n (room ∷ rooms) (p ∷ ps) entries =
     count_of (ended_so n room p entries) + unkept_of capacity n rooms ps (put capacity n room p entries)
 
+-- a piece, held since a moment in milliseconds
 abbrev pub held_at : ℕ → Piece → Held
 held_at n p = record { piece = p; accepted = n }
 
--- what an accepted reply carries, in the order in which it is offered
+-- the pieces of an accepted reply, in the order in which they are offered
 abbrev pub pieces_of : List Held → List Piece
 pieces_of = map (λ h. h.piece)

@@ -1,6 +1,6 @@
--- How a question is looked up among the entries past their ends, once no try is left: RFC 8767 5. It goes along
--- aliases, uses no denial, and promotes nothing. Of a name that the configuration denies there is no entry, so there it
--- finds nothing.
+-- Look-ups of a question among stale entries, once no try is left: RFC 8767 5. They go along
+-- aliases, use no denial, and promote nothing. Of a name that the configuration denies there is no
+-- entry, so there nothing is found.
 use Rattle.std.specs.Prelude.{ℕ, zero, suc, List, [], ◌∷◌, option_map, Option, Some, None}
 use Rattle.dns_message.specs.Values.{Question}
 use Rattle.trust_rank.specs.Walks.{target_of}
@@ -14,6 +14,7 @@ abbrev pub past_led : (List (List ℕ) → Option (List Held)) → Held → Opti
 past_led onward e None = None
 past_led onward e (Some target) = option_map (λ chain. e ∷ chain) (onward target)
 
+-- a look-up of expired data after what was found at one name; only a set ends it
 abbrev pub past_followed : (List (List ℕ) → Option (List Held)) → Found → Option (List Held)
 past_followed onward local = None
 past_followed onward (rows e) = Some (e ∷ [])
@@ -22,7 +23,8 @@ past_followed onward (no_data e) = None
 past_followed onward (denied e) = None
 past_followed onward miss = None
 
--- the aliases and the set, within the window of so many seconds, that a question is led to with so many aliases at most
+-- the aliases and the set that a question is led to, within the window in seconds, with this number
+-- of aliases at most
 abbrev pub look_up_past : ℕ → ℕ → List Held → ℕ → Question → Option (List Held)
 look_up_past window n entries zero q = past_followed (λ target. None) (stale window n entries q)
 look_up_past window n entries (suc more) q =

@@ -1,4 +1,4 @@
--- What a look-up's caller sees of it.
+-- A look-up as its caller sees it.
 use Rattle.std.specs.Prelude.{◌≡◌, ℕ, zero, suc, ◌+◌, ◌<◌, ◌≤◌, List, [], ◌∷◌, ◌++◌, length, Option, Some, None}
 use denote.Ref.{Bor}
 use Rattle.suffix_routes.specs.Values.{Route}
@@ -20,16 +20,18 @@ pub record Seen : Type 0 where
   pub used : List Held
   pub met : LookUpEnd
 
+-- a look-up by what it held and how it ended, as its caller sees it
 abbrev pub seen_at : List Held → rules.LookUpEnd → Seen
 seen_at held (rules.ends e) = record { used = held ++ e ∷ []; met = Ends }
 seen_at held rules.too_long = record { used = held; met = TooLong }
 seen_at held rules.missed = record { used = held; met = Missed }
 
+-- the entries that a look-up used
 abbrev pub entries_of : {A : Type 0} → UsedEntries A → List Held
 entries_of (One held slot) = held.now ∷ []
 entries_of (More refs) = lent refs.items
 
--- where it used one alone, the slot beside it is that one's
+-- where it used one alone, the slot that comes with it is that one's
 abbrev pub HasItsSlot : {A : Type 0} → UsedEntries A → Type 0
 HasItsSlot (One held slot) = slot.now ≡ held.now.piece.slot
 HasItsSlot (More refs) = Unit {0}
@@ -47,12 +49,14 @@ IsAlias miss = ⊥
 abbrev pub seen_of : LookUp → Seen
 seen_of l = seen_at l.held l.met
 
--- where so many aliases may be taken: an end behind at most so many, one alias more, or at most so many
+-- where this number of aliases may be taken: an end after at most that number, one alias more, or
+-- at most that number
 abbrev pub is_few : ℕ → ℕ → LookUpEnd → Type 0
 is_few most count Ends = (0 < count) × (count ≤ most + 1)
 is_few most count TooLong = count ≡ most + 1
 is_few most count Missed = count ≤ most
 
+-- a look-up uses no more entries than its aliases allow
 abbrev pub UsesFew : ℕ → Seen → Type 0
 UsesFew most s = is_few most (length s.used) s.met
 
@@ -62,7 +66,7 @@ last_target [] = None
 last_target (e ∷ []) = target_of e.piece.body
 last_target (e ∷ f ∷ held) = last_target (f ∷ held)
 
--- the one that is lent, where there is one, and the others
+-- the one that is borrowed, if any, and the others
 abbrev pub lent_and_others : Option (Bor Slot) → List Slot → List Slot
 lent_and_others None others = others
 lent_and_others (Some slot) others = slot.now ∷ others
@@ -83,7 +87,7 @@ goes_on onward held (no_data e) = record { used = held ++ e ∷ []; met = Ends }
 goes_on onward held (denied e) = record { used = held ++ e ∷ []; met = Ends }
 goes_on onward held miss = record { used = held; met = Missed }
 
--- the same where so many aliases more may be taken
+-- the same where this number of aliases more may be taken
 unfoldable pub seen_from : List Route → ℕ → List Held → ℕ → ℕ → ℕ → List Held → Found → Seen
 seen_from routes n entries class kind zero held f =
     goes_on (λ used target. record { used = used; met = TooLong }) held f

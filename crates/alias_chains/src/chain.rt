@@ -19,8 +19,8 @@ fn put_all<'a, A: Allocator>(
     Ok(())
 }
 
-/// The aliases that a question holds, those of the reply, and what was found behind them, one behind another. `Err`
-/// where memory ran out.
+/// The aliases that a question holds, those of the reply, and the entries found after them, in this
+/// order. `Err` where memory ran out.
 pub fn chain_of<'a, A: Allocator + Copy>(
     alloc: A,
     own: &'a [Held<A>],

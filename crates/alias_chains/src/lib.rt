@@ -1,5 +1,5 @@
-//! Look-ups among what is kept of replies, along the aliases that are met (RFC 1034 3.6.2), the promotion of what they
-//! used, chains of aliases, and the offers of what a reply carries.
+//! Look-ups in the cache along aliases (RFC 1034 3.6.2), the promotion of the entries that they
+//! used, chains of aliases, and the offers of the pieces of a reply.
 #![tactic(auto)]
 
 mod chain;

@@ -1,4 +1,4 @@
-//! What a look-up along aliases comes to.
+//! The outcome of a look-up along aliases.
 
 ghost use Rattle.std.specs.Prelude.{◌≡◌, map, IfOk};
 ghost use Rattle.alias_chains.specs.Seen.{last_target};
@@ -12,19 +12,19 @@ use std::alloc::{AllocError, Allocator, Global};
 use std::marker::Model;
 use trust_rank::target_of;
 
-/// How a look-up ends.
+/// The end of a look-up.
 #[derive(Clone, Copy, Debug, PartialEq, Eq)]
 pub enum LookUpEnd {
-    /// At a set or a denial.
+    /// A set or a denial.
     Ends,
-    /// At one alias too many.
+    /// One alias too many.
     TooLong,
-    /// At a name of which nothing is known.
+    /// A name without a living entry.
     Missed,
 }
 
-/// The entries that a look-up used, in order, and how it ended: where it came to an end the last of them is that end,
-/// and all others are aliases.
+/// The entries that a look-up used, in order, and how it ended. Where it ended with a set or a
+/// denial, that is the last of them; all others are aliases.
 #[derive(Drop)]
 pub struct LookUp<'a, 's, A: Allocator = Global> {
     pub(crate) used: UsedEntries<'a, 's, A>,
@@ -42,7 +42,7 @@ impl<'a, 's, A: Allocator> Model for LookUp<'a, 's, A> {
 }
 
 impl<'a, 's, A: Allocator + Copy> LookUp<'a, 's, A> {
-    /// How it ended.
+    /// The end of the look-up.
     pub fn met(&self) -> LookUpEnd
         ensures { result ≡ self.now.met }
     {
@@ -56,9 +56,9 @@ impl<'a, 's, A: Allocator + Copy> LookUp<'a, 's, A> {
         self.used.as_slice()
     }
 
-    /// The name that the last entry that it used leads to: what is wanted where it missed behind aliases. `None` where
-    /// it used no entry, or where the last one has not one record alone whose data is a name. `Err` where memory ran
-    /// out.
+    /// The name that the last used entry leads to: the wanted one where the look-up missed after
+    /// aliases. `None` where it used no entry, or the last one is not a single record whose data is
+    /// a name. `Err` where memory ran out.
     pub fn target(&self, alloc: A) -> Result<Option<Name<A>>, AllocError>
         ensures { IfOk result (λ name. name ≡ last_target self.now.used) }
     {

@@ -1,4 +1,4 @@
-//! A question, looked up along the aliases that are met: RFC 1034 3.6.2.
+//! Look-ups of a question along aliases: RFC 1034 3.6.2.
 
 ghost use Rattle.std.specs.Prelude.{◌≡◌, [], IfOk, OnErr, MatchOption, None, Some};
 ghost use Rattle.std.specs.List.{AllByRecursion};
@@ -14,16 +14,17 @@ ghost use Rattle.alias_chains.specs.Seen.{seen_from, seen_of, IsAlias, UsesFew};
 
 use crate::looked::{LookUp, LookUpEnd};
 use crate::used::UsedEntries;
+use dns_message::QuestionRef;
 use dns_name::NameKey;
 use message_names::{Bound, skip_name};
-use negative_cache::{Found, find_by_octets};
-use record_cache::{Cache, Held};
+use negative_cache::{CacheAt, Found};
+use record_cache::Held;
 use std::alloc::{AllocError, Allocator};
 use std::hash::BuildHasher;
-use suffix_routes::Config;
 use trust_rank::{Body, Slot};
 
-/// A slot that serves look-ups one after another: that of the root, of no class and no type. It takes no memory.
+/// A slot that serves look-ups one after another: that of the root, of no class and no type. It
+/// does not allocate.
 #[tactic(auto, using(dns_name::proofs::CallerLemmas::no_octets_are_laid_out))]
 pub fn slot_for_look_ups() -> Slot
     ensures { result ≡ record { class = 0; kind = None; key = [] } }
@@ -35,39 +36,32 @@ pub fn slot_for_look_ups() -> Slot
     }
 }
 
-/// The look-up of the question for the name that these octets are, as `Name::octets` gives them, at a moment in
-/// milliseconds: what is found at the name, and where that is an alias, what is found at the name that it leads to, and
-/// so on, until a set or a denial, one alias more than may be taken, or a name of which nothing is known. A question
-/// that holds aliases already may take fewer. Only aliases take memory; `Err` where it ran out. All that is used lies
-/// in the cache. The slot, whatever it was, serves the look-up: where one entry alone is used and ends it, it becomes
-/// that entry's, and is lent on.
+/// Looks a question up along aliases (RFC 1034 3.6.2): at its name, then at the name that a found
+/// alias leads to, and so on. It ends with a set or a denial, with one alias more than `most`, or
+/// at a name without a living entry. A question that holds aliases already may take fewer. Only
+/// aliases allocate; `Err` where memory ran out. All used entries lie in the cache. The slot may be
+/// any: where one entry alone is used and ends the look-up, it becomes that entry's, and the result
+/// borrows it.
 pub fn look_up<'a, 's, H: BuildHasher + Drop, A: Allocator + Copy>(
     alloc: A,
-    cache: &'a Cache<H, A>,
+    at: &CacheAt<'a, H, A>,
     slot: &'s mut Slot,
-    octets: &[u8],
-    class: u16,
-    kind: u16,
-    moment: u64,
-    config: &Config<A>,
+    question: &QuestionRef<'_>,
     most: usize,
 ) -> Result<LookUp<'a, 's, A>, AllocError>
-    requires { IsLaidOut octets.now }
     ensures exact { IfOk result (λ looked. looked
-        ≡ seen_of (look_up config.now.routes moment cache.now.entries most []
-        (record { name = labels_of octets.now; kind = kind; class = class }))) }
+        ≡ seen_of (look_up at.now.config.routes at.now.moment at.now.cache.entries most [] question.now)) }
     ensures few { IfOk result (λ looked. UsesFew most looked) }
-    ensures from_cache { IfOk result (λ looked. AllByRecursion (λ h. Among h cache.now.entries) looked.used) }
+    ensures from_cache { IfOk result (λ looked. AllByRecursion (λ h. Among h at.now.cache.entries) looked.used) }
     ensures no_alias { OnErr result
-        (IsAlias (found config.now.routes moment cache.now.entries
-        (record { name = labels_of octets.now; kind = kind; class = class }))) }
+        (IsAlias (found at.now.config.routes at.now.moment at.now.cache.entries question.now)) }
 {
-    match find_by_octets(cache, slot, octets, class, kind, moment, config) {
+    match at.find(slot, question) {
         Found::Rows(held) | Found::NoData(held) | Found::Denied(held) => Ok(LookUp {
             used: UsedEntries::One(held, slot),
             met: LookUpEnd::Ends,
         }),
-        Found::Alias(held) => follow(alloc, cache, slot, held, class, kind, moment, config, most),
+        Found::Alias(held) => follow(alloc, at, slot, question, held, most),
         Found::Local | Found::Miss => Ok(LookUp {
             used: UsedEntries::none(alloc),
             met: LookUpEnd::Missed,
@@ -75,20 +69,18 @@ pub fn look_up<'a, 's, H: BuildHasher + Drop, A: Allocator + Copy>(
     }
 }
 
-/// The look-up that meets this alias first and may take so many.
+/// The look-up of a question that meets this alias first, and may take at most `most` of them.
 fn follow<'a, 's, H: BuildHasher + Drop, A: Allocator + Copy>(
     alloc: A,
-    cache: &'a Cache<H, A>,
+    at: &CacheAt<'a, H, A>,
     slot: &mut Slot,
+    question: &QuestionRef<'_>,
     first: &'a Held<A>,
-    class: u16,
-    kind: u16,
-    moment: u64,
-    config: &Config<A>,
     most: usize,
 ) -> Result<LookUp<'a, 's, A>, AllocError>
     ensures { IfOk result (λ looked. looked
-        ≡ seen_from config.now.routes moment cache.now.entries class kind most [] (alias_found first.now)) }
+        ≡ seen_from at.now.config.routes at.now.moment at.now.cache.entries question.now.class question.now.kind most []
+        (alias_found first.now)) }
 {
     let mut used = Vec::new(alloc);
     let mut alias = first;
@@ -100,7 +92,8 @@ fn follow<'a, 's, H: BuildHasher + Drop, A: Allocator + Copy>(
         if used.len() > most {
             return Ok(ended(used, LookUpEnd::TooLong));
         }
-        match find_by_octets(cache, slot, target, class, kind, moment, config) {
+        let onward = QuestionRef::from_octets(target, question.kind(), question.class());
+        match at.find(slot, &onward) {
             Found::Rows(held) | Found::NoData(held) | Found::Denied(held) => {
                 used.push(held)?;
                 return Ok(ended(used, LookUpEnd::Ends));
@@ -111,7 +104,7 @@ fn follow<'a, 's, H: BuildHasher + Drop, A: Allocator + Copy>(
     }
 }
 
-/// A look-up that used these entries and ended so.
+/// A look-up that used these entries and ended in this way.
 fn ended<'a, 's, A: Allocator>(used: Vec<&'a Held<A>, A>, met: LookUpEnd) -> LookUp<'a, 's, A>
     ensures { result ≡ record { used = lent used.entry.items; met = met } }
 {
@@ -121,7 +114,8 @@ fn ended<'a, 's, A: Allocator>(used: Vec<&'a Held<A>, A>, met: LookUpEnd) -> Loo
     }
 }
 
-/// The name that an alias leads to, that of its one record: its octets, without the zero octet at their end.
+/// The name that an alias leads to, that of its one record: its octets, without the zero octet at
+/// their end.
 #[tactic(auto, using(trust_rank::proofs::CallerLemmas::no_target))]
 pub(crate) fn target_octets<A: Allocator>(alias: &Held<A>) -> Option<&[u8]>
     ensures { MatchOption result (target_of alias.now.piece.body ≡ None)
@@ -136,7 +130,8 @@ pub(crate) fn target_octets<A: Allocator>(alias: &Held<A>) -> Option<&[u8]>
     }
 }
 
-/// The name that all of these octets are, written out with the zero octet at its end: its octets without that one.
+/// The name that all of these octets are, written out with the zero octet at its end: its octets
+/// without that one.
 #[tactic(auto, using(dns_message::proofs::CallerLemmas::name_to_the_end, dns_message::proofs::CallerLemmas::no_name_to_the_end))]
 fn name_in_data(octets: &[u8]) -> Option<&[u8]>
     ensures { MatchOption result (name_of_rdata octets.now ≡ None)

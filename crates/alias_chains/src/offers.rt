@@ -32,8 +32,8 @@ fn push_held<A: Allocator + Copy>(
     Ok(())
 }
 
-/// What a reply carries, as it is held from this moment on, in milliseconds: the pieces of its walk, then the name
-/// servers of its authority section. `Err` where memory ran out.
+/// The pieces of a reply, as held from this moment on, in milliseconds: those of its walk, then the
+/// name servers of its authority section. `Err` where memory ran out.
 pub fn held_from<A: Allocator + Copy>(
     alloc: A,
     pieces: PlainList<Piece<A>, A>,
@@ -49,7 +49,7 @@ pub fn held_from<A: Allocator + Copy>(
     Ok(held)
 }
 
-/// What the piece shows to be there is denied no more: it is a set or NODATA.
+/// Removes the name errors that a piece shows to be wrong. Only a set or NODATA does (RFC 8020 2).
 fn show<H: BuildHasher + Drop, A: Allocator + Copy>(cache: &mut Cache<H, A>, piece: &Piece<A>)
     ensures { cache.new ≡ record cache.old { entries = shown_by piece.now cache.old.entries } }
 {
@@ -58,7 +58,7 @@ fn show<H: BuildHasher + Drop, A: Allocator + Copy>(cache: &mut Cache<H, A>, pie
     }
 }
 
-/// Offers a piece, and tells whether it found no memory.
+/// Offers a piece, at this moment in milliseconds. True where it found no memory.
 fn offer<H: BuildHasher + Drop, A: Allocator + Copy>(
     cache: &mut Cache<H, A>,
     piece: Piece<A>,
@@ -72,7 +72,8 @@ fn offer<H: BuildHasher + Drop, A: Allocator + Copy>(
     matches!(cache.offer(piece, moment), Offered::Unkept)
 }
 
-/// Offers the pieces of entries in order, at this moment in milliseconds, and tells how many of them found no memory.
+/// Offers the pieces of entries in order, at this moment in milliseconds. Returns how many of them
+/// found no memory.
 pub fn offer_all<H: BuildHasher + Drop, A: Allocator + Copy>(
     cache: &mut Cache<H, A>,
     held: Vec<Held<A>, A>,

@@ -1,49 +1,64 @@
-//! A question, looked up along aliases past the ends of entries, once no try is left: RFC 8767 5.
+//! Look-ups of a question along aliases among stale entries, once no try is left: RFC 8767 5.
 
 ghost use Rattle.std.specs.Prelude.{◌≡◌, ◌≤◌, IfOk, option_map};
 ghost use Rattle.std.specs.List.{AllByRecursion};
 ghost use Rattle.std.specs.Option.{IfSome};
 ghost use Rattle.dns_name.specs.Labels.{labels_of, IsLaidOut};
+ghost use Rattle.dns_message.specs.Questions.{asked_at};
 ghost use Rattle.plain_list.specs.Borrowed.{lent};
 ghost use Rattle.record_cache.specs.Laws.{Among};
+ghost use Rattle.negative_cache.specs.Stale.{stale};
+ghost use Rattle.negative_cache.specs.Values.{found_of};
 ghost use Rattle.alias_chains.specs.PastEnds.{look_up_past};
 
 use crate::looking::{slot_for_look_ups, target_octets};
-use negative_cache::{Found, find_stale_by_octets};
-use record_cache::{Cache, Held};
+use dns_message::QuestionRef;
+use negative_cache::{CacheAt, Found};
+use record_cache::Held;
 use std::alloc::{AllocError, Allocator};
 use std::hash::BuildHasher;
+use trust_rank::Slot;
 
-/// The entries that lead the question for the name that these octets are, as `Name::octets` gives them, to a set at a
-/// moment in milliseconds, although they may have ended fewer than so many seconds ago, which are a day at most: the
-/// aliases, of which so many may be taken, and the set. `None` where no set is come to. No denial is used, and nothing
-/// is promoted. `Err` where memory ran out. All that is found lies in the cache.
+/// Looks a question up among living and stale entries, at the name of these octets in place of its
+/// own.
+fn stale_at<'a, H: BuildHasher + Drop, A: Allocator + Copy>(
+    at: &CacheAt<'a, H, A>,
+    slot: &mut Slot,
+    question: &QuestionRef<'_>,
+    name: &[u8],
+    window: u64,
+) -> Found<'a, A>
+    requires laid { IsLaidOut name.now }
+    requires window { window ≤ 86400 }
+    ensures { found_of result
+        ≡ stale window at.now.moment at.now.cache.entries (asked_at question.now (labels_of name.now)) }
+{
+    let wanted = QuestionRef::from_octets(name, question.kind(), question.class());
+    at.find_stale(slot, &wanted, window)
+}
+
+/// The entries that lead a question to a set: the aliases, at most `most`, and the set. Each is
+/// alive or expired fewer than `window` seconds ago, at most 86,400 (RFC 8767 5). `None` where
+/// there is no such set. No denial is used, and nothing is promoted. `Err` where memory ran out.
+/// All found entries lie in the cache.
 pub fn look_up_past<'a, H: BuildHasher + Drop, A: Allocator + Copy>(
     alloc: A,
-    cache: &'a Cache<H, A>,
-    octets: &[u8],
-    class: u16,
-    kind: u16,
-    moment: u64,
+    at: &CacheAt<'a, H, A>,
+    question: &QuestionRef<'_>,
     window: u64,
     most: usize,
 ) -> Result<Option<Vec<&'a Held<A>, A>>, AllocError>
-    requires laid { IsLaidOut octets.now }
-    requires window { window ≤ 86400 }
+    requires { window ≤ 86400 }
     ensures exact { IfOk result (λ found. option_map (λ f. lent f.items) found
-        ≡ look_up_past window moment cache.now.entries most (record {
-          name = labels_of octets.now;
-          kind = kind;
-          class = class;
-        })) }
+        ≡ look_up_past window at.now.moment at.now.cache.entries most question.now) }
     ensures from_cache { IfOk result
-        (λ found. IfSome found (λ f. AllByRecursion (λ h. Among h cache.now.entries) (lent f.items))) }
+        (λ found. IfSome found (λ f. AllByRecursion (λ h. Among h at.now.cache.entries) (lent f.items))) }
 {
     let mut slot = slot_for_look_ups();
     let mut found = Vec::new(alloc);
-    let mut rest = octets;
+    let mut rest = question.name();
     loop {
-        match find_stale_by_octets(cache, &mut slot, rest, class, kind, moment, window) {
+        match stale_at(at, &mut slot, question, rest, window) {
             Found::Rows(held) => {
                 found.push(held)?;
                 return Ok(Some(found));

@@ -1,4 +1,4 @@
-//! Slots that a look-up used: lent by the cache, and on their own.
+//! Slots that a look-up used: borrowed from the cache, and on their own.
 
 ghost use Rattle.std.specs.Prelude.{◌≡◌, [], map, IfOk, IsOk};
 ghost use Rattle.plain_list.specs.Borrowed.{lent};
@@ -31,7 +31,7 @@ impl<'a, 's, A: Allocator> Model for SlotsRef<'a, 's, A> {
 }
 
 impl<'a, 's, A: Allocator + Copy> SlotsRef<'a, 's, A> {
-    /// No slot; it takes no memory.
+    /// No slot. It does not allocate.
     pub fn none(alloc: A) -> SlotsRef<'a, 's, A>
         ensures { result ≡ [] }
     {
@@ -40,7 +40,7 @@ impl<'a, 's, A: Allocator + Copy> SlotsRef<'a, 's, A> {
         }
     }
 
-    /// The slots of these entries. It takes no memory.
+    /// The slots of these entries. It does not allocate.
     pub fn of(entries: Vec<&'a Held<A>, A>) -> SlotsRef<'a, 's, A>
         ensures { result ≡ map (λ h. h.piece.slot) (lent entries.entry.items) }
     {
@@ -49,8 +49,8 @@ impl<'a, 's, A: Allocator + Copy> SlotsRef<'a, 's, A> {
         }
     }
 
-    /// The same without the cache: the slot that a look-up filled is lent on, and others are copied. Only copies take
-    /// memory; `Err` where that ran out.
+    /// The same without the cache: the slot that a look-up filled stays borrowed, and others are
+    /// copied. Only copies allocate; `Err` where memory ran out.
     pub fn copied(self, alloc: A) -> Result<Slots<'s, A>, AllocError>
         ensures slots { IfOk result (λ slots. slots ≡ self.entry) }
         ensures none { self.entry ≡ [] → IsOk result }
@@ -59,7 +59,7 @@ impl<'a, 's, A: Allocator + Copy> SlotsRef<'a, 's, A> {
     }
 }
 
-/// Slots in order, apart from the cache. One may be lent, and comes first.
+/// Slots in order, apart from the cache. One may be borrowed, and comes first.
 #[derive(Drop)]
 pub struct Slots<'s, A: Allocator = Global> {
     lent: Option<&'s Slot>,
@@ -77,7 +77,7 @@ impl<'s, A: Allocator> Model for Slots<'s, A> {
 }
 
 impl<'s, A: Allocator> Slots<'s, A> {
-    /// No slot; it takes no memory.
+    /// No slot. It does not allocate.
     pub fn none(alloc: A) -> Slots<'s, A>
         ensures { result ≡ [] }
     {
@@ -128,7 +128,8 @@ fn slots_of<A: Allocator>(alloc: A, entries: &[&Held<A>]) -> Result<Vec<Slot, A>
     Ok(slots)
 }
 
-/// Makes the entries of these slots the most recently used, one after another. It takes no memory.
+/// Makes the entries of these slots the most recently used, one after another. It does not
+/// allocate.
 pub fn promote_all<H: BuildHasher + Drop, A: Allocator + Copy>(
     cache: &mut Cache<H, A>,
     slots: &Slots<'_, A>,

@@ -9,7 +9,8 @@ use std::alloc::Allocator;
 use std::slice;
 use trust_rank::Slot;
 
-/// Entries in order. One alone takes no memory, and has its slot beside it, which the look-up has filled.
+/// Entries in order. One alone does not allocate, and comes with its slot, which the look-up has
+/// filled.
 #[derive(Drop)]
 pub(crate) enum UsedEntries<'a, 's, A: Allocator> {
     One(&'a Held<A>, &'s Slot),
@@ -17,7 +18,7 @@ pub(crate) enum UsedEntries<'a, 's, A: Allocator> {
 }
 
 impl<'a, 's, A: Allocator> UsedEntries<'a, 's, A> {
-    /// No entry; it takes no memory.
+    /// No entry. It does not allocate.
     pub(crate) fn none(alloc: A) -> UsedEntries<'a, 's, A>
         ensures entries { entries_of result ≡ [] }
         ensures slot { HasItsSlot result }

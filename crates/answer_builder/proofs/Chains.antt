@@ -35,7 +35,7 @@ last_is (t ∷ other ∷ chain) =
     ap (λ (n : ℕ). slice_get (t ∷ other ∷ chain) n) one ∙ ap (λ (n : ℕ). slice_get (other ∷ chain) n) none
     ∙ last_is (other ∷ chain)
 
--- one more is told, behind others
+-- one more, after others
 pub told_more : {X Y : Type 0} (f : X → Y) (before items more : List Y) (y : Y) (xs : List X) (i : ℕ) (x : X)
     → i < length xs → x ≡ get_or xs i x → y ≡ f x → items ≡ before ++ map f (take i xs) → more ≡ items ++ y ∷ []
     → more ≡ before ++ map f (take (i + 1) xs)
@@ -67,7 +67,7 @@ of_rest P (suc n) [] all = tt
 of_rest P zero (x ∷ xs) all = all
 of_rest P (suc n) (x ∷ xs) all = of_rest P n xs all.1
 
--- none past their end
+-- none expired
 pub none_past : (moment : ℕ) (chain : List Held) → told_stale (length chain) moment chain ≡ map (told_at moment) chain
 none_past moment [] = refl
 none_past moment (h ∷ chain) = ap (λ (told : List Told). told_at moment h ∷ told) (none_past moment chain)
@@ -78,7 +78,7 @@ none_past moment (h ∷ chain) = ap (λ (told : List Told). told_at moment h ∷
 abbrev pub last_of_lent : List (Bor Held) → Option Held
 last_of_lent refs = option_copied (slice_get refs (length refs - 1))
 
--- behind another one it stays the last
+-- after another one it stays the last
 one_more : (r s : Bor Held) (refs : List (Bor Held)) → last_of_lent (s ∷ refs) ≡ last_of_lent (r ∷ s ∷ refs)
 one_more r s refs =
     let longer : length (r ∷ s ∷ refs) - 1 ≡ suc (length refs) = omega arith in
@@ -86,7 +86,7 @@ one_more r s refs =
     sym (ap (λ (n : ℕ). option_copied (slice_get (s ∷ refs) n)) shorter)
     ∙ sym (ap (λ (n : ℕ). option_copied (slice_get (r ∷ s ∷ refs) n)) longer)
 
--- the end of what is told of them is told of the last of them
+-- the end of their TTLs is that of the last of them
 pub last_lent : (moment : ℕ) (refs : List (Bor Held))
     → end_of (map (told_at moment) (lent refs)) ≡ option_map (told_at moment) (last_of_lent refs)
 last_lent moment [] = refl

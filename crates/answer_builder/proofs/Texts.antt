@@ -1,4 +1,4 @@
--- What is written within a limit, and what is sent of it.
+-- The octets that are written within a limit, and those that are sent.
 use Rattle.std.proofs.Common.{◌≡◌, ℕ, ◌<◌, ◌≤◌, List, [], ◌∷◌, length, Bool, true, false, cond, refl, sym, ap, subst, ◌∙◌, ⊎_elim, arith, Option, Some, None}
 use Rattle.std.specs.Prelude.{nat_lt, nat_le, Result, Ok, Err}
 use Rattle.std.proofs.lemmas.Bool.{cases_Bool, cond-true, cond-false, ltb-false, ltb-true, le-leb, leb-true}
@@ -62,7 +62,8 @@ pub bare_text : (a : Asked) (rcode : ℕ) (header : Header) (question : Option Q
     → written (message_of header question [] []) ≡ written (error_response a rcode)
 bare_text a rcode header question is same = (λ i. written (message_of (is i) (same i) [] [])) ∙ made_counts a false (bare rcode)
 
--- what is sent of a message with this header, the question, these records, and these in the authority section
+-- what is sent of a message with this header, the question, these records, and these in the
+-- authority section
 pub sent_text : (a : Asked) (s : Sections) (transport : Transport) (header : Header) (question : Option Question) (sets authority : List (List Record))
     → header ≡ answer_header a false s.rcode (0 ∷ 0 ∷ 0 ∷ 0 ∷ []) → question ≡ a.question → records_in sets ≡ s.answers → records_in authority ≡ s.authority
     → sent_over transport (written (message_of header question sets authority)) (written (cut_down (message_of header question sets authority))) ≡ text_of a s transport

@@ -1,4 +1,4 @@
--- Worked answers past their end, and of routes that deny, computed. Octets are hexadecimal.
+-- Worked answers from expired pieces, and of routes that deny, computed. Octets are hexadecimal.
 use Rattle.std.proofs.Common.{◌≡◌, ℕ, List, [], ◌∷◌, ◌++◌, length, map, Some, ap, refl, arith}
 use Rattle.std.specs.Prelude.{Ok, replicate, slice_index}
 use Rattle.dns_message.specs.Names.{step as name_step, walk_in, name_within}
@@ -14,11 +14,12 @@ use Rattle.answer_builder.specs.Answers.{local_sections, full_answer}
 use Rattle.answer_builder.specs.Transports.{stale_answer_of, local_answer_of}
 use Rattle.answer_builder.proofs.Worked.{example, below, asks, held, address}
 
--- an alias at one name of a letter below example that leads to another one, accepted at 1020, for a minute
+-- an alias at one name of a letter below example that leads to another one, accepted at 1020, for a
+-- minute
 abbrev leads : ℕ → ℕ → Held
 leads from to = held (below from) (Some 5) (rows ((0x01 ∷ to ∷ 0x07 ∷ example ++ 0x00 ∷ []) ∷ [])) 60
 
--- the text of the answer whose pieces from this place on are told past their end
+-- the text of the answer whose pieces from this place on are served stale
 abbrev stale : Asked → List Held → ℕ → ℕ → List ℕ
 stale a chain past moment = written (full_answer a (sections_told (told_stale past moment chain)))
 
@@ -32,9 +33,9 @@ ask_b = asks 0x1236 1 (below 0x62)
 abbrev ask_c : Asked
 ask_c = asks 0x1237 1 (below 0x63)
 
--- ---- a set past its end
+-- ---- an expired set
 
--- it ended at 301020, and is told for 30 seconds
+-- it expired at 301020, and is served with 30 seconds
 ended : stale ask_a (address ∷ []) 0 301020
     ≡ 0x12 ∷ 0x35 ∷ 0x81 ∷ 0x80 ∷ 0x00 ∷ 0x01 ∷ 0x00 ∷ 0x01 ∷ 0x00 ∷ 0x00 ∷ 0x00 ∷ 0x00 ∷ 0x01 ∷ 0x61
     ∷ 0x07 ∷ 0x65 ∷ 0x78 ∷ 0x61 ∷ 0x6d ∷ 0x70 ∷ 0x6c ∷ 0x65 ∷ 0x00 ∷ 0x00 ∷ 0x01 ∷ 0x00 ∷ 0x01 ∷ 0xc0
@@ -52,7 +53,7 @@ long_ended : stale ask_a (address ∷ []) 0 87701020
 unfolding written ◌▹◌ each name_text data_text with_length shape_of
 long_ended = refl
 
--- a millisecond before its end it is told what is left of it, which is no whole second
+-- a millisecond before it expires it is served with what is left of it, which is no whole second
 at_its_end : stale ask_a (address ∷ []) 0 301019
     ≡ 0x12 ∷ 0x35 ∷ 0x81 ∷ 0x80 ∷ 0x00 ∷ 0x01 ∷ 0x00 ∷ 0x01 ∷ 0x00 ∷ 0x00 ∷ 0x00 ∷ 0x00 ∷ 0x01 ∷ 0x61
     ∷ 0x07 ∷ 0x65 ∷ 0x78 ∷ 0x61 ∷ 0x6d ∷ 0x70 ∷ 0x6c ∷ 0x65 ∷ 0x00 ∷ 0x00 ∷ 0x01 ∷ 0x00 ∷ 0x01 ∷ 0xc0
@@ -70,7 +71,7 @@ living : stale ask_a (address ∷ []) 0 11520
 unfolding written ◌▹◌ each name_text data_text with_length shape_of
 living = refl
 
--- a piece before the first that is told past its end is told what is left of it
+-- a piece before the first stale one is served with what is left of it
 before_past : stale ask_a (address ∷ []) 1 301020
     ≡ 0x12 ∷ 0x35 ∷ 0x81 ∷ 0x80 ∷ 0x00 ∷ 0x01 ∷ 0x00 ∷ 0x01 ∷ 0x00 ∷ 0x00 ∷ 0x00 ∷ 0x00 ∷ 0x01 ∷ 0x61
     ∷ 0x07 ∷ 0x65 ∷ 0x78 ∷ 0x61 ∷ 0x6d ∷ 0x70 ∷ 0x6c ∷ 0x65 ∷ 0x00 ∷ 0x00 ∷ 0x01 ∷ 0x00 ∷ 0x01 ∷ 0xc0
@@ -79,22 +80,22 @@ before_past : stale ask_a (address ∷ []) 1 301020
 unfolding written ◌▹◌ each name_text data_text with_length shape_of
 before_past = refl
 
--- what is left of it is not what is told past its end
+-- its remaining TTL is not its stale one
 none_left : told_past 301020 address ≡ told_at 301020 address → ⊥
 none_left e = let seconds : 30 ≡ 0 = ap (λ (t : Told). t.seconds) e in absurd (omega (arith, seconds))
 
--- and while it lives it is not told for 30 seconds
+-- and while it is alive it is not served with 30 seconds
 not_thirty : stale ask_a (address ∷ []) 0 11520 ≡ stale ask_a (address ∷ []) 0 301020 → ⊥
 unfolding written ◌▹◌ each name_text data_text with_length shape_of
 not_thirty e = let seconds : 1 ≡ 0 = ap (λ (text : List ℕ). slice_index text 35) e in absurd (omega (arith, seconds))
 
--- ---- behind aliases
+-- ---- after aliases
 
 -- two aliases and the set
 abbrev twice : List Held
 twice = leads 0x63 0x62 ∷ leads 0x62 0x61 ∷ address ∷ []
 
--- an alias that was held before and ended has no second left, the set behind it 30
+-- an alias that was held before and has expired has no second left, the set after it 30
 held_alias : stale ask_b (leads 0x62 0x61 ∷ address ∷ []) 1 301020
     ≡ 0x12 ∷ 0x36 ∷ 0x81 ∷ 0x80 ∷ 0x00 ∷ 0x01 ∷ 0x00 ∷ 0x02 ∷ 0x00 ∷ 0x00 ∷ 0x00 ∷ 0x00 ∷ 0x01 ∷ 0x62
     ∷ 0x07 ∷ 0x65 ∷ 0x78 ∷ 0x61 ∷ 0x6d ∷ 0x70 ∷ 0x6c ∷ 0x65 ∷ 0x00 ∷ 0x00 ∷ 0x01 ∷ 0x00 ∷ 0x01 ∷ 0xc0
@@ -141,7 +142,7 @@ another : stale ask_c twice 1 301020 ≡ stale ask_c twice 2 301020 → ⊥
 unfolding written ◌▹◌ each name_text data_text with_length fields_of first_field name_within walk_in name_step shape_of
 another e = let seconds : 30 ≡ 0 = ap (λ (text : List ℕ). slice_index text 52) e in absurd (omega (arith, seconds))
 
--- none behind the first ones: the text of an answer by what is left of each
+-- none after the first ones: the text of an answer by what is left of each
 all_left : stale ask_c twice 3 301020 ≡ written (full_answer ask_c (sections_of 301020 twice))
 unfolding written ◌▹◌ each name_text data_text with_length fields_of first_field name_within walk_in name_step shape_of
 all_left = refl
@@ -226,14 +227,15 @@ long_label letter = 63 ∷ replicate 63 letter
 abbrev three : ℕ → List ℕ
 three letter = long_label letter ++ long_label letter ++ long_label letter
 
--- an alias to a name of three labels of 63 octets and one of so many
+-- an alias to a name of three labels of 63 octets and one of `n`
 abbrev far : List (List ℕ) → ℕ → ℕ → Held
 far owner letter n = held owner (Some 5) (rows ((three letter ++ n ∷ replicate n letter ++ 0 ∷ []) ∷ [])) 60
 
 abbrev far_name : List (List ℕ)
 far_name = replicate 63 0x62 ∷ replicate 63 0x62 ∷ replicate 63 0x62 ∷ replicate 61 0x62 ∷ []
 
--- two aliases, the first to a name of 255 octets, the second from there to one of 194 octets and so many more
+-- two aliases, the first to a name of 255 octets, the second from there to one of 194 octets and
+-- `n` more
 abbrev long : ℕ → List Held
 long n = far (below 0x61) 0x62 61 ∷ far far_name 0x63 n ∷ []
 

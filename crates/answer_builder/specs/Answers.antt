@@ -10,12 +10,13 @@ use Rattle.record_cache.specs.Values.{Held}
 use Rattle.record_cache.specs.Ageing.{is_alive, seconds_left}
 use Rattle.answer_builder.specs.Values.{Told, Asked, Sections}
 
--- ---- the records of a piece, with so many seconds to live
+-- ---- the records of a piece, with these seconds to live
 
 -- a record of a set of this type
 abbrev pub record_of : ℕ → Piece → ℕ → List ℕ → Record
 record_of ttl p kind octets = record { owner = p.owner; kind = kind; class = p.slot.class; ttl = ttl; rdata = octets }
 
+-- the records that an answer has of a piece with these seconds left
 abbrev pub records_in : ℕ → Piece → Option ℕ → Body → List Record
 records_in ttl p (Some kind) (rows each) = map (record_of ttl p kind) each
 records_in ttl p (Some kind) (no_data soa) = []
@@ -26,6 +27,7 @@ records_in ttl p None body = []
 abbrev pub set_records : ℕ → Piece → List Record
 set_records ttl p = records_in ttl p p.slot.kind p.body
 
+-- the SOA of a denial, if any, with these seconds left (RFC 2308 3)
 abbrev pub aged : ℕ → Option Record → List Record
 aged ttl None = []
 aged ttl (Some soa) = record { owner = soa.owner; kind = soa.kind; class = soa.class; ttl = ttl; rdata = soa.rdata }
@@ -37,40 +39,43 @@ soa_records ttl (rows each) = []
 soa_records ttl (no_data soa) = aged ttl soa
 soa_records ttl (denied soa) = aged ttl soa
 
--- 3 for a name error, else 0: RFC 1035 4.1.1, RFC 2308 2
+-- 3 for a name error, otherwise 0: RFC 1035 4.1.1, RFC 2308 2
 abbrev pub rcode_of : Body → ℕ
 rcode_of (rows each) = 0
 rcode_of (no_data soa) = 0
 rcode_of (denied soa) = 3
 
--- ---- what is told of pieces
+-- ---- pieces and their seconds in an answer
 
 -- the whole seconds that are left of it at the moment: RFC 1035 3.2.1, RFC 2181 5.2
 abbrev pub told_at : ℕ → Held → Told
 told_at moment h = record { piece = h.piece; seconds = seconds_left moment h }
 
--- the same of what is alive; what has ended is told for 30 seconds: RFC 8767 4
+-- the same of what is alive; 30 seconds for what has expired: RFC 8767 4
 abbrev pub told_past : ℕ → Held → Told
 told_past moment h = record { piece = h.piece; seconds = if is_alive moment h then seconds_left moment h else 30 }
 
--- so many pieces by what is left of them, and those behind them past their end
+-- the first `past` pieces with what is left of them, and those after them stale
 abbrev pub told_stale : ℕ → ℕ → List Held → List Told
 told_stale past moment chain = map (told_at moment) (take past chain) ++ map (told_past moment) (drop past chain)
 
--- ---- a chain: aliases, each at the name that the one before it leads to, and the set or denial at its end
+-- ---- a chain: aliases, each at the name that the one before leads to, then a set or denial
 
--- all records of a piece have the seconds that are told of it
+-- all records of a piece have its seconds
 abbrev pub answers_of : Told → List Record
 answers_of t = set_records t.seconds t.piece
 
+-- the last piece of a chain that begins with t
 abbrev pub last_of : Told → List Told → Told
 last_of t [] = t
 last_of t (other ∷ chain) = last_of other chain
 
+-- the authority section after a chain that ends in this piece
 abbrev pub authority_of : Told → List Record
 authority_of t = soa_records t.seconds t.piece.body
 
--- the answer section has the aliases in order and the set; the authority section, the SOA of the denial at the end
+-- the answer section has the aliases in order and the set; the authority section, the SOA of the
+-- denial at the end
 abbrev pub sections_told : List Told → Sections
 sections_told [] = record { answers = []; authority = []; rcode = 0 }
 sections_told (t ∷ chain) = record {
@@ -83,7 +88,8 @@ sections_told (t ∷ chain) = record {
 abbrev pub sections_of : ℕ → List Held → Sections
 sections_of moment chain = sections_told (map (told_at moment) chain)
 
--- aliases that lead to a name whose route denies, which is a name error without SOA: RFC 1035 4.1.1, RFC 2308 2.1
+-- aliases that lead to a name whose route denies, which is a name error without SOA: RFC 1035
+-- 4.1.1, RFC 2308 2.1
 abbrev pub local_sections : List Told → Sections
 local_sections chain = record { answers = flat_map answers_of chain; authority = []; rcode = 3 }
 
@@ -123,7 +129,7 @@ answer_message a cut s = record {
 abbrev pub bare : ℕ → Sections
 bare rcode = record { answers = []; authority = []; rcode = rcode }
 
--- all of the answer
+-- the full answer; its response code is 3 exactly for a name error
 abbrev pub full_answer : Asked → Sections → Message
 full_answer a s = answer_message a false s
 

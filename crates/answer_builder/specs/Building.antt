@@ -1,4 +1,4 @@
--- How an answer is put together from borrowed things.
+-- The parts of an answer, put together from borrowed things.
 use Rattle.std.specs.Prelude.{ℕ, if◌then◌else◌, nat_le, true, List, [], ◌∷◌, length, Option, Some, None}
 use Rattle.dns_message.specs.Values.{Record, Message}
 use Rattle.answer_builder.specs.Values.{Told, Sections}
@@ -19,7 +19,7 @@ cut_down m = record {
   additional = [];
 }
 
--- a text of at most so many octets
+-- a text of at most `limit` octets
 abbrev pub fitting : ℕ → List ℕ → Option (List ℕ)
 fitting limit text = if nat_le (length text) limit then Some text else None
 
@@ -30,10 +30,12 @@ abbrev pub end_of : List Told → Option Told
 end_of [] = None
 end_of (t ∷ chain) = Some (last_of t chain)
 
+-- the authority section after a chain that ends in this piece, if any
 abbrev pub end_authority : Option Told → List Record
 end_authority None = []
 end_authority (Some t) = authority_of t
 
+-- the response code after a chain that ends in this piece, if any
 abbrev pub end_rcode : Option Told → ℕ
 end_rcode None = 0
 end_rcode (Some t) = rcode_of t.piece.body

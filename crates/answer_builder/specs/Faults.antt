@@ -1,14 +1,14 @@
--- What a call answers, unless memory ran out.
+-- The answer of a call, unless memory ran out.
 use Rattle.std.specs.Prelude.{Bool, true, false, Result}
 use Rattle.first_fault.specs.Reading as reading
 use Rattle.answer_builder.specs.declared.fault.Fault.{Fault}
 use Rattle.answer_builder.specs.declared.fault.Fault.TheVariants.{TooLarge, Memory}
 
--- the fault that is a want of memory
+-- the fault that means out of memory
 abbrev pub wants_memory : Fault → Bool
 wants_memory Memory = true
 wants_memory TooLarge = false
 
--- What a call answered, seen by view, is the answer, unless memory ran out.
+-- The value that a call returned, seen by view, is the answer, unless memory ran out.
 abbrev pub Gives : {X Y : Type 0} → (X → Y) → Result X Fault → Result Y Fault → Type 0
 Gives view given answer = reading.Gives wants_memory view given answer

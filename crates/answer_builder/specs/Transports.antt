@@ -1,4 +1,4 @@
--- What is sent of an answer: RFC 1035 4.2.
+-- The octets of an answer that are sent (RFC 1035 4.2).
 use Rattle.std.specs.Prelude.{ℕ, if◌then◌else◌, nat_le, List, length, map, Result, Ok, Err}
 use Rattle.dns_message.specs.Writing.{written}
 use Rattle.record_cache.specs.Values.{Held}
@@ -18,6 +18,7 @@ over_udp full cut = if nat_le (length full) 512 then full else cut
 abbrev pub over_tcp : List ℕ → Result (List ℕ) Fault
 over_tcp full = if nat_le (length full) 65535 then Ok full else Err TooLarge
 
+-- what is sent: over UDP the truncated text where the full one is too long (RFC 1035 4.2)
 abbrev pub sent_over : Transport → List ℕ → List ℕ → Result (List ℕ) Fault
 sent_over Udp full cut = Ok (over_udp full cut)
 sent_over Tcp full cut = over_tcp full
@@ -30,7 +31,8 @@ text_of a s transport = sent_over transport (written (full_answer a s)) (written
 abbrev pub answer_of : Asked → List Held → ℕ → Transport → Result (List ℕ) Fault
 answer_of a chain moment transport = text_of a (sections_of moment chain) transport
 
--- that of the answer from a chain, the pieces behind the first ones past their end
+-- that of the answer from a chain whose pieces from index `past` on may have expired: an expired
+-- one gets 30 seconds there (RFC 8767 4), and 0 before
 abbrev pub stale_answer_of : Asked → List Held → ℕ → ℕ → Transport → Result (List ℕ) Fault
 stale_answer_of a chain past moment transport = text_of a (sections_told (told_stale past moment chain)) transport
 

@@ -1,4 +1,4 @@
--- What a contract sees of questions and answers.
+-- Questions and answers as contracts see them.
 use Rattle.std.specs.Prelude.{ℕ, Bool, List, Option}
 use Rattle.dns_message.specs.Values.{Question, Record}
 use Rattle.trust_rank.specs.Values.{Piece}
@@ -11,7 +11,7 @@ pub record Asked : Type 0 where
   pub rd : Bool
   pub question : Option Question
 
--- a piece, and the seconds that an answer tells to be left of it
+-- a piece, and the seconds that an answer gives it
 pub record Told : Type 0 where
   pub piece : Piece
   pub seconds : ℕ
@@ -22,6 +22,6 @@ pub record Sections : Type 0 where
   pub authority : List Record
   pub rcode : ℕ
 
--- what the answer to a request with this header repeats of it, and of its question where there is one
+-- the part of a request with this header that its answer repeats, with its question, if any
 abbrev pub asked_in : Header → Option Question → Asked
 asked_in h q = record { id = h.id; opcode = h.opcode; rd = h.rd; question = q }

@@ -1,4 +1,4 @@
-//! What a client asked, and over what.
+//! A client's request, and its transport.
 
 ghost use Rattle.std.specs.Prelude.{◌≡◌};
 
@@ -6,7 +6,7 @@ use dns_message::{Question, QuestionRef};
 use std::alloc::{Allocator, Global};
 use std::marker::Model;
 
-/// What a client asked, as far as its answer repeats it (RFC 1035 4.1.1 and 4.1.2).
+/// The part of a client's request that its answer repeats (RFC 1035 4.1.1 and 4.1.2).
 #[derive(Drop)]
 pub struct Asked<A: Allocator = Global> {
     /// The identifier.
@@ -28,7 +28,7 @@ impl<A: Allocator> Model for Asked<A> {
 }
 
 impl<A: Allocator> Asked<A> {
-    /// The same with the question borrowed. It takes no memory.
+    /// The same with the question borrowed. It does not allocate.
     pub fn borrowed(&self) -> AskedRef<'_>
         ensures { result ≡ self.now }
     {
@@ -45,7 +45,7 @@ impl<A: Allocator> Asked<A> {
     }
 }
 
-/// What a client asked, with the question where it lies. Contracts see it as they see an `Asked`.
+/// A client's request, with the question in place. Contracts see it as they see an `Asked`.
 #[derive(Drop)]
 pub struct AskedRef<'a> {
     /// The identifier.
@@ -66,7 +66,7 @@ impl<'a> Model for AskedRef<'a> {
     ghost view = { λ a. record { id = a.id; opcode = a.opcode; rd = a.rd; question = a.question } };
 }
 
-/// What carries an answer.
+/// The transport of an answer.
 #[derive(Clone, Copy, Debug, PartialEq, Eq)]
 pub enum Transport {
     /// At most 512 octets (RFC 1035 4.2.1).

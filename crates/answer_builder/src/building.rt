@@ -12,16 +12,13 @@ use crate::asked::{Asked, AskedRef, Transport};
 use crate::fault::Fault;
 use crate::records::{end_of, set_of, sets_at, sets_of};
 use crate::sections::SectionsRef;
-use crate::text::{header_of, put_bare, put_text};
+use crate::text::{UDP_LIMIT, header_of, put_bare, put_text};
 use crate::told::{ToldRef, last_at, told_left, told_stale};
 use dns_message::MessageParts;
+use dns_message::codes::NXDOMAIN;
 use plain_list::Octets;
 use record_cache::Held;
 use std::alloc::{AllocError, Allocator};
-use trust_rank::NAME_ERROR;
-
-/// Room for what UDP carries (RFC 1035 4.2.1).
-const ROOM: usize = 512;
 
 /// Writes the answer with these sections.
 fn put_sections<A: Allocator + Copy>(
@@ -66,12 +63,12 @@ fn put_one<A: Allocator + Copy>(
     put_sections(alloc, octets, asked, sections, transport)
 }
 
-/// Writes the answer from pieces with the seconds that are told to be left of them, in the place of the octets: aliases
-/// in order, then a set or a denial. Faults are those of `build`.
+/// Writes the answer from pieces with the seconds that it gives them, in place of the octets:
+/// aliases in order, then a set or a denial. Faults are those of `build`.
 ///
-/// A vector with room for it is not made larger. Memory is taken beside it only where there is more than one piece, or
-/// where more than a few names begin in the octets. Where it fails, nothing is said of the octets, which keep their
-/// room.
+/// A vector with room for it is not made larger. Apart from it, only more than one piece allocates,
+/// or more than a few names that begin in the octets. If it fails, the octets may be anything, and
+/// keep their room.
 pub fn put_told<A: Allocator + Copy>(
     alloc: A,
     octets: &mut Vec<u8, A>,
@@ -95,8 +92,9 @@ pub fn put_told<A: Allocator + Copy>(
     put_sections(alloc, octets, asked, sections, transport)
 }
 
-/// Writes the answer from aliases that lead to a name whose route denies, with the seconds that are told to be left of
-/// them, in the place of the octets. Faults are those of `build_local`, and of memory holds what `put_told` says.
+/// Writes the answer from aliases that lead to a name whose route denies, with the seconds that it
+/// gives them, in place of the octets. Faults are those of `build_local`, and it allocates as
+/// `put_told` does.
 pub fn put_local<A: Allocator + Copy>(
     alloc: A,
     octets: &mut Vec<u8, A>,
@@ -111,13 +109,13 @@ pub fn put_local<A: Allocator + Copy>(
     let sections = SectionsRef {
         answers: &sets,
         authority: &[],
-        rcode: NAME_ERROR,
+        rcode: NXDOMAIN,
     };
     put_sections(alloc, octets, asked, sections, transport)
 }
 
-/// Writes the answer that `build` gives, from borrowed pieces, in the place of the octets. Of memory holds what
-/// `put_told` says.
+/// Writes the answer that `build` gives, from borrowed pieces, in place of the octets. It allocates
+/// as `put_told` does.
 pub fn put_answer<A: Allocator + Copy>(
     alloc: A,
     octets: &mut Vec<u8, A>,
@@ -144,14 +142,16 @@ pub fn put_answer<A: Allocator + Copy>(
     put_sections(alloc, octets, asked, sections, transport)
 }
 
-/// The octets of the answer to a question whose opcode has 4 bits, from the pieces that answer it: aliases in order,
-/// then a set or a denial, none accepted after the moment, in milliseconds.
+/// The octets of the answer to a question whose opcode has 4 bits, from the pieces that answer it:
+/// aliases in order, then a set or a denial, none accepted after the moment, in milliseconds.
 ///
-/// Identifier, opcode, RD and question are as they came, QR and RA are set, AA and Z clear. The answer section has the
-/// records of all sets, in order, the authority section the SOA of a denial at the end, if it has one, each with the
-/// whole seconds that are left of its piece; the response code is 3 where the end is a name error, else 0 (RFC 2308 2
-/// and 3). Over UDP, where these are more than 512 octets, the same header with TC and the question alone (RFC 1035
-/// 4.2.1). Over TCP, `TooLarge` where they are more than 65,535 (RFC 1035 4.2.2). `Memory` where a growth was refused.
+/// Identifier, opcode, RD and question are as they came, QR and RA are set, AA and Z clear. The
+/// answer section has the records of all sets, in order, the authority section the SOA of a denial
+/// at the end, if it has one, each with the whole seconds that are left of its piece; the response
+/// code is 3 where the end is a name error, otherwise 0 (RFC 2308 2 and 3). Over UDP, where these
+/// are more than 512 octets, the same header with TC and the question alone (RFC 1035 4.2.1). Over
+/// TCP, `TooLarge` where they are more than 65,535 (RFC 1035 4.2.2). `Memory` where an allocation
+/// was refused.
 pub fn build<A: Allocator + Copy>(
     alloc: A,
     asked: &Asked<A>,
@@ -166,9 +166,10 @@ pub fn build<A: Allocator + Copy>(
     build_stale(alloc, asked, chain, chain.len(), moment, transport)
 }
 
-/// The octets of the answer that `build` gives, but where pieces have ended: each of those from index `past` on, which
-/// is at most their number, that has ended at the moment has 30 seconds left (RFC 8767 4); all others have what is left
-/// of them, 0 where they have ended. Faults are those of `build`.
+/// The octets of the answer that `build` gives, but with expired pieces: each of those from index
+/// `past` on, which is at most their number, that has expired at the moment has 30 seconds left
+/// (RFC 8767 4); all others have what is left of them, 0 where they have expired. Faults are those
+/// of `build`.
 pub fn build_stale<A: Allocator + Copy>(
     alloc: A,
     asked: &Asked<A>,
@@ -183,18 +184,19 @@ pub fn build_stale<A: Allocator + Copy>(
     ensures { Gives (λ text. text) result (stale_answer_of asked.now chain.now past moment transport) }
 {
     let told = told_stale(alloc, chain, past, moment)?;
-    let mut octets = Vec::with_capacity(alloc, ROOM)?;
+    let mut octets = Vec::with_capacity(alloc, UDP_LIMIT)?;
     put_told(alloc, &mut octets, asked.borrowed(), &told, transport)?;
     Ok(Octets::from_vec(octets))
 }
 
-/// The octets of the answer to a question whose opcode has 4 bits, from the aliases that lead from its name to one
-/// whose route denies, none to 8, none accepted after the moment, in milliseconds.
+/// The octets of the answer to a question whose opcode has 4 bits, from the aliases that lead from
+/// its name to one whose route denies, none to 8, none accepted after the moment, in milliseconds.
 ///
-/// The header is that of `build` with response code 3, a name error. The answer section has the aliases in order, each
-/// with the whole seconds that are left of it; the authority section is empty (RFC 2308 2.1). Over UDP, where this is
-/// more than 512 octets, the same header with TC and the question alone (RFC 1035 4.2.1). Over TCP, `TooLarge` where it
-/// is more than 65,535 (RFC 1035 4.2.2). `Memory` where a growth was refused.
+/// The header is that of `build` with response code 3, a name error. The answer section has the
+/// aliases in order, each with the whole seconds that are left of it; the authority section is
+/// empty (RFC 2308 2.1). Over UDP, where this is more than 512 octets, the same header with TC and
+/// the question alone (RFC 1035 4.2.1). Over TCP, `TooLarge` where it is more than 65,535 (RFC 1035
+/// 4.2.2). `Memory` where an allocation was refused.
 pub fn build_local<A: Allocator + Copy>(
     alloc: A,
     asked: &Asked<A>,
@@ -207,13 +209,13 @@ pub fn build_local<A: Allocator + Copy>(
     ensures { Gives (λ text. text) result (local_answer_of asked.now aliases.now moment transport) }
 {
     let told = told_left(alloc, aliases, moment)?;
-    let mut octets = Vec::with_capacity(alloc, ROOM)?;
+    let mut octets = Vec::with_capacity(alloc, UDP_LIMIT)?;
     put_local(alloc, &mut octets, asked.borrowed(), &told, transport)?;
     Ok(Octets::from_vec(octets))
 }
 
-/// Writes the octets that `failure` gives in the place of the octets. A vector with room for 271 is not made larger.
-/// Where memory runs out, nothing is said of the octets, which keep their room.
+/// Writes the octets that `failure` gives in place of the octets. A vector with room for 271 is not
+/// made larger. If memory runs out, the octets may be anything, and keep their room.
 pub fn put_failure<A: Allocator + Copy>(
     alloc: A,
     octets: &mut Vec<u8, A>,
@@ -234,9 +236,10 @@ pub fn put_failure<A: Allocator + Copy>(
     put_bare(alloc, octets, &message)
 }
 
-/// The octets of the answer to a question that failed, with this response code; opcode and response code have 4 bits.
-/// Identifier, opcode, RD and the question, if there is one, are as they came, QR and RA are set, all else is clear and
-/// all sections are empty (RFC 1035 4.1.1). `Err` where memory ran out.
+/// The octets of the answer to a question that failed, with this response code; opcode and response
+/// code have 4 bits. Identifier, opcode, RD and the question, if any, are as they came, QR and RA
+/// are set, all other bits are clear and all sections are empty (RFC 1035 4.1.1). `Err` where
+/// memory ran out.
 pub fn failure<A: Allocator + Copy>(
     alloc: A,
     asked: &Asked<A>,
@@ -246,7 +249,7 @@ pub fn failure<A: Allocator + Copy>(
     requires rcode { rcode < 16 }
     ensures { IfOk result (λ text. text ≡ written (error_response asked.now rcode)) }
 {
-    let mut octets = Vec::with_capacity(alloc, ROOM)?;
+    let mut octets = Vec::with_capacity(alloc, UDP_LIMIT)?;
     put_failure(alloc, &mut octets, asked.borrowed(), rcode)?;
     Ok(Octets::from_vec(octets))
 }

@@ -9,7 +9,8 @@ use thiserror::Error;
 /// Why there is no answer.
 #[derive(Clone, Copy, Debug, PartialEq, Eq, Error)]
 pub enum Fault {
-    /// Over TCP, the answer has more octets than the two octets of a length can say: more than 65,535 (RFC 1035 4.2.2).
+    /// Over TCP, the answer has more octets than the two octets of a length can say: more than
+    /// 65,535 (RFC 1035 4.2.2).
     #[error("an answer of over 65,535 octets")]
     TooLarge,
     /// Memory ran out.

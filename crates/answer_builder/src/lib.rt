@@ -14,4 +14,5 @@ pub use building::{
     build, build_local, build_stale, failure, put_answer, put_failure, put_local, put_told,
 };
 pub use fault::Fault;
+pub use text::UDP_LIMIT;
 pub use told::ToldRef;

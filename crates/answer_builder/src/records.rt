@@ -11,10 +11,11 @@ ghost use Rattle.answer_builder.specs.Building.{end_authority, end_rcode, listed
 ghost use Rattle.plain_list.specs.Borrowed.{lent};
 
 use crate::told::ToldRef;
+use dns_message::codes::NXDOMAIN;
 use dns_message::{DataRef, Record, RowsRef};
 use record_cache::Held;
 use std::alloc::{AllocError, Allocator};
-use trust_rank::{Body, NAME_ERROR, Piece};
+use trust_rank::{Body, Piece};
 
 /// The response code of an answer that ends with this piece.
 fn rcode_of<A: Allocator>(piece: &Piece<A>) -> u8
@@ -22,7 +23,7 @@ fn rcode_of<A: Allocator>(piece: &Piece<A>) -> u8
     ensures small { result < 16 }
 {
     match &piece.body {
-        Body::Denied(_) => NAME_ERROR,
+        Body::Denied(_) => NXDOMAIN,
         _ => 0,
     }
 }
@@ -92,7 +93,7 @@ pub(crate) fn sets_at<'a, A: Allocator + Copy>(
     Ok(sets)
 }
 
-/// The SOA as a set of its own, if there is one.
+/// The SOA as a set of its own, if any.
 fn aged<A: Allocator>(soa: &Option<Box<Record<A>, A>>, ttl: u32) -> Option<RowsRef<'_, A>>
     requires { IfSome (unboxed soa.now) (λ r. IsShaped r.kind r.rdata) }
     ensures { listed result ≡ aged ttl (unboxed soa.now) }

@@ -1,4 +1,4 @@
-//! What an answer says of the question, put together from borrowed records.
+//! The sections of an answer, put together from borrowed records.
 
 use dns_message::RowsRef;
 use std::alloc::{Allocator, Global};

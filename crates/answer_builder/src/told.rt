@@ -1,4 +1,4 @@
-//! Pieces with the seconds that an answer tells to be left of them.
+//! Pieces with the seconds that an answer gives them.
 
 ghost use Rattle.std.specs.Prelude.{◌≡◌, ◌≤◌, ◌++◌, length, map, IfOk, OnOk};
 ghost use Rattle.std.specs.List.{AllByRecursion};
@@ -12,10 +12,10 @@ use std::alloc::{AllocError, Allocator, Global};
 use std::marker::Model;
 use trust_rank::Piece;
 
-/// What is told of a piece that has ended, in seconds (RFC 8767 4).
+/// The TTL of a stale piece, in seconds (RFC 8767 4).
 const STALE: u32 = 30;
 
-/// A borrowed piece, and the seconds that an answer tells to be left of it. Contracts see it as a `Told`.
+/// A borrowed piece, and the seconds that an answer gives it. Contracts see it as a `Told`.
 #[derive(Drop)]
 pub struct ToldRef<'a, A: Allocator = Global> {
     pub piece: &'a Piece<A>,
@@ -32,8 +32,9 @@ impl<'a, A: Allocator> Model for ToldRef<'a, A> {
 }
 
 impl<'a, A: Allocator> ToldRef<'a, A> {
-    /// What is held, with the whole seconds that are left of it at a moment, in milliseconds, that is not before it was
-    /// accepted; 0 where it has ended (RFC 1035 3.2.1). It takes no memory.
+    /// A held piece, with the whole seconds that are left of it at a moment, in milliseconds, that
+    /// is not before it was accepted; 0 where it has expired (RFC 1035 3.2.1). It does not
+    /// allocate.
     pub fn at(held: &'a Held<A>, moment: u64) -> ToldRef<'a, A>
         requires { held.now.accepted ≤ moment }
         ensures { result ≡ told_at moment held.now }
@@ -44,7 +45,8 @@ impl<'a, A: Allocator> ToldRef<'a, A> {
         }
     }
 
-    /// The same where it is alive; what has ended has 30 seconds left (RFC 8767 4). It takes no memory.
+    /// The same where it is alive; an expired piece has 30 seconds left (RFC 8767 4). It does not
+    /// allocate.
     pub fn past(held: &'a Held<A>, moment: u64) -> ToldRef<'a, A>
         requires { held.now.accepted ≤ moment }
         ensures { result ≡ told_past moment held.now }
@@ -59,7 +61,8 @@ impl<'a, A: Allocator> ToldRef<'a, A> {
     }
 }
 
-/// The whole seconds that are left of a piece at a moment, in milliseconds, as the TTL of its records.
+/// The whole seconds that are left of a piece at a moment, in milliseconds, as the TTL of its
+/// records.
 fn ttl_of<A: Allocator>(held: &Held<A>, moment: u64) -> u32
     requires { held.now.accepted ≤ moment }
     ensures { result ≡ seconds_left moment held.now }
@@ -69,7 +72,7 @@ fn ttl_of<A: Allocator>(held: &Held<A>, moment: u64) -> u32
     left as u32
 }
 
-/// The last of borrowed pieces, if there is one, with what is left of it at a moment, in milliseconds.
+/// The last of borrowed pieces, if any, with what is left of it at a moment, in milliseconds.
 pub(crate) fn last_at<'a, A: Allocator>(
     chain: &[&'a Held<A>],
     moment: u64,
@@ -98,7 +101,7 @@ fn add_left<'a, A: Allocator + Copy>(
     Ok(())
 }
 
-/// Adds pieces past their end, at a moment in milliseconds.
+/// Adds pieces at a moment in milliseconds; expired ones are stale.
 fn add_past<'a, A: Allocator + Copy>(
     told: &mut Vec<ToldRef<'a, A>, A>,
     chain: &'a [Held<A>],
@@ -127,7 +130,8 @@ pub(crate) fn told_left<'a, A: Allocator + Copy>(
     Ok(told)
 }
 
-/// Pieces with what is left of them at a moment, in milliseconds, those from index `past` on past their end.
+/// Pieces with what is left of them at a moment, in milliseconds; those from index `past` on that
+/// have expired are stale.
 pub(crate) fn told_stale<'a, A: Allocator + Copy>(
     alloc: A,
     chain: &'a [Held<A>],

@@ -1,4 +1,4 @@
-//! Tests of answers from outside: refused growths, the largest answer, and what is said of a fault.
+//! Tests of answers from outside: refused allocations, the largest answer, and the texts of faults.
 #![tactic(auto)]
 
 #[cfg(test)]

@@ -1,4 +1,4 @@
-//! Refused growths.
+//! Refused allocations.
 
 use crate::samples::{
     ADDRESS, ALIAS, Case, Kind, NAME_ERROR, TO_LAN, answer, asked, growths_beside_room,
@@ -9,7 +9,8 @@ use refusing_allocator::Refusing;
 use std::alloc::Global;
 use std::test::Fail;
 
-/// How many growths of the answer from a reply to its own question are refused one after another, until it is there.
+/// The number of allocations of the answer from a reply to its own question that are refused one
+/// after another, until it is there.
 fn refusals(
     table_heap: Global,
     kind: Kind,

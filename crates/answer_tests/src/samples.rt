@@ -40,7 +40,7 @@ suffix = "."
 servers = ["192.0.2.1:53"]
 "#;
 
-/// What a reply carries for its own question.
+/// The pieces that a reply carries for its own question.
 fn walked<'h>(
     table_heap: Global,
     heap: &'h Refusing<Global>,
@@ -84,15 +84,15 @@ fn chain_of<A: Allocator + Copy>(
     Ok(chain)
 }
 
-/// What came of an answer: its octets, that it is too large, or that it wants memory.
+/// An answer: its octets, or that it is too large, or out of memory.
 pub(crate) type Built<'h> = Result<Octets<&'h Refusing<Global>>, Fault>;
 
-/// Which answer is built of the pieces.
+/// The answer that is built of the pieces.
 #[derive(Clone, Copy)]
 pub(crate) enum Kind {
     /// With what is left of each, this many milliseconds after they came.
     Left(u64),
-    /// Past their end from this index on, when the address has just ended.
+    /// Stale from this index on, when the address has just expired.
     Past(usize),
     /// Of a route that denies, a second after they came.
     Local,
@@ -117,7 +117,7 @@ pub(crate) struct Case<'c> {
     pub reply: &'c [u8],
 }
 
-/// The answer to a question with so many growths granted.
+/// The answer to a question with `growths` allocations granted.
 pub(crate) fn answer<'h>(
     table_heap: Global,
     heap: &'h Refusing<Global>,
@@ -179,8 +179,8 @@ fn put<A: Allocator + Copy>(
     }
 }
 
-/// How many growths are refused one after another, until the answer is written into the vector; `None` where another
-/// fault is told, or no end is met.
+/// The number of allocations that are refused one after another, until the answer is written into
+/// the vector; `None` on another fault, or if no end is met.
 fn growths_of<'h>(
     heap: &'h Refusing<Global>,
     octets: &mut Vec<u8, &'h Refusing<Global>>,
@@ -202,7 +202,8 @@ fn growths_of<'h>(
     None
 }
 
-/// The same of the answer from a reply to its own question, written over UDP into a vector with room.
+/// The same of the answer from a reply to its own question, written over UDP into a vector with
+/// room.
 pub(crate) fn growths_beside_room(table_heap: Global, reply: &[u8]) -> Result<Option<u64>, Fail> {
     let heap = Refusing::new(table_heap);
     let walk = walked(table_heap, &heap, reply)?;

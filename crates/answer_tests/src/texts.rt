@@ -1,4 +1,4 @@
-//! The octets of worked answers, the largest answer, and what is said of a fault.
+//! The octets of worked answers, the largest answer, and the text of a fault.
 
 use crate::samples::{ADDRESS, ALIAS, Case, Kind, TO_LAN, text};
 use answer_builder::{Asked, Fault, Transport, failure};
@@ -7,10 +7,10 @@ use refusing_allocator::Refusing;
 use std::alloc::Global;
 use std::test::Fail;
 
-/// The text of a.example has data of so many octets, which are given: the reply up to RDLENGTH.
+/// The text of a.example has data of the octets that are given: the reply up to RDLENGTH.
 const TEXT: &str = "0008850000010001000000000161076578616d706c650000100001c00c001000010000012c";
 
-/// The reply with a text of so many octets.
+/// The reply with a text of `len` octets.
 fn long_reply(heap: Global, len: u16) -> Result<Vec<u8>, Fail> {
     let mut reply = hex::decode(heap, TEXT)?;
     reply.push((len / 256) as u8)?;
@@ -24,7 +24,7 @@ fn long_reply(heap: Global, len: u16) -> Result<Vec<u8>, Fail> {
 /// a.example TXT, with a capital letter, so that the owner of its answer is written out.
 const CAPITAL_QUESTION: &str = "1234010000010000000000000141076578616d706c650000100001";
 
-/// How many octets each answer from a text of so many has; `None` where it is too large.
+/// The number of octets of each answer from a text of `len`; `None` where it is too large.
 fn lengths_of(
     heap: Global,
     kind: Kind,
@@ -46,7 +46,7 @@ fn lengths_of(
     Ok(lengths)
 }
 
-/// The kinds of answers. No chain of aliases is as long as TCP allows, so a text stands for one.
+/// The kinds of answers. No chain of aliases is as long as TCP allows, so a text is used for one.
 const KINDS: [Kind; 3] = [Kind::Left(0), Kind::Past(0), Kind::Local];
 
 #[test]
@@ -108,8 +108,9 @@ fn worked_answers_in_octets(rt: HostRuntime) -> Result<(), Fail> {
     Ok(())
 }
 
-/// The opcode, whether the question is repeated, the response code, and the octets of the failure: SERVFAIL, FORMERR
-/// for a question that can't be read, and NOTIMP for a status request (RFC 1035 4.1.1).
+/// The opcode, whether the question is repeated, the response code, and the octets of the failure:
+/// SERVFAIL, FORMERR for a question that can't be read, and NOTIMP for a status request (RFC 1035
+/// 4.1.1).
 const FAILURES: [(u8, bool, u8, &str); 3] = [
     (
         0,
@@ -147,11 +148,11 @@ fn worked_failures_in_octets(rt: HostRuntime) -> Result<(), Fail> {
     Ok(())
 }
 
-/// The address of a.example has ended, and has 30 seconds.
+/// The address of a.example has expired, and has 30 seconds.
 const PAST: &str =
     "1234818000010001000000000161076578616d706c650000010001c00c000100010000001e0004c6336405";
 
-/// The alias was held and ended: none is left. The address has 300 of its 600 seconds.
+/// The alias was held and has expired: none is left. The address has 300 of its 600 seconds.
 const HELD_ALIAS: &str = "123481800001000200000000\
      0162076578616d706c650000010001c00c000500010000000000040161c00ec027000100010000012c0004c6336409";
 
@@ -181,7 +182,7 @@ const NOTHING: &str = "0008850000010000000000000161076578616d706c650000010001";
 /// The header with response code 3, and the question.
 const LAN: &str = "1234818300010000000000000168036c616e0000010001";
 
-/// The same behind the alias, a second of which has passed.
+/// The same after the alias, a second of which has passed.
 const LAN_ALIAS: &str =
     "1234818300010001000000000161076578616d706c650000010001c00c000500010000003b00070168036c616e00";
 

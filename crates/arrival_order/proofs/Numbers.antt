@@ -1,4 +1,4 @@
--- The numbers of keys, where there is one key more, or one less.
+-- The numbers of keys after one key is put or taken.
 use Rattle.std.proofs.Common.{◌≡◌, ◌≢◌, ℕ, ◌+◌, ◌-◌, ◌<◌, ◌≤◌, List, [], ◌∷◌, ◌++◌, length, set, refl, ap, ◌∙◌, inl, inr, arith, length-append}
 use Rattle.std.specs.Prelude.{slice_index}
 use Rattle.std.specs.List.{remove, All}
@@ -42,7 +42,7 @@ module _ (numbers keys : List ℕ) (key number : ℕ) (numbered : AreNumbered nu
 
 -- one key less
 module _ (numbers keys : List ℕ) (at : ℕ) (in_range : at < length keys) (numbered : AreNumbered numbers keys) where
-  -- where a key stood before
+  -- the place of a key before
   stood : (i : ℕ) → i < length (remove keys at) → (p : ℕ) × (p < length keys) × (slice_index (remove keys at) i ≡ slice_index keys p) × (i < at → p ≡ i) × (at ≤ i → p ≡ i + 1)
   stood i within = elim (cases_lt i at) [
     | inl below ↦ (i, omega arith, get_or-remove_below keys at 0 i below in_range, (λ l. refl), (λ m. absurd (omega arith)))

@@ -1,4 +1,4 @@
--- Where a key stands.
+-- The place of a key.
 use Rattle.std.proofs.Common.{◌≡◌, ◌⊎◌, ℕ, zero, suc, ◌+◌, ◌-◌, ◌==◌, ◌<◌, ◌≤◌, List, [], ◌∷◌, length, drop, Bool, true, false, cond, Some, None, refl, sym, ap, ◌∙◌, inl, inr, arith, length-drop, get_or-drop}
 use Rattle.std.specs.Prelude.{slice_index, position, nat_lt}
 use Rattle.std.specs.List.{find, position_or_len, Contains}
@@ -37,13 +37,13 @@ nowhere {X} p xs none = find_at p xs ∙ slice_get_past xs (position_or_len p xs
     by true e = absurd (none-some (position_or_len p xs) (sym e))
     by false e = refl
 
--- a key that stands somewhere is found
+-- a key at a place is found
 stands : (keys : List ℕ) (key i : ℕ) → i < length keys → slice_index keys i ≡ key → find (λ k. k == key) keys ≡ None → ⊥
 stands [] key i within is none = omega arith
 stands (k ∷ keys) key zero within is none = none-some k (sym (sym (cond-true (k == key) (Some k) (find (λ k. k == key) keys) (eq-eqb k key is)) ∙ none))
 stands (k ∷ keys) key (suc i) within is none = stands keys key i (omega arith) is (missed (λ k. k == key) k keys none)
 
--- it stands behind those with a lower number
+-- it comes after those with a lower number
 pub not_before : (numbers keys : List ℕ) (key start : ℕ) → IsPartitionPoint (λ k. nat_lt (slice_index numbers k) (slice_index numbers key) ≡ true) (λ k. nat_lt (slice_index numbers k) (slice_index numbers key) ≡ false) keys start
     → (i : ℕ) × (i < length keys) × (slice_index keys i ≡ key) → position (λ k. k == key) (drop start keys) ≡ None → ⊥
 not_before numbers keys key start point v none = by (cases_lt v.0 start)
@@ -56,11 +56,11 @@ not_before numbers keys key start point v none = by (cases_lt v.0 start)
         let there : slice_index (drop start keys) (v.0 - start) ≡ key = get_or-drop start keys (v.0 - start) 0 ∙ ap (slice_index keys) (omega arith) ∙ v.2 in
         stands (drop start keys) key (v.0 - start) (omega (arith, length-drop start keys, v.1)) there (nowhere (λ k. k == key) (drop start keys) none)
 
--- a key that stands among them, by its place
+-- a key among them, by its place
 pub among : (keys : List ℕ) (key : ℕ) → Contains keys key → (i : ℕ) × (i < length keys) × (slice_index keys i ≡ key)
 among keys key c = (c.0, c.1, sym (get_or_default keys c.0 key 0 c.1) ∙ c.2)
 
--- where it stands from a place on, it stands among all
+-- if it is found from a place on, it is found among all
 pub turn_found : (keys : List ℕ) (start key offset : ℕ) → position (λ k. k == key) (drop start keys) ≡ Some offset → slice_index keys (start + offset) ≡ key
 turn_found keys start key offset is =
     sym (get_or-drop start keys offset 0)

@@ -9,9 +9,9 @@ use std::alloc::{AllocError, Allocator, Global};
 use std::collections::VecDeque;
 use std::marker::Model;
 
-/// Keys in the order in which they were put, none of them twice. Each has a number, which is not below those of the
-/// keys before it, so a key is found by halves. Keys are small numbers, such as a slab gives: the numbers of all keys
-/// up to the highest one that was put are kept.
+/// Keys in the order in which they were put, none of them twice. Each has a number, which is not
+/// below those of the keys before it, so a key is found by binary search. Keys are small numbers,
+/// such as a slab gives: the numbers of all keys up to the highest one that was put are kept.
 #[derive(Drop)]
 pub struct KeysInTurn<A: Allocator = Global> {
     keys: VecDeque<usize, A>,
@@ -36,7 +36,7 @@ impl<A: Allocator> Model for KeysInTurn<A> {
 }
 
 impl<A: Allocator> KeysInTurn<A> {
-    /// No keys. It takes no memory; what `reserve` takes later comes from `alloc`.
+    /// No keys. It does not allocate; `reserve` later allocates from `alloc`.
     pub fn new(alloc: A) -> KeysInTurn<A>
     where
         A: Copy,
@@ -48,14 +48,14 @@ impl<A: Allocator> KeysInTurn<A> {
         }
     }
 
-    /// How many keys there are. It takes no memory.
+    /// The number of keys. It does not allocate.
     pub fn len(&self) -> usize
         ensures { result ≡ length self.now.keys }
     {
         self.keys.len()
     }
 
-    /// The key that was put first. It takes no memory.
+    /// The key that was put first. It does not allocate.
     pub fn first(&self) -> Option<usize>
         ensures { result ≡ slice_get self.now.keys 0 }
     {
@@ -76,8 +76,8 @@ impl<A: Allocator> KeysInTurn<A> {
         Ok(())
     }
 
-    /// Puts a key last. It takes no memory. The caller sees to it that there is room for it (`reserve`), and that it is
-    /// none of the keys.
+    /// Puts a key last. It does not allocate. The caller makes sure that there is room for it
+    /// (`reserve`), and that it is none of the keys.
     pub fn put(&mut self, key: usize)
         requires room { self.old.has_room ≡ true }
         requires known { key < self.old.known }
@@ -89,7 +89,8 @@ impl<A: Allocator> KeysInTurn<A> {
         self.keys.push_back_reserved(key);
     }
 
-    /// Where a key stands, counted from 0. It takes no memory. The key that was put first is found at once.
+    /// The place of a key, counted from 0. It does not allocate. The key that was put first is
+    /// found at once.
     pub fn place_of(&self, key: usize) -> usize
         requires { Contains self.now.keys key }
         ensures within { result < length self.now.keys }
@@ -101,7 +102,8 @@ impl<A: Allocator> KeysInTurn<A> {
         place_in(&self.numbers, &self.keys, key)
     }
 
-    /// Takes the key at a place out, which leaves room for another one, and for the same key. It takes no memory.
+    /// Takes out the key at a place, which leaves room for another one, and for the same key. It
+    /// does not allocate.
     pub fn take(&mut self, place: usize)
         requires { place < length self.old.keys }
         ensures keys { self.new.keys ≡ remove self.old.keys place }
@@ -114,7 +116,7 @@ impl<A: Allocator> KeysInTurn<A> {
         };
     }
 
-    /// Takes all keys out. It takes no memory.
+    /// Takes all keys out. It does not allocate.
     pub fn clear(&mut self)
         ensures { self.new.keys ≡ [] }
     {
@@ -133,8 +135,8 @@ fn number_of(numbers: &[u64], key: usize) -> u64
     }
 }
 
-/// The number of the next key: one more than that of the last, and where there is none 0. It stays at the highest
-/// number, which no keys come to.
+/// The number of the next key: one more than that of the last, or 0 if there is none. It stays at
+/// the highest number, which keys do not reach.
 fn next_number<A: Allocator>(numbers: &[u64], keys: &VecDeque<usize, A>) -> u64
     requires { AreNumbered numbers.now keys.now.items }
     ensures { IsBehindAll numbers.now keys.now.items result }
@@ -145,8 +147,8 @@ fn next_number<A: Allocator>(numbers: &[u64], keys: &VecDeque<usize, A>) -> u64
     }
 }
 
-/// Where a key stands. Of the other keys, those alone are looked at that the search by halves meets, and those with an
-/// equal number: there is none below the highest number.
+/// The place of a key. The search looks only at the keys that the binary search meets and those
+/// with an equal number: below the highest number there are none of these.
 fn place_in<A: Allocator>(numbers: &[u64], keys: &VecDeque<usize, A>, key: usize) -> usize
     requires numbered { AreNumbered numbers.now keys.now.items }
     requires listed { Contains keys.now.items key }
@@ -161,7 +163,7 @@ fn place_in<A: Allocator>(numbers: &[u64], keys: &VecDeque<usize, A>, key: usize
     start + offset
 }
 
-/// Where a key stands first, counted from a place on.
+/// The first place of a key, counted from `start`.
 fn first_place<A: Allocator>(keys: &VecDeque<usize, A>, start: usize, key: usize) -> Option<usize>
     requires { start ≤ length keys.now.items }
     ensures { result ≡ position (λ k. k == key) (drop start keys.now.items) }

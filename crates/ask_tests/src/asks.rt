@@ -1,4 +1,4 @@
-//! A listed ask is found, the memory that the list of asks takes, and what is said of a refusal.
+//! A listed ask is found, the allocations of the list of asks, and the text of a refusal.
 
 ghost use Rattle.std.specs.Prelude.{◌≡◌, IfOk};
 
@@ -71,11 +71,11 @@ fn a_listed_ask_is_found(rt: HostRuntime) -> Result<(), Fail> {
     Ok(())
 }
 
-/// A name of 33 octets, which don't lie in place.
+/// A name of 33 octets, which are not kept in place.
 const LONG: &str = "a.abcdefghijklmnopqrstuv.example";
 
-/// Lists an ask where one growth is refused, alone or with each one behind it, after so many are granted; whether it is
-/// listed.
+/// Lists an ask where one allocation is refused, alone or with each one after it, after
+/// `growths` are granted; whether it is listed.
 fn is_begun(heap: &Refusing<Global>, growths: u64, is_alone: bool) -> Result<bool, Fail> {
     let ask = ask_for(heap, LONG, Path::Udp(1024), 1000)?;
     let mut inquiries = Inquiries::new(heap, 1);
@@ -108,7 +108,8 @@ fn each_growth_of_begin_is_refused(rt: HostRuntime) -> Result<(), Fail> {
     Ok(())
 }
 
-/// One growth that is allowed stays unspent where a list is made, and cleared though it was never used.
+/// One allocation that is allowed stays unspent where a list is made, and cleared though it was
+/// never used.
 #[test]
 fn an_empty_list_takes_no_memory(rt: HostRuntime) {
     let heap = Refusing::new(rt.alloc());
@@ -120,7 +121,7 @@ fn an_empty_list_takes_no_memory(rt: HostRuntime) {
     assert!(rt; inquiries.len() == 0 && is_left && is_last);
 }
 
-/// Draws and look-ups find the ask that is listed, and its like.
+/// Whether draws and look-ups find the listed ask and those like it.
 fn are_found<'a>(
     inquiries: &Inquiries<&'a Refusing<Global>>,
     question: &Question<&'a Refusing<Global>>,
@@ -133,7 +134,8 @@ fn are_found<'a>(
         && inquiries.by_path(Path::Udp(1024)).is_some()
 }
 
-/// One growth that is allowed stays unspent over all other calls, and over a `begin` into room that there is.
+/// One allocation that is allowed stays unspent over all other calls, and over a `begin` into room
+/// that there is.
 #[test]
 fn only_begin_takes_memory(rt: HostRuntime) -> Result<(), Fail> {
     let heap = Refusing::new(rt.alloc());

@@ -1,4 +1,4 @@
-//! Frames in concrete octets (RFC 1035 4.2.2), the memory that they take, and what is said of a fault.
+//! Frames in concrete octets (RFC 1035 4.2.2), their allocations, and the text of a fault.
 
 use refusing_allocator::Refusing;
 use std::alloc::{AllocError, Global};
@@ -20,7 +20,7 @@ fn a_frame_is_the_length_and_the_octets(rt: HostRuntime) -> Result<(), Fail> {
     Ok(())
 }
 
-/// What is given behind each octet of the frames of "abc" and of no octets.
+/// The message after each octet of the frames of "abc" and of no octets.
 const OCTET_BY_OCTET: [(u8, Option<&[u8]>); 7] = [
     (0, None),
     (3, None),
@@ -65,7 +65,7 @@ fn what_is_said_of_a_fault(rt: HostRuntime) -> Result<(), Fail> {
     Ok(())
 }
 
-/// Refuses the next growth: alone, or with each one behind it.
+/// Refuses the next allocation: alone, or with each one after it.
 fn refuse(heap: &Refusing<Global>, is_alone: bool) {
     if is_alone {
         heap.refuse_one(0);
@@ -74,8 +74,8 @@ fn refuse(heap: &Refusing<Global>, is_alone: bool) {
     }
 }
 
-/// Whether each growth of a reader is refused in turn, and what it has stays: a piece, a piece behind another one,
-/// for which it needs more room, and the message of both.
+/// Whether each allocation of a reader is refused in turn, and what it has stays: a piece, a piece
+/// after another one, for which it needs more room, and the message of both.
 fn are_refused_in_turn<'a>(
     heap: &'a Refusing<Global>,
     reader: &mut FrameReader<&'a Refusing<Global>>,
@@ -94,7 +94,7 @@ fn are_refused_in_turn<'a>(
     Ok(is_piece_refused && is_more_refused && is_message_refused)
 }
 
-/// Whether the message of 65 octets is taken with one growth.
+/// Whether the message of 65 octets is taken with one allocation.
 fn is_taken<'a>(
     heap: &'a Refusing<Global>,
     reader: &mut FrameReader<&'a Refusing<Global>>,
@@ -139,7 +139,7 @@ fn each_growth_of_a_frame_is_refused(rt: HostRuntime) -> Result<(), Fail> {
     Ok(())
 }
 
-/// Two of the longest frames, one behind the other.
+/// Two of the longest frames, one after the other.
 fn two_longest(alloc: Global) -> Result<Vec<u8>, AllocError> {
     let mut piece = Vec::with_capacity(alloc, 131_074)?;
     for octet in b"ab" {
@@ -151,7 +151,8 @@ fn two_longest(alloc: Global) -> Result<Vec<u8>, AllocError> {
     Ok(piece)
 }
 
-/// Whether the growth of the next message is refused, and it is 65,535 times this octet once it is granted.
+/// Whether the allocation of the next message is refused, and it is 65,535 times this octet once it
+/// is granted.
 fn is_refused_then_taken<'a>(
     heap: &'a Refusing<Global>,
     reader: &mut FrameReader<&'a Refusing<Global>>,

@@ -1,5 +1,5 @@
-//! Tests of asks, frames and streams from outside: that memory is found where there is some, and that calls without
-//! memory take none; and what is said of faults.
+//! Tests of asks, frames and streams from outside: allocations succeed where there is memory, calls
+//! that promise not to allocate do not, and the texts of faults.
 #![tactic(auto)]
 
 #[cfg(test)]

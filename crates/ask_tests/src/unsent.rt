@@ -1,4 +1,5 @@
-//! What a stream over TCP is still to take: one that takes a part, nothing, all, and one that fails.
+//! The octets that a TCP stream is still to take: one that takes a part, nothing, all, and one that
+//! fails.
 
 use plain_list::PlainList;
 use refusing_allocator::Refusing;
@@ -8,7 +9,7 @@ use std::io::{ErrorKind, Write};
 use std::test::Fail;
 use tcp_frames::Unsent;
 
-/// A stream that takes at most so many octets of a write, and fails where it is told none.
+/// A stream that takes at most `most` octets of a write, and fails where that is `None`.
 #[derive(Drop)]
 struct Slow {
     most: Option<usize>,
@@ -30,8 +31,8 @@ impl Write for Slow {
     }
 }
 
-/// What each write of "abcdefgh" meets: how many octets the stream takes at most, where it doesn't fail; how many it
-/// took, or how it failed; and how many are left then.
+/// Each write of "abcdefgh": the most octets that the stream takes, where it doesn't fail; the
+/// number that it took, or how it failed; and the number left then.
 const WRITES: [(Option<usize>, Result<usize, ErrorKind>, usize); 6] = [
     (Some(0), Ok(0), 8),
     (Some(3), Ok(3), 5),
@@ -41,7 +42,7 @@ const WRITES: [(Option<usize>, Result<usize, ErrorKind>, usize); 6] = [
     (Some(9), Ok(1), 0),
 ];
 
-/// What a write gave: so many octets, or an error of this kind.
+/// The result of a write: a number of octets, or an error of this kind.
 fn sent(unsent: &mut Unsent<Global>, stream: &mut Slow) -> Result<usize, ErrorKind> {
     unsent.send(stream).map_err(|error| error.kind())
 }
@@ -65,8 +66,8 @@ fn a_stream_takes_a_part_and_nothing_and_fails(rt: HostRuntime) -> Result<(), Fa
     Ok(())
 }
 
-/// A stream that took most of what it was given: those octets are forgotten with the next that are put behind them,
-/// which takes one growth; where that is refused, all is as it was.
+/// A stream that took most of what it was given: those octets are forgotten with the next that are
+/// put after them, which takes one allocation; where that is refused, all is as it was.
 #[test]
 fn what_a_stream_took_is_forgotten(rt: HostRuntime) -> Result<(), Fail> {
     let heap = Refusing::new(rt.alloc());

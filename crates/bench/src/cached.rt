@@ -1,4 +1,4 @@
-//! What a cached answer costs, from the octets of a question to the octets of its answer.
+//! The cost of a cached answer, from the octets of a question to the octets of its answer.
 
 ghost use Rattle.std.specs.Prelude.{◌≤◌};
 
@@ -8,7 +8,7 @@ use anyhow::Result;
 use dns_message::{Header, MessageRef, QuestionRef};
 use dns_name::Name;
 use lru::LruCache;
-use negative_cache::{Found, find_by_octets};
+use negative_cache::{CacheAt, Found};
 use record_cache::{Cache, Held};
 use std::alloc::Global;
 use std::hash::RandomState;
@@ -20,10 +20,10 @@ use trust_rank::{Piece, Slot, pieces};
 /// The moment of all look-ups.
 const NOW: u64 = 1000;
 
-/// So many calls are timed together.
+/// The number of calls that are timed together.
 const CALLS: usize = 65_536;
 
-/// So many routes, each name asked here on the first.
+/// `count` routes, each name asked here on the first.
 fn routes(alloc: Global, count: usize) -> Result<Config> {
     let mut text = format!(in alloc;
         "version = 1\n[[route]]\nsuffix = \".\"\nservers = [\"192.0.2.1:53\"]\n"
@@ -37,14 +37,15 @@ fn routes(alloc: Global, count: usize) -> Result<Config> {
     Ok(Config::read(alloc, alloc, text.as_str())?)
 }
 
-/// So many octets each question takes.
+/// The octets that each question takes.
 const ROOM: usize = 64;
 
-/// What fills the room of a question.
+/// The zeros that fill the room of a question.
 const ZEROS: [u8; ROOM] = [0; ROOM];
 
-/// Puts a question for the addresses of a name last, with zeros behind it. Questions lie one behind another in the
-/// order in which they are asked, so that their octets are at hand as those are that a service has just received.
+/// Puts a question for the addresses of a name last, with zeros after it. Questions follow one
+/// another in the order in which they are asked, so that their octets are in the processor's cache,
+/// as those are that a service has just received.
 fn put_question(octets: &mut Vec<u8>, name: &Name) -> Result<()> {
     octets.extend_from_slice(b"\x12\x34\x01\x00\x00\x01\x00\x00\x00\x00\x00\x00")?;
     octets.extend_from_slice(name.octets())?;
@@ -87,15 +88,12 @@ fn answer(
     let Some(question) = view.question_ref() else {
         return Ok(false);
     };
-    match find_by_octets(
+    let at = CacheAt {
         cache,
-        slot,
-        question.name(),
-        question.class(),
-        question.kind(),
-        NOW,
         config,
-    ) {
+        moment: NOW,
+    };
+    match at.find(slot, &question) {
         Found::Rows(held) | Found::Denied(held) if held.accepted <= NOW => {
             write_answer(alloc, text, view.header(), question, held)?;
         }
@@ -105,7 +103,8 @@ fn answer(
     Ok(true)
 }
 
-/// Writes the answer to a question from the entry at hand, where its name has the entry's key; whether it has.
+/// Writes the answer to a question from `held`, if its name has the key of that entry; whether it
+/// has.
 fn answer_from(
     alloc: Global,
     held: &Held,
@@ -125,18 +124,19 @@ fn answer_from(
     Ok(true)
 }
 
-/// How often so many questions are asked in a round.
+/// The number of times that `questions` questions are asked in a round.
 fn times_of(questions: usize) -> usize {
     CALLS / questions.max(1)
 }
 
-/// Nanoseconds a call, of so many times so many calls since a moment.
+/// Nanoseconds a call, of `times` times `questions` calls since a moment.
 fn each(rt: &HostRuntime, started: &Instant, times: usize, questions: usize) -> Result<u128> {
     let calls = (times as u128).saturating_mul(questions as u128).max(1);
     Ok(started.elapsed(rt)?.as_nanos() / calls)
 }
 
-/// How many answers a round gives to the questions, and the least time of one, in nanoseconds.
+/// The number of answers that a round gives to the questions, and the least time of one, in
+/// nanoseconds.
 fn time_of(
     rt: &HostRuntime,
     cache: &mut Cache<RandomState>,
@@ -192,7 +192,7 @@ fn slot_in(held: &Held) -> Slot {
     held.piece.slot()
 }
 
-/// Puts the entries with the first numbers into a bare `lru`, so many.
+/// Puts the entries with the first `count` numbers into a bare `lru`.
 fn fill(alloc: Global, map: &mut LruCache<Slot, Held, RandomState>, count: usize) -> Result<()> {
     for number in 0..count {
         let held = held_of(alloc, number)?;
@@ -223,7 +223,7 @@ fn measure_numbers(rt: &HostRuntime, room: NonZeroUsize, slots: &[Slot]) -> Resu
     Ok(())
 }
 
-/// A question for each of the names with the first numbers, so many, neighbours far apart.
+/// A question for each of the names with the first `count` numbers; consecutive ones are far apart.
 fn questions_of(alloc: Global, count: usize) -> Result<Vec<u8>> {
     let mut questions = Vec::new(alloc);
     for number in 0..count {
@@ -233,7 +233,7 @@ fn questions_of(alloc: Global, count: usize) -> Result<Vec<u8>> {
     Ok(questions)
 }
 
-/// Prints what a cached answer to each of so many names costs.
+/// Prints the cost of a cached answer to each of `count` names.
 fn measure_hits(rt: &HostRuntime, config: &Config, count: usize) -> Result<()> {
     let questions = questions_of(rt.alloc(), count)?;
     let mut cache = full_cache(rt, count)?;
@@ -294,7 +294,8 @@ fn cache_with_denial(rt: &HostRuntime, config: &Config) -> Result<Cache<RandomSt
     Ok(cache)
 }
 
-/// Prints what answers at and below a name error cost beside sets of names with as many labels.
+/// Prints the cost of answers at and below a name error, next to that of sets of names with as many
+/// labels.
 fn measure_denials(rt: &HostRuntime, config: &Config) -> Result<()> {
     let mut cache = cache_with_denial(rt, config)?;
     for name in HELD.iter().chain(&DENIED) {
@@ -315,7 +316,7 @@ fn offer_name_error(alloc: Global, cache: &mut Cache<RandomState>, config: &Conf
     Ok(())
 }
 
-/// What that reply carries.
+/// The pieces of that reply.
 fn pieces_of(alloc: Global, config: &Config) -> Result<Vec<Piece>> {
     let view = MessageRef::view(GONE)?;
     let question = view.question(alloc)?;
@@ -324,7 +325,7 @@ fn pieces_of(alloc: Global, config: &Config) -> Result<Vec<Piece>> {
     Ok(walk.pieces.into_vec())
 }
 
-/// How many of so many calls give an answer from the entry at hand.
+/// The number of `CALLS` calls that give an answer from `held`.
 fn answers_from(alloc: Global, held: &Held, octets: &[u8], text: &mut Vec<u8>) -> Result<usize> {
     let mut answers = 0usize;
     let mut slot = any_slot();
@@ -336,7 +337,8 @@ fn answers_from(alloc: Global, held: &Held, octets: &[u8], text: &mut Vec<u8>) -
     Ok(answers)
 }
 
-/// How many answers a round gives from the entry at hand, and the least time of one, in nanoseconds.
+/// The number of answers that a round gives from one entry, and the least time of one, in
+/// nanoseconds.
 fn time_of_text(rt: &HostRuntime, held: &Held, octets: &[u8]) -> Result<(usize, u128)> {
     let mut text = Vec::with_capacity(rt.alloc(), 512)?;
     let mut least = u128::MAX;
@@ -356,22 +358,22 @@ fn question_numbered(alloc: Global, number: usize) -> Result<Vec<u8>> {
     Ok(octets)
 }
 
-/// How many answers are given that no look-up precedes, and what one costs: the question's octets, its key, the
-/// answer's octets.
+/// The number of answers without a look-up, and the time of one in nanoseconds: the question's
+/// octets, its key, the answer's octets.
 fn time_without_look_up(rt: &HostRuntime) -> Result<(usize, u128)> {
     let octets = question_numbered(rt.alloc(), 1)?;
     let held = held_of(rt.alloc(), 1)?;
     time_of_text(rt, &held, octets.as_slice())
 }
 
-/// Prints what an answer costs that no look-up precedes.
+/// Prints the cost of an answer without a look-up.
 fn measure_text(rt: &HostRuntime) -> Result<()> {
     let (answers, took) = time_without_look_up(rt)?;
     println!(rt; "without a look-up: {answers} answers, {took} ns")?;
     Ok(())
 }
 
-/// Prints what cached answers to so many names cost, and what a bare `lru` does.
+/// Prints the cost of cached answers to `count` names, and of a bare `lru`.
 fn measure_many(rt: &HostRuntime, config: &Config, room: NonZeroUsize, count: usize) -> Result<()> {
     let slots = slots_of(rt.alloc(), count)?;
     measure_bare(rt, room, &slots)?;

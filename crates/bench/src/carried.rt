@@ -1,4 +1,4 @@
-//! What it costs to take from a reply what it carries.
+//! The cost of taking the pieces from a reply.
 
 ghost use Rattle.dns_message.specs.Messages.{HasShapes};
 
@@ -17,10 +17,10 @@ suffix = "."
 servers = ["192.0.2.1:53"]
 "#;
 
-/// So often the least time is taken of.
+/// The number of rounds of which the least time is taken.
 const ROUNDS: u32 = 10;
 
-/// How many pieces the walk of the message gives for the question.
+/// The number of pieces that the walk of the message gives for the question.
 fn count_pieces(
     alloc: Global,
     message: &Message,
@@ -33,7 +33,7 @@ fn count_pieces(
     Ok(walk.pieces.as_slice().len())
 }
 
-/// The least time of the walk, in microseconds, and how many pieces it gives.
+/// The least time of the walk, in microseconds, and the number of pieces that it gives.
 fn time_of_walk(
     rt: &HostRuntime,
     message: &Message,
@@ -62,7 +62,8 @@ fn time_of_reply(rt: &HostRuntime, octets: &[u8]) -> Result<(u128, usize)> {
     time_of_walk(rt, &message, &question, &config)
 }
 
-/// Prints how long the walk of the reply in the file takes for its own question, and how many pieces it gives.
+/// Prints the time of the walk of the reply in the file for its own question, and the number of
+/// pieces that it gives.
 pub fn measure(rt: &HostRuntime, reply: &str) -> Result<()> {
     let octets = fs::read(rt, reply)?;
     let (least, count) = time_of_reply(rt, &octets)?;

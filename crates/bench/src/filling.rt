@@ -1,4 +1,4 @@
-//! What caches are filled with.
+//! The contents of caches.
 
 ghost use Rattle.std.specs.Prelude.{◌≢◌, []};
 
@@ -15,7 +15,7 @@ use trust_rank::{Body, Piece, Rows, Slot};
 /// The most entries that a configuration allows.
 pub const MANY: usize = 65_536;
 
-/// So often the least time is taken of.
+/// The number of rounds of which the least time is taken.
 pub const ROUNDS: u32 = 10;
 
 /// The class IN.
@@ -24,8 +24,8 @@ pub const CLASS: u16 = 1;
 /// The type A.
 pub const ADDRESS: u16 = 1;
 
-/// The name with this number; below 90,000 each has as many octets, so that many names cost no more than few for their
-/// length.
+/// The name with this number; below 90,000 each has as many octets, so that many names cost no more
+/// than few for their length.
 pub fn numbered(alloc: Global, number: usize) -> Result<Name> {
     let digits = number.saturating_add(10_000);
     let text = format!(in alloc; "host{digits}.some-example.com")?;
@@ -85,7 +85,7 @@ pub fn held_of(alloc: Global, number: usize) -> Result<Held> {
     })
 }
 
-/// A cache with so many sets.
+/// A cache with `count` sets.
 pub fn full_cache(rt: &HostRuntime, count: usize) -> Result<Cache<RandomState>> {
     let alloc = rt.alloc();
     let mut cache = Cache::new(alloc, MANY, RandomState::new(rt)?)?;
@@ -95,7 +95,7 @@ pub fn full_cache(rt: &HostRuntime, count: usize) -> Result<Cache<RandomState>> 
     Ok(cache)
 }
 
-/// The slots of its names, neighbours far apart.
+/// The slots of its names; consecutive ones are far apart.
 pub fn slots_of(alloc: Global, count: usize) -> Result<Vec<Slot>> {
     let mut slots = Vec::new(alloc);
     for number in 0..count {

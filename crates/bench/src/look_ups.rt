@@ -1,11 +1,12 @@
-//! What it costs to look a name up in a full cache, its octets at hand, and to change the cache.
+//! The cost of looking a name up in a full cache, by its octets, and of changing the cache.
 
 use crate::filling::{
     ADDRESS, CLASS, MANY, ROUNDS, addresses, any_slot, full_cache, name_error, numbered,
 };
 use anyhow::Result;
+use dns_message::QuestionRef;
 use dns_name::Name;
-use negative_cache::{Found, find_by_octets, shown};
+use negative_cache::{CacheAt, Found, shown};
 use record_cache::Cache;
 use std::hash::RandomState;
 use std::time::Instant;
@@ -22,7 +23,7 @@ suffix = "corp.example"
 servers = ["192.0.2.9:53"]
 "#;
 
-/// So many calls with one name are timed together.
+/// The number of calls with one name that are timed together.
 const CALLS: usize = 20_000;
 
 /// A name of 127 labels, the most that a name may have.
@@ -36,15 +37,21 @@ const NAMES: [(&str, &str); 3] = [
     ("127 labels", LONGEST),
 ];
 
-/// Nanoseconds a call, of so many calls since a moment.
+/// Nanoseconds a call, of `calls` calls since a moment.
 fn each(rt: &HostRuntime, started: &Instant, calls: usize) -> Result<u128> {
     let count = calls.max(1) as u128;
     Ok(started.elapsed(rt)?.as_nanos() / count)
 }
 
-/// Makes what answers a question from the cache the most recently used; whether there is something.
+/// Makes the entry that answers a question the most recently used; returns whether there is one.
 fn answer(cache: &mut Cache<RandomState>, slot: &mut Slot, name: &Name, config: &Config) -> bool {
-    match find_by_octets(cache, slot, name.octets(), CLASS, ADDRESS, 1000, config) {
+    let at = CacheAt {
+        cache,
+        config,
+        moment: 1000,
+    };
+    let question = QuestionRef::from_octets(name.octets(), ADDRESS, CLASS);
+    match at.find(slot, &question) {
         Found::Rows(_) | Found::Denied(_) => cache.promote(slot),
         _ => return false,
     }
@@ -123,7 +130,8 @@ fn measure_clearing(rt: &HostRuntime, cache: &mut Cache<RandomState>) -> Result<
     Ok(())
 }
 
-/// Prints what look-ups cost in a full cache, without name errors and with some, and what changes cost.
+/// Prints what look-ups cost in a full cache, without name errors and with some, and what changes
+/// cost.
 pub fn measure(rt: &HostRuntime) -> Result<()> {
     let alloc = rt.alloc();
     let config = Config::read(alloc, alloc, CONFIG)?;

@@ -1,5 +1,5 @@
-//! Measures what messages, what replies carry, and cached answers cost, by the calls that steps make. `tools/bench`
-//! makes the messages and runs it.
+//! Measures what messages, what replies carry, and cached answers cost, by the calls that steps
+//! make. `tools/bench` makes the messages and runs it.
 #![tactic(auto)]
 
 mod cached;

@@ -1,4 +1,5 @@
-//! What it costs to look at a message where it lies, to read it whole, and to write it: in time and in growths.
+//! The cost of viewing a message in place, of reading it whole, and of writing it: in time and in
+//! allocations.
 
 ghost use Rattle.dns_message.specs.Header.{FitsBits};
 
@@ -14,7 +15,7 @@ use std::time::Instant;
 /// The most octets of a message.
 const LARGEST: usize = 65_535;
 
-/// So many records are looked at, read or written in a round.
+/// The number of records that are viewed, read or written in a round.
 const RECORDS: usize = 20_000;
 
 /// An address that has this number at its end.
@@ -23,7 +24,7 @@ fn address(alloc: Global, number: usize) -> Result<Rdata> {
     Ok(Rdata::from_octets(alloc, &[198, 51, high, low])?)
 }
 
-/// So many addresses of one name.
+/// `count` addresses of one name.
 fn addresses(alloc: Global, count: usize) -> Result<PlainList<Record>> {
     let mut records = PlainList::new(alloc);
     for number in 0..count {
@@ -38,7 +39,7 @@ fn addresses(alloc: Global, count: usize) -> Result<PlainList<Record>> {
     Ok(records)
 }
 
-/// The octets of a reply with so many addresses of one name.
+/// The octets of a reply with `count` addresses of one name.
 fn octets_of(alloc: Global, count: usize) -> Result<Octets<Global>> {
     let mut questions = PlainList::new(alloc);
     questions.push(Question {
@@ -76,7 +77,7 @@ fn asks_for(octets: &[u8], key: &NameKey) -> Result<bool> {
     }
 }
 
-/// Nanoseconds of one of so many calls since a moment.
+/// Nanoseconds of one of `times` calls since a moment.
 fn each(rt: &HostRuntime, started: &Instant, times: usize) -> Result<u128> {
     Ok(started.elapsed(rt)?.as_nanos() / (times as u128).max(1))
 }
@@ -97,7 +98,7 @@ fn time_of_looking(rt: &HostRuntime, octets: &[u8], times: usize) -> Result<u128
     Ok(least)
 }
 
-/// How many records the message has, read whole.
+/// The number of records of the message, read whole.
 fn count_read(alloc: Global, octets: &[u8]) -> Result<usize> {
     let message = MessageRef::view(octets)?.read_whole(alloc)?;
     Ok(message.answers.as_slice().len())
@@ -118,7 +119,7 @@ fn time_of_reading(rt: &HostRuntime, octets: &[u8], times: usize) -> Result<u128
     Ok(least)
 }
 
-/// How many octets are written of the message.
+/// The number of octets that are written for the message.
 fn count_written(alloc: Global, message: &Message) -> Result<usize>
     requires { FitsBits message.now.header }
 {
@@ -148,7 +149,7 @@ fn time_of_writing(rt: &HostRuntime, octets: &[u8], times: usize) -> Result<u128
     least_of_writing(rt, &message, times)
 }
 
-/// Whether the message can be read whole where so many growths are granted.
+/// Whether the message can be read whole where `growths` allocations are granted.
 fn is_read(heap: &Refusing<Global>, octets: &[u8], growths: u64) -> bool {
     heap.allow(growths);
     match MessageRef::view(octets) {
@@ -157,7 +158,8 @@ fn is_read(heap: &Refusing<Global>, octets: &[u8], growths: u64) -> bool {
     }
 }
 
-/// How many growths it takes to read the message whole, found by halves; fewer than 65,536.
+/// The number of allocations that reading the message whole takes, by binary search; fewer than
+/// 65,536.
 fn growths_of_reading(heap: &Refusing<Global>, octets: &[u8]) -> u64 {
     let mut low = 0u64;
     let mut high = 65_536u64;
@@ -172,7 +174,7 @@ fn growths_of_reading(heap: &Refusing<Global>, octets: &[u8]) -> u64 {
     high
 }
 
-/// Prints what the reply with so many records costs.
+/// Prints the cost of the reply with `count` records.
 fn measure_one(rt: &HostRuntime, heap: &Refusing<Global>, count: usize) -> Result<()> {
     let octets = octets_of(rt.alloc(), count)?;
     let octets = octets.as_slice();

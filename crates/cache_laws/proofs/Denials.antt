@@ -121,7 +121,7 @@ denial_is_no_alias r is_first name lacks_soa p target e =
       | false ↦ λ met. other_is_no_alias r name (lacks_soa && not is_first) (lacks_soa && is_referral r) p target met
     ]) e
 
--- what stands at a name where a name error is met
+-- the findings at a name where a name error is met
 record MetError (r : Reply) (on : Bool) (set alias : Option Piece) : Type 0 where
   pub on_is : on ≡ true
   pub set_is : set ≡ None
@@ -224,7 +224,7 @@ alias_at r is_first name target p e =
 
 -- ---- the walk ends so only there
 
--- fewer aliases than so many lead from a name to a denied one
+-- fewer than `left` aliases lead from a name to a denied one
 record Denies (r : Reply) (left : ℕ) (name : List (List ℕ)) : Type 0 where
   pub count : ℕ
   pub last : List (List ℕ)
@@ -268,7 +268,7 @@ walk_denied r (suc left) is_first name e = go_denied r left is_first name (λ ta
 
 -- ---- and there it does
 
--- where neither the asked set nor an alias stands at a name on the route, its denial is met
+-- where neither the asked set nor an alias is at a name on the route, its denial is met
 pub denial_is_met : (r : Reply) (is_first : Bool) (name : List (List ℕ))
     → route_of r.config.routes name ≡ Some r.route → LacksAt r r.question.kind name → LacksAt r 5 name
     → met_at r is_first name ≡ denial_at r is_first name

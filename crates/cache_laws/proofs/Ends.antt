@@ -1,5 +1,5 @@
--- A walk ends with NODATA exactly where the aliases lead to a name with an SOA, or the asked name has none and the reply
--- does not refer on.
+-- A walk ends with NODATA exactly where the aliases lead to a name with an SOA, or the asked name
+-- has none and the reply does not refer on.
 use Rattle.std.proofs.Common.{◌≡◌, ◌≢◌, ℕ, zero, suc, ◌<◌, Bool, true, false, cond, ◌⊎◌, inl, inr, List, [], ◌∷◌}
 use Rattle.std.proofs.Common.{Option, None, Some, refl, sym, ap, ◌∙◌, subst, arith}
 use Rattle.std.specs.Prelude.{◌==◌, ◌&&◌, ◌||◌, not, is_none}
@@ -140,7 +140,7 @@ end_behind : (p : Piece) (w : Walk) → (behind p w).end ≡ w.end
 end_behind p w = cond_both (is_lame w.end) lame_walk (led_by p w) (λ (x : Walk). x.end ≡ w.end)
     (λ is. sym (lame_is w.end is)) (λ _. refl)
 
--- behind so many aliases a name is the first only behind none
+-- a name is the first only where no alias was taken
 abbrev stays_first : Bool → ℕ → Bool
 stays_first is_first zero = is_first
 stays_first is_first (suc count) = false
@@ -196,7 +196,7 @@ denial_parts x y p false true false referral e = absurd (cc)
 denial_parts x y p false true true true e = absurd (cc)
 denial_parts x y p false true true false e = (refl, inr (refl, refl))
 
--- what stands at a name where NODATA is met
+-- the findings at a name where NODATA is met
 record MetNoData (r : Reply) (is_first : Bool) (name : List (List ℕ)) (on : Bool) (set alias : Option Piece)
     : Type 0 where
   pub on_is : on ≡ true
@@ -224,7 +224,7 @@ no_data_met : (r : Reply) (is_first : Bool) (name : List (List ℕ)) (p : Piece)
 no_data_met r is_first name p e =
     no_data_parts r is_first name p (is_on_route r name) (answer_set r r.question.kind name) (alias_set r name) e
 
--- fewer aliases than so many lead from a name, which may be the asked one, to one of which there is no data
+-- fewer than `left` aliases lead from a name, which may be the asked one, to one without data
 record Lacking (r : Reply) (left : ℕ) (is_first : Bool) (name : List (List ℕ)) : Type 0 where
   pub count : ℕ
   pub last : List (List ℕ)

@@ -8,3 +8,4 @@ pub mod Ends
 pub mod Servers
 pub mod LookUps
 pub mod Worked
+pub mod WorkedDenials

@@ -1,4 +1,4 @@
--- Which SOA a denial holds, and how long it lives by it.
+-- The SOA that a denial holds, and its lifetime by it.
 use Rattle.std.proofs.Common.{◌≡◌, ℕ, ◌+◌, ◌-◌, true, false, cond, ◌⊎◌, inl, inr, List, [], ◌∷◌, ◌++◌, length}
 use Rattle.std.proofs.Common.{Option, None, Some, refl, sym, ap, ◌∙◌, subst, arith}
 use Rattle.std.specs.Prelude.{◌==◌, ◌&&◌, min, slice_index}
@@ -50,7 +50,7 @@ first_soa class name (s ∷ records) = (elim (is_soa_for name class s) as
       )
     ]) refl
 
--- ---- MINIMUM stands last
+-- ---- MINIMUM comes last
 
 octet_at : (front last : List ℕ) (o k : ℕ) → o ≡ length front + k
     → slice_index (front ++ last) o ≡ slice_index last k

@@ -1,4 +1,4 @@
--- What stands in lists that are put together.
+-- The items of lists that are put together.
 use Rattle.std.proofs.Common.{◌≡◌, ◌⊎◌, inl, inr, List, [], ◌∷◌, ◌++◌, sym}
 use Rattle.cache_laws.specs.Lists.{IsOneOf, NoneTwice, IsBefore}
 

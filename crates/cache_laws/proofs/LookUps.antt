@@ -1,4 +1,4 @@
--- What a look-up finds, in order.
+-- The finding of a look-up, in order.
 use Rattle.std.proofs.Common.{◌≡◌, ℕ, ◌≤◌, Bool, true, false, cond, inl, inr, List, [], ◌∷◌}
 use Rattle.std.proofs.Common.{length, filter, find, Option, None, Some, refl, sym, ap, ◌∙◌, subst, arith}
 use Rattle.std.specs.Prelude.{◌<◌, ◌+◌, ◌*◌, ◌==◌, ◌&&◌, nat_lt, nat_eq, is_none}

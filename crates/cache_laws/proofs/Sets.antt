@@ -19,7 +19,7 @@ use Rattle.cache_laws.specs.Sets.{IsRecordFor, AreDataOf, ComesFirst, AreInOrder
 use Rattle.cache_laws.specs.Sets.{IsSetFrom, TopBitIsNone}
 use Rattle.cache_laws.proofs.Lists.{before, behind, one_of_both, only_one, once_more, before_last}
 
--- ---- data that is there already is left out
+-- ---- data that is already there is left out
 
 is_there : (octets : List ℕ) (kept : List (List ℕ)) → list_any (same_octets octets) kept ≡ true → IsOneOf octets kept
 is_there octets [] e = absurd (false≢true e)

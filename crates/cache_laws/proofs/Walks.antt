@@ -1,4 +1,4 @@
--- What holds of each set and denial that is met holds of each piece on the walk.
+-- A fact of each set and denial that is met is a fact of each piece on the walk.
 use Rattle.std.proofs.Common.{◌≡◌, ℕ, zero, suc, Bool, true, false, cond, List, [], ◌∷◌, Option, None, Some, refl}
 use Rattle.std.specs.Prelude.{◌==◌, ◌&&◌, not, is_none}
 use Rattle.std.specs.List.{AllByRecursion}
@@ -103,7 +103,7 @@ walk_each r P (suc left) is_first name h = go_each P name (λ target. walk_from 
 abbrev pub own_walk : Reply → Walk
 own_walk r = walk_from r most_aliases true r.question.name
 
--- a walk with the name servers beside it
+-- a walk with the name servers added
 abbrev pub beside : Reply → Walk → Walk
 beside r w = record { pieces = w.pieces; authority = servers_from r w.pieces r.authority; end = w.end }
 

@@ -1,4 +1,4 @@
--- When a reply denies a name: RFC 2308 2.1, RFC 1034 3.6.2.
+-- Replies that deny a name (RFC 2308 2.1, RFC 1034 3.6.2).
 use Rattle.std.specs.Prelude.{◌≡◌, ◌≢◌, ℕ, zero, suc, ◌<◌, List, [], ◌∷◌, Some}
 use Rattle.dns_message.specs.Values.{Question, Record, Message}
 use Rattle.dns_message.specs.Data.{name_of_rdata}
@@ -16,8 +16,8 @@ question_at r kind name = record { name = name; kind = kind; class = r.question.
 abbrev pub LacksAt : Reply → ℕ → List (List ℕ) → Type 0
 LacksAt r kind name = (s : Record) → IsRecordFor (question_at r kind name) r.answers s → ⊥
 
--- the name is on the asked route and has no record of the asked type, which is not CNAME (5), but one alias, which is
--- the target's name
+-- the name is on the asked route and has no record of the asked type, which is not CNAME (5), but
+-- one alias, which is the target's name
 pub record IsAliasAt (r : Reply) (name target : List (List ℕ)) : Type 0 where
   pub on_route : route_of r.config.routes name ≡ Some r.route
   pub other : r.question.kind ≢ 5
@@ -26,13 +26,14 @@ pub record IsAliasAt (r : Reply) (name target : List (List ℕ)) : Type 0 where
   pub alone : AreDataOf (question_at r 5 name) r.answers (datum ∷ [])
   pub leads : name_of_rdata datum ≡ Some target
 
--- so many aliases lead from one name to another
+-- this many aliases lead from one name to another
 abbrev pub AliasesLead : Reply → ℕ → List (List ℕ) → List (List ℕ) → Type 0
 AliasesLead r zero name last = name ≡ last
 AliasesLead r (suc count) name last = (target : List (List ℕ)) × IsAliasAt r name target
     × AliasesLead r count target last
 
--- the name is on the asked route, RCODE is 3, and the answer section has neither the asked type nor an alias
+-- the name is on the asked route, RCODE is 3, and the answer section has neither the asked type nor
+-- an alias
 pub record IsDeniedAt (r : Reply) (name : List (List ℕ)) : Type 0 where
   pub on_route : route_of r.config.routes name ≡ Some r.route
   pub rcode : r.rcode ≡ 3
@@ -47,7 +48,8 @@ pub record LeadsToDenied (r : Reply) : Type 0 where
   pub lead : AliasesLead r count r.question.name last
   pub denied : IsDeniedAt r last
 
--- The walk ends with a name error exactly where the aliases lead to a name with neither set nor alias, and RCODE is 3.
+-- The walk ends with a name error exactly where the aliases lead to a name with neither set nor
+-- alias, and RCODE is 3.
 pub record DeniesExactly : Type 0 where
   pub only : (c : Config) (m : Message) (q : Question) (route : ℕ) → (walk_of c m q route).end ≡ ends_denied
       → LeadsToDenied (reply_of c m q route)

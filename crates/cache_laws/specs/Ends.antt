@@ -1,4 +1,4 @@
--- When a reply tells that there is no data, when its aliases lead on, and when it refers to others: RFC 2308 2.2.
+-- Replies that report no data, replies whose aliases lead on, and referrals (RFC 2308 2.2).
 use Rattle.std.specs.Prelude.{◌≡◌, ◌≢◌, ◌⊎◌, ℕ, suc, ◌<◌, false, List, Some}
 use Rattle.dns_message.specs.Values.{Question, Record, Message}
 use Rattle.suffix_routes.specs.Values.{Config}
@@ -9,14 +9,15 @@ use Rattle.cache_laws.specs.Lists.{IsOneOf}
 use Rattle.cache_laws.specs.Denials.{LacksAt, AliasesLead}
 use Rattle.cache_laws.specs.Lifetimes.{IsSoaFor}
 
--- the name is on the asked route, the answer section has neither the asked type nor an alias, and RCODE is not 3
+-- the name is on the asked route, the answer section has neither the asked type nor an alias, and
+-- RCODE is not 3
 pub record IsBareAt (r : Reply) (name : List (List ℕ)) : Type 0 where
   pub on_route : route_of r.config.routes name ≡ Some r.route
   pub other : r.rcode ≢ 3
   pub no_set : LacksAt r r.question.kind name
   pub no_alias : LacksAt r 5 name
 
--- so many aliases, fewer than eight, lead from the asked name to such a one
+-- `count` aliases, fewer than eight, lead from the asked name to such a one
 pub record LeadsToBare (r : Reply) (count : ℕ) (last : List (List ℕ)) : Type 0 where
   pub few : count < 8
   pub lead : AliasesLead r count r.question.name last
@@ -35,7 +36,8 @@ pub record IsReferral (r : Reply) : Type 0 where
   pub there : IsOneOf s r.authority
   pub kind : s.kind ≡ 2
 
--- an SOA for the name is there; else it is the asked name itself, and the reply does not refer to others
+-- an SOA for the name is there; otherwise it is the asked name itself, and the reply does not refer
+-- to others
 pub record LeadsToNoData (r : Reply) : Type 0 where
   pub count : ℕ
   pub last : List (List ℕ)
@@ -49,7 +51,7 @@ pub record NoDataExactly : Type 0 where
   pub each : (c : Config) (m : Message) (q : Question) (route : ℕ) → LeadsToNoData (reply_of c m q route)
       → (walk_of c m q route).end ≡ ends_no_data
 
--- Behind one alias or more, with no SOA, the name that they lead to has to be asked for.
+-- After one alias or more, with no SOA, the name that they lead to has to be asked for.
 abbrev pub AliasesAloneLeadOn : Type 0
 AliasesAloneLeadOn = (c : Config) (m : Message) (q : Question) (route count : ℕ) (last : List (List ℕ))
     → LeadsToBare (reply_of c m q route) (suc count) last → (HasSoaFor (reply_of c m q route) last → ⊥)

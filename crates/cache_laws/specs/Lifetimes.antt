@@ -1,4 +1,4 @@
--- How long a denial is kept: RFC 2308 3 and 5.
+-- The lifetime of a denial (RFC 2308 3 and 5).
 use Rattle.std.specs.Prelude.{◌≡◌, ℕ, ◌+◌, ◌*◌, ◌≤◌, ◌⊎◌, List, [], ◌∷◌, ◌++◌, Option, Some, None}
 use Rattle.std.specs.List.{AllByRecursion}
 use Rattle.dns_name.specs.Labels.{IsUnder}
@@ -31,8 +31,8 @@ pub record IsLeastOf (ttl minimum lifetime : ℕ) : Type 0 where
   pub within_three_hours : lifetime ≤ 10800
   pub one : (lifetime ≡ ttl) ⊎ ((lifetime ≡ minimum) ⊎ (lifetime ≡ 10800))
 
--- with no SOA a denial has no lifetime; else the least of the SOA's TTL, of MINIMUM, which its last four octets are (RFC
--- 1035 3.3.13), and of three hours
+-- without SOA a denial has no lifetime; otherwise it is the least of the SOA's TTL, of MINIMUM,
+-- which is its last four octets (RFC 1035 3.3.13), and of three hours
 abbrev pub LivesBy : Option Record → ℕ → Type 0
 LivesBy None lifetime = lifetime ≡ 0
 LivesBy (Some soa) lifetime = (front : List ℕ) (a b c d : ℕ) → soa.rdata ≡ front ++ a ∷ b ∷ c ∷ d ∷ []
@@ -48,7 +48,8 @@ pub record IsDenialFrom (class : ℕ) (authority : List Record) (p : Piece) : Ty
   pub of_type : (soa : Option Record) → p.body ≡ no_data soa → HoldsSoa class authority p soa
   pub of_name : (soa : Option Record) → p.body ≡ denied soa → HoldsSoa class authority p soa
 
--- Each denial on the walk of a reply holds the first SOA of the authority section that fits, and lives by it.
+-- Each denial on the walk of a reply holds the first SOA of the authority section that fits, and
+-- lives by it.
 abbrev pub DenialsLiveByTheirSoa : Type 0
 DenialsLiveByTheirSoa = (c : Config) (m : Message) (q : Question) (route : ℕ)
     → AllByRecursion (IsDenialFrom q.class m.authority) (walk_of c m q route).pieces

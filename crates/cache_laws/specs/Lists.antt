@@ -1,4 +1,4 @@
--- What stands in a list.
+-- Places in a list.
 use Rattle.std.specs.Prelude.{◌≡◌, ◌⊎◌, List, [], ◌∷◌}
 
 -- it is one of these
@@ -11,7 +11,7 @@ abbrev pub NoneTwice : {X : Type 0} → List X → Type 0
 NoneTwice [] = Unit {0}
 NoneTwice (x ∷ xs) = (IsOneOf x xs → ⊥) × NoneTwice xs
 
--- the first of two stands before the second
+-- the first of two comes before the second
 abbrev pub IsBefore : {X : Type 0} → X → X → List X → Type 0
 IsBefore x y [] = ⊥
 IsBefore x y (z ∷ zs) = ((x ≡ z) × IsOneOf y zs) ⊎ IsBefore x y zs

@@ -1,4 +1,4 @@
--- What a look-up finds first: RFC 1034 3.6.2, RFC 2308 2, RFC 8020 2.
+-- The order of a look-up (RFC 1034 3.6.2, RFC 2308 2, RFC 8020 2).
 use Rattle.std.specs.Prelude.{◌≡◌, ◌≢◌, ◌<◌, ◌≤◌, ℕ, ◌+◌, ◌*◌, List, length, Option, Some, None}
 use Rattle.dns_name.specs.Labels.{IsSame, IsUnder}
 use Rattle.dns_message.specs.Values.{Question, Record}
@@ -11,8 +11,8 @@ use Rattle.record_cache.specs.Laws.{Among}
 use Rattle.negative_cache.specs.Values.{rows, alias, no_data, denied, miss}
 use Rattle.negative_cache.specs.Finding.{found}
 
--- an entry of the question's name (letter case aside) and class and of this type, before its end: as many seconds after
--- it was accepted, in milliseconds, as it lives (RFC 1035 3.2.1)
+-- an entry of the question's name (letter case aside) and class and of this type, before its end:
+-- as many seconds after it was accepted, in milliseconds, as it lives (RFC 1035 3.2.1)
 pub record IsLivingOf (moment : ℕ) (entries : List Held) (q : Question) (kind : ℕ) (h : Held) : Type 0 where
   pub among : Among h entries
   pub alive : moment < h.accepted + 1000 * h.piece.lifetime
@@ -39,7 +39,8 @@ pub record IsAskedNoData (moment : ℕ) (entries : List Held) (q : Question) (h 
   pub soa : Option Record
   pub body : h.piece.body ≡ set_no_data soa
 
--- a living name error of the question's class, which has no type, at or above its name and on the route of its name
+-- a living name error of the question's class, which has no type, at or above its name and on the
+-- route of its name
 pub record IsNameError (routes : List Route) (moment : ℕ) (entries : List Held) (q : Question) (h : Held) : Type 0 where
   pub among : Among h entries
   pub alive : moment < h.accepted + 1000 * h.piece.lifetime
@@ -65,8 +66,8 @@ pub record FindsNearest (routes : List Route) (moment : ℕ) (entries : List Hel
   pub found_is : found routes moment entries q ≡ denied h
   pub near : IsNearestDenial routes moment entries q h
 
--- What is found: the living set of the type where there is one; else the alias; else NODATA; else the nearest name
--- error; else nothing.
+-- The finding: the living set of the type, if any; otherwise the alias; otherwise NODATA; otherwise
+-- the nearest name error; otherwise nothing.
 pub record FindsInOrder (routes : List Route) (moment : ℕ) (entries : List Held) (q : Question) : Type 0 where
   pub set : (h : Held) → IsAskedSet moment entries q h → found routes moment entries q ≡ rows h
   pub alias_next : (h : Held) → HasNone (IsAskedSet moment entries q) → IsAskedAlias moment entries q h
@@ -80,7 +81,7 @@ pub record FindsInOrder (routes : List Route) (moment : ℕ) (entries : List Hel
       → HasNone (IsAskedNoData moment entries q) → HasNone (IsNameError routes moment entries q)
       → found routes moment entries q ≡ miss
 
--- So it is among the entries of a cache, of which no two are of one slot.
+-- The same holds among the entries of a cache, of which no two are of one slot.
 abbrev pub LookUpsFindInOrder : Type 0
 LookUpsFindInOrder = (routes : List Route) (moment capacity : ℕ) (entries : List Held) (q : Question)
     → AreHeld (record { capacity = capacity; entries = entries }) → FindsInOrder routes moment entries q

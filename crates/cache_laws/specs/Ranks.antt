@@ -1,4 +1,4 @@
--- How far a piece of a reply is believed: RFC 2181 5.4.1.
+-- The rank of a piece of a reply (RFC 2181 5.4.1).
 use Rattle.std.specs.Prelude.{◌≡◌, ◌≢◌, ℕ, Bool, true, List}
 use Rattle.std.specs.List.{AllByRecursion}
 use Rattle.dns_name.specs.Labels.{IsSame}
@@ -7,15 +7,15 @@ use Rattle.suffix_routes.specs.Values.{Config}
 use Rattle.trust_rank.specs.Values.{Piece}
 use Rattle.trust_rank.specs.Walks.{walk_of}
 
--- rank 3 exactly for what an authoritative reply tells of the asked name itself, else 1
+-- rank 3 exactly for a piece of the asked name itself in an authoritative reply, otherwise 1
 pub record IsRanked (is_authoritative : Bool) (asked owner : List (List ℕ)) (rank : ℕ) : Type 0 where
   pub highest : is_authoritative ≡ true → IsSame owner asked → rank ≡ 3
   pub authoritative : rank ≡ 3 → is_authoritative ≡ true
   pub own : rank ≡ 3 → IsSame owner asked
   pub lowest : rank ≢ 3 → rank ≡ 1
 
--- Each piece on the walk has rank 3 exactly where AA is set and it is of the asked name, and else 1; name servers
--- beside the walk have rank 2.
+-- Each piece on the walk has rank 3 exactly where AA is set and it is of the asked name, otherwise
+-- 1; name servers next to the walk have rank 2.
 abbrev pub RanksAreByAuthority : Type 0
 RanksAreByAuthority = (c : Config) (m : Message) (q : Question) (route : ℕ)
     → AllByRecursion (λ (p : Piece). IsRanked m.header.aa q.name p.owner p.rank) (walk_of c m q route).pieces

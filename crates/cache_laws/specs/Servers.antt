@@ -1,4 +1,4 @@
--- Which name servers of the authority section a reply carries: RFC 2181 5.4.1.
+-- The name servers of the authority section that a reply carries (RFC 2181 5.4.1).
 use Rattle.std.specs.Prelude.{◌≡◌, ◌≢◌, ℕ, true, false, List, [], ◌∷◌, Some}
 use Rattle.std.specs.List.{AllByRecursion}
 use Rattle.dns_name.specs.Labels.{IsSame, IsUnder}
@@ -13,8 +13,8 @@ use Rattle.cache_laws.specs.Lists.{IsOneOf}
 abbrev pub NoneOwns : List (List ℕ) → List Piece → Type 0
 NoneOwns name pieces = (p : Piece) → IsOneOf p pieces → IsSame p.owner name → ⊥
 
--- an NS record of the authority section, of the asked class, whose owner is at or above the asked name and on the asked
--- route, and is the owner of no piece on the walk
+-- an NS record of the authority section, of the asked class, whose owner is at or above the asked
+-- name and on the asked route, and is the owner of no piece on the walk
 pub record IsFitServer (c : Config) (m : Message) (q : Question) (route : ℕ) (s : Record) : Type 0 where
   pub there : IsOneOf s m.authority
   pub kind : s.kind ≡ 2

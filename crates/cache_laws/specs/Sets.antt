@@ -22,7 +22,8 @@ pub record HasDatum (q : Question) (records : List Record) (datum : List ℕ) : 
   pub fits : IsRecordFor q records r
   pub datum_is : r.rdata ≡ datum
 
--- each row is the data of such a record, the data of each such record is a row, and no row is there twice (RFC 2181 5)
+-- each row is the data of such a record, the data of each such record is a row, and no row is there
+-- twice (RFC 2181 5)
 pub record AreDataOf (q : Question) (records : List Record) (each : List (List ℕ)) : Type 0 where
   pub only : (datum : List ℕ) → IsOneOf datum each → HasDatum q records datum
   pub whole : (r : Record) → IsRecordFor q records r → IsOneOf r.rdata each
@@ -34,7 +35,7 @@ ComesFirst q [] x y = ⊥
 ComesFirst q (r ∷ records) x y = (IsRecordFor q (r ∷ records) r × (r.rdata ≡ x))
     ⊎ ((IsRecordFor q (r ∷ records) r → r.rdata ≢ y) × ComesFirst q records x y)
 
--- the rows stand in the order in which their data comes first in the section
+-- the rows are in the order in which their data comes first in the section
 abbrev pub AreInOrder : Question → List Record → List (List ℕ) → Type 0
 AreInOrder q records each = (x y : List ℕ) → IsBefore x y each → ComesFirst q records x y
 
@@ -44,20 +45,21 @@ FirstOwns q [] owner = ⊥
 FirstOwns q (r ∷ records) owner = (IsRecordFor q (r ∷ records) r × (r.owner ≡ owner))
     ⊎ ((IsRecordFor q (r ∷ records) r → ⊥) × FirstOwns q records owner)
 
--- a record of the section lives for so many seconds
+-- a record of the section has this lifetime in seconds
 pub record HasSeconds (q : Question) (records : List Record) (seconds : ℕ) : Type 0 where
   pub r : Record
   pub fits : IsRecordFor q records r
   pub seconds_are : seconds ≡ seconds_of r.ttl
 
--- no record of the set lives shorter (RFC 2181 5.2), and one lives as long, unless that is cut to a week
+-- no record of the set has a shorter lifetime (RFC 2181 5.2), and one has the same, unless that is
+-- cut to a week
 pub record IsLowestTtl (q : Question) (records : List Record) (lifetime : ℕ) : Type 0 where
   pub least : (r : Record) → IsRecordFor q records r → lifetime ≤ seconds_of r.ttl
   pub week : lifetime ≤ 604800
   pub one : (lifetime ≡ 604800) ⊎ HasSeconds q records lifetime
 
--- where a piece is a set: its rows, their order, the spelling of its owner and its lifetime are those of the section's
--- records of its owner, type and class
+-- where a piece is a set: its rows, their order, the spelling of its owner and its lifetime are
+-- those of the section's records of its owner, type and class
 pub record IsSetFrom (records : List Record) (p : Piece) : Type 0 where
   pub data_are : (kind : ℕ) (each : List (List ℕ)) → p.slot.kind ≡ Some kind → p.body ≡ rows each
       → AreDataOf (record { name = p.owner; kind = kind; class = p.slot.class }) records each
@@ -68,12 +70,13 @@ pub record IsSetFrom (records : List Record) (p : Piece) : Type 0 where
   pub lives : (kind : ℕ) (each : List (List ℕ)) → p.slot.kind ≡ Some kind → p.body ≡ rows each
       → IsLowestTtl (record { name = p.owner; kind = kind; class = p.slot.class }) records p.lifetime
 
--- Each set on the walk of a reply is the whole set that the answer section has of its name, type and class.
+-- Each set on the walk of a reply is the whole set that the answer section has of its name, type
+-- and class.
 abbrev pub SetsAreWhole : Type 0
 SetsAreWhole = (c : Config) (m : Message) (q : Question) (route : ℕ)
     → AllByRecursion (IsSetFrom m.answers) (walk_of c m q route).pieces
 
--- So is each set of name servers beside it the whole one that the authority section has.
+-- Each set of name servers next to the walk is the whole one that the authority section has.
 abbrev pub ServerSetsAreWhole : Type 0
 ServerSetsAreWhole = (c : Config) (m : Message) (q : Question) (route : ℕ)
     → AllByRecursion (IsSetFrom m.authority) (walk_of c m q route).authority

@@ -1,4 +1,4 @@
-//! What the definitions of replies and of look-ups are good for, in the words of the RFCs: laws, and no code.
+//! Laws about replies and look-ups, in the words of the RFCs. There is no code.
 #![tactic(auto)]
 
 mod entries;

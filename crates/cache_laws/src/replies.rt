@@ -1,4 +1,4 @@
-//! What a reply carries.
+//! The pieces that a reply carries.
 
 ghost use Rattle.cache_laws.specs.Denials.{DeniesExactly};
 ghost use Rattle.cache_laws.specs.Ends.{AliasesAloneLeadOn, NoDataExactly, ReferralsAreLame};
@@ -7,10 +7,11 @@ ghost use Rattle.cache_laws.specs.Ranks.{RanksAreByAuthority};
 ghost use Rattle.cache_laws.specs.Servers.{OthersCarryNone, ServersAreAll, ServersAreApart};
 ghost use Rattle.cache_laws.specs.Sets.{ServerSetsAreWhole, SetsAreWhole, TopBitIsNone};
 
-/// Each set that a reply carries is the whole set that the section has of its name, type and class: each row is the
-/// data of a record, the data of each record is a row, and none is there twice (RFC 2181 5). Rows stand in the order in
-/// which their data comes first in the section, and the owner is spelled as in the first record. The set lives no
-/// longer than any of its records and than a week, and as long as one of them or a week (RFC 2181 5.2).
+/// Each set that a reply carries is the whole set that the section has of its name, type and class:
+/// each row is the data of a record, the data of each record is a row, and none is there twice (RFC
+/// 2181 5). Rows are in the order in which their data comes first in the section, and the owner is
+/// spelled as in the first record. The set lives no longer than any of its records and than a week,
+/// and as long as one of them or a week (RFC 2181 5.2).
 pub fn sets_are_whole()
     ensures walk { SetsAreWhole }
     ensures servers { ServerSetsAreWhole }
@@ -21,37 +22,41 @@ pub fn top_bit_is_none()
     ensures { TopBitIsNone }
 {}
 
-/// What a reply tells of the asked name has rank 3 exactly where it is authoritative; all else on its walk has rank 1,
-/// and the name servers beside it rank 2 (RFC 2181 5.4.1).
+/// The pieces of a reply for the asked name have rank 3 exactly where it is authoritative; all
+/// others on its walk have rank 1, and the name servers next to it rank 2 (RFC 2181 5.4.1).
 pub fn ranks_are_by_authority()
     ensures { RanksAreByAuthority }
 {}
 
-/// A reply ends with a name error exactly where its response code is 3 and its aliases, fewer than eight, lead on the
-/// asked route to a name of which its answer section has neither the asked type nor an alias (RFC 2308 2.1).
+/// A reply ends with a name error exactly where its response code is 3 and its aliases, fewer than
+/// eight, lead on the asked route to a name of which its answer section has neither the asked type
+/// nor an alias (RFC 2308 2.1).
 pub fn denies_exactly()
     ensures { DeniesExactly }
 {}
 
-/// A denial holds the first SOA of the authority section that is of the asked class and whose owner is at or above its
-/// name. It lives for the least of the SOA's TTL, of MINIMUM and of three hours, or with no SOA not at all (RFC 2308 5).
+/// A denial holds the first SOA of the authority section that is of the asked class and whose owner
+/// is at or above its name. It lives for the least of the SOA's TTL, of MINIMUM and of three hours;
+/// without SOA it has no lifetime (RFC 2308 5).
 pub fn denials_live_by_their_soa()
     ensures { DenialsLiveByTheirSoa }
 {}
 
-/// Where fewer than eight aliases lead on the asked route to a name of which the answer section has neither the asked
-/// type nor an alias, and the response code is not 3: a reply with an SOA for that name ends with NODATA. With no SOA
-/// the name has to be asked for, where an alias leads to it. The asked name itself has then no data, but a referral to
-/// others is lame (RFC 2308 2.2). In no other case does a reply end with NODATA.
+/// Fewer than eight aliases lead on the asked route to a name of which the answer section has
+/// neither the asked type nor an alias, and the response code is not 3. Then a reply with an SOA
+/// for that name ends with NODATA. Without SOA the name has to be asked for, where an alias leads
+/// to it. The asked name itself has then no data, but a referral to others is lame (RFC 2308 2.2).
+/// In no other case does a reply end with NODATA.
 pub fn no_data_exactly()
     ensures no_data { NoDataExactly }
     ensures aliases { AliasesAloneLeadOn }
     ensures referral { ReferralsAreLame }
 {}
 
-/// An authoritative reply that is not lame carries each NS record of its authority section that is of the asked class,
-/// whose owner is at or above the asked name and on the asked route, and is the owner of no piece on the walk, in one
-/// set for each owner. A reply that is not authoritative carries none.
+/// An authoritative reply that is not lame carries each NS record of its authority section that is
+/// of the asked class, whose owner is at or above the asked name and on the asked route, and is the
+/// owner of no piece on the walk, in one set for each owner. A reply that is not authoritative
+/// carries none.
 pub fn servers_are_all()
     ensures all { ServersAreAll }
     ensures apart { ServersAreApart }

@@ -35,7 +35,7 @@ const KINDS: [Option<u16>; 4] = [None, Some(1), Some(5), Some(16)];
 /// In seconds.
 const LIFETIMES: [u16; 4] = [0, 1, 30, 3000];
 
-/// How many calls are made.
+/// The number of calls.
 const CALLS: u64 = 200;
 
 fn told(held: Option<&Held>) -> Option<Entry> {
@@ -120,7 +120,7 @@ fn finds_the_same(
     Ok(true)
 }
 
-/// Whether both are the same, as far as calls tell.
+/// Whether both are the same, as far as calls show.
 fn are_the_same(
     alloc: Global,
     cache: &Cache<DefaultHasher>,

@@ -8,7 +8,7 @@ use std::alloc::Global;
 use std::test::Fail;
 use trust_rank::{Body, Piece, Rows, Slot};
 
-/// The data are the same, in one order.
+/// Whether the data are the same, in the same order.
 fn is_same_rows(rows: &Rows, others: &Rows) -> bool {
     match (rows.data(), others.data()) {
         (DataRef::Row(row), DataRef::Row(other)) => row.octets() == other.octets(),
@@ -31,7 +31,7 @@ fn is_same_record(record: &Record, other: &Record) -> bool {
         && record.rdata.octets() == other.rdata.octets()
 }
 
-/// Both have one, and they are the same.
+/// Whether both have one, and they are the same.
 fn is_same_soa(soa: &Option<Box<Record>>, other: &Option<Box<Record>>) -> bool {
     match (soa, other) {
         (Some(soa), Some(other)) => is_same_record(soa.as_ref(), other.as_ref()),
@@ -48,7 +48,8 @@ fn is_same_body(body: &Body, other: &Body) -> bool {
     }
 }
 
-/// Each part is the same: owner as it is spelled, slot, data, lifetime, rank and route. A denial has an SOA.
+/// Whether each part is the same: owner as it is spelled, slot, data, lifetime, rank and route. A
+/// denial has an SOA.
 fn is_same(piece: &Piece, other: &Piece) -> bool {
     piece.owner.octets() == other.owner.octets()
         && piece.slot() == other.slot()
@@ -58,7 +59,7 @@ fn is_same(piece: &Piece, other: &Piece) -> bool {
         && piece.route == other.route
 }
 
-/// How many pieces a reply carries, and how many of their copies are the same.
+/// The number of pieces that a reply carries, and the number of their copies that are the same.
 fn equal_copies(alloc: Global, digits: &str) -> Result<(usize, usize), Fail> {
     let pieces = pieces_of(alloc, digits)?;
     let mut equal = 0usize;
@@ -81,8 +82,8 @@ fn copies_are_equal_in_each_part(rt: HostRuntime) -> Result<(), Fail> {
     Ok(())
 }
 
-/// Whether the piece is that of the first worked reply: the address 198.51.100.5 of `a.example`, for 300 seconds, of
-/// rank 3.
+/// Whether the piece is that of the first worked reply: the address 198.51.100.5 of `a.example`,
+/// for 300 seconds, of rank 3.
 fn is_worked(piece: &Piece) -> bool {
     let is_address = match &piece.body {
         Body::Rows(rows) => match rows.data() {

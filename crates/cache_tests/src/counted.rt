@@ -1,9 +1,9 @@
 //! A look-up computes few hashes, however many labels the name has.
 
-use crate::samples::{CONFIG, Denial};
+use crate::samples::{CONFIG, Denial, found_past};
 use dns_name::{Name, NameFault};
 use lru::DefaultHasher;
-use negative_cache::{Found, find, find_stale, shown};
+use negative_cache::{CacheAt, Found, find, shown};
 use record_cache::Cache;
 use std::alloc::Global;
 use std::cell::Cell;
@@ -35,15 +35,15 @@ const LONGEST: &str =
 a.a.a.a.a.a.a.a.a.a.a.a.a.a.a.a.a.a.a.a.a.a.a.a.a.a.a.a.a.a.a.a.a.a.a.a.a.a.a.a.a.a.\
 a.a.a.a.a.a.a.a.a.a.a.a.a.a.a.a.a.a.a.a.a.a.a.a.a.a.a.a.a.a.a.a.a.a.a.a.a.a.a.a.a.a.a";
 
-/// Denied names, none of them at or above the longest: one that ends otherwise, one that ends in the same eight octets,
-/// and one with fewer. They have ten octets, ten, and two.
+/// Denied names, none of them at or above the longest: one that ends otherwise, one that ends in
+/// the same eight octets, and one with fewer. They have ten octets, ten, and two.
 const DENIED: [&str; 3] = ["x.example", "b.a.a.a.a", "b"];
 
 /// One for the set, one for an alias, and one for each size that a denied name has.
 const MOST: u64 = 4;
 
-/// The number of hashes of each call: a look-up, one that takes expired entries too, and `shown`. Both look-ups have to
-/// miss.
+/// The number of hashes of each call: a look-up, one that takes expired entries too, and `shown`.
+/// Both look-ups have to miss.
 fn begun_by(
     begun: &Cell<u64>,
     cache: &mut Cache<Counting<'_, DefaultHasher>>,
@@ -53,7 +53,12 @@ fn begun_by(
     begun.set(0);
     let is_missed = matches!(find(cache, name, 1, 1, 2000, config), Found::Miss);
     let alive = begun.replace(0);
-    let is_missed_past = matches!(find_stale(cache, name, 1, 1, 2000, 60), Found::Miss);
+    let at = CacheAt {
+        cache,
+        config,
+        moment: 2000,
+    };
+    let is_missed_past = matches!(found_past(&at, name, 60), Found::Miss);
     let past = begun.replace(0);
     shown(cache, name, 1);
     if is_missed && is_missed_past {

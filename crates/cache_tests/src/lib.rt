@@ -1,5 +1,6 @@
-//! Tests of the cache against a plain list and with many names, of copies of what replies carry and of a look-up of
-//! each kind, and of refused growths: of what replies carry, of copies, of the cache and of look-ups.
+//! Tests of the cache against a plain list and with many names, of copies of the pieces of replies
+//! and of a look-up of each kind, and of refused allocations: of the pieces of replies, of copies,
+//! of the cache and of look-ups.
 #![tactic(auto)]
 
 #[cfg(test)]

@@ -9,10 +9,10 @@ use std::alloc::Global;
 use std::test::Fail;
 use suffix_routes::Config;
 
-/// Names whose address is asked for, what is found of each a second after it was kept, and what is found with a window
-/// of an hour when all have ended: the set five minutes and the alias one minute after it was kept, so that both are
-/// within the window, and the denials after an hour. Names under `lan` are denied by the configuration, which only a
-/// look-up of what is alive tells.
+/// Names whose address is asked for, the finding of each a second after it was kept, and the
+/// finding with a window of an hour when all have expired: the set five minutes and the alias one
+/// minute after it was kept, so that both are within the window, and the denials after an hour.
+/// Names under `lan` are denied by the configuration, which only a look-up of what is alive shows.
 const LOOK_UPS: [(&str, &str, &str); 6] = [
     ("h.Lan", "local", "miss"),
     ("B.example", "rows", "rows"),
@@ -22,7 +22,7 @@ const LOOK_UPS: [(&str, &str, &str); 6] = [
     ("z.example", "miss", "miss"),
 ];
 
-/// What is found, in a word.
+/// The finding, in a word.
 fn word(found: &Found<'_>) -> &'static str {
     match found {
         Found::Local => "local",
@@ -34,7 +34,8 @@ fn word(found: &Found<'_>) -> &'static str {
     }
 }
 
-/// An alias `a.example`, the addresses of `b.example`, NODATA of `n.example` and a name error of `x.example`.
+/// An alias `a.example`, the addresses of `b.example`, NODATA of `n.example` and a name error of
+/// `x.example`.
 fn filled(alloc: Global) -> Result<Cache<DefaultHasher>, Fail> {
     let mut cache = Cache::new(alloc, 8, DefaultHasher::default())?;
     for piece in pieces_of(alloc, ALIAS)?.as_slice() {
@@ -45,7 +46,7 @@ fn filled(alloc: Global) -> Result<Cache<DefaultHasher>, Fail> {
     Ok(cache)
 }
 
-/// How many of the look-ups find what they have to, alive and past their ends.
+/// The number of look-ups that find what they have to, alive and expired.
 fn right_look_ups(alloc: Global) -> Result<(usize, usize), Fail> {
     let config = Config::read(alloc, alloc, DENYING)?;
     let cache = filled(alloc)?;
@@ -53,9 +54,9 @@ fn right_look_ups(alloc: Global) -> Result<(usize, usize), Fail> {
     for (name, wanted, wanted_past) in &LOOK_UPS {
         let name = Name::from_text(alloc, name)?;
         let found = find(&cache, &name, 1, 1, 2000, &config);
-        let found_past = find_stale(&cache, &name, 1, 1, 3_660_000, 3600);
+        let expired = find_stale(&cache, &name, 1, 1, 3_660_000, 3600);
         alive = alive.saturating_add(usize::from(word(&found) == *wanted));
-        past = past.saturating_add(usize::from(word(&found_past) == *wanted_past));
+        past = past.saturating_add(usize::from(word(&expired) == *wanted_past));
     }
     Ok((alive, past))
 }

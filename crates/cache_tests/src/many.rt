@@ -53,8 +53,8 @@ fn the_set_of_the_first_of_4097_names_is_gone(rt: HostRuntime) -> Result<(), Fai
     Ok(())
 }
 
-/// Offers an address of the name with this number, with one growth more granted from try to try; whether each refusal
-/// left the cache as it was, and the last try kept it.
+/// Offers an address of the name with this number, with one allocation more granted from try to
+/// try; whether each refusal left the cache as it was, and the last try kept it.
 fn is_kept_at_last<'a>(
     heap: &'a Refusing<Global>,
     cache: &mut Cache<DefaultHasher, &'a Refusing<Global>>,

@@ -1,16 +1,16 @@
-//! Refused growths.
+//! Refused allocations.
 
-use crate::samples::{DENYING, Denial};
+use crate::samples::{DENYING, Denial, found_past};
 use dns_name::{Name, NameFault};
 use lru::DefaultHasher;
-use negative_cache::{Found, find, find_stale, shown};
+use negative_cache::{CacheAt, Found, find, shown};
 use record_cache::{Cache, Offered};
 use refusing_allocator::Refusing;
 use std::alloc::Global;
 use std::test::Fail;
 use suffix_routes::Config;
 
-/// Offers a denial with so many growths granted, its own octets aside.
+/// Offers a denial with `growths` allocations granted, its own octets aside.
 fn offer_within<'a>(
     heap: &'a Refusing<Global>,
     growths: u64,
@@ -43,8 +43,8 @@ fn each_growth_of_a_new_cache_is_refused(rt: HostRuntime) {
     );
 }
 
-/// A second name is offered with so many growths granted: what came of it, and whether the cache is as it has to be
-/// then.
+/// Offers a second name with `growths` allocations granted; returns the result, and whether the
+/// cache is then as it has to be.
 fn second_within(heap: &Refusing<Global>, growths: u64) -> Result<(Offered, bool), Fail> {
     let mut cache = Cache::new(heap, 2, DefaultHasher::default())?;
     let first = Denial::of("a.example", None);
@@ -101,7 +101,7 @@ fn offers_at_a_slot_that_is_there_take_no_memory(rt: HostRuntime) -> Result<(), 
     Ok(())
 }
 
-/// Of one growth that is granted this one is left, and no more.
+/// Whether one allocation is left, and no more.
 fn is_one_left(heap: &Refusing<Global>) -> bool {
     Box::new(heap, 0u8).is_ok() && Box::new(heap, 0u8).is_err()
 }
@@ -116,7 +116,7 @@ fn a_cache_that_was_never_used_is_cleared_without_memory(rt: HostRuntime) -> Res
     Ok(())
 }
 
-/// One growth is granted, and stays unspent over all calls that take none.
+/// One allocation is granted, and stays unspent over all calls that do not allocate.
 #[test]
 fn other_calls_take_no_memory(rt: HostRuntime) -> Result<(), Fail> {
     let heap = Refusing::new(rt.alloc());
@@ -133,8 +133,8 @@ fn other_calls_take_no_memory(rt: HostRuntime) -> Result<(), Fail> {
     Ok(())
 }
 
-/// A cache with a name error, granted one growth, looks up a name that the configuration denies, names under the name
-/// error and beside it, and then shows the one under it.
+/// A cache with a name error, granted one allocation, looks up a name that the configuration
+/// denies, names under the name error and next to it, and then shows the one under it.
 fn look_up<'a>(
     heap: &'a Refusing<Global>,
     cache: &mut Cache<DefaultHasher, &'a Refusing<Global>>,
@@ -147,8 +147,13 @@ fn look_up<'a>(
     heap.allow(1);
     let is_local = matches!(find(cache, &local, 1, 1, 2000, config), Found::Local);
     let is_denied = matches!(find(cache, &under, 1, 1, 2000, config), Found::Denied(_));
+    let at = CacheAt {
+        cache,
+        config,
+        moment: 2000,
+    };
     let is_missed = matches!(find(cache, &beside, 1, 1, 2000, config), Found::Miss)
-        && matches!(find_stale(cache, &under, 1, 1, 2000, 60), Found::Miss);
+        && matches!(found_past(&at, &under, 60), Found::Miss);
     shown(cache, &under, 1);
     Ok(is_local && is_denied && is_missed && is_one_left(heap))
 }

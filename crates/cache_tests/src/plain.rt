@@ -4,7 +4,7 @@ use record_cache::Offered;
 use std::alloc::{AllocError, Global};
 use trust_rank::Slot;
 
-/// What is told of an entry.
+/// The fields of an entry that are compared.
 #[derive(Clone, Copy, Debug, PartialEq, Eq)]
 pub(crate) struct Entry {
     pub rank: u8,

@@ -1,13 +1,15 @@
 //! Pieces to offer.
 
-ghost use Rattle.std.specs.Prelude.{◌≢◌, []};
+ghost use Rattle.std.specs.Prelude.{◌≢◌, ◌≤◌, []};
 
-use dns_message::{MessageRef, Rdata};
+use dns_message::{MessageRef, QuestionRef, Rdata};
 use dns_name::{Name, NameFault};
 use lru::DefaultHasher;
+use negative_cache::{CacheAt, Found};
 use plain_list::PlainList;
 use record_cache::{Cache, Offered};
 use std::alloc::{Allocator, Global};
+use std::hash::BuildHasher;
 use std::test::Fail;
 use suffix_routes::{Config, RouteId};
 use trust_rank::{Body, Piece, Rows, Slot, pieces};
@@ -33,8 +35,8 @@ deny = true
 pub(crate) const ADDRESS: &str =
     "0008850000010001000000000161076578616d706c650000010001c00c000100010000012c0004c6336405";
 
-/// The address of a.example is asked for. It is an alias of b.example, which has two addresses; and there is a name
-/// server of example.
+/// The address of a.example is asked for. It is an alias of b.example, which has two addresses; and
+/// there is a name server of example.
 pub(crate) const ALIAS: &str =
     "0008850000010003000100000161076578616d706c650000010001c00c000500010000003c00040162c00ec027000100010000012c0004c6336405c02700010001000002580004c6336406c00e0002000100000e100005026e73c00e";
 
@@ -46,7 +48,8 @@ pub(crate) const NAME_ERROR: &str =
 pub(crate) const NO_DATA: &str =
     "0008850000010000000100000178076578616d706c650000010001c00e0006000100000e10001d026e73c00e0168c00e0000000100000002000000030000000400000258";
 
-/// A denial without SOA: of a type (NODATA), or of the whole name (a name error) where there is none.
+/// A denial without SOA: of a type (NODATA), or of the whole name (a name error) where there is
+/// none.
 #[derive(Clone, Copy)]
 pub(crate) struct Denial<'a> {
     pub owner: &'a str,
@@ -138,4 +141,21 @@ pub(crate) fn pieces_of(alloc: Global, digits: &str) -> Result<PlainList<Piece, 
     let question = view.question(alloc)?;
     let walk = pieces(alloc, &message, &question, RouteId { place: 0 }, &config)?;
     Ok(walk.pieces)
+}
+
+/// What is found of the address of a name, expired entries too, with a window in seconds.
+pub(crate) fn found_past<'a, H: BuildHasher + Drop, A: Allocator + Copy>(
+    at: &CacheAt<'a, H, A>,
+    name: &Name<A>,
+    window: u64,
+) -> Found<'a, A>
+    requires { window ≤ 86400 }
+{
+    let mut slot = Slot {
+        class: 0,
+        kind: None,
+        key: name.key(),
+    };
+    let question = QuestionRef::from_octets(name.octets(), 1, 1);
+    at.find_stale(&mut slot, &question, window)
 }

@@ -1,4 +1,4 @@
-//! Replies in octets, and what no contract can say: that memory is found where there is some.
+//! Replies in octets, and what no contract can say: that allocations succeed where there is memory.
 
 use crate::samples::{ALIAS, CONFIG, NAME_ERROR};
 use dns_message::MessageRef;
@@ -23,7 +23,8 @@ fn twenty_twice(heap: Global) -> Result<Vec<u8>, Fail> {
     Ok(octets)
 }
 
-/// What a message carries as the reply to its own question, with so many growths; `None` where one more was wanted.
+/// The pieces of a message as the reply to its own question, with `growths` allocations
+/// granted; `None` where one more was needed.
 fn walked<'h>(
     table_heap: Global,
     heap: &'h Refusing<Global>,
@@ -40,7 +41,7 @@ fn walked<'h>(
     Ok(walk.ok())
 }
 
-/// How many growths of the call are refused one after another, until it is done.
+/// The number of allocations of the call that are refused one after another, until it is done.
 fn refusals(table_heap: Global, octets: &[u8]) -> Result<u64, Fail> {
     let heap = Refusing::new(table_heap);
     let mut refused = 0u64;
@@ -62,7 +63,7 @@ fn each_growth_is_refused(rt: HostRuntime) -> Result<(), Fail> {
     Ok(())
 }
 
-/// How many growths of a copy are refused one after another, until it is made.
+/// The number of allocations of a copy that are refused one after another, until it is made.
 fn refused_copies<'h>(heap: &'h Refusing<Global>, piece: &Piece<&'h Refusing<Global>>) -> u64 {
     for growths in 0..100u64 {
         heap.allow(growths);
@@ -89,8 +90,8 @@ fn copies_of(table_heap: Global, digits: &str) -> Result<Vec<u64>, Fail> {
     Ok(counts)
 }
 
-/// Names and data of at most 30 octets take none. A growth goes to the list of a set of more than one record; those of
-/// a denial to the data of its SOA and to the box that it stands in.
+/// Names and data of at most 30 octets do not allocate. One allocation goes to the list of a set of
+/// more than one record; those of a denial to the data of its SOA and to the box that it is in.
 #[test]
 fn each_growth_of_a_copy_is_refused(rt: HostRuntime) -> Result<(), Fail> {
     let alias = copies_of(rt.alloc(), ALIAS)?;

@@ -1,4 +1,4 @@
--- What a client's message calls for where no entry answers it.
+-- The decision on a client's message that no entry answers.
 use Rattle.std.proofs.Common.{◌≡◌, ◌≢◌, ℕ, ◌<◌, ◌≤◌, length, List, true, false, refl, sym, ap, ◌∙◌, arith, ◌+◌, [], ◌∷◌, ◌++◌, Option, Some, None}
 use Rattle.std.specs.Prelude.{nat_le, ◌==◌, Box}
 use Rattle.std.proofs.lemmas.Bool.{cond-true, cond-false, le-leb, lt-leb, ne_eqb}
@@ -6,7 +6,7 @@ use Rattle.std.proofs.lemmas.List.{append-nil}
 use Rattle.dns_message.specs.Values.{Question}
 use Rattle.suffix_routes.specs.Values.{Config}
 use Rattle.trust_rank.specs.declared.slot.Slot.{Slot}
-use Rattle.suffix_routes.specs.Serving.{route_of}
+use Rattle.suffix_routes.specs.Serving.{serving_route_of}
 use Rattle.step_values.specs.Requests.{is_taken}
 use Rattle.answer_builder.specs.Values.{asked_in}
 use Rattle.dns_message.specs.Header.{Header, header_in}
@@ -92,7 +92,7 @@ asked_first c n words q route s server draw drawn ask server_is draw_is drawn_is
 -- what comes of the first ask: it looks at no entry
 pub opened_row : (c : Config) (n : ℕ) (words : List ℕ) (x : Waiting) (s : State) (used : List Slot) (route : ℕ)
     (q : Question) (a : Option Ask) (d : Done) → length s.asks < c.limits.inquiries
-    → route_of c x.wanted.name ≡ Some route → q ≡ x.wanted
+    → serving_route_of c x.wanted.name ≡ Some route → q ≡ x.wanted
     → a ≡ first_ask (turn c n words s) q route → d ≡ row_of_opening n x (with_promoted used s) a
     → d ≡ row_of_new_inquiry (turn c n words (with_promoted used s)) x
 opened_row c n words x s used route q a d room on q_is a_is d_is =

@@ -1,14 +1,14 @@
--- What a client's question meets among the entries, and the rows that it takes then.
-use Rattle.std.proofs.Common.{◌≡◌, ℕ, zero, suc, ◌≤◌, arith, List, [], ◌∷◌, ◌++◌, true, ◌⊎◌, inl, inr, refl, sym, ap, ◌∙◌, subst, Option, Some, None}
+-- The look-up of a client's question among the entries, and the rows that it takes then.
+use Rattle.std.proofs.Common.{◌≡◌, ℕ, zero, suc, ◌≤◌, arith, List, [], ◌∷◌, ◌++◌, true, false, ◌⊎◌, inl, inr, refl, sym, ap, ◌∙◌, subst, Option, Some, None}
 use Rattle.std.specs.Prelude.{map, is_some, ◌&&◌, ◌==◌}
 use Rattle.std.specs.List.{AllByRecursion}
-use Rattle.std.proofs.lemmas.Bool.{and_parts, false≢true}
-use Rattle.dns_name.specs.Labels.{IsSame, same}
+use Rattle.std.proofs.lemmas.Bool.{and_parts, cond-true, cond-false, false≢true}
+use Rattle.dns_name.specs.Labels.{IsSame, lowered, same}
 use Rattle.dns_name.proofs.CallerLemmas.{same_decides}
 use Rattle.dns_message.specs.Values.{Question}
 use Rattle.suffix_routes.specs.Values.{Config, Route}
 use Rattle.suffix_routes.specs.Routes.{serving}
-use Rattle.suffix_routes.proofs.CallerLemmas.{serving_respects_same}
+use Rattle.suffix_routes.proofs.CallerLemmas.{serving_respects_same, serving_lowered, denied_lowered}
 use Rattle.trust_rank.specs.declared.slot.Slot.{Slot}
 use Rattle.trust_rank.specs.Replacing.{same_kind}
 use Rattle.trust_rank.specs.Walks.{target_of, most_aliases}
@@ -18,12 +18,12 @@ use Rattle.negative_cache.specs.Values.{Found, local, rows, alias, no_data, deni
 use Rattle.negative_cache.specs.Finding.{found}
 use Rattle.negative_cache.specs.Laws.{Fits, IsTyped}
 use Rattle.negative_cache.proofs.CallerLemmas.{found_fits}
-use Rattle.suffix_routes.specs.Serving.{route_of}
+use Rattle.suffix_routes.specs.Serving.{serving_route_of, is_local}
 use Rattle.dns_message.specs.Questions.{asked_at}
 use Rattle.alias_chains.specs.LookingUp.{LookUpEnd, ends, too_long, missed, LookUp, missing, look_up_behind, look_up_after, one_too_many, through, look_up}
 use Rattle.step_table.specs.State.{State, turn}
 use Rattle.waiting_questions.specs.Values.{Waiting}
-use Rattle.step_table.specs.Steps.{Done, with_promoted, reply_step, sends, transport_of, gives_up}
+use Rattle.step_table.specs.Steps.{Done, with_promoted, reply_step, sends, transport_of, gives_up, denied_locally}
 use Rattle.step_table.specs.Clients.{without_server, row_of_fate, fate_missed, row_of_look_up, row_of_route, row_of_waiting}
 use Rattle.step_table.specs.Progress.{IsOnRoute}
 use Rattle.step_table.proofs.CallerLemmas.{All-append, All-weaker}
@@ -33,7 +33,7 @@ use Rattle.alias_chains.specs.Laws.{led_to}
 use Rattle.alias_chains.specs.declared.looked.LookUpEnd.{LookUpEnd as SeenMet}
 use Rattle.alias_chains.specs.declared.looked.LookUpEnd.TheVariants.{Ends, TooLong, Missed}
 use Rattle.alias_chains.proofs.CallerLemmas.{missed_wants, uses_what_is_seen}
-use Rattle.step_values.specs.declared.action.Why.TheVariants.{Answered, ChainLong}
+use Rattle.step_values.specs.declared.action.Why.TheVariants.{Answered, ChainLong, NoRoute}
 use Rattle.answer_builder.specs.Answers.{IsEarlier}
 use Rattle.answer_builder.specs.Transports.{answer_of}
 use Rattle.step_values.specs.Values.{Action}
@@ -74,10 +74,10 @@ typed_route routes n entries q kind h typed =
 
 -- ---- a name without a route
 
-module _ (c : Config) (n : ℕ) (entries : List Held) (on : AllByRecursion (IsOnRoute c) entries) (q : Question) (none : route_of c q.name ≡ None) where
-  no_entry : (h : Held) → Among h entries → route_of c h.piece.slot.key ≡ route_of c q.name → (f : Found) → f ≡ miss
+module _ (c : Config) (n : ℕ) (entries : List Held) (on : AllByRecursion (IsOnRoute c) entries) (q : Question) (none : serving_route_of c q.name ≡ None) where
+  no_entry : (h : Held) → Among h entries → serving_route_of c h.piece.slot.key ≡ serving_route_of c q.name → (f : Found) → f ≡ miss
   no_entry h among same_route f =
-      let there : route_of c h.piece.slot.key ≡ Some h.piece.route = all_among (IsOnRoute c) h entries on among in
+      let there : serving_route_of c h.piece.slot.key ≡ Some h.piece.route = all_among (IsOnRoute c) h entries on among in
       let bad : None ≡ Some h.piece.route = sym none ∙ sym same_route ∙ there in
       absurd (cc)
 
@@ -195,18 +195,45 @@ module _ (c : Config) (n : ℕ) (words : List ℕ) (x : Waiting) (s : State) (he
   too_long_row too_long is = refl
   too_long_row missed is = absurd (cc)
 
--- what was missed behind these aliases has no route, or is asked for
+-- what the configuration says of a key it says of the name
+pub served_by_key : (c : Config) (key name : List (List ℕ)) → key ≡ lowered name → serving_route_of c key ≡ serving_route_of c name
+served_by_key c key name is = ap (serving_route_of c) is ∙ serving_lowered c.routes name
+
+pub denied_by_key : (c : Config) (key name : List (List ℕ)) → key ≡ lowered name → is_local c key ≡ is_local c name
+denied_by_key c key name is = ap (is_local c) is ∙ denied_lowered c.routes name
+
+-- the question missed after these aliases has no route, or is asked for
 abbrev pub missed_at : List Held → Question → List Slot → LookUp
 missed_at held wanted slots = record { held = held; wanted = wanted; met = missed; used = slots }
 
 module _ (c : Config) (n : ℕ) (words : List ℕ) (x : Waiting) (s : State) (held : List Held) (wanted : Question) (slots : List Slot) where
-  by_route : (r : Option ℕ) → route_of c wanted.name ≡ r → row_of_fate (turn c n words (with_promoted slots s)) (fate_missed c n x (missed_at held wanted slots) r) ≡ row_of_look_up (turn c n words s) x (missed_at held wanted slots)
+  by_route : (r : Option ℕ) → serving_route_of c wanted.name ≡ r → row_of_fate (turn c n words (with_promoted slots s)) (fate_missed c n x (missed_at held wanted slots) r) ≡ row_of_look_up (turn c n words s) x (missed_at held wanted slots)
   by_route r is = ap (λ (o : Option ℕ). row_of_fate (turn c n words (with_promoted slots s)) (fate_missed c n x (missed_at held wanted slots) o)) (sym is)
 
-  pub unrouted_row : (used : List Slot) (d : Done) → route_of c wanted.name ≡ None → used ≡ slots → d ≡ reply_step n (without_server c n x held wanted.name) (with_promoted used s) → d ≡ row_of_look_up (turn c n words s) x (missed_at held wanted slots)
-  unrouted_row used d none same d_is = d_is ∙ ap (λ (ss : List Slot). reply_step n (without_server c n x held wanted.name) (with_promoted ss s)) same ∙ by_route None none
+  unserved_row : (used : List Slot) (d : Done) → serving_route_of c wanted.name ≡ None → used ≡ slots
+      → d ≡ reply_step n (without_server c n x held wanted.name) (with_promoted used s) → d ≡ row_of_look_up (turn c n words s) x (missed_at held wanted slots)
+  unserved_row used d none same d_is = d_is ∙ ap (λ (ss : List Slot). reply_step n (without_server c n x held wanted.name) (with_promoted ss s)) same ∙ by_route None none
 
-  pub waits_row : (used : List Slot) (o : Onward) (route : ℕ) (d : Done) → route_of c wanted.name ≡ Some route → o ≡ record { held = held; wanted = wanted } → used ≡ slots
+  -- the configuration denies the name
+  pub denied_row : (used : List Slot) (reply : Action) (d : Done) → None ≡ serving_route_of c wanted.name → true ≡ is_local c wanted.name → used ≡ slots → reply ≡ denied_locally n x held
+      → d ≡ reply_step n reply (with_promoted used s) → d ≡ row_of_look_up (turn c n words s) x (missed_at held wanted slots)
+  denied_row used reply d none denies same reply_is d_is =
+      unserved_row used d (sym none) same
+      (d_is ∙ ap (λ (a : Action). reply_step n a (with_promoted used s)) (reply_is ∙ sym (cond-true (is_local c wanted.name) _ _ (sym denies))))
+
+  -- the name has no route
+  pub unrouted_row : (used : List Slot) (d : Done) → None ≡ serving_route_of c wanted.name → false ≡ is_local c wanted.name → used ≡ slots
+      → d ≡ reply_step n (gives_up NoRoute x) (with_promoted used s) → d ≡ row_of_look_up (turn c n words s) x (missed_at held wanted slots)
+  unrouted_row used d none permits same d_is =
+      unserved_row used d (sym none) same
+      (d_is ∙ ap (λ (a : Action). reply_step n a (with_promoted used s)) (sym (cond-false (is_local c wanted.name) _ _ (sym permits))))
+
+  -- a route serves the name
+  pub asked_row : (route : ℕ) (y : Waiting) (d : Done) → serving_route_of c wanted.name ≡ Some route → y ≡ record x { held = held; wanted = wanted }
+      → d ≡ row_of_waiting (turn c n words (with_promoted slots s)) y → d ≡ row_of_look_up (turn c n words s) x (missed_at held wanted slots)
+  asked_row route y d on y_is d_is = d_is ∙ ap (row_of_waiting (turn c n words (with_promoted slots s))) y_is ∙ by_route (Some route) on
+
+  pub waits_row : (used : List Slot) (o : Onward) (route : ℕ) (d : Done) → serving_route_of c wanted.name ≡ Some route → o ≡ record { held = held; wanted = wanted } → used ≡ slots
       → d ≡ row_of_waiting (turn c n words (with_promoted used s)) (waits_on (Some o) x) → d ≡ row_of_look_up (turn c n words s) x (missed_at held wanted slots)
   waits_row used o route d on o_is same d_is = d_is ∙ (λ i. row_of_waiting (turn c n words (with_promoted (same i) s)) (waits_on (Some (o_is i)) x)) ∙ by_route (Some route) on
 
@@ -258,9 +285,9 @@ module _ (c : Config) (n : ℕ) (words : List ℕ) (x : Waiting) (s : State) (se
 
 -- no route is looked for before the look-up: a name without one meets nothing
 pub looked_row : (c : Config) (n : ℕ) (words : List ℕ) (x : Waiting) (s : State) → AllByRecursion (IsOnRoute c) s.cache.entries
-    → row_of_look_up (turn c n words s) x (look_up c.routes n s.cache.entries most_aliases [] x.wanted) ≡ row_of_route (turn c n words s) x (route_of c x.wanted.name)
-looked_row c n words x s on = by (route_of c x.wanted.name) refl
+    → row_of_look_up (turn c n words s) x (look_up c.routes n s.cache.entries most_aliases [] x.wanted) ≡ row_of_route (turn c n words s) x (serving_route_of c x.wanted.name)
+looked_row c n words x s on = by (serving_route_of c x.wanted.name) refl
   where
-    by : (r : Option ℕ) → route_of c x.wanted.name ≡ r → row_of_look_up (turn c n words s) x (look_up c.routes n s.cache.entries most_aliases [] x.wanted) ≡ row_of_route (turn c n words s) x r
+    by : (r : Option ℕ) → serving_route_of c x.wanted.name ≡ r → row_of_look_up (turn c n words s) x (look_up c.routes n s.cache.entries most_aliases [] x.wanted) ≡ row_of_route (turn c n words s) x r
     by None none = ap (row_of_look_up (turn c n words s) x) (nothing_met c n s.cache.entries on x.wanted none) ∙ ap (λ (o : Option ℕ). row_of_fate (turn c n words s) (fate_missed c n x (missing [] x.wanted) o)) none
     by (Some route) there = refl

@@ -1,14 +1,22 @@
-//! What a client's message calls for.
+//! The decision on a client's message. The public function is `on_client`, the last in this file. A
+//! message takes this way:
+//!
+//! 1. `on_client`: nothing, `refuse_message`, or `serve_message` for exactly one question.
+//! 2. `serve_message` calls `serve`: `refuse` for a kind that is not served, otherwise `look`.
+//! 3. `look` looks it up in the cache, and `decide_look_up` calls `hit`, `refuse` or a miss.
+//! 4. `miss`, or `miss_behind` after aliases: `wait`, `reply` with the local denial, or `refuse`.
+//! 5. `wait`: `refuse` where no room is left, otherwise `admit`.
+//! 6. `admit`: `join` where its ask is listed; `ask_anew`: `first_ask`, then `open` or `refuse`.
+//! 7. `hit` and `refuse` end in `reply`: one reply, and the promotion of the used entries.
 
 ghost use Rattle.std.specs.Prelude.{◌≡◌, ◌^◌, ℕ, ◌<◌, ◌≤◌, [], false, true, length, map, Bool, List, IfOk, Some, None};
 ghost use Rattle.std.specs.List.{AllByRecursion};
 ghost use Rattle.answer_builder.specs.Answers.{IsEarlier};
 ghost use Rattle.dns_message.specs.Messages.{first_question};
 ghost use Rattle.dns_message.specs.Questions.{question_read, asked_at};
-ghost use Rattle.dns_name.specs.Labels.{lowered};
 ghost use Rattle.outstanding.specs.Lists.{of_question};
 ghost use Rattle.outstanding.specs.Orders.{question_key};
-ghost use Rattle.suffix_routes.specs.Serving.{route_of};
+ghost use Rattle.suffix_routes.specs.Serving.{serving_route_of};
 ghost use Rattle.step_values.specs.Requests.{is_taken};
 ghost use Rattle.alias_chains.specs.Seen.{seen_of, UsesFew};
 ghost use Rattle.alias_chains.specs.declared.looked.LookUpEnd.{LookUpEnd};
@@ -18,39 +26,37 @@ ghost use Rattle.step_table.specs.Attempts.{first_ask};
 ghost use Rattle.alias_chains.specs.LookingUp.{look_up, missed};
 ghost use Rattle.answer_builder.specs.Values.{asked_in};
 ghost use Rattle.step_table.specs.Steps.{with_promoted, idle_step, reply_step, taking_step, gives_up, failed};
-ghost use Rattle.step_table.specs.Clients.{without_server, row_of_opening, row_of_new_inquiry, row_of_inquiry};
+ghost use Rattle.step_table.specs.Clients.{row_of_opening, row_of_new_inquiry, row_of_inquiry};
 ghost use Rattle.step_table.specs.Clients.{row_of_waiting, row_of_look_up, row_of_route, row_of_service};
 ghost use Rattle.step_table.specs.Clients.{row_of_question, row_of_request};
 ghost use Rattle.step_values.specs.Values.{action_of};
 ghost use Rattle.trust_rank.specs.Walks.{most_aliases};
-ghost use Rattle.step_actions.specs.Decision.{IsQuiet, CanWait, CanFollow, MeetsRow};
+ghost use Rattle.step_actions.specs.Decision.{IsQuiet, CanWait, CanFollow, MeetsStep};
 ghost use Rattle.step_table.specs.State.{turn, from_state};
 
-use crate::request::{
-    Wanted, is_denied, is_not_served, owned_question, taken_header, wanted_by, with_one_question,
-};
+use crate::request::{Wanted, is_not_served, owned_question, taken_header, with_one_question};
 use alias_chains::{LookUp, LookUpEnd, SlotsRef, copies, look_up};
 use dns_message::{Header, MessageRef, Question, QuestionRef};
-use dns_name::{Name, NameKey};
+use dns_name::Name;
 use outstanding::{Ask, KeyedAsk, QuestionKey, draw};
 use std::alloc::{AllocError, Allocator};
 use std::hash::BuildHasher;
 use step_actions::{
     Attempt, Change, Decision, Opening, TurnRef, answer, ask as ask_action, by_udp, failure,
-    new_ask, nothing, refusal, without_server,
+    local_answer, new_ask, nothing, refusal,
 };
 use step_values::{Action, Actions, Client, Why};
-use suffix_routes::RouteId;
+use suffix_routes::{RouteId, Routing};
 use trust_rank::{MOST_ALIASES, Slot};
 use waiting_questions::{KeyedWaiting, Request, SentOn, Waiting};
 
-/// One reply, and the promotion of what a look-up used.
+/// Decides one reply, and the promotion of the entries that a look-up used.
 fn reply<'a, 's, H: BuildHasher + Drop, A: Allocator + Copy>(
     turn: &TurnRef<'a, H, A>,
     action: Action<A>,
     used: SlotsRef<'a, 's, A>,
 ) -> Result<Decision<'a, 's, A>, AllocError>
-    ensures decides { IfOk result (MeetsRow turn.now (λ _. reply_step turn.now.moment (action_of action)
+    ensures decides { IfOk result (MeetsStep turn.now (reply_step turn.now.moment (action_of action)
         (with_promoted used.entry turn.now.state))) }
 {
     let mut actions = Actions::new(turn.alloc);
@@ -63,21 +69,21 @@ fn reply<'a, 's, H: BuildHasher + Drop, A: Allocator + Copy>(
     })
 }
 
-/// The question fails at once.
+/// Decides that the question fails at once.
 fn refuse<'a, 's, H: BuildHasher + Drop, A: Allocator + Copy>(
     turn: &TurnRef<'a, H, A>,
     request: &Request<'_>,
     why: Why,
     used: SlotsRef<'a, 's, A>,
 ) -> Result<Decision<'a, 's, A>, AllocError>
-    ensures decides { IfOk result (MeetsRow turn.now (λ _. reply_step turn.now.moment (gives_up why request.now)
+    ensures decides { IfOk result (MeetsStep turn.now (reply_step turn.now.moment (gives_up why request.now)
         (with_promoted used.entry turn.now.state))) }
 {
     let action = failure(turn.alloc, request, why)?;
     reply(turn, action, used)
 }
 
-/// The question waits, and its ask goes out. Both have this key.
+/// Decides that the question waits, and that its ask goes out. Both have this key.
 fn open<'a, 's, H: BuildHasher + Drop, A: Allocator + Copy>(
     turn: &TurnRef<'a, H, A>,
     waiting: Waiting<A>,
@@ -89,7 +95,7 @@ fn open<'a, 's, H: BuildHasher + Drop, A: Allocator + Copy>(
     requires same { ask.question ≡ waiting.wanted }
     requires waits { CanWait turn.now.config turn.now.moment turn.now.state waiting }
     requires follows { CanFollow turn.now.config turn.now.moment turn.now.state turn.now.state.asks ask }
-    ensures decides { IfOk result (MeetsRow turn.now (λ _. row_of_opening turn.now.moment waiting
+    ensures decides { IfOk result (MeetsStep turn.now (row_of_opening turn.now.moment waiting
         (with_promoted used.entry turn.now.state) (Some ask))) }
 {
     let mut actions = Actions::new(turn.alloc);
@@ -108,7 +114,7 @@ fn open<'a, 's, H: BuildHasher + Drop, A: Allocator + Copy>(
     })
 }
 
-/// The question waits for the ask that is listed already. Both have this key.
+/// Decides that the question waits for the ask that is listed already. Both have this key.
 fn join<'a, 's, H: BuildHasher + Drop, A: Allocator + Copy>(
     turn: &TurnRef<'a, H, A>,
     waiting: Waiting<A>,
@@ -117,7 +123,7 @@ fn join<'a, 's, H: BuildHasher + Drop, A: Allocator + Copy>(
 ) -> Result<Decision<'a, 's, A>, AllocError>
     requires keyed { key.now ≡ question_key waiting.wanted }
     requires waits { CanWait turn.now.config turn.now.moment turn.now.state waiting }
-    ensures decides { IfOk result (MeetsRow turn.now (λ _. taking_step turn.now.moment waiting None
+    ensures decides { IfOk result (MeetsStep turn.now (taking_step turn.now.moment waiting None
         (with_promoted used.entry turn.now.state))) }
 {
     let joined = Box::new(turn.alloc, KeyedWaiting::new(waiting, *key))?;
@@ -154,14 +160,15 @@ fn first_ask<'a, H: BuildHasher + Drop, A: Allocator + Copy>(
     )
 }
 
-/// How many asks are under way.
+/// The number of asks under way.
 fn asks_under_way<'a, H: BuildHasher + Drop, A: Allocator + Copy>(turn: &TurnRef<'a, H, A>) -> usize
     ensures count { result ≡ length turn.now.state.asks }
 {
     turn.inquiries.len()
 }
 
-/// A question of which no ask is listed.
+/// Decides a question of which no ask is listed. It fails with `InquiriesFull` at the limit of
+/// `limits.inquiries`, and with `NoPort` where no port is free.
 fn ask_anew<'a, 's, H: BuildHasher + Drop, A: Allocator + Copy>(
     turn: &TurnRef<'a, H, A>,
     waiting: Waiting<A>,
@@ -169,12 +176,12 @@ fn ask_anew<'a, 's, H: BuildHasher + Drop, A: Allocator + Copy>(
     used: SlotsRef<'a, 's, A>,
 ) -> Result<Decision<'a, 's, A>, AllocError>
     requires new { of_question waiting.wanted turn.now.state.asks ≡ None }
-    requires on { route_of turn.now.config waiting.wanted.name ≡ Some wanted.now.route }
+    requires on { serving_route_of turn.now.config waiting.wanted.name ≡ Some wanted.now.route }
     requires keyed { wanted.now.key ≡ question_key waiting.wanted }
     requires taken { waiting.taken ≡ turn.now.moment }
     requires aliases { HoldsEarlier turn.now.moment waiting }
     requires room { length turn.now.state.waiting < turn.now.config.limits.questions }
-    ensures decides { IfOk result (MeetsRow turn.now (λ _. row_of_new_inquiry
+    ensures decides { IfOk result (MeetsStep turn.now (row_of_new_inquiry
         (from_state (with_promoted used.entry turn.now.state) turn.now) waiting)) }
 {
     let config = turn.config;
@@ -187,19 +194,19 @@ fn ask_anew<'a, 's, H: BuildHasher + Drop, A: Allocator + Copy>(
     }
 }
 
-/// A question for which there is room: where its ask is listed already, none goes out.
+/// Decides a question for which there is room. Where its ask is listed already, none goes out.
 fn admit<'a, 's, H: BuildHasher + Drop, A: Allocator + Copy>(
     turn: &TurnRef<'a, H, A>,
     waiting: Waiting<A>,
     wanted: &Wanted,
     used: SlotsRef<'a, 's, A>,
 ) -> Result<Decision<'a, 's, A>, AllocError>
-    requires on { route_of turn.now.config waiting.wanted.name ≡ Some wanted.now.route }
+    requires on { serving_route_of turn.now.config waiting.wanted.name ≡ Some wanted.now.route }
     requires keyed { wanted.now.key ≡ question_key waiting.wanted }
     requires taken { waiting.taken ≡ turn.now.moment }
     requires aliases { HoldsEarlier turn.now.moment waiting }
     requires room { length turn.now.state.waiting < turn.now.config.limits.questions }
-    ensures decides { IfOk result (MeetsRow turn.now (λ _. row_of_inquiry
+    ensures decides { IfOk result (MeetsStep turn.now (row_of_inquiry
         (from_state (with_promoted used.entry turn.now.state) turn.now) waiting
         (of_question waiting.wanted turn.now.state.asks))) }
 {
@@ -209,8 +216,8 @@ fn admit<'a, 's, H: BuildHasher + Drop, A: Allocator + Copy>(
     }
 }
 
-/// A question of which the cache has no answer, and which wants to know what has a route: its own, or what it is
-/// sent on to.
+/// Decides a question without an answer in the cache. Its own name, or the one that it is sent on
+/// to, has a route. It fails with `QuestionsFull` at the limit of `limits.questions`.
 fn wait<'a, 's, H: BuildHasher + Drop, A: Allocator + Copy>(
     turn: &TurnRef<'a, H, A>,
     request: &Request<'_>,
@@ -218,11 +225,11 @@ fn wait<'a, 's, H: BuildHasher + Drop, A: Allocator + Copy>(
     wanted: &Wanted,
     used: SlotsRef<'a, 's, A>,
 ) -> Result<Decision<'a, 's, A>, AllocError>
-    requires on { route_of turn.now.config (waits_on sent_on request.now).wanted.name ≡ Some wanted.now.route }
+    requires on { serving_route_of turn.now.config (waits_on sent_on request.now).wanted.name ≡ Some wanted.now.route }
     requires keyed { wanted.now.key ≡ question_key (waits_on sent_on request.now).wanted }
     requires aliases { HoldsEarlier turn.now.moment (waits_on sent_on request.now) }
     requires taken { request.now.taken ≡ turn.now.moment }
-    ensures decides { IfOk result (MeetsRow turn.now (λ _. row_of_waiting
+    ensures decides { IfOk result (MeetsStep turn.now (row_of_waiting
         (from_state (with_promoted used.entry turn.now.state) turn.now) (waits_on sent_on request.now))) }
 {
     let config = turn.config;
@@ -233,7 +240,7 @@ fn wait<'a, 's, H: BuildHasher + Drop, A: Allocator + Copy>(
     admit(turn, waiting, wanted, used)
 }
 
-/// A question to which the cache has the answer.
+/// Decides a question that the cache answers.
 fn hit<'a, 's, H: BuildHasher + Drop, A: Allocator + Copy>(
     turn: &TurnRef<'a, H, A>,
     request: &Request<'_>,
@@ -243,7 +250,7 @@ fn hit<'a, 's, H: BuildHasher + Drop, A: Allocator + Copy>(
     requires earlier { AllByRecursion (IsEarlier turn.now.moment) looked.used }
     requires found { looked ≡ seen_of (look_up turn.now.config.routes turn.now.moment turn.now.state.cache.entries
         most_aliases [] request.now.wanted) }
-    ensures decides { IfOk result (MeetsRow turn.now (λ _. row_of_look_up turn.now request.now
+    ensures decides { IfOk result (MeetsStep turn.now (row_of_look_up turn.now request.now
         (look_up turn.now.config.routes turn.now.moment turn.now.state.cache.entries most_aliases []
         request.now.wanted))) }
 {
@@ -262,7 +269,8 @@ fn asked_at<A: Allocator>(request: &Request<'_>, name: Name<A>) -> Question<A>
     }
 }
 
-/// What a question is sent on with whose look-up missed behind these aliases.
+/// The aliases and the wanted question with which a question is sent on, whose look-up missed after
+/// these aliases.
 fn onward<'a, H: BuildHasher + Drop, A: Allocator + Copy>(
     turn: &TurnRef<'a, H, A>,
     looked: &LookUp<'_, '_, A>,
@@ -275,41 +283,8 @@ fn onward<'a, H: BuildHasher + Drop, A: Allocator + Copy>(
     Ok(SentOn { aliases, wanted })
 }
 
-/// A question whose look-up missed behind aliases, at this name, which no route serves.
-fn end_behind<'a, 's, H: BuildHasher + Drop, A: Allocator + Copy>(
-    turn: &TurnRef<'a, H, A>,
-    request: &Request<'_>,
-    looked: LookUp<'a, 's, A>,
-    name: &Name<A>,
-) -> Result<Decision<'a, 's, A>, AllocError>
-    requires earlier { AllByRecursion (IsEarlier turn.now.moment) looked.used }
-    ensures decides { IfOk result (MeetsRow turn.now (λ _. reply_step turn.now.moment
-        (without_server turn.now.config turn.now.moment request.now looked.entry.used name.now)
-        (with_promoted (map (λ h. h.piece.slot) looked.entry.used) turn.now.state))) }
-{
-    let is_denied = turn.config.denies(name);
-    let action = without_server(turn.alloc, request, looked.used(), is_denied, turn.moment)?;
-    reply(turn, action, looked.into_slots())
-}
-
-/// A question of whose own name, which has this key, nothing is known, and which no route serves.
-fn end<'a, 's, H: BuildHasher + Drop, A: Allocator + Copy>(
-    turn: &TurnRef<'a, H, A>,
-    request: &Request<'_>,
-    name: &NameKey,
-    used: SlotsRef<'a, 's, A>,
-) -> Result<Decision<'a, 's, A>, AllocError>
-    requires { name.now ≡ lowered request.now.wanted.name }
-    ensures decides { IfOk result (MeetsRow turn.now (λ _. reply_step turn.now.moment
-        (without_server turn.now.config turn.now.moment request.now [] request.now.wanted.name)
-        (with_promoted used.entry turn.now.state))) }
-{
-    let is_denied = is_denied(turn.config, &request.question, name);
-    let action = without_server(turn.alloc, request, &[], is_denied, turn.moment)?;
-    reply(turn, action, used)
-}
-
-/// A question whose look-up missed behind aliases, at this name.
+/// Decides a question whose look-up missed after aliases, at this name. It waits where the name is
+/// served, gets the local denial where it is denied, and fails with `NoRoute` otherwise.
 fn miss_behind<'a, 's, H: BuildHasher + Drop, A: Allocator + Copy>(
     turn: &TurnRef<'a, H, A>,
     request: &Request<'_>,
@@ -319,7 +294,7 @@ fn miss_behind<'a, 's, H: BuildHasher + Drop, A: Allocator + Copy>(
     requires few { length looked.used ≤ 8 }
     requires earlier { AllByRecursion (IsEarlier turn.now.moment) looked.used }
     requires taken { request.now.taken ≡ turn.now.moment }
-    ensures decides { IfOk result (MeetsRow turn.now (λ _. row_of_look_up turn.now request.now
+    ensures decides { IfOk result (MeetsStep turn.now (row_of_look_up turn.now request.now
         (record {
           held = looked.entry.used;
           wanted = asked_at request.now.wanted name;
@@ -329,31 +304,47 @@ fn miss_behind<'a, 's, H: BuildHasher + Drop, A: Allocator + Copy>(
 {
     let question = asked_at(request, name);
     let asked = QuestionRef::of(&question);
-    let Some(wanted) = wanted_by(turn.config, &asked, &asked.key()) else {
-        return end_behind(turn, request, looked, &question.name);
-    };
-    let sent_on = onward(turn, &looked, question)?;
-    wait(turn, request, Some(sent_on), &wanted, looked.into_slots())
+    let name = asked.key();
+    match turn.config.routing_of_key(&name) {
+        Routing::Served(route) => {
+            let wanted = Wanted::by_key(&asked, &name, route);
+            let sent_on = onward(turn, &looked, question)?;
+            wait(turn, request, Some(sent_on), &wanted, looked.into_slots())
+        }
+        Routing::Denied => {
+            let action = local_answer(turn.alloc, request, looked.used(), turn.moment)?;
+            reply(turn, action, looked.into_slots())
+        }
+        Routing::None => refuse(turn, request, Why::NoRoute, looked.into_slots()),
+    }
 }
 
-/// A question of whose own name nothing is known.
+/// Decides a question whose look-up missed at its own name. It waits where the name is served, gets
+/// the local denial where it is denied, and fails with `NoRoute` otherwise.
 fn miss<'a, 's, H: BuildHasher + Drop, A: Allocator + Copy>(
     turn: &TurnRef<'a, H, A>,
     request: &Request<'_>,
     used: SlotsRef<'a, 's, A>,
 ) -> Result<Decision<'a, 's, A>, AllocError>
     requires taken { request.now.taken ≡ turn.now.moment }
-    ensures decides { IfOk result (MeetsRow turn.now (λ _. row_of_look_up turn.now request.now
+    ensures decides { IfOk result (MeetsStep turn.now (row_of_look_up turn.now request.now
         (record { held = []; wanted = request.now.wanted; met = missed; used = used.entry }))) }
 {
     let name = request.question.key();
-    match wanted_by(turn.config, &request.question, &name) {
-        Some(wanted) => wait(turn, request, None, &wanted, used),
-        None => end(turn, request, &name, used),
+    match turn.config.routing_of_key(&name) {
+        Routing::Served(route) => {
+            let wanted = Wanted::by_key(&request.question, &name, route);
+            wait(turn, request, None, &wanted, used)
+        }
+        Routing::Denied => {
+            let action = local_answer(turn.alloc, request, &[], turn.moment)?;
+            reply(turn, action, used)
+        }
+        Routing::None => refuse(turn, request, Why::NoRoute, used),
     }
 }
 
-/// What becomes of a question by its look-up.
+/// Decides a question by its look-up. It fails with `ChainLong` after too many aliases.
 fn decide_look_up<'a, 's, H: BuildHasher + Drop, A: Allocator + Copy>(
     turn: &TurnRef<'a, H, A>,
     request: &Request<'_>,
@@ -364,7 +355,7 @@ fn decide_look_up<'a, 's, H: BuildHasher + Drop, A: Allocator + Copy>(
     requires few { UsesFew 8 looked }
     requires earlier { AllByRecursion (IsEarlier turn.now.moment) looked.used }
     requires taken { request.now.taken ≡ turn.now.moment }
-    ensures decides { IfOk result (MeetsRow turn.now (λ _. row_of_look_up turn.now request.now
+    ensures decides { IfOk result (MeetsStep turn.now (row_of_look_up turn.now request.now
         (look_up turn.now.config.routes turn.now.moment turn.now.state.cache.entries most_aliases []
         request.now.wanted))) }
 {
@@ -378,39 +369,36 @@ fn decide_look_up<'a, 's, H: BuildHasher + Drop, A: Allocator + Copy>(
     }
 }
 
-/// A question that is served. No route is looked up where the cache has an answer: its entries are on their routes.
+/// Decides a question of a served kind. No route is looked up where the cache has an answer: each
+/// entry is within its name's route.
 fn look<'a, 's, H: BuildHasher + Drop, A: Allocator + Copy>(
     turn: &TurnRef<'a, H, A>,
     slot: &'s mut Slot,
     request: &Request<'_>,
 ) -> Result<Decision<'a, 's, A>, AllocError>
     requires taken { request.now.taken ≡ turn.now.moment }
-    ensures decides { IfOk result (MeetsRow turn.now (λ _. row_of_route turn.now request.now
-        (route_of turn.now.config request.now.wanted.name))) }
+    ensures decides { IfOk result (MeetsStep turn.now (row_of_route turn.now request.now
+        (serving_route_of turn.now.config request.now.wanted.name))) }
 {
-    let question = &request.question;
     let looked = look_up(
         turn.alloc,
-        turn.cache,
+        &turn.cache_at(),
         slot,
-        question.name(),
-        question.class(),
-        question.kind(),
-        turn.moment,
-        turn.config,
+        &request.question,
         MOST_ALIASES,
     )?;
     decide_look_up(turn, request, looked)
 }
 
-/// A question that was read.
+/// Decides a question that was read. It fails with `NotServed` where its class or type is not
+/// served.
 fn serve<'a, 's, H: BuildHasher + Drop, A: Allocator + Copy>(
     turn: &TurnRef<'a, H, A>,
     slot: &'s mut Slot,
     request: &Request<'_>,
 ) -> Result<Decision<'a, 's, A>, AllocError>
     requires taken { request.now.taken ≡ turn.now.moment }
-    ensures decides { IfOk result (MeetsRow turn.now (λ _. row_of_service turn.now request.now)) }
+    ensures decides { IfOk result (MeetsStep turn.now (row_of_service turn.now request.now)) }
 {
     if is_not_served(&request.question) {
         return refuse(turn, request, Why::NotServed, SlotsRef::none(turn.alloc));
@@ -418,7 +406,7 @@ fn serve<'a, 's, H: BuildHasher + Drop, A: Allocator + Copy>(
     look(turn, slot, request)
 }
 
-/// A message without a question that can be served.
+/// Decides that a message fails whose question was not taken.
 fn refuse_message<'a, 's, H: BuildHasher + Drop, A: Allocator + Copy>(
     turn: &TurnRef<'a, H, A>,
     client: Client,
@@ -426,14 +414,14 @@ fn refuse_message<'a, 's, H: BuildHasher + Drop, A: Allocator + Copy>(
     why: Why,
 ) -> Result<Decision<'a, 's, A>, AllocError>
     requires { header.now.opcode < 16 }
-    ensures decides { IfOk result (MeetsRow turn.now (λ _. reply_step turn.now.moment
+    ensures decides { IfOk result (MeetsStep turn.now (reply_step turn.now.moment
         (failed client (asked_in header.now None) why) turn.now.state)) }
 {
     let action = refusal(turn.alloc, client, header, why)?;
     reply(turn, action, SlotsRef::none(turn.alloc))
 }
 
-/// A message with one question. Its name is read into memory only where it has a pointer.
+/// Decides a message with one question. It copies the name only where that has a pointer.
 fn serve_message<'a, 's, H: BuildHasher + Drop, A: Allocator + Copy>(
     turn: &TurnRef<'a, H, A>,
     slot: &'s mut Slot,
@@ -442,7 +430,7 @@ fn serve_message<'a, 's, H: BuildHasher + Drop, A: Allocator + Copy>(
     message: &MessageRef<'_>,
 ) -> Result<Decision<'a, 's, A>, AllocError>
     requires opcode { header.opcode < 16 }
-    ensures decides { IfOk result (MeetsRow turn.now (λ _. row_of_question turn.now client header
+    ensures decides { IfOk result (MeetsStep turn.now (row_of_question turn.now client header
         (question_read (first_question message.now)))) }
 {
     let taken = turn.moment;
@@ -466,14 +454,17 @@ fn serve_message<'a, 's, H: BuildHasher + Drop, A: Allocator + Copy>(
     serve(turn, slot, &request)
 }
 
-/// A message of a client. The slot, whatever it was, serves the look-up, which may lend it on.
+/// Decides a message of a client. The slot may be any: the look-up fills it, and the decision may
+/// borrow it. Nothing is decided on octets without a header, on more than 65,535, and on a reply.
+/// The reply is `BadOpcode` for an opcode other than 0, and `BadFormat` where there is not exactly
+/// one question that can be read. `Err` where memory ran out: nothing is changed.
 pub fn on_client<'a, 's, H: BuildHasher + Drop, A: Allocator + Copy>(
     turn: &TurnRef<'a, H, A>,
     slot: &'s mut Slot,
     client: Client,
     bytes: &[u8],
 ) -> Result<Decision<'a, 's, A>, AllocError>
-    ensures decides { IfOk result (MeetsRow turn.now (λ _. row_of_request turn.now client bytes.now)) }
+    ensures decides { IfOk result (MeetsStep turn.now (row_of_request turn.now client bytes.now)) }
     ensures dropped { is_taken bytes.now ≡ false → IsQuiet result }
 {
     let Some(header) = taken_header(bytes) else {

@@ -1,5 +1,5 @@
-//! What a client's message calls for: an answer from the cache, a failure, or a question that waits, with the first ask
-//! of its inquiry where none is listed. Nothing is changed.
+//! The decision on a client's message: an answer from the cache, a failure, or a question that
+//! waits, with the first ask of its inquiry where none is listed. Nothing is changed.
 #![tactic(auto)]
 
 mod client;

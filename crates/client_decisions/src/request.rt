@@ -7,16 +7,15 @@ ghost use Rattle.dns_message.specs.Questions.{one_question, question_read, is_un
 ghost use Rattle.step_values.specs.Requests.{is_taken};
 ghost use Rattle.dns_name.specs.Labels.{lowered};
 ghost use Rattle.outstanding.specs.Orders.{question_key};
-ghost use Rattle.suffix_routes.specs.Serving.{is_local, route_of};
 
-use dns_message::{Header, MessageRef, Question, QuestionRef};
+use dns_message::{Header, MessageRef, Question, QuestionRef, types};
 use dns_name::NameKey;
 use outstanding::QuestionKey;
 use std::alloc::{AllocError, Allocator};
-use suffix_routes::{Config, RouteId};
+use suffix_routes::RouteId;
 
-/// The header of a client's message, unless the message is dropped: one of fewer than 12 or more than 65,535 octets,
-/// or one that is itself a reply.
+/// The header of a client's message, unless the message is dropped: one of fewer than 12 or more
+/// than 65,535 octets, or one that is itself a reply.
 #[tactic(auto, unfolding(dns_message::specs::Header::header_of))]
 pub(crate) fn taken_header(bytes: &[u8]) -> Option<Header>
     ensures { MatchOption result (is_taken bytes.now ≡ false) (λ header. (is_taken bytes.now ≡ true)
@@ -32,7 +31,7 @@ pub(crate) fn taken_header(bytes: &[u8]) -> Option<Header>
     Some(header)
 }
 
-/// The view of a message that has just one question, which can be read. It takes no memory.
+/// The view of a message that has just one question, which can be read. It does not allocate.
 pub(crate) fn with_one_question<'a>(bytes: &'a [u8], header: &Header) -> Option<MessageRef<'a>>
     requires { header.now ≡ header_in bytes.now }
     ensures { MatchOption result (one_question bytes.now ≡ None) (λ message. question_read (first_question message)
@@ -44,7 +43,7 @@ pub(crate) fn with_one_question<'a>(bytes: &'a [u8], header: &Header) -> Option<
     MessageRef::view(bytes).ok()
 }
 
-/// The first question of a message, read into memory.
+/// A copy of the first question of a message. `Err` where memory ran out.
 pub(crate) fn owned_question<A: Allocator>(
     alloc: A,
     message: &MessageRef<'_>,
@@ -57,48 +56,32 @@ pub(crate) fn owned_question<A: Allocator>(
     }
 }
 
-/// Questions for what is no data, or for more than one type or class (RFC 1035 3.2.3 and 3.2.5, RFC 6895 3.1).
+/// Whether a question is for no data, or for more than one type or class (RFC 1035 3.2.3 and 3.2.5,
+/// RFC 6895 3.1).
 pub(crate) fn is_not_served(question: &QuestionRef<'_>) -> bool
     ensures { result ≡ is_unserved question.now }
 {
     let kind = question.kind();
-    kind == 0 || kind == 41 || (kind >= 128 && kind <= 255) || question.class() == 255
+    let is_meta = kind >= types::FIRST_META && kind <= types::ANY;
+    kind == 0 || kind == types::OPT || is_meta || question.class() == types::ANY_CLASS
 }
 
-/// What a question wants to know, by its key, and the route that serves its name.
+/// The key of a wanted question, and the route that serves its name.
 #[derive(Clone, Copy)]
 pub(crate) struct Wanted {
     pub(crate) key: QuestionKey,
     pub(crate) route: RouteId,
 }
 
-/// What a question wants to know whose name has this key; `None` exactly where no route serves the name. It takes no
-/// memory.
-#[tactic(auto, using(suffix_routes::proofs::CallerLemmas::serving_respects_same, dns_name::proofs::CallerLemmas::lowered_is_same))]
-pub(crate) fn wanted_by<A: Allocator>(
-    config: &Config<A>,
-    question: &QuestionRef<'_>,
-    name: &NameKey,
-) -> Option<Wanted>
-    requires { name.now ≡ lowered question.now.name }
-    ensures { MatchOption result (route_of config.now question.now.name ≡ None)
-        (λ wanted. (route_of config.now question.now.name ≡ Some wanted.route)
-        × (wanted.key ≡ question_key question.now)) }
-{
-    let route = config.serving_route_of_key(name)?;
-    let key = QuestionKey::of_name(*name, question.kind(), question.class());
-    Some(Wanted { key, route })
-}
-
-/// Whether the route of a question's name, which has this key, denies it. It takes no memory.
-#[tactic(auto, using(suffix_routes::proofs::CallerLemmas::denied_respects_same, dns_name::proofs::CallerLemmas::lowered_is_same))]
-pub(crate) fn is_denied<A: Allocator>(
-    config: &Config<A>,
-    question: &QuestionRef<'_>,
-    name: &NameKey,
-) -> bool
-    requires { name.now ≡ lowered question.now.name }
-    ensures { result ≡ is_local config.now question.now.name }
-{
-    config.denies_key(name)
+impl Wanted {
+    /// The wanted question whose name has this key, and is served by this route. It does not
+    /// allocate.
+    pub(crate) fn by_key(question: &QuestionRef<'_>, name: &NameKey, route: RouteId) -> Wanted
+        requires { name.now ≡ lowered question.now.name }
+        ensures key { result.key ≡ question_key question.now }
+        ensures route { result.route ≡ route }
+    {
+        let key = QuestionKey::of_name(*name, question.kind(), question.class());
+        Wanted { key, route }
+    }
 }

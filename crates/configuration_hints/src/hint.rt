@@ -3,12 +3,12 @@
 use std::fmt;
 use suffix_routes::Position;
 
-/// What a person may mend. Its text follows that of the fault.
+/// A hint: what a person may mend. Its text follows that of the fault.
 #[derive(Clone, Copy, Debug, PartialEq, Eq)]
 pub enum Hint {
     /// A number has a zero at its front.
     LeadingZero,
-    /// A number has something else than digits.
+    /// A number has other characters than digits.
     DigitsAlone,
     /// This character is not ASCII.
     NotAscii(char),
@@ -68,7 +68,7 @@ impl fmt::Display for Hint {
 }
 
 impl Hint {
-    /// The text of a hint that shows nothing of what was met.
+    /// The text of a hint that quotes nothing of the configuration.
     fn words(&self) -> &'static str {
         match self {
             Hint::LeadingZero => "numbers are written without leading zeros",

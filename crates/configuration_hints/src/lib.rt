@@ -1,4 +1,5 @@
-//! What a person may mend in a configuration that is refused, besides what its fault says. No call allocates.
+//! Hints for a configuration that is refused: what a person may mend, in addition to the fault's
+//! own text. No call allocates.
 #![tactic(auto)]
 
 mod hint;

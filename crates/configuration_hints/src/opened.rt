@@ -1,9 +1,9 @@
-//! What is open at a place of a text of TOML.
+//! The open brackets and quotation marks at a place of a text of TOML.
 
-/// How many brackets within one another are remembered; further ones are only counted.
+/// The most nested brackets whose places are kept; deeper ones are only counted.
 const DEEPEST: usize = 16;
 
-/// What is open where a text was read up to now.
+/// The brackets, string or comment that are open after the octets that were read.
 #[derive(Drop)]
 struct Opened {
     /// The places of the open brackets.
@@ -15,8 +15,8 @@ struct Opened {
     is_comment: bool,
 }
 
-/// The place of the quotation mark or the innermost bracket that is open behind these octets, and whether it is a
-/// quotation mark.
+/// The place of the quotation mark or the innermost bracket that is open after these octets, and
+/// true for a quotation mark. `None` where nothing is open.
 pub(crate) fn open_after(octets: &[u8]) -> Option<(usize, bool)> {
     let mut opened = Opened {
         brackets: [0; DEEPEST],
@@ -42,7 +42,7 @@ impl Opened {
         }
     }
 
-    /// An octet in a string.
+    /// Reads an octet in a string.
     fn read_string(&mut self, octet: u8, quote: u8) {
         if self.is_escaped {
             self.is_escaped = false;
@@ -53,7 +53,7 @@ impl Opened {
         }
     }
 
-    /// An octet outside strings and comments.
+    /// Reads an octet outside strings and comments.
     fn read_bare(&mut self, octet: u8, place: usize) {
         match octet {
             b'#' => self.is_comment = true,

@@ -6,8 +6,7 @@ use dns_name::NameFault;
 use std::str;
 use suffix_routes::{ConfigFault, Kind, Place};
 
-/// What may be mended besides what a fault says, of any fault but that a text is no TOML. `None` where the fault says it
-/// all.
+/// The hint for a fault, other than that a text is no TOML. `None` where the fault says it all.
 pub fn hint_for_fault(fault: &ConfigFault) -> Option<Hint> {
     match fault {
         ConfigFault::UnknownKey(version, place, key) => hint_for_key(

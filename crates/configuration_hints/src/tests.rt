@@ -1,4 +1,4 @@
-//! What hints say.
+//! Tests of the texts of hints.
 
 use crate::{Hint, hint_for_fault, hint_for_key, hint_for_text};
 use std::alloc::{AllocError, Global};
@@ -80,7 +80,8 @@ const TEXTS: [(&str, &str, &str); 22] = [
         "\n",
         "what line 2, column 1 opens is not closed",
     ),
-    // Nothing is known: a missing comma, a value that is missing, a further value, an octet that is no text.
+    // Nothing is known: a missing comma, a value that is missing, a further value, an octet that is
+    // no text.
     ("servers = [\"a\" ", "\"b\"]\n", ""),
     ("version =", "\n", ""),
     ("version = 1 ", "2\n", ""),
@@ -127,7 +128,7 @@ const FAULTS: [(&str, &str); 19] = [
         "version = 1\nlisten = \"192.0.2.1\u{ff1a}53\"",
         "'\u{ff1a}' (U+FF1A) is not ASCII",
     ),
-    // The range of a number says itself what is allowed.
+    // The fault of a number's range says itself what is allowed.
     ("version = 1\nlisten = \"192.0.2.256:53\"", ""),
     (
         "version = 1\n[route]\nsuffix = \".\"",

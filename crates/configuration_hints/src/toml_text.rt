@@ -5,7 +5,8 @@ use crate::opened::open_after;
 use crate::strings::{first_not_ascii, has_leading_zero};
 use suffix_routes::Position;
 
-/// What may be mended where the reader of TOML stopped at this octet. `None` where nothing is known.
+/// The hint for a text where the reader of TOML stopped at the octet `at`. `None` where nothing is
+/// known.
 pub fn hint_for_text(octets: &[u8], at: usize) -> Option<Hint> {
     let (before, rest) = octets.split_at(at.min(octets.len()));
     if let Some(hint) = hint_for_character(before, rest) {
@@ -17,7 +18,7 @@ pub fn hint_for_text(octets: &[u8], at: usize) -> Option<Hint> {
     hint_for_opened(before, rest)
 }
 
-/// What may be mended in the character at which the reader stopped.
+/// The hint for the character at which the reader stopped.
 fn hint_for_character(before: &[u8], rest: &[u8]) -> Option<Hint> {
     let first = rest.first()?;
     let second = rest.get(1);
@@ -62,7 +63,7 @@ fn is_of_word(octet: u8) -> bool {
     octet.is_ascii_alphanumeric() || matches!(octet, b'.' | b':' | b'-' | b'_' | b'+')
 }
 
-/// What may be mended in a value without quotation marks.
+/// The hint for a value without quotation marks.
 fn hint_for_value(word: &[u8]) -> Option<Hint> {
     let first = word.first()?;
     if is_like_boolean(word) {
@@ -90,7 +91,8 @@ fn is_like_boolean(word: &[u8]) -> bool {
         || word.eq_ignore_ascii_case(b"off")
 }
 
-/// What is open where the reader stopped. A bracket before a further element is closed, as a rule: a comma is missing.
+/// The hint for a bracket or quotation mark that is open where the reader stopped. A bracket before
+/// a further element is closed, as a rule: a comma is missing.
 fn hint_for_opened(before: &[u8], rest: &[u8]) -> Option<Hint> {
     let (place, is_quote) = open_after(before)?;
     let is_element = match rest.first() {

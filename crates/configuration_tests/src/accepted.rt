@@ -1,4 +1,4 @@
-//! What is read in texts that are accepted, and what holds where they say nothing.
+//! The values of accepted texts, and the defaults where they say nothing.
 
 use std::test::Fail;
 use suffix_routes::{Config, Limits, Peer};

@@ -1,4 +1,4 @@
-//! What is read in a text of version 2, and that its copy is equal in each part.
+//! The values of a text of version 2, and an equal copy of each part.
 
 use std::test::Fail;
 use suffix_routes::{Config, Peer, Route};

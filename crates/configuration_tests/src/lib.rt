@@ -1,5 +1,5 @@
-//! Tests of configurations from outside: what holds where a text says nothing, what a fault says to a person, and
-//! memory: that it is found where there is some.
+//! Tests of configurations from outside: the defaults where a text says nothing, the texts of
+//! faults, and allocations: that they succeed where there is memory.
 #![tactic(auto)]
 
 #[cfg(test)]
@@ -8,6 +8,8 @@ mod accepted;
 mod copied;
 #[cfg(test)]
 mod memory;
+#[cfg(test)]
+mod routed;
 #[cfg(test)]
 mod said;
 #[cfg(test)]

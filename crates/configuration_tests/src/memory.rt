@@ -1,5 +1,5 @@
-//! Each growth of a configuration and of its copy, and of a name that is made of labels, is refused once; then all of
-//! them are granted.
+//! Each allocation of a configuration and of its copy, and of a name that is made of labels, is
+//! refused once; then all of them are granted.
 
 use dns_name::{Name, NameFault};
 use refusing_allocator::Refusing;
@@ -17,7 +17,7 @@ suffix = "corp.example"
 servers = ["192.0.2.9:53"]
 "#;
 
-/// A route with one server, and one that denies, whose suffix is too long to take no memory.
+/// A route with one server, and one that denies, whose suffix is too long to be kept in place.
 const DENYING: &str = r#"version = 2
 [limits]
 stale_s = 600
@@ -29,7 +29,7 @@ suffix = "names-that-nobody-is-to-be-asked-for.example"
 deny = true
 "#;
 
-/// How many routes the configuration of a text and its copy have together.
+/// The number of routes of the configuration of a text and of its copy together.
 fn read_and_copied(
     table_heap: Global,
     heap: &Refusing<Global>,
@@ -57,7 +57,7 @@ fn each_growth_may_be_refused(rt: HostRuntime) {
     }
 }
 
-/// So many labels of one letter each.
+/// `count` labels of one letter each.
 fn labels_of<'a>(
     heap: &'a Refusing<Global>,
     count: u8,
@@ -69,7 +69,7 @@ fn labels_of<'a>(
     Ok(labels)
 }
 
-/// How many octets the name of so many labels has, with so many growths granted.
+/// The number of octets of the name of `labels` labels, with `growths` allocations granted.
 fn named_with(heap: &Refusing<Global>, labels: u8, growths: u64) -> Result<usize, NameFault> {
     let labels = labels_of(heap, labels)?;
     heap.allow(growths);
@@ -78,7 +78,7 @@ fn named_with(heap: &Refusing<Global>, labels: u8, growths: u64) -> Result<usize
     octets
 }
 
-/// Up to 30 octets take no memory; more of them take it once.
+/// Up to 30 octets do not allocate; more of them allocate once.
 #[test]
 fn each_growth_of_a_name_of_labels_may_be_refused(rt: HostRuntime) {
     let heap = Refusing::new(rt.alloc());

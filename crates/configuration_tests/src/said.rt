@@ -1,10 +1,10 @@
-//! What the first fault of a text says to a person.
+//! The text of the first fault, as a person reads it.
 
 use std::alloc::{AllocError, Global};
 use std::test::Fail;
 use suffix_routes::Config;
 
-/// What a text begins with whose second route is told of.
+/// The beginning of a text whose second route has the fault.
 const ROUTE: &str = r#"version = 1
 [[route]]
 suffix = "."
@@ -20,10 +20,11 @@ servers = ["192.0.2.1:53"]
 [[route]]
 "#;
 
-/// What is said: the beginning of a text, its rest, and what its first fault says.
+/// The beginning of a text, its rest, and the text of its first fault.
 const SAID: [(&str, &str, &str); 43] = [
-    // Where the reader of TOML stopped: behind the end where more is wanted, else at what can't stand there, and at a
-    // key that is there already. A column counts characters.
+    // The place where the TOML reader stopped: after the end where more is expected, otherwise at
+    // the character that can't be there, or at a key that is already there. A column counts
+    // characters.
     (
         "version =",
         "",
@@ -117,7 +118,8 @@ const SAID: [(&str, &str, &str); 43] = [
         "\nroute = [{},{},{},{},{},{},{},{},{},{},{},{},{},{},{},{},{},{},{},{},{},{},{},{},{},{},{},{},{},{},{},{},{},{},{},{},{},{},{},{},{},{},{},{},{},{},{},{},{},{},{},{},{},{},{},{},{},{},{},{},{},{},{},{},{}]",
         "there are 65 routes, and have to be 1 to 64",
     ),
-    // The limit that version 2 has alone: in version 1 the version is what to change, at its own place and no other.
+    // The limit that version 2 has alone: in version 1 the version is what to change, at its own
+    // place and no other.
     (
         "version = 1",
         "\nlimits = { stale_s = 600 }",
@@ -237,14 +239,14 @@ const SAID: [(&str, &str, &str); 43] = [
     ),
 ];
 
-/// One text behind another.
+/// One text after another.
 fn joined(heap: Global, head: &str, rest: &str) -> Result<String, AllocError> {
     let mut text = String::from_str(heap, head)?;
     text.push_str(rest)?;
     Ok(text)
 }
 
-/// What is said of the fault that is told of a text.
+/// The text of the fault of a configuration.
 fn said_of(heap: Global, text: &str) -> Result<String, AllocError> {
     match Config::read(heap, heap, text) {
         Ok(_config) => Ok(String::new(heap)),

@@ -1,4 +1,4 @@
-//! How a fault shows a text that was met, and what is said of a name that is none.
+//! The text that a fault quotes, and the texts of the faults of names.
 
 use dns_name::NameFault;
 use std::test::Fail;
@@ -39,7 +39,7 @@ fn what_is_shown_of_a_text(rt: HostRuntime) -> Result<(), Fail> {
     Ok(())
 }
 
-/// What is said of a name that is none.
+/// The text of each fault of a name.
 const NAMES: [(NameFault, &str); 5] = [
     (NameFault::EmptyLabel, "a label is empty"),
     (NameFault::LabelLong, "a label has more than 63 octets"),

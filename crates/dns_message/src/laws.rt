@@ -1,4 +1,4 @@
-//! What is written is read back: a law over writing and reading.
+//! A message that is written is read back: a law over writing and reading.
 
 ghost use Rattle.std.specs.Prelude.{◌≡◌, ◌≤◌, Ok, length};
 ghost use Rattle.message_reading.specs.Values as values;
@@ -6,9 +6,9 @@ ghost use Rattle.message_reading.specs.Messages.{HasShapes, message_of};
 ghost use Rattle.message_writing.specs.Writing.{written};
 ghost use Rattle.message_writing.specs.Written.{IsMessage, IsCounted};
 
-/// The octets that are written of a message are read as that message, wherever its header counts its lists, the data of
-/// its records is of their shapes, and the octets are no more than a message can have. So no two such messages are
-/// written alike.
+/// The octets that are written of a message are read as that message, wherever its header counts
+/// its lists, the data of its records is of their shapes, and the octets are no more than a message
+/// can have. So no two such messages are written alike.
 pub fn what_is_written_is_read_back()
     ensures back { (message : values.Message) → IsMessage message → IsCounted message → HasShapes message
         → length (written message) ≤ 65535 → message_of (written message) ≡ Ok message }

@@ -1,10 +1,13 @@
-//! Messages of the domain name system: RFC 1035 section 4, read from octets and written as octets, with the data of
-//! records by the shape of its type.
+//! Messages of the domain name system: RFC 1035 section 4, read from octets and written as octets,
+//! with the data of records by the shape of its type.
 //!
-//! This is the public face of the crates below it: names at a place of a message, reading, and writing.
+//! This is the public face of the crates below it: names at a place of a message, reading, and
+//! writing.
 #![tactic(auto)]
 
+pub mod codes;
 mod laws;
+pub mod types;
 
 pub use laws::what_is_written_is_read_back;
 pub use message_names::Fault;

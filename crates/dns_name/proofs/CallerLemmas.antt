@@ -1,4 +1,4 @@
--- What the proofs of crates above cite of names.
+-- Lemmas about names that the proofs of crates above cite.
 use Rattle.std.proofs.Common.{◌≡◌, ℕ, ◌+◌, ◌<◌, ◌≤◌, Bool, true, ◌&&◌, eqb, List, [], ◌∷◌, ◌++◌, length, drop, Ok}
 use Rattle.std.specs.Bool.{Decides}
 use Rattle.dns_name.specs.Labels.{label_octets, octets_of, size_of, IsLabel, IsName, IsSame, IsUnder, same, is_under, lowered, labels_of, IsLaidOut}
@@ -30,7 +30,7 @@ same_as_many_labels = names.same_count
 pub same_as_many_octets : (a b : List (List ℕ)) → IsSame a b → size_of a ≡ size_of b
 same_as_many_octets = names.same_size
 
--- their ends behind equally many labels are the same
+-- their ends after equally many labels are the same
 pub same_ends : (k : ℕ) (a b : List (List ℕ)) → IsSame a b → IsSame (drop k a) (drop k b)
 same_ends = names.same_drop
 
@@ -38,7 +38,7 @@ same_ends = names.same_drop
 pub same_decides : (a b : List (List ℕ)) → Decides (same a b) (IsSame a b)
 same_decides = names.same_decides
 
--- the test tells of names that are the same the same
+-- the test treats names that are the same alike
 pub same_respects : (n m s t : List (List ℕ)) → IsSame n m → IsSame s t → same n s ≡ same m t
 same_respects = names.same_respects
 
@@ -102,7 +102,7 @@ under_respects_same = names.under_same_names
 pub is_under_decides : (n s : List (List ℕ)) → Decides (is_under n s) (IsUnder n s)
 is_under_decides = names.is_under_decides
 
--- the test tells of names that are the same the same
+-- the test treats names that are the same alike
 pub is_under_respects : (n m s t : List (List ℕ)) → IsSame n m → IsSame s t → is_under n s ≡ is_under m t
 is_under_respects = names.is_under_respects
 
@@ -160,14 +160,14 @@ name_in_text = faults.name_in_name
 pub no_octets_are_laid_out : IsLaidOut []
 no_octets_are_laid_out = labels.laid_out-nil
 
--- octets with one more label behind them
+-- octets followed by one more label
 pub label_put_last : (old new label : List ℕ) → IsLaidOut old → IsLabel label → length old + length label ≤ 253 → new ≡ old ++ label_octets label → labels.Grows old new label
 label_put_last = labels.grows
 
 pub octets_joined : (front back : List (List ℕ)) → octets_of (front ++ back) ≡ octets_of front ++ octets_of back
 octets_joined = labels.octets_of-append
 
--- octets of labels behind octets of labels
+-- octets of labels followed by octets of labels
 pub labels_joined : (front back : List ℕ) → IsLaidOut front → IsLaidOut back → size_of (labels_of front) + length back ≤ 255 → labels.Joined front back
 labels_joined = labels.joined
 

@@ -1,4 +1,4 @@
--- When labels are a name.
+-- Labels that are a name, and the faults of those that are not.
 use Rattle.std.proofs.Common.{◌≡◌, ℕ, ◌+◌, ◌<◌, ◌≤◌, List, [], ◌∷◌, ◌++◌, length, take, drop, get_or, map, Option, Some, None, Result, Ok, Err, refl, sym, ap, ◌∙◌, append_assoc, arith, inl, inr}
 use Rattle.std.proofs.lemmas.Bool.{lt-ltb, le-ltb, cases_lt}
 use Rattle.first_fault.proofs.CallerLemmas.{fault_of_part}
@@ -79,7 +79,7 @@ refused fault_of labels front label rest e parts none fails =
     let p = pushed_refuses front label e fails in
     rw p.0 (judged_long fault_of labels none (omega (arith, p.1, ap size_of parts, size_of-append front (label ∷ rest), size_of-push front label, size_of-some rest)))
 
--- where a label can't be put behind those before it, the labels are no name
+-- where a label can't be put after those before it, the labels are no name
 pub refuses : (fault_of : FaultOf) (labels front : List (List ℕ)) (label : List ℕ) (rest : List (List ℕ)) (e : NameFault) → labels ≡ front ++ label ∷ rest → first_fault fault_of labels ≡ None
     → Fails e (pushed front label) → Fails e (judged fault_of labels)
 refuses fault_of labels front label rest e parts none fails =
@@ -135,7 +135,7 @@ parts_at : {Z : Type 0} → (vs : List (Vec ℕ Z)) (i : ℕ) (v : Vec ℕ Z) �
 parts_at {Z = Z} vs i v lt =
     sym (take-append-drop (i + 1) vs) ∙ ap (λ (front : List (Vec ℕ Z)). front ++ drop (i + 1) vs) (take_more vs i v lt) ∙ append_assoc (take i vs) (get_or vs i v ∷ []) (drop (i + 1) vs)
 
--- the labels before a place, the one there, and those behind it
+-- the labels before a place, the one there, and those after it
 pub items_split : {Z : Type 0} → (vs : List (Vec ℕ Z)) (i : ℕ) (v : Vec ℕ Z) → i < length vs → v ≡ get_or vs i v → items_of vs ≡ items_of (take i vs) ++ v.items ∷ items_of (drop (i + 1) vs)
 items_split {Z = Z} vs i v lt is =
     let same : v.items ≡ (get_or vs i v).items = ap (λ (w : Vec ℕ Z). w.items) is in

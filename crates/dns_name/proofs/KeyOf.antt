@@ -49,7 +49,7 @@ is_key octets laid =
 
 -- ---- a key that becomes that of another name
 
--- behind the octets that the length of a key counts stand zeros
+-- the octets after those that the length of a key counts are zeros
 zeros_behind : (octets : List ℕ) (len : ℕ) → IsKey octets len → length octets ≡ 255 → drop len octets ≡ replicate (255 - len) 0
 zeros_behind octets len key size =
     let name : List ℕ = take (len - 1) octets in
@@ -62,7 +62,7 @@ zeros_behind octets len key size =
 pub over_zeros : (octets : List ℕ) → map to_ascii_lowercase octets ++ drop (length octets) (replicate 255 0) ≡ padded (map to_ascii_lowercase octets)
 over_zeros octets = ap (λ (xs : List ℕ). map to_ascii_lowercase octets ++ xs) (drop-replicate {X = ℕ} (length octets) 255 0 ∙ ap (λ (n : ℕ). replicate (255 - n) 0) (sym (length-map octets to_ascii_lowercase)))
 
--- where those octets are zeros too, those of another name in lower case have zeros behind them
+-- where those octets are zeros too, those of another name in lower case are followed by zeros
 pub became : (octets : List ℕ) (len : ℕ) (name : List ℕ) → IsKey octets len → length octets ≡ 255
     → map to_ascii_lowercase name ++ drop (length name) (replicate len 0 ++ drop len octets) ≡ padded (map to_ascii_lowercase name)
 became octets len name key size =
@@ -77,7 +77,7 @@ lower_more octets before i lt le =
     let front : length (map to_ascii_lowercase (take i octets)) ≡ i = omega (arith, length-map (take i octets) to_ascii_lowercase, length-take i octets) in
     rw (drop_more before i 0 (omega (arith, lt, le)), take_more octets i 0 lt, map-append) (set_at (map to_ascii_lowercase (take i octets)) (get_or before i 0) (drop (i + 1) before) (to_ascii_lowercase (get_or octets i 0)) i front ∙ sym (append_assoc (map to_ascii_lowercase (take i octets)) (to_ascii_lowercase (get_or octets i 0) ∷ []) (drop (i + 1) before)))
 
--- octets in lower case are equal where they are with zeros behind them
+-- octets in lower case are equal if they are equal with zeros after them
 pub padded_same : (a b : List ℕ) → length a ≡ length b → padded (map to_ascii_lowercase a) ≡ padded (map to_ascii_lowercase b) → map to_ascii_lowercase a ≡ map to_ascii_lowercase b
 padded_same a b size same =
     let long : length (map to_ascii_lowercase a) ≡ length (map to_ascii_lowercase b) = omega (arith, size, length-map a to_ascii_lowercase, length-map b to_ascii_lowercase) in
@@ -93,7 +93,7 @@ key_lower octets len key =
 cons-tails : (x y : List ℕ) (xs ys : List (List ℕ)) → x ∷ xs ≡ y ∷ ys → xs ≡ ys
 cons-tails x y xs ys e = cc
 
--- the labels behind the first one are in lower case too
+-- the labels after the first one are in lower case too
 pub lowered_tail : (label : List ℕ) (labels : List (List ℕ)) → lowered (label ∷ labels) ≡ label ∷ labels → lowered labels ≡ labels
 lowered_tail label labels e = cons-tails (map to_ascii_lowercase label) label (lowered labels) labels e
 

@@ -1,4 +1,4 @@
--- When names are the same, when one is under another, and when their keys are equal.
+-- Names that are the same, names under another, and names with equal keys.
 use Rattle.std.proofs.Common.{◌<◌, ◌≡◌, ℕ, ◌+◌, ◌-◌, ◌≤◌, List, [], ◌∷◌, length, take, drop, map, refl, sym, ap, ◌∙◌, arith}
 use Rattle.std.proofs.Common.{Bool, true, false, ◌&&◌, nat_eq, nat_le, le-leb}
 use Rattle.std.specs.Bool.{Decides}
@@ -144,7 +144,7 @@ equal_tests false false first second there back = refl
 equal_tests true false first second there back = absurd (let no : false ≡ true = second.1 (there (first.0 refl)) in cc)
 equal_tests false true first second there back = absurd (let no : false ≡ true = first.1 (back (second.0 refl)) in cc)
 
--- the tests tell of names that are the same the same
+-- the tests treat names that are the same alike
 pub same_respects : (n m s t : List (List ℕ)) → IsSame n m → IsSame s t → same n s ≡ same m t
 same_respects n m s t nm st =
     equal_tests (same n s) (same m t) (same_decides n s) (same_decides m t) (λ ns. sym nm ∙ ns ∙ st) (λ mt. nm ∙ mt ∙ sym st)
@@ -154,7 +154,7 @@ is_under_respects n m s t nm st =
     equal_tests (is_under n s) (is_under m t) (is_under_decides n s) (is_under_decides m t)
     (λ ns. under_same_names n m s t nm st ns) (λ mt. under_same_names m n t s (sym nm) (sym st) mt)
 
--- what a call told of P, where a test decides P
+-- the meaning of a call's answer about P, where a test decides P
 pub told : {P : Type 0} (answer test : Bool) → (answer ≡ true → P) × (P → answer ≡ true) → Decides test P → answer ≡ test
 told true true answered decided = refl
 told false false answered decided = refl

@@ -7,6 +7,7 @@ use Rattle.dns_name.specs.declared.fault.NameFault.{NameFault}
 use Rattle.dns_name.specs.declared.fault.NameFault.TheVariants.{EmptyLabel, LabelLong, BadCharacter}
 use Rattle.dns_name.specs.Faults.{judged}
 
+-- the octet is a dot
 abbrev pub is_dot : ℕ → Bool
 is_dot octet = octet == 46
 
@@ -35,13 +36,15 @@ without_last_dot text = if is_dot (slice_index text (length text - 1)) then take
 abbrev pub labels_in : List ℕ → List (List ℕ)
 labels_in text = if is_root_text text then [] else parts_of (without_last_dot text)
 
--- the first fault of a label in text: a bad character stands before the label's end, where its length is told
+-- the first fault of a label in text: a bad character comes before the label's end, where its
+-- length is judged
 abbrev pub written_label_fault : List ℕ → Option NameFault
 written_label_fault label =
     if length label == 0 then Some EmptyLabel
     else (if not (list_all is_label_character label) then Some BadCharacter
     else (if nat_lt 63 (length label) then Some LabelLong else None))
 
--- the name that a text writes
+-- the name that a text writes: labels with dots between them, and one more dot at the end if any; a
+-- dot alone is the root
 abbrev pub name_in : List ℕ → Result (List (List ℕ)) NameFault
 name_in text = judged written_label_fault (labels_in text)

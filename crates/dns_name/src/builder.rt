@@ -15,7 +15,7 @@ use std::marker::Model;
 /// The most octets of a name, the zero octet at its end left out (RFC 1035 2.3.4).
 const MOST: usize = 254;
 
-/// The labels so far, each behind its length.
+/// The labels so far, each after its length.
 #[derive(Drop)]
 pub(crate) struct NameBuilder {
     octets: ArrayVec<u8, MOST>,
@@ -32,7 +32,7 @@ impl Model for NameBuilder {
     ghost invariant = { λ b. IsLaidOut b.octets.items };
 }
 
-/// Puts a label and its length behind the octets.
+/// Appends a label's length and the label to the octets.
 fn put_label(octets: &mut ArrayVec<u8, MOST>, label: &[u8])
     requires short { length label.now ≤ 63 }
     requires room { array_vec_len octets.old + length label.now + 1 ≤ 254 }
@@ -54,7 +54,8 @@ impl NameBuilder {
         }
     }
 
-    /// Puts a label last. `NameLong` where the name would have more than 255 octets; an `Err` changes nothing.
+    /// Puts a label last. `NameLong` where the name would have more than 255 octets; an `Err`
+    /// changes nothing.
     #[tactic(auto, unfolding(crate::specs::Faults::pushed))]
     pub(crate) fn push(&mut self, label: &[u8]) -> Result<(), NameFault>
         requires { IsLabel label.now }

@@ -14,9 +14,9 @@ use short_octets::ShortOctets;
 use std::alloc::{AllocError, Allocator, Global};
 use std::marker::Model;
 
-/// A domain name (RFC 1035 2.3.4, 3.1): labels of 1 to 63 octets, at most 255 octets in all where each label is counted
-/// with its length octet, and the zero octet at the end too. Up to 30 octets, the zero octet left out, lie in place.
-/// Contracts see it as the list of its labels.
+/// A domain name (RFC 1035 2.3.4, 3.1): labels of 1 to 63 octets, at most 255 octets in all where
+/// each label is counted with its length octet, and the zero octet at the end too. Up to 30 octets,
+/// the zero octet left out, are kept in place. Contracts see it as the list of its labels.
 #[derive(Drop)]
 pub struct Name<A: Allocator = Global> {
     octets: ShortOctets<A>,
@@ -34,7 +34,7 @@ impl<A: Allocator> Model for Name<A> {
 }
 
 impl<A: Allocator> Name<A> {
-    /// The root, which has no label. It takes no memory.
+    /// The root, which has no label. It does not allocate.
     pub fn root() -> Name<A>
         ensures { result ≡ [] }
     {
@@ -43,8 +43,9 @@ impl<A: Allocator> Name<A> {
         }
     }
 
-    /// The name that these octets are, as `octets` gives them: each label behind its length, and no zero octet at the
-    /// end. They are copied once. Up to 30 take no memory; of more, `Err` where memory ran out.
+    /// The name that these octets are, as `octets` gives them: each label after its length, and no
+    /// zero octet at the end. They are copied once. Up to 30 do not allocate; for more, `Err` where
+    /// memory ran out.
     pub fn from_octets(alloc: A, octets: &[u8]) -> Result<Name<A>, AllocError>
         requires { IsLaidOut octets.now }
         ensures name { IfOk result (λ name. name ≡ labels_of octets.now) }
@@ -55,7 +56,7 @@ impl<A: Allocator> Name<A> {
         })
     }
 
-    /// The labels from left to right, at most 127. It takes no memory.
+    /// The labels from left to right, at most 127. It does not allocate.
     pub fn labels(&self) -> Labels<'_>
         ensures labels { result ≡ self.now }
         ensures name { IsName self.now }
@@ -64,8 +65,8 @@ impl<A: Allocator> Name<A> {
         labels_in(self.octets())
     }
 
-    /// The name as it stands in a message (RFC 1035 3.1), without the zero octet at its end: each label behind its
-    /// length. `split_label` takes the first label off. It takes no memory.
+    /// The name as in a message (RFC 1035 3.1), without the zero octet at its end: each label after
+    /// its length. `split_label` takes the first label off. It does not allocate.
     pub fn octets(&self) -> &[u8]
         ensures laid { IsLaidOut result.now }
         ensures labels { labels_of result.now ≡ self.now }
@@ -74,7 +75,8 @@ impl<A: Allocator> Name<A> {
         self.octets.as_slice()
     }
 
-    /// Whether the names have equal labels, ASCII letter case aside (RFC 1035 2.3.3). It takes no memory.
+    /// Whether the names have equal labels, ASCII letter case aside (RFC 1035 2.3.3). It does not
+    /// allocate.
     #[tactic(auto, using(crate::proofs::LabelLaws::laid_short))]
     pub fn same(&self, other: &Name<A>) -> bool
         ensures { IsTrue result ↔ IsSame self.now other.now }
@@ -102,8 +104,8 @@ fn check_labels<A: Allocator>(labels: &[Vec<u8, A>]) -> Result<(), NameFault>
 impl<A: Allocator> Name<A> {
     /// The name of these labels, from left to right.
     ///
-    /// The fault is the first `EmptyLabel` or `LabelLong` from the left, else `NameLong`. `Memory` comes where a growth
-    /// was refused.
+    /// The fault is the first `EmptyLabel` or `LabelLong` from the left, otherwise `NameLong`.
+    /// `Memory` where an allocation was refused.
     pub fn from_labels(alloc: A, labels: &[Vec<u8, A>]) -> Result<Name<A>, NameFault>
         ensures { Gives (λ n. n) result (named (map (λ v. v.items) labels.now)) }
     {
@@ -116,8 +118,8 @@ impl<A: Allocator> Name<A> {
     }
 }
 
-/// Whether the name that the first octets are is under the one that the others are, both as `Name::octets` gives them:
-/// what `Name::is_under` tells of names that are not at hand as such. It takes no memory.
+/// Whether the name of the octets is under that of `suffix`, both as `Name::octets` gives them:
+/// `Name::is_under` for names that are there as octets only. It does not allocate.
 pub fn ends_in(octets: &[u8], suffix: &[u8]) -> bool
     requires whole { IsLaidOut octets.now }
     requires suffix_whole { IsLaidOut suffix.now }
@@ -134,22 +136,23 @@ pub fn ends_in(octets: &[u8], suffix: &[u8]) -> bool
 }
 
 impl<A: Allocator> Name<A> {
-    /// Whether the last labels of this name are those of `suffix`, ASCII letter case aside; so each name is under
-    /// itself and under the root. The octets are compared once. It takes no memory.
+    /// Whether the last labels of this name are those of `suffix`, ASCII letter case aside; so each
+    /// name is under itself and under the root. The octets are compared once. It does not allocate.
     pub fn is_under(&self, suffix: &Name<A>) -> bool
         ensures { IsTrue result ↔ IsUnder self.now suffix.now }
     {
         ends_in(self.octets(), suffix.octets())
     }
 
-    /// The key of this name: keys are equal exactly where names are the same. It takes no memory.
+    /// The key of this name: keys are equal exactly where names are the same. It does not allocate.
     pub fn key(&self) -> NameKey
         ensures { result ≡ lowered self.now }
     {
         key_of(self.octets())
     }
 
-    /// The name without its first label; `None` for the root, which takes no memory. `Err` where memory ran out.
+    /// The name without its first label; `None` for the root, which does not allocate. `Err` where
+    /// memory ran out.
     pub fn parent(&self, alloc: A) -> Result<Option<Name<A>>, AllocError>
         ensures parent { IfOk result (λ p. p ≡ parent_of self.now) }
         ensures root { OnErr result (self.now ≡ [] → ⊥) }
@@ -160,8 +163,8 @@ impl<A: Allocator> Name<A> {
         }
     }
 
-    /// The same labels, letter case included. Up to 31 octets, the zero octet counted, take no memory; of more, `Err`
-    /// where memory ran out.
+    /// The same labels, letter case included. Up to 31 octets, the zero octet counted, do not
+    /// allocate; for more, `Err` where memory ran out.
     pub fn copy(&self, alloc: A) -> Result<Name<A>, AllocError>
         ensures name { IfOk result (λ n. n ≡ self.now) }
         ensures few { size_of self.now ≤ 31 → IsOk result }

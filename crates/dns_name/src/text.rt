@@ -83,7 +83,7 @@ fn first_dot(text: &[u8]) -> Option<usize>
     text.iter().position(|octet| *octet == b'.')
 }
 
-/// The first part of a text, and what stands behind its dot where there is one.
+/// The first part of a text, and the part after its dot, if any.
 fn cut_at_dot(text: &[u8]) -> (&[u8], Option<&[u8]>)
     ensures { parts_of text.now ≡ result.0.now ∷ parts_left (option_copied result.1) }
 {
@@ -111,7 +111,7 @@ fn check_parts(text: &[u8]) -> Result<(), NameFault>
     Ok(())
 }
 
-/// The name whose labels stand between the dots.
+/// The name whose labels are between the dots.
 fn name_of_parts<A: Allocator>(alloc: A, text: &[u8]) -> Result<Name<A>, NameFault>
     ensures given { Gives (λ n. n) result (judged written_label_fault (parts_of text.now)) }
     ensures memory { result ≡ Err Memory → IsOk (judged written_label_fault (parts_of text.now)) }
@@ -125,12 +125,12 @@ fn name_of_parts<A: Allocator>(alloc: A, text: &[u8]) -> Result<Name<A>, NameFau
 }
 
 impl<A: Allocator> Name<A> {
-    /// The name that a text writes: its labels of ASCII letters, digits, hyphens and underscores, with dots between
-    /// them. One dot may end the text; a dot alone is the root (RFC 1035 5.1).
+    /// The name that a text writes: its labels of ASCII letters, digits, hyphens and underscores,
+    /// with dots between them. One dot may end the text; a dot alone is the root (RFC 1035 5.1).
     ///
-    /// The fault is the first from the left: `EmptyLabel` (of the empty text too), `BadCharacter`, or `LabelLong`,
-    /// which is told at the end of the label; after all labels `NameLong`. `Memory` comes where a growth was refused,
-    /// and only where the text is a name.
+    /// The fault is the first from the left: `EmptyLabel` (of the empty text too), `BadCharacter`,
+    /// or `LabelLong`, which is judged at the end of the label; after all labels `NameLong`.
+    /// `Memory` where an allocation was refused, and only where the text is a name.
     pub fn from_text(alloc: A, text: &str) -> Result<Name<A>, NameFault>
         ensures given { Gives (λ n. n) result (name_in text.now) }
         ensures memory { result ≡ Err Memory → IsOk (name_in text.now) }

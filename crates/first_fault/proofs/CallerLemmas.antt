@@ -1,4 +1,4 @@
--- What the proofs of crates above cite of reading with the first fault.
+-- Lemmas about reading with the first fault that the proofs of crates above cite.
 use Rattle.std.proofs.Common.{◌≡◌, Bool, true, false, Result, Err, refl}
 use Rattle.first_fault.specs.Reading.{◌>>=◌, Unless, Fails}
 

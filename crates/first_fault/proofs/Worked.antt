@@ -1,4 +1,5 @@
--- Worked readings: a value is told as it is seen, a fault is the answer, and want of memory says nothing.
+-- Worked readings: a value is reported as it is seen, a fault is the answer, and out of memory says
+-- nothing.
 use Rattle.std.proofs.Common.{◌≡◌, ℕ, ◌+◌, refl}
 use Rattle.std.specs.Prelude.{◌==◌, Result, Ok, Err}
 use Rattle.first_fault.specs.Reading.{◌>>=◌, Gives}

@@ -1,28 +1,28 @@
--- Reading from the front, with the first fault that is met. Some faults of a type are a want of memory, and of a call
--- that ran out of memory nothing is said.
+-- Reading from the front, with the first fault that is met. Some faults of a type mean out of
+-- memory; nothing follows from a call that ended in one.
 use Rattle.std.specs.Prelude.{◌≡◌, ℕ, Bool, true, false, Result, Ok, Err}
 
 infixl 10 ◌>>=◌
--- the first fault, or what comes next of what is there
+-- the first fault, otherwise what follows from the value
 abbrev pub ◌>>=◌ : {E A B : Type 0} → Result A E → (A → Result B E) → Result B E
 (Ok x) >>= f = f x
 (Err e) >>= f = Err e
 
--- nothing where the test holds, else the fact
+-- nothing where the test holds, otherwise the fact
 abbrev pub Unless : Bool → Type 0 → Type 0
 Unless true fact = Unit {0}
 Unless false fact = fact
 
--- What a call failed with is the answer, unless it is a want of memory.
+-- The failure of a call is the answer, unless memory ran out.
 abbrev pub Fails : {E Y : Type 0} → (E → Bool) → E → Result Y E → Type 0
 Fails wants_memory fault answer = Unless (wants_memory fault) (answer ≡ Err fault)
 
--- What a call answered, seen by view, is the answer, unless memory ran out.
+-- The value that a call returned, seen by view, is the answer, unless memory ran out.
 abbrev pub Gives : {E X Y : Type 0} → (E → Bool) → (X → Y) → Result X E → Result Y E → Type 0
 Gives wants_memory view (Ok x) answer = answer ≡ Ok (view x)
 Gives wants_memory view (Err fault) answer = Fails wants_memory fault answer
 
--- the place behind what was read
+-- the place after what was read
 abbrev pub behind : {E X : Type 0} → Result (X × ℕ) E → Result ℕ E
 behind (Ok x) = Ok x.1
 behind (Err fault) = Err fault

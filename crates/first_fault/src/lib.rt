@@ -1,2 +1,3 @@
-//! Definitions of reading with the first fault that is met, over any type of faults. There is no code.
+//! Definitions of reading with the first fault that is met, over any type of faults. There is no
+//! code.
 #![tactic(auto)]

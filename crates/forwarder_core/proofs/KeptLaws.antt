@@ -211,7 +211,7 @@ kept_sent c e i ws ws' ps m k r onward kept earlier is = subst (λ (xs : List Wa
       counted = kept.counted;
     }
 
--- the ask on a path is closed, and another is listed, where there is one
+-- the ask on a path is closed, and another is listed, if any
 pub kept_next : (c : Config) (e : Cache) (i i' : Inquiries) (ws : List Waiting) (ps : List ℕ) (m n k : ℕ) (path : Path) (s : State) (listed : List Ask) (next : Option Ask) → IsKeptForwarder c e i ws ps m k → m ≤ n → n ≤ 2 ^ 62 → s.tcp_asks ≡ k → IfFollows c n s listed next
     → i' ≡ record i { asks = without_path path i.asks ++ ask_list next } → AreListed i' → IsKeptForwarder c e i' ws ps n (k + tcp_count next)
 kept_next c e i i' ws ps m n k path s listed None kept le small same follows is are =
@@ -225,7 +225,7 @@ kept_next c e i i' ws ps m n k path s listed (Some a) kept le small same follows
     (subst (λ (j : ℕ). j + tcp_count (Some a) < 2 ^ 64) same follows.counted)
     is are
 
--- the next ask, where there is one, may be counted and may begin
+-- the next ask, if any, may be counted and may begin
 pub next_counted : (c : Config) (n : ℕ) (s : State) (listed : List Ask) (next : Option Ask) → s.tcp_asks < 2 ^ 64 → IfFollows c n s listed next → s.tcp_asks + tcp_count next < 2 ^ 64
 next_counted c n s listed None low follows = omega (arith, low)
 next_counted c n s listed (Some a) low follows = follows.counted

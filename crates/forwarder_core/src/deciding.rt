@@ -1,4 +1,4 @@
-//! What an event calls for.
+//! The decision on an event.
 
 ghost use Rattle.std.specs.Prelude.{IfOk, IfSome};
 ghost use Rattle.step_values.specs.Values.{event_of};
@@ -13,8 +13,8 @@ use step_actions::{Decision, TurnRef};
 use step_values::Event;
 use trust_rank::Slot;
 
-/// What an event calls for; nothing where it is a restart. The slot, whatever it was, serves a look-up, which may lend
-/// it on.
+/// The decision on an event; `None` where it is a restart. The slot, whatever it was, serves a
+/// look-up, and the decision may borrow it. `Err` where memory ran out.
 pub(crate) fn decide<'a, 's, H: BuildHasher + Drop, A: Allocator + Copy>(
     turn: &TurnRef<'a, H, A>,
     slot: &'s mut Slot,

@@ -1,5 +1,6 @@
-//! The decisions of the forwarder, one step at a time. A step is handed a moment, random words and an event, and says
-//! what is to be done; it reads no clock, opens no socket and draws nothing at random.
+//! The decisions of the forwarder, one step at a time. A step takes a moment, random words and an
+//! event, and returns what is to be done. It reads no clock, opens no socket and draws nothing at
+//! random.
 #![tactic(auto)]
 
 mod deciding;

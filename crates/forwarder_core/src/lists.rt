@@ -1,5 +1,5 @@
-//! What a forwarder keeps: the asks that are under way and the questions that wait, how they change, and the end of
-//! all.
+//! Changes of a forwarder's lists: the asks that are under way and the questions that wait, up to
+//! forgetting all.
 
 ghost use Rattle.std.specs.Prelude.{◌≡◌, ◌<◌, ◌∷◌, ◌++◌, [], length, IsSome, OnOk, OnErr};
 ghost use Rattle.std.specs.Option.{IfSome};
@@ -13,7 +13,7 @@ use std::alloc::{AllocError, Allocator};
 use std::hash::BuildHasher;
 use waiting_questions::{SentOn, WaitingQuestions};
 
-/// Lists an ask for which there is room. `Err` where memory ran out, and then nothing has changed.
+/// Lists an ask for which there is room. `Err` where memory ran out: nothing has changed.
 pub fn list_ask<A: Allocator>(
     inquiries: &mut Inquiries<A>,
     ask: KeyedAsk<A>,
@@ -31,7 +31,7 @@ pub fn list_ask<A: Allocator>(
     }
 }
 
-/// The ask on the path is closed, and those that waited for it wait no more.
+/// Closes the ask on the path; those that waited for it wait no more.
 pub fn close_inquiry<A: Allocator>(
     inquiries: &mut Inquiries<A>,
     waiting: &mut WaitingQuestions<A>,
@@ -45,8 +45,8 @@ pub fn close_inquiry<A: Allocator>(
     }
 }
 
-/// Ends the ask on a path, and lists another one, where there is one; the ended ask is the answer, with the key of its
-/// question.
+/// Ends the ask on a path, and lists the next one, if any. Returns the ended ask with the key of
+/// its question.
 fn end_or_replace<A: Allocator>(
     inquiries: &mut Inquiries<A>,
     path: Path,
@@ -67,7 +67,7 @@ fn end_or_replace<A: Allocator>(
     }
 }
 
-/// The ask on the path is closed, and another one is listed, where there is one. Those that waited for it wait no
+/// Closes the ask on the path, and lists the next one, if any. Those that waited for it wait no
 /// more, or wait on with what they are sent on with.
 pub fn send_on<A: Allocator>(
     inquiries: &mut Inquiries<A>,
@@ -90,7 +90,7 @@ pub fn send_on<A: Allocator>(
     }
 }
 
-/// Ends the ask on a path, where there is one.
+/// Ends the ask on a path, if any.
 pub fn end_closed<A: Allocator>(inquiries: &mut Inquiries<A>, closed: Option<Path>)
     ensures { inquiries.new ≡ record inquiries.old { asks = without_closed closed inquiries.old.asks } }
 {
@@ -99,7 +99,7 @@ pub fn end_closed<A: Allocator>(inquiries: &mut Inquiries<A>, closed: Option<Pat
     }
 }
 
-/// All entries, asks and waiting questions are forgotten. It takes no memory.
+/// Forgets all entries, asks and waiting questions. It does not allocate.
 pub fn forget_all<H: BuildHasher + Drop, A: Allocator + Copy>(
     cache: &mut Cache<H, A>,
     inquiries: &mut Inquiries<A>,

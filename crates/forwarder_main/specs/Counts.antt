@@ -1,4 +1,4 @@
--- What the program prints once it has served.
+-- The line that the program prints once it has served.
 use Rattle.std.specs.Prelude.{ℕ, List, ◌++◌, codes}
 use Rattle.std.specs.Fmt.{decimal}
 

@@ -1,3 +1,4 @@
+pub mod Commands
 pub mod Counts
 pub mod Service
 pub mod Statuses

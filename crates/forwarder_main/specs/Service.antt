@@ -1,5 +1,6 @@
--- What the service is made of, what it does, and what it tells.
-use Rattle.std.specs.Prelude.{◌≡◌, ℕ, List, [], ◌∷◌, ◌++◌, Option, Ok}
+-- The parts of the service, what it does, and what it writes.
+use Rattle.std.specs.Prelude.{◌≡◌, ◌⊎◌, ℕ, List, [], ◌∷◌, ◌++◌, Option, Ok, Err}
+use Rattle.std.specs.declared.alloc.AllocError.{AllocError}
 use Rattle.std.specs.Io.KnownBytes.{Appends}
 use Rattle.suffix_routes.specs.Values.{Config}
 use Rattle.step_table.specs.State.{Running}
@@ -7,6 +8,10 @@ use Rattle.wires.specs.Wire.{Telling}
 use Rattle.network_model.specs.declared.counts.Served.{Served}
 use Rattle.network_model.specs.Serving.{Serves}
 use Rattle.socket_wire.specs.Seen.{SeenWire}
+use Rattle.replay_script.specs.declared.fault.ReplayFault.TheVariants.{Memory}
+use Rattle.forwarder_main.specs.declared.fault.Fault.{Fault}
+use Rattle.forwarder_main.specs.declared.fault.Fault.TheVariants.{Stopped}
+use Rattle.forwarder_main.specs.Commands.{IsFaultOfStream}
 use Rattle.forwarder_main.specs.Counts.{counted_text}
 
 -- A new wire with the limits of this configuration.
@@ -14,7 +19,8 @@ pub record IsWireOf (config : Config) (wire : SeenWire) : Type 0 where
   pub faults : wire.faults ≡ 0
   pub deadline : wire.deadline ≡ config.limits.deadline_ms
 
--- So many turns over a wire are served; behind what a writer held stands one line with what was counted in them.
+-- `turns` turns over a wire are served; after its former contents the writer has one line with
+-- their counts.
 pub record ServesAndTells (before : Running) (told_before : Telling) (turns : ℕ) (after : Running)
     (told_after : Telling) (held held' : Option (List ℕ)) : Type 0 where
   pub counts : Served
@@ -27,3 +33,11 @@ pub record ServesFrom (before : Running) (turns : ℕ) (held held' : Option (Lis
   pub after : Running
   pub told_after : Telling
   pub serves : ServesAndTells before told_before turns after told_after held held'
+
+-- Why serving stops before a line of what was counted is written. Memory ran out in a turn, and
+-- nothing was written; or as many turns as were wanted are served, and writing failed.
+abbrev pub StopsServing : Running → Telling → ℕ → Running → Telling → Option (List ℕ) → Option (List ℕ) → Fault → Type 0
+StopsServing before told_before turns after told_after held held' fault =
+    ((refused : AllocError) × Serves before told_before turns (Err refused) after told_after
+    × (fault ≡ Stopped Memory) × (held' ≡ held))
+    ⊎ ((counts : Served) × Serves before told_before turns (Ok counts) after told_after × IsFaultOfStream fault)

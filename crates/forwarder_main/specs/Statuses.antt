@@ -4,6 +4,7 @@ use Rattle.replay_script.specs.declared.fault.ReplayFault.TheVariants.{Config, L
 use Rattle.forwarder_main.specs.declared.fault.Fault.{Fault}
 use Rattle.forwarder_main.specs.declared.fault.Fault.TheVariants.{Usage, Stopped}
 
+-- the exit status of a fault
 abbrev pub status_of : Fault → ℕ
 status_of Usage = 1
 status_of (Stopped (Config fault)) = 2

@@ -7,8 +7,11 @@ use std::str;
 /// How many octets an argument may have: no path has more.
 pub const LONGEST: usize = 4095;
 
-/// The argument at this place, in the room that is given; the program's own name is at 0. `TooLong` where it has more
-/// octets than the room.
+/// How many arguments are counted: one more than any command has.
+const MOST_COUNTED: usize = 4;
+
+/// The argument at this place, in the room that is given; the program's own name is at 0. `TooLong`
+/// where it has more octets than the room.
 pub fn argument<'a, R: Env>(
     rt: &R,
     place: usize,
@@ -24,9 +27,14 @@ pub fn text<'a, R: Env>(rt: &R, place: usize, room: &'a mut [u8]) -> Option<&'a 
     str::from_utf8(octets).ok()
 }
 
-/// There are so many arguments behind the program's own name.
-pub fn are<R: Env>(rt: &R, count: usize) -> bool {
-    is_there(rt, count) && !is_there(rt, count.saturating_add(1))
+/// How many arguments there are after the program's own name; four are counted at most.
+pub fn count<R: Env>(rt: &R) -> usize {
+    for place in 1..=MOST_COUNTED {
+        if !is_there(rt, place) {
+            return place - 1;
+        }
+    }
+    MOST_COUNTED
 }
 
 fn is_there<R: Env>(rt: &R, place: usize) -> bool {

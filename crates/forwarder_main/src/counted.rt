@@ -1,11 +1,11 @@
-//! What the program prints once it has served.
+//! The line that the program prints once it has served.
 
 ghost use Rattle.std.specs.Prelude.{◌≡◌};
 
 use network_model::Served;
 use std::fmt;
 
-/// What the program prints once it has served: `turns T lost L`.
+/// The line that the program prints once it has served: `turns T lost L`.
 #[derive(Clone, Copy, Debug, Drop)]
 pub struct Counted {
     /// How many turns were made.

@@ -1,4 +1,4 @@
-//! What ends the program.
+//! The faults that end the program.
 
 ghost use Rattle.std.specs.Prelude.{◌≡◌};
 ghost use Rattle.std.specs.IoError.{error_kind};
@@ -16,7 +16,7 @@ pub enum Fault {
     /// The arguments are none that it takes.
     #[error("usage: forwarder check FILE, replay, or serve FILE TURNS")]
     Usage,
-    /// What it was told to do stopped.
+    /// The command stopped.
     #[error("{0}")]
     Stopped(ReplayFault),
 }

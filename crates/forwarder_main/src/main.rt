@@ -1,8 +1,11 @@
-//! The forwarder's program: `forwarder check FILE` tells whether a configuration is accepted, `forwarder replay` runs
-//! the events of a script and prints each action, and `forwarder serve FILE TURNS` serves clients over sockets.
+//! The forwarder's program: `forwarder check FILE` says whether a configuration is accepted,
+//! `forwarder replay` runs the events of a script and prints each action, and `forwarder serve FILE
+//! TURNS` serves clients over sockets.
 #![tactic(auto)]
 
 mod arguments;
+#[cfg(test)]
+mod command_tests;
 mod commands;
 mod counted;
 mod fault;
@@ -21,7 +24,7 @@ fn main(rt: HostRuntime) -> ExitCode {
     match commands::run(&rt) {
         Ok(()) => ExitCode::SUCCESS,
         Err(fault) => {
-            // Where standard error fails too, the status alone tells it.
+            // If standard error fails too, only the status says so.
             let _ = eprintln!(rt; "{fault}");
             ExitCode::from(fault.status())
         }

@@ -1,4 +1,4 @@
-//! What standard output says of a configuration that is refused.
+//! Says on standard output why a configuration is refused.
 
 use crate::saying::{say, say_of};
 use configuration_hints::{hint_for_fault, hint_for_key, hint_for_text};
@@ -9,8 +9,8 @@ use toml::{Table, Value};
 /// The key that each configuration has at its top.
 const VERSION: &str = "version";
 
-/// The fault, and after it what may be mended: why the reader of TOML stopped, where `version` is instead, or a hint. Out
-/// of memory, the text is not read again, and the fault is said alone.
+/// The fault, and after it what may be mended: why the reader of TOML stopped, where `version` is
+/// instead, or a hint. Out of memory, the text is not read again, and the fault is said alone.
 pub fn say_refused<R: Print + AllocGlobal>(rt: &R, octets: &[u8], fault: &ConfigFault) {
     match fault {
         ConfigFault::Toml(_) => match toml::table_from_slice(rt.alloc(), octets) {
@@ -42,7 +42,8 @@ fn say_not_toml<R: Print>(rt: &R, octets: &[u8], fault: &ConfigFault, error: &Er
     }
 }
 
-/// That `version` is missing, and which key of the document may be meant, or below which key there is one.
+/// That `version` is missing, and which key of the document may be meant, or below which key there
+/// is one.
 fn say_elsewhere<R: Print>(rt: &R, fault: &ConfigFault, document: &Table) {
     for key in document.keys() {
         if let Some(hint) = hint_for_key(key.as_bytes(), "`version`") {

@@ -1,4 +1,4 @@
-//! What standard output says of what stopped a command. Where it fails too, the status alone tells it.
+//! Says on standard output what stopped a command. If that fails too, only the status says so.
 
 ghost use Rattle.std.specs.Prelude.{◌≡◌};
 ghost use Rattle.std.specs.IoError.{error_kind};
@@ -16,12 +16,13 @@ pub fn say<R: Print, T: Display>(rt: &R, line: &T) {
     let _ = println!(rt; "{line}");
 }
 
-/// What it has to do with, and why it failed.
+/// Prints what failed, and the reason.
 pub fn say_of<R: Print, T: Display, U: Display>(rt: &R, what: &T, reason: &U) {
     let _ = println!(rt; "{what}: {reason}");
 }
 
-/// The name of a file, and a reason. A name that is no text, or has control characters, is shown with escapes.
+/// The name of a file, and a reason. A name that is no text, or has control characters, is shown
+/// with escapes.
 fn say_of_file<R: Print, T: Display>(rt: &R, name: &[u8], reason: &T) {
     match str::from_utf8(name) {
         Ok(text) if !text.chars().any(char::is_control) => say_of(rt, &text, reason),

@@ -1,9 +1,11 @@
 //! The service: a forwarder over sockets, both of one configuration.
 
-ghost use Rattle.std.specs.Prelude.{◌≡◌, IfOk, OnOk};
+ghost use Rattle.std.specs.Prelude.{◌≡◌, IfOk, IfErr, OnOk};
 ghost use Rattle.step_table.specs.Steps.{start};
 ghost use Rattle.wires.specs.Wire.{telling};
-ghost use Rattle.forwarder_main.specs.Service.{IsWireOf, ServesAndTells, ServesFrom};
+ghost use Rattle.replay_script.specs.Configs.{IsOfStream};
+ghost use Rattle.forwarder_main.specs.Commands.{IsFaultOfStream};
+ghost use Rattle.forwarder_main.specs.Service.{IsWireOf, ServesAndTells, ServesFrom, StopsServing};
 
 use crate::counted::Counted;
 use crate::fault::Fault;
@@ -20,14 +22,16 @@ use std::random::RandomSource;
 use std::rt::Clock;
 use suffix_routes::Config;
 
-/// A wire that listens at the address of the configuration, made with its limits. `Device` where the address can't
-/// be listened at, which standard output says with the system's reason; `Memory` where memory ran out.
+/// A wire that listens at the address of the configuration, made with its limits. `Device` where
+/// the address can't be listened at, which standard output says with the system's reason; `Memory`
+/// where memory ran out.
 fn wire_of<'a, R: Print + Net + Clock + RandomSource, A: Allocator + Copy>(
     rt: &'a R,
     alloc: A,
     config: &Config<A>,
 ) -> Result<MioWire<'a, R, A>, ReplayFault>
-    ensures { IfOk result (λ wire. IsWireOf config.now wire) }
+    ensures made { IfOk result (λ wire. IsWireOf config.now wire) }
+    ensures fault { IfErr result IsOfStream }
 {
     let listen = config.listen;
     match MioWire::new(rt, alloc, listen, &config.limits) {
@@ -42,14 +46,15 @@ fn forwarder_of<R: RandomSource, A: Allocator + Copy>(
     alloc: A,
     config: Config<A>,
 ) -> Result<Forwarder<RandomState, A>, ReplayFault>
-    ensures { IfOk result (λ forwarder. forwarder ≡ record { config = config; state = start config }) }
+    ensures new { IfOk result (λ forwarder. forwarder ≡ record { config = config; state = start config }) }
+    ensures fault { IfErr result IsOfStream }
 {
     let hasher = RandomState::new(rt)?;
     let forwarder = Forwarder::new(alloc, config, hasher)?;
     Ok(forwarder)
 }
 
-/// Serves so many turns over a wire, and writes a line of what was counted.
+/// Serves `turns` turns over a wire, and writes a line with the counts.
 fn serve_and_tell<H, A, W, T>(
     alloc: A,
     wire: &mut W,
@@ -62,7 +67,12 @@ where
     A: Allocator + Copy,
     W: Wire<A>,
     T: Write,
-    ensures { OnOk result (ServesAndTells forwarder.old (telling (W.told wire.old) (W.fault_count wire.old)) turns
+    // An `Err` comes of `serve`, and then nothing is written; or of the writer, and then all turns
+    // were served.
+    ensures stops { IfErr result (StopsServing forwarder.old (telling (W.told wire.old) (W.fault_count wire.old)) turns
+        forwarder.new (telling (W.told wire.new) (W.fault_count wire.new)) (T.contents writer.old)
+        (T.contents writer.new)) }
+    ensures serves { OnOk result (ServesAndTells forwarder.old (telling (W.told wire.old) (W.fault_count wire.old)) turns
         forwarder.new (telling (W.told wire.new) (W.fault_count wire.new)) (T.contents writer.old)
         (T.contents writer.new)) }
 {
@@ -83,14 +93,15 @@ fn serve_as_one<R: Net + Clock, A: Allocator + Copy, T: Write>(
     writer: &mut T,
 ) -> Result<(), Fault>
     requires { wire.old.deadline ≡ forwarder.old.config.limits.deadline_ms }
-    ensures { OnOk result (ServesFrom forwarder.old turns (T.contents writer.old) (T.contents writer.new)) }
+    ensures serves { OnOk result (ServesFrom forwarder.old turns (T.contents writer.old) (T.contents writer.new)) }
+    ensures fault { IfErr result IsFaultOfStream }
 {
     serve_and_tell(alloc, wire, forwarder, turns, writer)
 }
 
-/// Serves so many turns by the configuration, at its address, under its limits, and writes a line of what was counted.
-/// `Device` where the address can't be listened at, which standard output says with the system's reason, or the writer
-/// fails; `Memory` where memory ran out.
+/// Serves `turns` turns by the configuration, at its address, under its limits, and writes a line
+/// with the counts. `Device` where the address can't be listened at, which standard output says
+/// with the system's reason, or the writer fails; `Memory` where memory ran out.
 pub fn serve_config<R, A, T>(
     rt: &R,
     alloc: A,
@@ -102,8 +113,9 @@ where
     R: Print + Net + Clock + RandomSource,
     A: Allocator + Copy,
     T: Write,
-    ensures { OnOk result (ServesFrom (record { config = config; state = start config }) turns
+    ensures serves { OnOk result (ServesFrom (record { config = config; state = start config }) turns
         (T.contents writer.old) (T.contents writer.new)) }
+    ensures fault { IfErr result IsFaultOfStream }
 {
     let mut wire = wire_of(rt, alloc, &config)?;
     let mut forwarder = forwarder_of(rt, alloc, config)?;

@@ -1,6 +1,7 @@
-//! What no script can say: readers, writers and files that fail, refused growths, statuses and texts.
+//! Tests of what no script can express: readers, writers and files that fail, refused allocations,
+//! statuses and texts.
 
-use crate::arguments::{LONGEST, are, argument, text};
+use crate::arguments::{LONGEST, argument, count, text};
 use crate::commands::load;
 use crate::fault::Fault;
 use crate::serving::serve_config;
@@ -13,14 +14,14 @@ use std::test::Fail;
 use std::{fs, io};
 use suffix_routes::{ConfigFault, Position};
 
-const CONFIG: &[u8] = b"version = 1
+pub const CONFIG: &[u8] = b"version = 1
 [[route]]
 suffix = \".\"
 servers = [\"192.0.2.1:53\"]
 ";
 
 /// One that is served on this machine.
-const SERVED: &[u8] = b"version = 1
+pub const SERVED: &[u8] = b"version = 1
 listen = \"127.0.0.1:15365\"
 [[route]]
 suffix = \".\"
@@ -28,7 +29,7 @@ servers = [\"127.0.0.1:15366\"]
 ";
 
 /// The configuration, and a question for the address of a.example.
-const SCRIPT: &[u8] = b"version = 1
+pub const SCRIPT: &[u8] = b"version = 1
 [[route]]
 suffix = \".\"
 servers = [\"192.0.2.1:53\"]
@@ -36,11 +37,11 @@ servers = [\"192.0.2.1:53\"]
 1000 client udp 10.0.0.7:40000 1234010000010000000000000161076578616d706c650000010001
 ";
 
-const PRINTED: &[u8] =
+pub const PRINTED: &[u8] =
     b"1 ask-udp 1032 192.0.2.1:53 0008010000010000000000000161076578616d706c650000010001\n";
 
-/// What is printed where no turn is served.
-const COUNTED: &[u8] = b"turns 0 lost 0\n";
+/// The line that is printed if no turn is served.
+pub const COUNTED: &[u8] = b"turns 0 lost 0\n";
 
 /// A reader that fails.
 #[derive(Drop)]
@@ -99,9 +100,9 @@ fn files_are_loaded(rt: HostRuntime) -> Result<(), Fail> {
     Ok(())
 }
 
-/// Arguments behind the program's own name, which is none here.
+/// Arguments after the program's own name, which is none here.
 #[derive(Drop)]
-struct Arguments<'a>(&'a [&'a [u8]]);
+pub struct Arguments<'a>(pub &'a [&'a [u8]]);
 
 impl Env for Arguments<'_> {
     fn arg(&self, i: usize, buf: &mut [u8]) -> Result<usize, FillError> {
@@ -144,8 +145,9 @@ fn arguments_are_octets(rt: HostRuntime) {
     assert_eq!(rt; text(&given, 1, &mut room), Some("check"));
     assert_eq!(rt; text(&given, 2, &mut room), None);
     assert_eq!(rt; text(&given, 6, &mut room), None);
-    for count in 0..8usize {
-        assert_eq!(rt; are(&given, count), count == 5, "{count}");
+    for (most, wanted) in [(1, 0), (2, 1), (4, 3), (5, 4), (6, 4)] {
+        let given = Arguments(words.get(..most).unwrap_or(&words));
+        assert_eq!(rt; count(&given), wanted, "{most}");
     }
 }
 
@@ -167,6 +169,45 @@ fn each_growth_is_refused(rt: HostRuntime) -> Result<(), Fail> {
         refused = count + 1;
     }
     assert!(rt; 0 < refused && refused < 1000);
+    Ok(())
+}
+
+#[test]
+fn a_last_line_without_a_line_feed_prints(rt: HostRuntime) {
+    let mut input = SCRIPT.get(..SCRIPT.len() - 1).unwrap_or(SCRIPT);
+    let mut printed = Vec::new(rt.alloc());
+    let ended = replay_run(rt.alloc(), rt.alloc(), &mut input, &mut printed);
+    assert_eq!(rt; ended, Ok(()));
+    assert_eq!(rt; printed.as_slice(), PRINTED);
+}
+
+/// The same question of another client, which waits for the ask of the first and prints nothing.
+const SECOND: &[u8] =
+    b"1000 client udp 10.0.0.8:40000 1234010000010000000000000161076578616d706c650000010001
+";
+
+/// The lines of the first event stay, where the second finds no memory.
+#[test]
+fn an_event_that_finds_no_memory(rt: HostRuntime) -> Result<(), Fail> {
+    let heap = Refusing::new(rt.alloc());
+    let mut script = Vec::from_slice(rt.alloc(), SCRIPT)?;
+    script.extend_from_slice(SECOND)?;
+    let mut kept = 0u64;
+    for count in 0..1000 {
+        heap.allow(count);
+        let mut input = script.as_slice();
+        let mut printed = Vec::new(rt.alloc());
+        let ended = replay_run(rt.alloc(), &heap, &mut input, &mut printed);
+        if ended == Ok(()) {
+            assert_eq!(rt; printed.as_slice(), PRINTED);
+            break;
+        }
+        assert_eq!(rt; ended, Err(ReplayFault::Memory), "{count} granted");
+        if printed.as_slice() == PRINTED {
+            kept = kept.saturating_add(1);
+        }
+    }
+    assert!(rt; 0 < kept);
     Ok(())
 }
 

@@ -1,4 +1,4 @@
-//! The beginnings of a message, handed in in its place.
+//! Steps with the beginnings of a message in its place.
 
 ghost use Rattle.std.specs.Prelude.{◌≤◌};
 
@@ -9,12 +9,13 @@ use replay_script::{MOST_LINES, ReplayFault};
 use std::alloc::{AllocError, Global};
 use std::io::Write;
 
-/// How many octets a message has at least: those of its header.
+/// The octets of a message's header, the least that it has (RFC 1035 4.1.1).
 const LEAST: usize = 12;
 
-/// Hands each beginning of a line's message, from no octets on, to a forwarder that has run the lines before, and tells
-/// which of those that are too short for a header call for something. After each one that calls for something the
-/// forwarder runs those lines again. With ample memory none is refused.
+/// Makes a step with each beginning of a line's message, from no octets on, on a forwarder that has
+/// run the lines before. Prints a line for each beginning that is too short for a header and has
+/// actions. After each one that has actions the forwarder runs those lines again. With ample memory
+/// none is refused.
 pub(crate) fn tell_beginnings<W: Write>(
     alloc: Global,
     heap: Heap<'_>,
@@ -30,7 +31,7 @@ pub(crate) fn tell_beginnings<W: Write>(
     hand_beginnings(heap, script, &mut forwarder, number, &handed, writer)
 }
 
-/// Hands each beginning of a message to a forwarder that has run the lines before.
+/// Makes a step with each beginning of a message on a forwarder that has run the lines before.
 fn hand_beginnings<'a, W: Write>(
     heap: Heap<'a>,
     script: Script<'_>,
@@ -61,7 +62,7 @@ fn octets_of<'e>(event: &'e Event<Heap<'_>>) -> &'e [u8] {
     }
 }
 
-/// Whether nothing is to be done where a forwarder is handed the beginning of a message alone.
+/// Makes a step with the first `end` octets of a message. True where it has no action.
 fn is_idle_at<'a>(
     heap: Heap<'a>,
     forwarder: &mut Runner<'a>,
@@ -73,7 +74,7 @@ fn is_idle_at<'a>(
     Ok(outcome.actions.is_empty())
 }
 
-/// An event with the first so many octets alone.
+/// A copy of an event with its first `end` octets alone.
 fn cut_to<'a>(
     heap: Heap<'a>,
     event: &Event<Heap<'a>>,

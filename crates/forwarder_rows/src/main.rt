@@ -1,7 +1,8 @@
-//! Runs each worked row of a folder, and prints what differs from its expected lines.
+//! Runs each worked row of a folder, and prints each difference from its expected lines.
 #![tactic(auto)]
 
 mod beginnings;
+mod comparison;
 mod folder;
 mod manner;
 mod probing;
@@ -9,8 +10,9 @@ mod restarting;
 mod rows;
 mod script;
 mod sparing;
+mod tally;
 
-use row_report::Tally;
+use crate::tally::Tally;
 use std::process::ExitCode;
 use std::rt::{Env, Files};
 use std::{env, io};
@@ -30,7 +32,8 @@ fn main(rt: HostRuntime) -> ExitCode {
     }
 }
 
-/// Runs the rows of the folder that the only argument names; `None` where there are other arguments.
+/// Runs the rows of the folder that the only argument names; `None` where there are other
+/// arguments.
 fn run<R: Env + Files + Print + AllocGlobal + Clone + Drop>(rt: &R) -> io::Result<Option<Tally>> {
     let mut args = env::args(rt)?.skip(1);
     let (Some(folder), None) = (args.next(), args.next()) else {

@@ -7,8 +7,8 @@ use std::io::{Read, Write};
 use std::rt::Files;
 use std::{fs, io};
 
-/// The words that the first line of a script is handed: identifier 8 and port 1032 by the first, and by each further
-/// one the next identifier and the next port.
+/// The words of a script's first line: identifier 8 and port 1032 by the first word, and by each
+/// further one the next identifier and the next port.
 const FIRST_WORDS: [u32; 8] = [
     524_296, 589_833, 655_370, 720_907, 786_444, 851_981, 917_518, 983_055,
 ];
@@ -18,18 +18,19 @@ const FIRST_WORDS: [u32; 8] = [
 pub(crate) enum Manner {
     /// It is a script, which is replayed.
     Plain,
-    /// It is a script that is probed while it runs: each growth of each step is refused in turn, and if it is short, a
-    /// restart is tried behind each line, and the beginnings of each message are handed in.
+    /// It is a script that is probed while it runs: each allocation of each step is refused in
+    /// turn. If it is short, a restart is tried after each line, and the beginnings of each message
+    /// in its place.
     Probed,
-    /// It is a script whose lines have the words of the first one, which is probed, too, and it is told after which
-    /// lines more is due.
+    /// It is a script whose lines have the words of the first one. It is probed too, and each line
+    /// after which more is due is reported.
     SameWords,
     /// It is a configuration, which is checked.
     Check,
 }
 
 impl Manner {
-    /// What a difference is told by.
+    /// The name of the manner in a reported difference.
     pub(crate) fn name(self) -> &'static str {
         match self {
             Manner::Plain => "replayed",
@@ -40,12 +41,12 @@ impl Manner {
     }
 }
 
-/// What the program tells of a row.
+/// The output of the program for a row.
 #[derive(Drop)]
 pub(crate) struct Told {
     /// The lines that it prints.
     pub stdout: Vec<u8>,
-    /// The line that tells its fault, or nothing.
+    /// The line with its fault, or nothing.
     pub stderr: String,
 }
 

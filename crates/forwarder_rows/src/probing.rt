@@ -9,16 +9,16 @@ use replay_script::{MOST_LINES, ReplayFault};
 use std::alloc::Global;
 use std::io::Write;
 
-/// A script has at most so many lines where a restart is tried behind each.
+/// The most lines of a script in which a restart is tried after each line.
 const MOST_RESTARTED: u32 = 64;
 
-/// A script has at most so many lines where the beginnings of its messages are handed in.
+/// The most lines of a script in which the beginnings of its messages are tried.
 const MOST_CUT: u32 = 16;
 
-/// Runs a script and prints its actions, as it does with ample memory, but each growth of each step is refused in turn.
-/// With words of its own each line has these, and it is told after which lines more is due. A line more is printed for
-/// each thing that is not as it has to be: of the growths, and in a short script of a restart behind each line and of
-/// the beginnings of each message.
+/// Runs a script and prints its actions, as with ample memory, while each allocation of each step
+/// is refused in turn. If `words` are given, each line has these, and each line after which more
+/// is due is reported. Prints one more line for each fault: of the refused allocations, and in a
+/// short script of a restart after each line and of the beginnings of each message.
 pub(crate) fn run_probed<W: Write>(
     alloc: Global,
     text: &[u8],

@@ -1,4 +1,4 @@
-//! A restart behind a line of a script: it does nothing, and leaves nothing of what was.
+//! A restart after a line of a script: it has no action, and nothing of the state before is left.
 
 ghost use Rattle.std.specs.Prelude.{◌≤◌};
 
@@ -9,8 +9,8 @@ use replay_script::{MOST_LINES, ReplayFault};
 use std::alloc::Global;
 use std::io::Write;
 
-/// Tells where a restart behind this line does something, or where what follows it differs from a run over the lines
-/// behind it alone.
+/// Prints a line where a restart after line `number` has an action, or where the steps after it
+/// differ from a run over the lines after it alone.
 pub(crate) fn tell_restart<W: Write>(
     alloc: Global,
     heap: Heap<'_>,
@@ -25,7 +25,8 @@ pub(crate) fn tell_restart<W: Write>(
     tell_rest(alloc, heap, script, number, &mut forwarder, writer)
 }
 
-/// Restarts a forwarder at the last moment, which must not count, and tells where there is something to do, or due.
+/// Restarts a forwarder at the last moment, which must not count. Prints a line where the step has
+/// an action, does not keep a piece, or leaves more due.
 fn tell_deed<W: Write>(
     forwarder: &mut Runner<'_>,
     number: u32,
@@ -39,7 +40,8 @@ fn tell_deed<W: Write>(
     Ok(())
 }
 
-/// Tells where what a restarted forwarder does behind this line is not what a run over the lines behind it alone does.
+/// Prints a line where a restarted forwarder does something else after line `number` than a run
+/// over the lines after it alone.
 fn tell_rest<'a, W: Write>(
     alloc: Global,
     heap: Heap<'a>,
@@ -56,7 +58,7 @@ fn tell_rest<'a, W: Write>(
     Ok(())
 }
 
-/// What a run over the lines behind this one tells.
+/// The outcomes, as text, of a run over the lines after line `number`.
 fn told_by_run(
     alloc: Global,
     heap: Heap<'_>,
@@ -67,7 +69,7 @@ fn told_by_run(
     told_of_steps(alloc, heap, script, number, &steps)
 }
 
-/// What steps tell, which are of the lines behind this one.
+/// The outcomes, as text, of the steps of the lines after line `number`.
 fn told_of_steps<'a>(
     alloc: Global,
     heap: Heap<'a>,
@@ -85,7 +87,8 @@ fn told_of_steps<'a>(
     Ok(told)
 }
 
-/// What a forwarder tells at the lines behind this one. A line that is refused ends it.
+/// The outcomes, as text, of a forwarder at the lines after line `number`. A line that is refused
+/// ends them.
 fn told_behind<'a>(
     alloc: Global,
     heap: Heap<'a>,
@@ -111,7 +114,7 @@ fn told_behind<'a>(
     Ok(told)
 }
 
-/// What a forwarder tells at a line, with ample memory.
+/// The outcome, as text, of a forwarder at a line, with ample memory.
 fn done_at<'a>(
     alloc: Global,
     heap: Heap<'a>,
@@ -127,7 +130,7 @@ fn done_at<'a>(
     told_of(alloc, heap, script, number, &outcome)
 }
 
-/// A run over the lines behind this one.
+/// Runs the lines after line `number`.
 fn run_behind<'a>(
     alloc: Global,
     heap: Heap<'a>,
@@ -139,7 +142,7 @@ fn run_behind<'a>(
     Ok(run_list(heap, &config, &handed)?)
 }
 
-/// What the lines behind this one hand in. A line that is refused ends it.
+/// The inputs of the lines after line `number`. A line that is refused ends them.
 fn handed_behind<'a>(
     heap: Heap<'a>,
     script: Script<'_>,
@@ -164,7 +167,8 @@ fn handed_behind<'a>(
     Ok(handed)
 }
 
-/// All that an outcome tells: the lines that it prints, how many pieces were not kept, and whether more is due.
+/// An outcome as text: the lines that it prints, how many pieces were not kept, and whether more is
+/// due.
 fn told_of<'a>(
     alloc: Global,
     heap: Heap<'a>,

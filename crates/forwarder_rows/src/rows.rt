@@ -1,12 +1,13 @@
 //! The rows, run.
 
+use crate::comparison::differing_line;
 use crate::folder::{has, names_in};
 use crate::manner::{Manner, told_by};
-use row_report::{Tally, differing_line};
+use crate::tally::Tally;
 use std::rt::Files;
 use std::{fs, io};
 
-/// What the file of a row is.
+/// The kind of a row, by its file.
 #[derive(Clone, Copy)]
 enum Kind {
     /// A script.
@@ -27,7 +28,7 @@ impl Kind {
         }
     }
 
-    /// How each row of this kind is run; it has to tell the same each time.
+    /// The manners in which each row of this kind is run; its output has to be the same each time.
     fn manners(self) -> &'static [Manner] {
         match self {
             Kind::Replay => &[Manner::Plain, Manner::Probed],
@@ -37,7 +38,7 @@ impl Kind {
     }
 }
 
-/// Runs the rows of each kind in a folder, prints what differs, and counts.
+/// Runs the rows of each kind in a folder, prints each difference, and counts.
 pub(crate) fn run_all<R: Files + Print + AllocGlobal + Clone + Drop>(
     rt: &R,
     folder: &str,
@@ -54,7 +55,8 @@ pub(crate) fn run_all<R: Files + Print + AllocGlobal + Clone + Drop>(
     Ok(tally)
 }
 
-/// Runs the rows of one kind. A folder without rows and a file that belongs to no row count as differences.
+/// Runs the rows of one kind. A folder without rows and a file that belongs to no row count as
+/// differences.
 fn run_folder<R: Files + Print + AllocGlobal + Clone + Drop>(
     rt: &R,
     kind: Kind,
@@ -96,7 +98,7 @@ fn run_file<R: Files + Print + AllocGlobal>(
     }
 }
 
-/// Runs one row in each manner, and prints where it tells something else than its files say. Without a file
+/// Runs one row in each manner, and prints where its output differs from its files. Without a file
 /// `NAME.stderr` it has to end well.
 fn run_row<R: Files + Print + AllocGlobal>(
     rt: &R,
@@ -116,7 +118,7 @@ fn run_row<R: Files + Print + AllocGlobal>(
     Ok(())
 }
 
-/// Runs one row in one manner, and prints where it tells something else than its files say.
+/// Runs one row in one manner, and prints where its output differs from its files.
 fn is_as_expected<R: Files + Print + AllocGlobal>(
     rt: &R,
     manner: Manner,
@@ -145,7 +147,7 @@ fn prints_as_expected<R: Files + Print + AllocGlobal>(
     is_told(rt, manner, path.as_str(), &expected, text)
 }
 
-/// Whether a row ends as its file `NAME.stderr` says, and without one well.
+/// Whether a row ends as its file `NAME.stderr` says, or well without such a file.
 fn ends_as_expected<R: Files + Print + AllocGlobal>(
     rt: &R,
     manner: Manner,
@@ -159,7 +161,7 @@ fn ends_as_expected<R: Files + Print + AllocGlobal>(
     is_told(rt, manner, path.as_str(), &expected, text)
 }
 
-/// What a file has that tells what is expected; `None` where it is not among the folder's names.
+/// The octets of a file with expected output; `None` where it is not among the folder's names.
 fn expected_in<R: Files + AllocGlobal>(
     rt: &R,
     path: &str,
@@ -192,8 +194,8 @@ fn is_told(
     Ok(false)
 }
 
-/// The line of a text at a place counted from 0, with its line feed; empty where there is none, and `no text` where its
-/// octets are no UTF-8.
+/// The line of a text at a place counted from 0, with its line feed; empty where there is none, and
+/// `no text` where its octets are no UTF-8.
 fn line_at(text: &[u8], place: usize) -> &str {
     let mut lines = text.split_inclusive(|octet| *octet == b'\n');
     lines

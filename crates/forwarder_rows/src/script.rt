@@ -16,7 +16,7 @@ pub(crate) type Heap<'a> = &'a Refusing<Global>;
 /// A forwarder whose memory can be refused.
 pub(crate) type Runner<'a> = Forwarder<DefaultHasher, Heap<'a>>;
 
-/// A script, and the words that each of its lines is handed where they are not its own.
+/// A script, and the words of each of its lines where they are not the line's own.
 #[derive(Clone, Copy)]
 pub(crate) struct Script<'s> {
     /// Its configuration.
@@ -46,7 +46,7 @@ pub(crate) fn script_in(text: &[u8], words: Option<[u32; 8]>) -> Result<Script<'
     })
 }
 
-/// How many lines there are, which are parted by line feeds; empty text is one.
+/// The number of lines, which are parted by line feeds; an empty text is one line.
 fn count_lines(lines: &[u8]) -> u32 {
     let mut count = 0u32;
     for _line in lines.split(|octet| *octet == b'\n') {
@@ -75,7 +75,7 @@ pub(crate) fn begin<'a>(
     Ok(Forwarder::new(heap, config, DefaultHasher::default())?)
 }
 
-/// A forwarder that has run so many lines of a script, with ample memory.
+/// A forwarder that has run the first `count` lines of a script, with ample memory.
 pub(crate) fn run_first<'a>(
     alloc: Global,
     heap: Heap<'a>,
@@ -89,7 +89,8 @@ pub(crate) fn run_first<'a>(
     Ok(forwarder)
 }
 
-/// Runs so many lines of a script, with ample memory, on a forwarder that forgets all before.
+/// Runs the first `count` lines of a script, with ample memory, on a forwarder that forgets all
+/// before.
 pub(crate) fn run_again<'a>(
     heap: Heap<'a>,
     script: Script<'_>,
@@ -110,7 +111,7 @@ pub(crate) fn run_again<'a>(
     Ok(())
 }
 
-/// What a line hands in.
+/// The input of a line.
 pub(crate) fn handed_in<'a>(
     heap: Heap<'a>,
     script: Script<'_>,

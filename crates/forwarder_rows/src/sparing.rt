@@ -1,4 +1,4 @@
-//! Steps that want memory before they find it.
+//! Steps whose allocations are refused in turn, and which are then made again with memory.
 
 ghost use Rattle.std.specs.Prelude.{◌≤◌};
 
@@ -8,10 +8,10 @@ use replay_script::{MOST_LINES, ReplayFault};
 use std::alloc::Global;
 use std::io::Write;
 
-/// No step of a row takes as many growths.
+/// More allocations than any step of a row makes.
 const MOST_GROWTHS: u64 = 10_000;
 
-/// A line whose step is made again and again, and what it is made with.
+/// A line whose step is made again and again, with the inputs of the step.
 #[derive(Clone, Copy)]
 struct Trial<'t, 'a, 's> {
     alloc: Global,
@@ -19,21 +19,21 @@ struct Trial<'t, 'a, 's> {
     script: Script<'s>,
     /// The number of the line, from 1.
     number: u32,
-    /// What the line hands in.
+    /// The input of the line.
     handed: &'t Handed<Heap<'a>>,
 }
 
-/// Which growths of a step are refused.
+/// The allocations of a step that are refused.
 #[derive(Clone, Copy)]
 enum Refused {
-    /// The one after so many, alone.
+    /// The one after this many, alone.
     One(u64),
-    /// Each one after so many.
+    /// Each one after this many.
     Rest(u64),
 }
 
 impl Refused {
-    /// From now on this memory refuses those growths.
+    /// Makes the memory refuse those allocations from now on.
     fn begin(self, heap: Heap<'_>) {
         match self {
             Refused::One(granted) => heap.refuse_one(granted),
@@ -41,8 +41,8 @@ impl Refused {
         }
     }
 
-    /// Ends what `begin` began. The answer is whether the one growth is still to be refused: of one more than were
-    /// granted one is. Where all the rest are refused, that can't be seen.
+    /// Ends the refusals of `begin`. Returns true where the one allocation is still to be refused:
+    /// of one more than were granted one is. For `Rest` this can't be seen, and false is returned.
     fn end(self, heap: Heap<'_>) -> bool {
         let probes = match self {
             Refused::One(granted) => granted.saturating_add(1),
@@ -57,10 +57,10 @@ impl Refused {
     }
 }
 
-/// How a step ended of which growths were to be refused.
+/// How a step ended whose allocations were to be refused.
 #[derive(Clone, Copy, PartialEq, Eq)]
 enum End {
-    /// It was made, and took no more than it was granted.
+    /// It was made, with no more allocations than were granted.
     Spared,
     /// It was made, although one was refused.
     Borne,
@@ -72,16 +72,16 @@ enum End {
 #[derive(Drop)]
 struct Made {
     end: End,
-    /// It called for nothing.
+    /// It had no action.
     is_idle: bool,
-    /// The lines that a row has of it.
+    /// Its lines in a row.
     lines: Vec<u8>,
-    /// How many pieces of a reply it could not keep.
+    /// The number of pieces of a reply that it could not keep.
     unkept: u32,
 }
 
-/// Runs one line, and tells where its step is not what it has to be with each of its growths refused in turn, alone and
-/// with all after it.
+/// Runs one line and prints its actions. Then makes its step again with each of its allocations
+/// refused in turn, alone and with all after it, and prints a line for each fault of these steps.
 pub(crate) fn run_line<'a, W: Write>(
     alloc: Global,
     heap: Heap<'a>,
@@ -110,13 +110,14 @@ pub(crate) fn run_line<'a, W: Write>(
     Ok(())
 }
 
-/// Whether an event is a client's message: its question may wait with others, which takes memory and calls for no
-/// action.
+/// Whether an event is a client's message: its question may wait with others, which allocates and
+/// has no action.
 fn is_of_client(event: &Event<Heap<'_>>) -> bool {
     matches!(event, Event::Client { .. })
 }
 
-/// Tells where a step whose first growth was refused does not want one for what it does, or wants one for nothing.
+/// Prints a line where a step bears the refusal of its first allocation, has an action without an
+/// allocation, or, unless it is of a client, allocates without an action.
 fn tell_first<W: Write>(
     writer: &mut W,
     number: u32,
@@ -135,7 +136,8 @@ fn tell_first<W: Write>(
     Ok(())
 }
 
-/// Makes a step of which nothing is refused again and again, with each of its growths refused in turn.
+/// Makes a step again and again, with each of its allocations refused in turn. `whole` is the step
+/// with nothing refused.
 fn refuse_each<W: Write>(
     trial: &Trial<'_, '_, '_>,
     whole: &Made,
@@ -154,8 +156,8 @@ fn refuse_each<W: Write>(
     Err(ReplayFault::Memory)
 }
 
-/// A step with the growth after so many refused alone. Tells where it is not what it has to be: refused, and made again
-/// with memory, or made but for one piece.
+/// Makes a step with the allocation after `granted` ones refused alone. Prints a line unless it is
+/// refused, and then made again with memory, or made with one piece not kept.
 fn refuse_one<W: Write>(
     trial: &Trial<'_, '_, '_>,
     whole: &Made,
@@ -173,9 +175,10 @@ fn refuse_one<W: Write>(
     Ok(made.end)
 }
 
-/// A step with each growth after so many refused. Tells where it is not what it has to be: refused, and made again with
-/// memory, or made but for pieces that were not kept, one fewer than with one growth less. The answer is how many these
-/// were; with one growth less they were `before`, none where the step was refused.
+/// Makes a step with each allocation after `granted` ones refused. Prints a line unless it is
+/// refused, and then made again with memory, or made with some pieces not kept, one fewer than with
+/// one allocation less. Returns the number of these pieces; with one allocation less it was
+/// `before`, 0 where the step was refused.
 fn refuse_rest<W: Write>(
     trial: &Trial<'_, '_, '_>,
     whole: &Made,
@@ -198,7 +201,8 @@ fn refuse_rest<W: Write>(
     Ok(made.unkept)
 }
 
-/// The step with these growths refused, of a forwarder that has run the lines before with ample memory.
+/// The step with these allocations refused, of a forwarder that has run the lines before with ample
+/// memory.
 fn made_anew(trial: &Trial<'_, '_, '_>, refused: Refused) -> Result<Made, ReplayFault>
     requires { trial.now.number ≤ MOST_LINES }
 {
@@ -207,8 +211,8 @@ fn made_anew(trial: &Trial<'_, '_, '_>, refused: Refused) -> Result<Made, Replay
     made_with(trial, &mut forwarder, refused)
 }
 
-/// The step with these growths refused; where it is refused, it has changed nothing, so the same forwarder makes it
-/// again with ample memory.
+/// The step with these allocations refused. Where it is refused, it has changed nothing, so the
+/// same forwarder makes it again with ample memory.
 fn made_with<'a>(
     trial: &Trial<'_, 'a, '_>,
     forwarder: &mut Runner<'a>,
@@ -235,7 +239,7 @@ fn made_again<'a>(
     made_of(trial, End::Again, &outcome)
 }
 
-/// What a step came to that ended so.
+/// The result of a step with this end and outcome.
 fn made_of<'a>(
     trial: &Trial<'_, 'a, '_>,
     end: End,

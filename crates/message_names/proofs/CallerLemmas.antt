@@ -1,4 +1,4 @@
--- What the proofs of crates above cite of names in messages.
+-- Lemmas about names in messages that the proofs of crates above cite.
 use Rattle.std.proofs.Common.{◌≡◌, ℕ, ◌≤◌, List, [], length, replicate, Ok}
 use Rattle.dns_name.specs.Labels.{size_of}
 use Rattle.message_names.specs.declared.walk.Bound.{Bound}
@@ -9,13 +9,13 @@ use Rattle.message_names.proofs.NameLaws as names
 use Rattle.message_names.proofs.ShortcutLaws as shortcuts
 use Rattle.message_names.proofs.SizeLaws as sizes
 
--- ---- a name is read exactly where it stands, in at most 255 octets
+-- ---- a name is read exactly where it is laid out, in at most 255 octets
 
--- a name that was read stands there
+-- a name that was read is there
 pub name_read_stands : (bytes : List ℕ) (o : ℕ) (labels : List (List ℕ)) (e : ℕ) → name_at bytes o ≡ Ok (labels, e) → NameAt bytes o o labels e × (size_of labels ≤ 255)
 name_read_stands = names.name_sound
 
--- a name that stands there is read
+-- a name that is there is read
 pub standing_name_is_read : (bytes : List ℕ) (o : ℕ) (labels : List (List ℕ)) (e : ℕ) → NameAt bytes o o labels e → size_of labels ≤ 255 → name_at bytes o ≡ Ok (labels, e)
 standing_name_is_read = names.name_complete
 
@@ -38,7 +38,7 @@ zeros_are_shortcuts = shortcuts.none_known
 pub no_table_is_shortcuts : (bytes : List ℕ) → AreShortcuts bytes []
 no_table_is_shortcuts = shortcuts.none_kept
 
--- ---- how many octets names take
+-- ---- the number of octets of names
 
 -- zeros remember nothing, so nothing wrong
 pub zeros_are_sizes : (bytes : List ℕ) (n : ℕ) → AreSizes bytes (replicate n 0)

@@ -6,7 +6,8 @@ use Rattle.message_names.specs.Reading.{behind}
 use Rattle.message_names.specs.Names.{NameAt, at_root, at_label, at_pointer, name_at}
 use Rattle.message_names.proofs.NameLaws.{name_sound}
 
--- the name at f can be read, and at o there stands a label of its own, its zero octet or its first pointer
+-- the name at f can be read, and o is the place of a label of its own, its zero octet or its first
+-- pointer
 pub record GoesOn (bytes : List ℕ) (f o : ℕ) : Type 0 where
   pub labels : List (List ℕ)
   pub e : ℕ
@@ -20,7 +21,7 @@ begins_by bytes f (Err fault) is ok = absurd cc
 pub name_begins : (bytes : List ℕ) (f : ℕ) → IsOk (name_at bytes f) → GoesOn bytes f f
 name_begins bytes f ok = begins_by bytes f (name_at bytes f) refl ok
 
--- what stands at a place of a name's own octets, and where the name ends by it
+-- the octet at a place of a name's own octets, and where the name ends by it
 pub record Stands (bytes : List ℕ) (f o : ℕ) : Type 0 where
   pub there : o < length bytes
   pub zero_octet : get_or bytes o 0 ≡ 0 → behind (name_at bytes f) ≡ Ok (o + 1)

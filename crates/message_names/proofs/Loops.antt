@@ -1,4 +1,4 @@
--- What loops over the labels of a name keep.
+-- Loops over the labels of a name, and what they keep.
 use Rattle.std.proofs.Common.{◌≡◌, ℕ, List, [], ◌∷◌, ◌++◌, map, Result, Ok, Err, refl, sym, ap, append_assoc}
 use Rattle.std.specs.Char.{to_ascii_lowercase}
 use Rattle.dns_name.specs.Labels.{IsSame}

@@ -1,4 +1,4 @@
--- Labels that are put one behind another.
+-- Labels that are put one after another.
 use Rattle.std.proofs.Common.{◌≡◌, ℕ, suc, ◌+◌, ◌≤◌, List, [], ◌∷◌, ◌++◌, length, take, drop, get_or, Result, Ok, Err, refl, sym, ap, ◌∙◌, arith}
 use Rattle.std.specs.Prelude.{unwrap_or, Some}
 use Rattle.std.proofs.lemmas.List.{length-take, length-drop, length-append, append-nil}
@@ -50,7 +50,7 @@ passes_label bytes w len room stop is =
       stop = stop;
     })
 
--- ---- labels that are copied one behind another
+-- ---- labels that are copied one after another
 
 -- the first of these octets are the labels that were read
 pub record Filled (bytes octets : List ℕ) (w : NameCursor) (all : Result (List (List ℕ) × ℕ) Fault) : Type 0 where
@@ -80,7 +80,7 @@ filled_more bytes old new labels w v all f p text =
       stop = p.stop;
     }
 
--- room for the octets of a run behind those that are there
+-- room for the octets of a run after those that are there
 pub room_behind : (octets : List ℕ) (used : ℕ) → length (take used octets) ≡ used → used ≤ length octets
 room_behind octets used size = omega (arith, length-take used octets, size)
 
@@ -94,7 +94,7 @@ filled_end bytes octets w all f is = record {
   room = f.room;
 }
 
--- a pointer is followed to where its target comes to
+-- a pointer is followed to the end of its chain
 pub filled_on : (bytes octets : List ℕ) (w : NameCursor) (p start : ℕ) (all : Result (List (List ℕ) × ℕ) Fault) → Filled bytes octets w all → step bytes w.bound w.offset w.run w.used ≡ did (steps.Pointer p) → SameRun bytes p start
     → Filled bytes octets (record { offset = start; run = start; used = w.used; bound = whole bytes; end = Some (unwrap_or w.end (w.offset + 2)) }) all
 filled_on bytes octets w p start all f is leads =

@@ -1,4 +1,4 @@
--- How many octets names take, and what is known of them at the places that pointers lead to.
+-- The sizes of names in octets, and those known at the places that pointers lead to.
 use Rattle.std.proofs.Common.{◌≡◌, ℕ, zero, suc, ◌+◌, ◌-◌, ◌<◌, ◌≤◌, List, [], ◌∷◌, length, take, drop, get_or, set, replicate, Option, Some, None, Result, Ok, Err, refl, sym, ap, subst, ◌∙◌, arith, ⊎_elim}
 use Rattle.std.specs.Prelude.{unwrap_or}
 use Rattle.std.proofs.lemmas.List.{length-take, length-drop, get_or-set_other}
@@ -17,7 +17,7 @@ use Rattle.message_names.proofs.ShortcutLaws.{get_or-zeros}
 use Rattle.message_names.proofs.Loops.{behind_label}
 use Rattle.message_names.proofs.NameLaws.{did, takes_label, resume_fault, resume_end, resume_label, resume_pointer, ends_after, some_size, length_step, back_step, long_step, complete, sound}
 
--- so many octets more
+-- `used` octets more
 abbrev pub more : ℕ → Result ℕ Fault → Result ℕ Fault
 more k (Ok size) = Ok (k + size)
 more k (Err fault) = Err fault
@@ -34,7 +34,7 @@ pub size_of_label : (l : List ℕ) (r : Result (List (List ℕ) × ℕ) Fault) �
 size_of_label l (Ok n) = refl
 size_of_label l (Err fault) = refl
 
--- where the name ends makes no difference
+-- the end of the name makes no difference
 size_of_end : (end : Option ℕ) (r : Result (List (List ℕ) × ℕ) Fault) → size_read (end_of end r) ≡ size_read r
 size_of_end None r = refl
 size_of_end (Some e) (Ok n) = refl
@@ -45,7 +45,7 @@ pub size_from : (bytes : List ℕ) (p used : ℕ) (end : Option ℕ) → size_re
 unfolding resume size_behind
 size_from bytes p used end = size_of_end end (walk_in (steps_left p used) bytes (whole bytes) p p used)
 
--- ---- a name that is known, behind labels
+-- ---- a name that is known, after labels
 
 too_long : (bytes : List ℕ) (k : ℕ) (s : Bound) (o f used e : ℕ) (ls : List (List ℕ)) → e ≤ s.stop → used ≤ 254 → 255 < used + size_of ls → steps_left f used ≤ k → NameAt bytes o f ls e → walk_in k bytes s o f used ≡ Err NameLong
 unfolding walk_in
@@ -131,7 +131,7 @@ kept bytes sizes place value inside known is o some = ⊎_elim here elsewhere (c
 
 -- ---- steps of a walk that measures
 
--- behind so many octets, what is left from w on is this
+-- after `used` octets, this is left from w on
 abbrev pub Left : List ℕ → NameCursor → ℕ → Result ℕ Fault → Type 0
 Left bytes w k all = more k (size_read (resume bytes w)) ≡ all
 
@@ -207,7 +207,7 @@ pub not_skipped : (r : Result (List (List ℕ) × ℕ) Fault) (e : ℕ) (fault :
 not_skipped (Ok n) e fault is = absurd cc
 not_skipped (Err other) e fault is = cc
 
--- behind what was read so far, the name ends here
+-- after what was read so far, the name ends here
 abbrev pub Skips : List ℕ → NameCursor → Result ℕ Fault → Type 0
 Skips bytes w all = behind (resume bytes w) ≡ all
 

@@ -1,4 +1,5 @@
--- A name in a message: RFC 1035 4.1.4, with pointers that lead back to before the run that they end.
+-- A name in a message: RFC 1035 4.1.4, with pointers that lead back to before the run that they
+-- end.
 use Rattle.std.specs.Prelude.{◌≡◌, ℕ, zero, suc, ◌+◌, ◌-◌, ◌*◌, ◌<◌, ◌≤◌, List, [], ◌∷◌, length, take, drop, Option}
 use Rattle.std.specs.Prelude.{Some, None, Result, Ok, Err, nat_lt, nat_le, ◌==◌, if◌then◌else◌, slice_index}
 use Rattle.dns_name.specs.Labels.{IsLabel, IsSame, label_octets, lowered}
@@ -18,7 +19,8 @@ use Rattle.message_names.specs.Reading.{◌>>=◌}
 abbrev pub target : List ℕ → ℕ → ℕ
 target bytes o = (slice_index bytes o - 192) * 256 + slice_index bytes (o + 1)
 
--- The run of labels began at f, and from o on the name goes on with these labels, and ends before e.
+-- The run of labels began at f, and from o on the name goes on with these labels, and ends before
+-- e.
 pub data NameAt (bytes : List ℕ) : ℕ → ℕ → List (List ℕ) → ℕ → Type 0 where
   at_root : {o f e : ℕ} → o < length bytes → slice_index bytes o ≡ 0 → e ≡ o + 1 → NameAt bytes o f [] e
   at_label : {o f e : ℕ} {l : List ℕ} {ls : List (List ℕ)} → 0 < slice_index bytes o → slice_index bytes o < 64
@@ -39,7 +41,8 @@ whole bytes = record { stop = length bytes; beyond = Short }
 abbrev pub inside : ℕ → Bound
 inside stop = record { stop = stop; beyond = Rdata }
 
--- what stands at o, where the run began at f and must end before b, and the labels so far take so many octets
+-- the octet at o, where the run began at f and must end before b, and the labels so far take `used`
+-- octets
 unfoldable pub step : List ℕ → Bound → ℕ → ℕ → ℕ → Result NameOctet Fault
 step bytes b o f used =
     if nat_le b.stop o then Err b.beyond
@@ -57,6 +60,7 @@ Stays bytes b o f used steps.End = o < b.stop
 Stays bytes b o f used (steps.Label len) = (0 < len) × (len < 64) × (o + 1 + len ≤ b.stop) × (used + len + 2 ≤ 255)
 Stays bytes b o f used (steps.Pointer p) = (p < f) × (o + 2 ≤ b.stop)
 
+-- a name that was read, with a label before it
 abbrev pub with_label : List ℕ → Result (List (List ℕ) × ℕ) Fault → Result (List (List ℕ) × ℕ) Fault
 with_label l (Ok n) = Ok (l ∷ n.0, n.1)
 with_label l (Err fault) = Err fault
@@ -66,6 +70,7 @@ abbrev pub ending : ℕ → Result (List (List ℕ) × ℕ) Fault → Result (Li
 ending e (Ok n) = Ok (n.0, e)
 ending e (Err fault) = Err fault
 
+-- the rest of a name after the octet at its place: the end, a label or a pointer (RFC 1035 4.1.4)
 abbrev pub go_on : (Bound → ℕ → ℕ → ℕ → Result (List (List ℕ) × ℕ) Fault) → List ℕ → Bound → ℕ → ℕ → ℕ → NameOctet
     → Result (List (List ℕ) × ℕ) Fault
 go_on rest bytes b o f used steps.End = Ok ([], o + 1)
@@ -73,7 +78,7 @@ go_on rest bytes b o f used (steps.Label len) =
     with_label (take len (drop (o + 1) bytes)) (rest b (o + 1 + len) f (used + len + 1))
 go_on rest bytes b o f used (steps.Pointer p) = ending (o + 2) (rest (whole bytes) p p used)
 
--- the name from o on, in at most so many labels and pointers
+-- the name from o on, in at most this many labels and pointers
 unfoldable pub walk_in : ℕ → List ℕ → Bound → ℕ → ℕ → ℕ → Result (List (List ℕ) × ℕ) Fault
 walk_in zero bytes b o f used = Err Short
 walk_in (suc k) bytes b o f used = step bytes b o f used >>= go_on
@@ -83,16 +88,17 @@ walk_in (suc k) bytes b o f used = step bytes b o f used >>= go_on
 abbrev pub steps_left : ℕ → ℕ → ℕ
 steps_left f used = f + (255 - used)
 
--- the name at a place whose run must end before a bound, and the place behind it
+-- the name at a place whose run must end before a bound, and the place after it
 unfoldable pub name_within : List ℕ → Bound → ℕ → Result (List (List ℕ) × ℕ) Fault
 name_within bytes b o = walk_in (steps_left o 0) bytes b o o 0
 
--- the name at a place, and the place behind it
+-- the name at a place, and the place after it
 abbrev pub name_at : List ℕ → ℕ → Result (List (List ℕ) × ℕ) Fault
 name_at bytes o = name_within bytes (whole bytes) o
 
 -- ---- a name that is read in part
 
+-- a name that was read, with the end of its first pointer if it had one
 abbrev pub end_of : Option ℕ → Result (List (List ℕ) × ℕ) Fault → Result (List (List ℕ) × ℕ) Fault
 end_of None read = read
 end_of (Some e) read = ending e read
@@ -101,10 +107,11 @@ end_of (Some e) read = ending e read
 unfoldable pub resume : List ℕ → NameCursor → Result (List (List ℕ) × ℕ) Fault
 resume bytes w = end_of w.end (walk_in (steps_left w.run w.used) bytes w.bound w.offset w.run w.used)
 
--- the beginning of the name that a pointer leads to, behind labels of so many octets
+-- the beginning of the name that a pointer leads to, after labels of `used` octets
 abbrev pub behind_labels : List ℕ → ℕ → ℕ → NameCursor
 behind_labels bytes o used = record { offset = o; run = o; used = used; bound = whole bytes; end = None }
 
+-- the cursor w moves over this label to v
 pub record Advances (bytes label : List ℕ) (w v : NameCursor) : Type 0 where
   pub read : resume bytes w ≡ with_label label (resume bytes v)
   pub is_label : IsLabel label
@@ -116,6 +123,7 @@ pub record Advances (bytes label : List ℕ) (w v : NameCursor) : Type 0 where
   pub stop : v.bound.stop ≤ length bytes
   pub fewer : steps_left v.run v.used < steps_left w.run w.used
 
+-- the result of reading on from the cursor w
 abbrev pub Resumes : List ℕ → NameCursor → Result NextLabel Fault → Type 0
 Resumes bytes w (Ok (nexts.Label l v)) = Advances bytes l.now w v
 Resumes bytes w (Ok (nexts.End e)) = resume bytes w ≡ Ok ([], e)

@@ -5,15 +5,15 @@ pub use Rattle.first_fault.specs.Reading.{◌>>=◌, behind}
 use Rattle.message_names.specs.declared.fault.Fault.{Fault}
 use Rattle.message_names.specs.declared.fault.Fault.TheVariants.{Memory}
 
--- the fault that is a want of memory
+-- the fault that means out of memory
 abbrev pub wants_memory : Fault → Bool
 wants_memory Memory = true
 wants_memory fault = false
 
--- What a call failed with is the answer, unless memory ran out.
+-- The failure of a call is the answer, unless memory ran out.
 abbrev pub Fails : {Y : Type 0} → Fault → Result Y Fault → Type 0
 Fails fault answer = reading.Fails wants_memory fault answer
 
--- What a call answered, seen by view, is the answer, unless memory ran out.
+-- The value that a call returned, seen by view, is the answer, unless memory ran out.
 abbrev pub Gives : {X Y : Type 0} → (X → Y) → Result X Fault → Result Y Fault → Type 0
 Gives view given answer = reading.Gives wants_memory view given answer

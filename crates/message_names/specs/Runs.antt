@@ -1,4 +1,4 @@
--- The labels of a name, put one behind another.
+-- The labels of a name, put one after another.
 use Rattle.std.specs.Prelude.{◌≡◌, ℕ, ◌+◌, ◌≤◌, List, ◌++◌, length, take, Result, Ok, Err}
 use Rattle.dns_name.specs.Labels.{labels_of, IsLaidOut}
 use Rattle.message_names.specs.declared.fault.Fault.{Fault}
@@ -18,12 +18,13 @@ pub record Passes (bytes octets : List ℕ) (w v : NameCursor) : Type 0 where
   pub room : v.used ≤ 254
   pub stop : v.bound.stop ≤ length bytes
 
--- the name that was read ends here, and its labels are the first so many of these octets
+-- the name that was read ends here, and its labels are the first `count` of these octets
 pub record Begins (octets : List ℕ) (count end : ℕ) (read : Result (List (List ℕ) × ℕ) Fault) : Type 0 where
   pub labels : read ≡ Ok (labels_of (take count octets), end)
   pub laid : IsLaidOut (take count octets)
   pub room : count ≤ 254
 
+-- the octets hold the labels that were put, or the same fault was met
 abbrev pub ArePut : List ℕ → Result (ℕ × ℕ) Fault → Result (List (List ℕ) × ℕ) Fault → Type 0
 ArePut octets (Ok put) read = Begins octets put.0 put.1 read
 ArePut octets (Err fault) read = read ≡ Err fault

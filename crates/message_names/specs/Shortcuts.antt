@@ -1,17 +1,18 @@
--- Runs of labels that begin with a pointer, and what they come to.
+-- Runs of labels that begin with a pointer, and the places that they lead to.
 use Rattle.std.specs.Prelude.{◌≡◌, ℕ, ◌+◌, ◌-◌, ◌<◌, ◌≤◌, List, length, slice_index}
 use Rattle.message_names.specs.Names.{target, ending, walk_in, steps_left, whole}
 
--- behind a pointer, a run that begins at o reads as one that begins at e
+-- after a pointer, a run that begins at o reads as one that begins at e
 abbrev pub SameRun : List ℕ → ℕ → ℕ → Type 0
 SameRun bytes o e = (used end : ℕ) → used ≤ 254 → ending end (walk_in (steps_left o used) bytes (whole bytes) o o used)
     ≡ ending end (walk_in (steps_left e used) bytes (whole bytes) e e used)
 
+-- reading at o is reading at an earlier place e
 pub record IsShortcut (bytes : List ℕ) (o e : ℕ) : Type 0 where
   pub back : e < o
   pub same : SameRun bytes o e
 
--- At a place a pointer stands that leads back, so that a run may begin with it.
+-- A pointer at a place that leads back, so that a run may begin with it.
 pub record LeadsBack (bytes : List ℕ) (o : ℕ) : Type 0 where
   pub inside : o + 2 ≤ length bytes
   pub pointer : 192 ≤ slice_index bytes o

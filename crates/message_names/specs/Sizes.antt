@@ -1,4 +1,4 @@
--- How many octets the names of a message take.
+-- The sizes of the names of a message, in octets.
 use Rattle.std.specs.Prelude.{◌≡◌, ℕ, ◌<◌, List, Result, Ok, Err, slice_index}
 use Rattle.dns_name.specs.Labels.{size_of}
 use Rattle.message_names.specs.declared.fault.Fault.{Fault}
@@ -9,7 +9,7 @@ abbrev pub size_read : Result (List (List ℕ) × ℕ) Fault → Result ℕ Faul
 size_read (Ok name) = Ok (size_of name.0)
 size_read (Err fault) = Err fault
 
--- the octets of the name at o where labels of so many octets stand before it, or the first fault of the whole
+-- the octets of the name at o after labels of `used` octets, or the first fault of the whole
 unfoldable pub size_behind : List ℕ → ℕ → ℕ → Result ℕ Fault
 size_behind bytes o used = size_read (walk_in (steps_left o used) bytes (whole bytes) o o used)
 

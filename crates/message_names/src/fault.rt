@@ -24,10 +24,10 @@ pub enum Fault {
     /// The data of a record is not of its type's shape, or doesn't fill RDLENGTH exactly.
     #[error("the data of a record is not of its shape")]
     Rdata,
-    /// What would be written passes the limit.
+    /// The message would pass the limit.
     #[error("the message is too large")]
     TooLarge,
-    /// A growth was refused.
+    /// An allocation was refused.
     #[error("memory ran out")]
     Memory,
     /// QDCOUNT is 0.

@@ -1,4 +1,4 @@
-//! The labels of a name, put one behind another.
+//! The labels of a name, put one after another.
 
 ghost use Rattle.std.specs.Prelude.{◌≡◌, ◌≤◌, Err, length};
 ghost use Rattle.message_names.specs.Shortcuts.{AreShortcuts};
@@ -10,9 +10,10 @@ use crate::fault::Fault;
 use crate::shortcuts::resolve;
 use crate::walk::{Bound, NameCursor, NameOctet, part, step_at};
 
-/// Puts the labels of the name at a place, whose run must end before a bound, to the front of `octets`, each behind its
-/// length and without the zero octet at their end. Gives how many octets they take, at most 254, and the place behind
-/// the name. Where pointers lead is remembered in `ends`, which may be empty. It takes no memory.
+/// Puts the labels of the name at a place, whose run must end before a bound, at the front of
+/// `octets`, each after its length and without the zero octet at their end. Returns the number of
+/// octets that they take, at most 254, and the place after the name. The targets of pointers are
+/// remembered in `ends`, which may be empty. It does not allocate.
 ///
 /// `Err` is the first fault of the name from its front.
 pub fn put_labels(

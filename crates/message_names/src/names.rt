@@ -15,10 +15,11 @@ use crate::walk::{Bound, NameCursor, NameOctet, NextLabel, next_label, step_at};
 use dns_name::{Name, NameKey};
 use std::alloc::Allocator;
 
-/// The name at a place, and the place behind it. Where pointers lead is remembered in `ends`, which may be empty.
+/// The name at a place, and the place after it. The targets of pointers are remembered in `ends`,
+/// which may be empty.
 ///
-/// `Err` is the first fault of the name from its front: `Short`, `LabelForm`, `Pointer` or `NameLong`; where it has
-/// none, `Memory`, if a growth was refused.
+/// `Err` is the first fault of the name from its front: `Short`, `LabelForm`, `Pointer` or
+/// `NameLong`; where it has none, `Memory`, if an allocation was refused.
 pub fn read_name<A: Allocator>(
     alloc: A,
     bytes: &[u8],
@@ -36,9 +37,9 @@ pub fn read_name<A: Allocator>(
     Ok((name, end))
 }
 
-/// The place behind the name at a place, in a run that must end before a bound. The octets of the names that pointers
-/// lead to are remembered in `sizes`, which may be empty. `Err` is the first fault of the name from its front. It takes
-/// no memory.
+/// The place after the name at a place, in a run that must end before a bound. The octets of the
+/// names that pointers lead to are remembered in `sizes`, which may be empty. `Err` is the first
+/// fault of the name from its front. It does not allocate.
 pub fn skip_name(
     bytes: &[u8],
     sizes: &mut [u8],
@@ -69,8 +70,9 @@ pub fn skip_name(
     }
 }
 
-/// The place behind the name at a place, which can be read. It is found in the name's own octets: a name ends behind
-/// its zero octet, or behind its first pointer, wherever that leads. It takes no memory.
+/// The place after the name at a place, which can be read. It is found in the name's own octets: a
+/// name ends after its zero octet, or after its first pointer, wherever that leads. It does not
+/// allocate.
 #[tactic(auto, using(crate::proofs::EndLaws::name_begins, crate::proofs::EndLaws::goes_on))]
 pub fn readable_name_end(bytes: &[u8], offset: usize) -> usize
     requires { IsOk (name_at bytes.now offset) }
@@ -89,15 +91,16 @@ pub fn readable_name_end(bytes: &[u8], offset: usize) -> usize
     }
 }
 
-/// Equal octets, ASCII letter case aside. Most labels that are equal are spelled alike, so octets are compared first.
+/// Whether octets are equal, ASCII letter case aside. Most labels that are equal are spelled alike,
+/// so octets are compared first.
 fn is_same_label(a: &[u8], b: &[u8]) -> bool
     ensures { IsTrue result ↔ (map to_ascii_lowercase a.now ≡ map to_ascii_lowercase b.now) }
 {
     a == b || a.eq_ignore_ascii_case(b)
 }
 
-/// The place behind the name at a place, where it is this one, letter case aside (RFC 1035 2.3.3); `None` where it is
-/// another, or cannot be read. It takes no memory.
+/// The place after the name at a place, where it is this one, letter case aside (RFC 1035 2.3.3);
+/// `None` where it is another, or cannot be read. It does not allocate.
 pub fn skip_same_name<A: Allocator>(bytes: &[u8], offset: usize, name: &Name<A>) -> Option<usize>
     ensures { MatchOption result (NameIs (name_at bytes.now offset) name.now
         → ⊥) (λ end. NameIs (name_at bytes.now offset) name.now × (behind (name_at bytes.now offset) ≡ Ok end)) }
@@ -118,7 +121,8 @@ pub fn skip_same_name<A: Allocator>(bytes: &[u8], offset: usize, name: &Name<A>)
     }
 }
 
-/// The key of the name at a place. `Err` is the first fault of the name from its front. It takes no memory.
+/// The key of the name at a place. `Err` is the first fault of the name from its front. It does not
+/// allocate.
 pub fn key_at(bytes: &[u8], offset: usize) -> Result<NameKey, Fault>
     ensures { result ≡ keyed (name_at bytes.now offset) }
 {

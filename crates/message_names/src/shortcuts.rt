@@ -1,19 +1,20 @@
-//! Where pointers alone lead, remembered.
+//! The places that pointers alone lead to, remembered.
 //!
-//! `ends` has a number for each of the first places of a message: one more than the place that a run which begins here
-//! comes to by pointers alone, or 0 where that is not known. With it, many names behind one long chain of pointers
-//! don't walk it anew; without, as an empty slice, each does.
+//! `ends` has a number for each of the first places of a message: one more than the place that a
+//! run which begins here reaches by pointers alone, or 0 where that is not known. With it, many
+//! names that use one long chain of pointers don't walk it again; without, as an empty slice, each
+//! does.
 
 ghost use Rattle.std.specs.Prelude.{◌≤◌, ◌<◌, IfSome, IfNone};
 ghost use Rattle.message_names.specs.Shortcuts.{SameRun, IsShortcut, AreShortcuts, LeadsBack};
 
-/// A message of at most so many octets is read without remembering where its pointers lead.
+/// The most octets of a message that is read without remembering where its pointers lead.
 pub const SMALL: usize = 1024;
 
-/// How many places a pointer can lead to: its offset has 14 bits.
+/// The number of places that a pointer can lead to: its offset has 14 bits.
 pub const PLACES: usize = 16384;
 
-/// Where the pointer at a place leads, if one stands there that a run may begin with.
+/// The target of the pointer at a place, if one is there that a run may begin with.
 #[tactic(auto, using(crate::proofs::ShortcutLaws::shortcut_behind))]
 fn pointer_at(bytes: &[u8], place: usize) -> Option<usize>
     ensures leads { IfSome result (λ target. IsShortcut bytes.now place target) }
@@ -26,7 +27,8 @@ fn pointer_at(bytes: &[u8], place: usize) -> Option<usize>
     if target < place { Some(target) } else { None }
 }
 
-/// A place before this one where a run reads as one that begins here: what is remembered, else the pointer's target.
+/// A place before this one where a run reads as one that begins here: the remembered one, otherwise
+/// the pointer's target.
 fn next_place(bytes: &[u8], ends: &[u16], place: usize) -> Option<usize>
     requires { AreShortcuts bytes.now ends.now }
     ensures leads { IfSome result (λ next. IsShortcut bytes.now place next) }
@@ -38,7 +40,7 @@ fn next_place(bytes: &[u8], ends: &[u16], place: usize) -> Option<usize>
     pointer_at(bytes, place)
 }
 
-/// Where a run that begins at a place comes to by pointers alone.
+/// The place that a run which begins at `start` reaches by pointers alone.
 fn end_of(bytes: &[u8], ends: &[u16], start: usize) -> usize
     requires { AreShortcuts bytes.now ends.now }
     ensures leads { SameRun bytes.now start result }
@@ -68,8 +70,8 @@ fn remember(bytes: &[u8], ends: &mut [u16], start: usize, end: usize)
     }
 }
 
-/// Where a run that begins at a place comes to by pointers alone. Over all calls with the same `ends` it takes a few
-/// steps for each place of `ends`.
+/// The place that a run which begins at `start` reaches by pointers alone. Over all calls with the
+/// same `ends` it takes a few steps for each place of `ends`.
 pub fn resolve(bytes: &[u8], ends: &mut [u16], start: usize) -> usize
     requires { AreShortcuts bytes.now ends.old }
     ensures leads { SameRun bytes.now start result }

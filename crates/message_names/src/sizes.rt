@@ -1,8 +1,8 @@
-//! How many octets the names take that pointers lead to, remembered.
+//! The sizes of the names that pointers lead to, in octets, remembered.
 //!
-//! `sizes` has a number for each of the first places of a message: the octets of the name that begins here, the zero
-//! octet at its end counted, or 0 where that is not known. With it a name that many pointers lead to is walked once;
-//! without, as an empty slice, each pointer walks it.
+//! `sizes` has a number for each of the first places of a message: the octets of the name that
+//! begins here, the zero octet at its end counted, or 0 where that is not known. With it a name
+//! that many pointers lead to is walked once; without, as an empty slice, each pointer walks it.
 
 ghost use Rattle.std.specs.Prelude.{◌≡◌, ◌≤◌, ◌<◌, Ok, IfSome, slice_index};
 ghost use Rattle.message_names.specs.Sizes.{AreSizes, size_behind};
@@ -10,7 +10,7 @@ ghost use Rattle.message_names.specs.Sizes.{AreSizes, size_behind};
 use crate::fault::Fault;
 use crate::walk::{Bound, NameCursor, NameOctet, step_at};
 
-/// What is remembered of a place.
+/// The remembered size of the name at a place.
 fn known_size(sizes: &[u8], place: usize) -> Option<usize>
     ensures { IfSome result (λ size. (0 < size) × (size ≡ slice_index sizes.now place)) }
 {
@@ -20,8 +20,8 @@ fn known_size(sizes: &[u8], place: usize) -> Option<usize>
     None
 }
 
-/// The octets of the name at a place, behind labels of so many octets. Where a pointer leads to a place that is known,
-/// the walk ends.
+/// The octets of the name at a place, after labels of `used` octets. Where a pointer leads to a
+/// place that is known, the walk ends.
 fn measure(bytes: &[u8], sizes: &[u8], start: usize, used: usize) -> Result<usize, Fault>
     requires room { used ≤ 254 }
     requires known { AreSizes bytes.now sizes.now }
@@ -51,8 +51,8 @@ fn measure(bytes: &[u8], sizes: &[u8], start: usize, used: usize) -> Result<usiz
     }
 }
 
-/// Remembers the octets of the name at a place, and of the names that begin on the way to its end, up to the first that
-/// is known.
+/// Remembers the octets of the name at a place, and of the names that begin on the way to its end,
+/// up to the first that is known.
 fn remember(bytes: &[u8], sizes: &mut [u8], start: usize, size: usize)
     requires known { AreSizes bytes.now sizes.old }
     requires read { size_behind bytes.now start 0 ≡ Ok size }
@@ -76,8 +76,8 @@ fn remember(bytes: &[u8], sizes: &mut [u8], start: usize, size: usize)
     }
 }
 
-/// The octets of the name at a place, behind labels of so many octets. Over all calls with the same `sizes` each place
-/// is remembered once, and a place that is known is walked no more.
+/// The octets of the name at a place, after labels of `used` octets. Over all calls with the same
+/// `sizes` each place is remembered once, and a place that is known is not walked again.
 pub(crate) fn size_of_name(
     bytes: &[u8],
     sizes: &mut [u8],

@@ -8,13 +8,14 @@ ghost use Rattle.message_names.specs.Names.{whole, inside, behind_labels, step, 
 use crate::fault::Fault;
 use crate::shortcuts::resolve;
 
-/// Where a run of labels must end, in octets from the front of the message. A run is the labels of a name that stand
-/// one behind another, with the zero octet or the pointer that ends them (RFC 1035 4.1.4).
+/// The bound before which a run of labels must end, in octets from the front of the message. A run
+/// is the labels of a name that follow one another, with the zero octet or the pointer that ends
+/// them (RFC 1035 4.1.4).
 #[derive(Clone, Copy)]
 pub struct Bound {
-    /// No octet of the run lies here or behind.
+    /// No octet of the run is here or later.
     pub stop: usize,
-    /// The fault where the run needs an octet that lies there.
+    /// The fault where the run needs an octet at or after `stop`.
     pub beyond: Fault,
 }
 
@@ -40,29 +41,29 @@ impl Bound {
     }
 }
 
-/// What stands at one place of a name.
+/// The item at one place of a name.
 #[derive(Clone, Copy)]
 pub(crate) enum NameOctet {
     /// The name ends.
     End,
-    /// A label of so many octets.
+    /// A label of this many octets.
     Label(usize),
     /// A pointer to a place before the run.
     Pointer(usize),
 }
 
-/// Where the reading of a name stands: a cursor, in octets from the front of the message.
+/// The state of reading a name: a cursor, in octets from the front of the message.
 #[derive(Clone, Copy)]
 pub struct NameCursor {
     /// The place that is read next.
     pub offset: usize,
-    /// Where the present run of labels began.
+    /// The place at which the present run of labels began.
     pub run: usize,
     /// The octets that the labels so far take, their lengths counted.
     pub used: usize,
-    /// Where the present run must end.
+    /// The bound before which the present run must end.
     pub bound: Bound,
-    /// Where the name ends in the octets, once a pointer was followed.
+    /// The end of the name in the octets, once a pointer was followed.
     pub end: Option<usize>,
 }
 
@@ -81,7 +82,7 @@ impl NameCursor {
         }
     }
 
-    /// The beginning of the name that a pointer leads to, behind labels of so many octets.
+    /// The beginning of the name that a pointer leads to, after labels of `used` octets.
     pub(crate) fn behind(bytes: &[u8], offset: usize, used: usize) -> NameCursor
         ensures { result ≡ behind_labels bytes.now offset used }
     {
@@ -95,15 +96,15 @@ impl NameCursor {
     }
 }
 
-/// What comes next in a name.
+/// The next part of a name.
 pub enum NextLabel<'a> {
-    /// A label of 1 to 63 octets without its length, and where the reading stands behind it.
+    /// A label of 1 to 63 octets without its length, and the cursor after it.
     Label(&'a [u8], NameCursor),
     /// The name ends, and its own octets end before this place.
     End(usize),
 }
 
-/// So many octets from a place on, where they are there.
+/// The `len` octets from `start` on, if they are there.
 pub fn part(bytes: &[u8], start: usize, len: usize) -> &[u8]
     requires { start + len ≤ length bytes.now }
     ensures { result.now ≡ take len (drop start bytes.now) }
@@ -113,7 +114,7 @@ pub fn part(bytes: &[u8], start: usize, len: usize) -> &[u8]
     part
 }
 
-/// What stands at the next place: RFC 1035 4.1.4. The order of the tests is the order of the faults.
+/// The item at the next place (RFC 1035 4.1.4). The order of the tests is the order of the faults.
 #[tactic(auto, unfolding(crate::specs::Names::step))]
 pub(crate) fn step_at(bytes: &[u8], walk: NameCursor) -> Result<NameOctet, Fault>
     requires used { walk.used ≤ 254 }
@@ -154,12 +155,13 @@ pub(crate) fn step_at(bytes: &[u8], walk: NameCursor) -> Result<NameOctet, Fault
     }
 }
 
-/// The next label of a name, pointers followed; where they lead is remembered in `ends`, which may be empty. It takes
-/// no memory.
+/// The next label of a name, pointers followed; their targets are remembered in `ends`, which may
+/// be empty. It does not allocate.
 ///
-/// The fault is the first from where the walk stands (RFC 1035 4.1.4): `Short` or `Rdata` where an octet lies beyond
-/// the bound, `NameLong` where the name would have more than 255 octets, `LabelForm` where neither a label nor a
-/// pointer begins, `Pointer` where one does not lead to before the run that it ends.
+/// The fault is the first from the cursor on (RFC 1035 4.1.4): `Short` or `Rdata` where an octet is
+/// beyond the bound, `NameLong` where the name would have more than 255 octets, `LabelForm` where
+/// neither a label nor a pointer begins, `Pointer` where one does not lead to before the run that
+/// it ends.
 pub fn next_label<'a>(
     bytes: &'a [u8],
     ends: &mut [u16],

@@ -1,4 +1,4 @@
--- What the proofs of crates above cite of messages that are read.
+-- Lemmas about messages that are read, which the proofs of crates above cite.
 use Rattle.std.proofs.Common.{◌≡◌, ℕ, ◌-◌, ◌≤◌, List, length, take, None, Ok, Some}
 use Rattle.std.specs.Bool.{Decides}
 use Rattle.dns_name.specs.Labels.{labels_of, IsLaidOut, IsName, size_of}
@@ -44,7 +44,7 @@ one_message_is_spelled = whole.one_message
 pub spelled_message_has_shapes : (bytes : List ℕ) (message : Message) → Spells bytes message → HasShapes message
 spelled_message_has_shapes = shapes.spelled_shapes
 
--- ---- the first question is read exactly where it stands
+-- ---- the first question is read exactly where it is laid out
 
 pub first_question_read_stands : (bytes : List ℕ) (question : Question) → first_question bytes ≡ Ok question → FirstQuestion bytes question
 first_question_read_stands = whole.first_sound
@@ -52,7 +52,7 @@ first_question_read_stands = whole.first_sound
 pub standing_first_question_is_read : (bytes : List ℕ) (question : Question) → FirstQuestion bytes question → first_question bytes ≡ Ok question
 standing_first_question_is_read = whole.first_complete
 
--- what stands as a name, in at most 255 octets, is a name
+-- octets laid out as a name, 255 at most, are a name
 pub standing_name_is_name : (bytes : List ℕ) (o f e : ℕ) (labels : List (List ℕ)) → NameAt bytes o f labels e → size_of labels ≤ 255 → IsName labels
 standing_name_is_name = shapes.name_is
 

@@ -20,7 +20,7 @@ pub prefixed_none : (r : Result (List ℕ × ℕ) Fault) → prefixed [] r ≡ r
 prefixed_none (Ok x) = refl
 prefixed_none (Err fault) = refl
 
--- the labels of a name in data, and the zero octet behind them
+-- the labels of a name in data, and the zero octet after them
 pub written_name : (front octets : List ℕ) (count end : ℕ) (read : Result (List (List ℕ) × ℕ) Fault) → count < length octets → Begins octets count end read → prefixed front (written_out read) ≡ Ok (front ++ take (count + 1) (set octets count 0), end)
 written_name front octets count end read inside b =
     let text : octets_of (labels_of (take count octets)) ≡ take count octets = b.laid.whole in

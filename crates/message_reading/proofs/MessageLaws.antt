@@ -1,4 +1,4 @@
--- What stands in a message as a whole.
+-- The parts of a message as a whole.
 use Rattle.std.proofs.Common.{◌≡◌, ℕ, ◌-◌, ◌≤◌, List, length, Result, Ok, Err, refl, sym, ◌∙◌, arith}
 use Rattle.std.specs.Prelude.{IsOk}
 use Rattle.message_names.specs.declared.fault.Fault.{Fault}

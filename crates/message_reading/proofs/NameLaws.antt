@@ -1,4 +1,4 @@
--- A name that stands without a pointer is its own octets, and the zero octet behind them.
+-- A name without a pointer is its own octets, and the zero octet after them.
 use Rattle.std.proofs.Common.{◌≡◌, ℕ, suc, ◌+◌, ◌-◌, ◌<◌, ◌≤◌, List, [], ◌∷◌, ◌++◌, length, take, drop, get_or, Option, Some, None, Result, Ok, Err, refl, sym, ap, subst, ◌∙◌, append_assoc, arith}
 use Rattle.std.specs.Prelude.{IfOk, MatchOption}
 use Rattle.std.specs.List.{AllByRecursion}
@@ -15,7 +15,7 @@ use Rattle.message_reading.specs.Messages.{IsUncompressed, IsViewedTo, first_que
 use Rattle.message_reading.proofs.ShapeLaws.{labels_are, name_is}
 use Rattle.message_reading.proofs.WholeLaws.{asked}
 
--- the name at o goes on at p, behind labels that stand from o on
+-- the name at o goes on at p, after the labels from o on
 pub record GoesOn (bytes : List ℕ) (o p : ℕ) : Type 0 where
   pub front : List (List ℕ)
   pub rest : List (List ℕ)
@@ -49,7 +49,7 @@ name_begins bytes o e ends = begins_by bytes o e (name_at bytes o) refl ends
 abbrev pub EndsPlain : List ℕ → ℕ → List ℕ → Type 0
 EndsPlain bytes o octets = IsLaidOut octets × IfOk (name_at bytes o) (λ n. (n.0 ≡ labels_of octets) × IsUncompressed bytes o n.0)
 
--- what stands at p, and what the name is by it
+-- the octet at p, and the name by it
 pub record Stands (bytes : List ℕ) (o p : ℕ) : Type 0 where
   pub there : p < length bytes
   pub after : o ≤ p
@@ -64,14 +64,14 @@ octets_size (l ∷ ls) = omega (arith, octets_size ls, length-append l (octets_o
 one_label : (front : List (List ℕ)) (l : List ℕ) → octets_of (front ++ l ∷ []) ≡ octets_of front ++ label_octets l
 one_label front l = octets_joined front (l ∷ []) ∙ ap (λ (xs : List ℕ). octets_of front ++ xs) (append-nil (label_octets l))
 
--- the octets from p on, as they stand behind those of the labels before
+-- the octets from p on, as they follow those of the labels before
 behind_front : (bytes : List ℕ) (o p : ℕ) → o ≤ p → p < length bytes → drop (p - o) (drop o bytes) ≡ get_or bytes p 0 ∷ drop (p + 1) bytes
 behind_front bytes o p le lt =
     let at : o + (p - o) ≡ p = omega (arith, le) in
     let next : p + 1 ≡ suc p = omega arith in
     drop-drop (p - o) o bytes ∙ ap (λ (x : ℕ). drop x bytes) at ∙ rw next (drop-cons bytes p 0 lt)
 
--- the octets up to behind p
+-- the octets up to p and the one at p
 up_to : (bytes : List ℕ) (o p n : ℕ) → o ≤ p → p < length bytes → take ((p - o) + suc n) (drop o bytes) ≡ take (p - o) (drop o bytes) ++ get_or bytes p 0 ∷ take n (drop (p + 1) bytes)
 up_to bytes o p n le lt = take-add (p - o) (suc n) (drop o bytes) ∙ rw (behind_front bytes o p le lt) refl
 
@@ -162,7 +162,7 @@ goes_on bytes o p g = stands_by bytes o p g.e g.front g.rest g.at g.read g.name 
 
 -- ---- where it ends
 
--- the octet before the last tells a name without a pointer
+-- the octet before the last shows a name without a pointer
 pub record Ends (bytes : List ℕ) (o e : ℕ) : Type 0 where
   pub some : o < e
   pub there : e ≤ length bytes
@@ -204,7 +204,7 @@ name_lies bytes o e ends =
 
 -- ---- the first question, borrowed
 
--- what is told of its name is told of it
+-- the facts about its name hold of it
 pub first_borrowed : (bytes : List ℕ) (end kind class : ℕ) (borrowed : Option Question) → IsViewedTo bytes end → IfOk (first_question bytes) (λ q. kind ≡ q.kind) → IfOk (first_question bytes) (λ q. class ≡ q.class)
     → MatchOption borrowed (IfOk (name_at bytes 12) (λ n. IsUncompressed bytes 12 n.0 → ⊥)) (λ b. IfOk (name_at bytes 12) (λ n. (b ≡ record { name = n.0; kind = kind; class = class }) × IsUncompressed bytes 12 n.0))
     → MatchOption borrowed (IfOk (first_question bytes) (λ q. IsUncompressed bytes 12 q.name → ⊥)) (λ b. (first_question bytes ≡ Ok b) × IsUncompressed bytes 12 b.name)

@@ -1,4 +1,4 @@
--- Where questions and records end.
+-- The ends of questions and records.
 use Rattle.std.proofs.Common.{◌≡◌, ℕ, ◌+◌, List, Result, Ok, Err, refl, ◌∙◌}
 use Rattle.message_names.specs.declared.fault.Fault.{Fault}
 use Rattle.message_names.specs.Reading.{◌>>=◌, behind}

@@ -1,4 +1,4 @@
--- What is read is what stands there, and what stands there is read.
+-- The values that are read are those that are laid out, and those that are laid out are read.
 use Rattle.std.proofs.Common.{◌≡◌, ℕ, zero, suc, ◌+◌, ◌≤◌, Bool, true, false, cond, List, [], ◌∷◌, ◌++◌, length, take, drop, get_or, Option, Some, None, Result, Ok, Err, eqb, ltb, leb, refl, sym, ap, subst, ◌∙◌, arith}
 use Rattle.message_names.specs.declared.fault.Fault.{Fault}
 use Rattle.message_names.specs.declared.fault.Fault.TheVariants.{Short, Rdata}
@@ -13,7 +13,7 @@ use Rattle.message_reading.specs.Data.{name_octets, PartAt, PartsAt, parts_end, 
 use Rattle.message_reading.specs.Records.{QuestionAt, RecordAt, InRow, octets_end, question_at, record_at, with_first, counted}
 use Rattle.message_names.proofs.CallerLemmas.{bounded_name_read_stands, bounded_standing_name_is_read, name_read_stands, standing_name_is_read}
 
--- what was read, and the place behind it
+-- what was read, and the place after it
 abbrev pub read_as : {X : Type 0} → X → ℕ → Result (X × ℕ) Fault
 read_as x e = Ok (x, e)
 

@@ -140,7 +140,7 @@ first_complete bytes question first =
     let read = ap read_of (question_complete bytes 12 question first.e first.at) in
     grind (arith, there, some, read)
 
--- what stands before the end of the first question
+-- the octets before the end of the first question
 pub record Asked (bytes : List ℕ) (end : ℕ) : Type 0 where
   pub back : 4 ≤ end
   pub there : end ≤ length bytes
@@ -171,7 +171,7 @@ first_keyed bytes view =
     let at = (first_sound bytes view.question view.is).at in
     ap keyed (standing_name_is_read bytes 12 view.question.name at.after at.name at.fits)
 
--- the key of the first question's name is told
+-- the key of the first question's name is returned
 pub key_found : (bytes : List ℕ) (end : ℕ) (key : List (List ℕ)) → IsViewedTo bytes end → keyed (name_at bytes 12) ≡ Ok key → IfOk (first_question bytes) (λ question. key ≡ lowered question.name)
 key_found bytes end key view is =
     let found = first_keyed bytes view.viewed in

@@ -23,12 +23,13 @@ IsPart Number16 octets = length octets ≡ 2
 IsPart SoaNumbers octets = length octets ≡ 20
 IsPart Text octets = (text : List ℕ) × (octets ≡ label_octets text)
 
--- these octets are the parts, one behind another
+-- these octets are the parts, one after another
 pub data HasParts : List Part → List ℕ → Type 0 where
   no_parts : HasParts [] []
   more_parts : {part : Part} {parts : List Part} {octets : List ℕ} (first rest : List ℕ) → IsPart part first
       → HasParts parts rest → octets ≡ first ++ rest → HasParts (part ∷ parts) octets
 
+-- the data has the parts of a shape; any data has no shape
 abbrev pub IsOfShape : Option Shape → List ℕ → Type 0
 IsOfShape None octets = Unit {0}
 IsOfShape (Some shape) octets = HasParts shape.parts octets
@@ -39,7 +40,8 @@ IsShaped kind octets = IsOfShape (shape_of kind) octets
 
 -- ---- data in a message: RDLENGTH octets, in which names may be written with pointers
 
--- from o to e there is a part of data that ends before stop, and written out in full it is these octets
+-- from o to e there is a part of data that ends before stop, and written out in full it is these
+-- octets
 abbrev pub PartAt : Part → List ℕ → ℕ → ℕ → List ℕ → ℕ → Type 0
 PartAt Name bytes stop o octets e = (labels : List (List ℕ)) × NameAt bytes o o labels e × (size_of labels ≤ 255)
     × (e ≤ stop) × (octets ≡ name_octets labels)
@@ -55,32 +57,37 @@ pub data PartsAt (bytes : List ℕ) (stop : ℕ) : List Part → ℕ → List �
       → PartAt part bytes stop o first e → PartsAt bytes stop parts e rest → octets ≡ first ++ rest
       → PartsAt bytes stop (part ∷ parts) o octets
 
+-- the data at a place, by its shape
 abbrev pub ShapedAt : Option Shape → List ℕ → ℕ → ℕ → List ℕ → Type 0
 ShapedAt None bytes o len octets = octets ≡ take len (drop o bytes)
 ShapedAt (Some shape) bytes o len octets = PartsAt bytes (o + len) shape.parts o octets
 
--- at o there is data of so many octets, and written out in full it is these
+-- at o there is data of `len` octets, and written out in full it is these
 abbrev pub DataAt : ℕ → List ℕ → ℕ → ℕ → List ℕ → Type 0
 DataAt kind bytes o len octets = (o + len ≤ length bytes) × ShapedAt (shape_of kind) bytes o len octets
 
--- ---- how it is read, with the first fault: what was read, written out in full, and the place behind it
+-- ---- how it is read: written out in full and the place after it, or the first fault
 
+-- octets up to a stop, or the fault Rdata
 unfoldable pub octets_within : List ℕ → ℕ → ℕ → ℕ → Result (List ℕ × ℕ) Fault
 octets_within bytes stop o count = if nat_lt stop (o + count) then Err Rdata
     else Ok (take count (drop o bytes), o + count)
 
+-- a name that was read, as octets without pointers
 abbrev pub written_out : Result (List (List ℕ) × ℕ) Fault → Result (List ℕ × ℕ) Fault
 written_out (Ok name) = Ok (name_octets name.0, name.1)
 written_out (Err fault) = Err fault
 
--- what was read, behind what was read before it
+-- what was read, after what was read before it
 abbrev pub prefixed : List ℕ → Result (List ℕ × ℕ) Fault → Result (List ℕ × ℕ) Fault
 prefixed front (Ok read) = Ok (front ++ read.0, read.1)
 prefixed front (Err fault) = Err fault
 
+-- a text after its length octet, up to a stop (RFC 1035 3.3)
 unfoldable pub text_within : List ℕ → ℕ → ℕ → Result (List ℕ × ℕ) Fault
 text_within bytes stop o = if nat_le stop o then Err Rdata else octets_within bytes stop o (slice_index bytes o + 1)
 
+-- one part of record data at a place
 abbrev pub part_at : Part → List ℕ → ℕ → ℕ → Result (List ℕ × ℕ) Fault
 part_at Name bytes stop o = written_out (name_within bytes (inside stop) o)
 part_at Number16 bytes stop o = octets_within bytes stop o 2
@@ -93,16 +100,18 @@ parts_at [] bytes stop o = if o == stop then Ok ([], o) else Err Rdata
 parts_at (part ∷ parts) bytes stop o = part_at part bytes stop o
     >>= λ first. prefixed first.0 (parts_at parts bytes stop first.1)
 
+-- record data at a place, by its shape (RFC 3597)
 abbrev pub shaped_at : Option Shape → List ℕ → ℕ → ℕ → Result (List ℕ × ℕ) Fault
 shaped_at None bytes o len = Ok (take len (drop o bytes), o + len)
 shaped_at (Some shape) bytes o len = parts_at shape.parts bytes (o + len) o
 
--- the data of so many octets of a record of this type
+-- the data of `len` octets of a record of this type
 unfoldable pub data_at : ℕ → List ℕ → ℕ → ℕ → Result (List ℕ × ℕ) Fault
 data_at kind bytes o len = if nat_lt (length bytes) (o + len) then Err Short else shaped_at (shape_of kind) bytes o len
 
 -- ---- data that is one name
 
+-- a name that takes just these octets
 abbrev pub name_if_all : ℕ → Result (List (List ℕ) × ℕ) Fault → Option (List (List ℕ))
 name_if_all len (Ok name) = if name.1 == len then Some name.0 else None
 name_if_all len (Err fault) = None

@@ -8,7 +8,8 @@ use Rattle.message_names.specs.Numbers.{number16}
 abbrev pub flag : ℕ → ℕ → Bool
 flag octet weight = nat_le 1 (octet / weight % 2)
 
--- ID; QR, opcode of 4 bits, AA, TC, RD, RA, Z of 3 bits and RCODE of 4, from the high bit down; the four counts
+-- ID; QR, opcode of 4 bits, AA, TC, RD, RA, Z of 3 bits and RCODE of 4, from the high bit down; the
+-- four counts
 abbrev pub header_in : List ℕ → Header
 header_in bytes = record {
   id = number16 bytes 0;

@@ -14,7 +14,8 @@ use Rattle.message_reading.specs.Records.{QuestionAt, RecordAt, InRow, question_
 
 -- ---- what a message is
 
--- The octets begin with the header, then come as many questions and records as it counts. What follows them is free.
+-- The octets begin with the header, then come as many questions and records as it counts. What
+-- follows them is free.
 pub record Spells (bytes : List ℕ) (message : Message) : Type 0 where
   pub header : header_of bytes ≡ Some message.header
   pub counts : message.header.counts ≡ length message.questions ∷ length message.answers ∷ length message.authority
@@ -39,6 +40,7 @@ pub record FirstQuestion (bytes : List ℕ) (question : Question) : Type 0 where
 abbrev pub IsWhole : List ℕ → Type 0
 IsWhole bytes = (message : Message) × Spells bytes message
 
+-- each record has data of its type's shape
 abbrev pub AreShaped : List Record → Type 0
 AreShaped records = AllByRecursion (λ entry. IsShaped entry.kind entry.rdata) records
 
@@ -50,11 +52,12 @@ pub record HasShapes (message : Message) : Type 0 where
 
 -- ---- how it is read, with the first fault
 
+-- the value, or the fault Short
 abbrev pub or_short : {X : Type 0} → Option X → Result X Fault
 or_short (Some x) = Ok x
 or_short None = Err Short
 
--- the message, and the place behind its last counted record
+-- the message, and the place after its last counted record
 unfoldable pub message_at : List ℕ → Result (Message × ℕ) Fault
 message_at bytes = do
   header ← or_short (header_of bytes)
@@ -73,6 +76,7 @@ message_at bytes = do
     additional.1,
   )
 
+-- what was read, without the place after it
 abbrev pub read_of : {X : Type 0} → Result (X × ℕ) Fault → Result X Fault
 read_of (Ok x) = Ok x.0
 read_of (Err fault) = Err fault
@@ -93,8 +97,8 @@ pub record IsSameQuestion (a b : Question) : Type 0 where
   pub kind : a.kind ≡ b.kind
   pub class : a.class ≡ b.class
 
--- The name stands whole at o, each label behind its length and the zero octet at its end: no pointer stands for a part
--- of it (RFC 1035 3.1 and 4.1.4).
+-- The name is whole at o, each label after its length and the zero octet at its end: no part of it
+-- is a pointer (RFC 1035 3.1 and 4.1.4).
 abbrev pub IsUncompressed : List ℕ → ℕ → List (List ℕ) → Type 0
 IsUncompressed bytes o name = take (size_of name) (drop o bytes) ≡ octets_of name ++ 0 ∷ []
 

@@ -13,9 +13,11 @@ pub record Row : Type 0 where
   pub kind : ℕ
   pub shape : Shape
 
+-- a type whose names may be written with pointers (RFC 3597 4)
 abbrev pub with_pointers : ℕ → List Part → Row
 with_pointers kind parts = record { kind = kind; shape = record { parts = parts; compressed = true } }
 
+-- a type whose names are written in full (RFC 3597 4)
 abbrev pub in_full : ℕ → List Part → Row
 in_full kind parts = record { kind = kind; shape = record { parts = parts; compressed = false } }
 
@@ -31,6 +33,7 @@ srv_parts = Number16 ∷ Number16 ∷ Number16 ∷ Name ∷ []
 abbrev pub naptr_parts : List Part
 naptr_parts = Number16 ∷ Number16 ∷ Text ∷ Text ∷ Text ∷ Name ∷ []
 
+-- the types whose data has names in it, with the parts of their data
 abbrev pub table : List Row
 table =
     with_pointers 2 (Name ∷ []) ∷  -- NS
@@ -52,6 +55,7 @@ table =
     in_full 35 naptr_parts ∷  -- NAPTR
     []
 
+-- the shape of a type among rows
 abbrev pub row_of : ℕ → List Row → Option Shape
 row_of kind [] = None
 row_of kind (row ∷ rows) = if kind == row.kind then Some row.shape else row_of kind rows

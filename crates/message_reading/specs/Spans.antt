@@ -1,4 +1,4 @@
--- Where the records of a message lie.
+-- The places of the records of a message.
 use Rattle.std.specs.Prelude.{ℕ, List, [], ◌∷◌, ◌++◌, replicate, Result, Ok, Err}
 use Rattle.message_names.specs.declared.fault.Fault.{Fault}
 use Rattle.message_reading.specs.declared.spans.Span.{Span}
@@ -12,8 +12,8 @@ use Rattle.message_reading.specs.Records.{RecordAt, question_at, record_at, coun
 abbrev pub sections_of : Left → List ℕ
 sections_of left = replicate left.answers 0 ++ (replicate left.authority 1 ++ replicate left.additional 2)
 
--- From o on these are the spans of the records that can be read, in order, where records of so many sections are
--- counted.
+-- From o on these are the spans of the records that can be read, in order, where a record of each
+-- of these sections is counted.
 pub data SpansAt (bytes : List ℕ) : List ℕ → ℕ → List Span → Type 0 where
   all_read : {o : ℕ} → SpansAt bytes [] o []
   none_here : {o section : ℕ} {sections : List ℕ} → ((entry : Record) (e : ℕ) → RecordAt bytes o entry e → ⊥)
@@ -22,6 +22,7 @@ pub data SpansAt (bytes : List ℕ) : List ℕ → ℕ → List Span → Type 0 
       → SpansAt bytes sections e spans
       → SpansAt bytes (section ∷ sections) o (record { start = o; end = e; section = section } ∷ spans)
 
+-- the span of a record, and those of the records after it
 abbrev pub span_and_rest : ℕ → ℕ → (ℕ → List Span) → Result ℕ Fault → List Span
 span_and_rest o section rest (Ok e) = record { start = o; end = e; section = section } ∷ rest e
 span_and_rest o section rest (Err fault) = []
@@ -31,10 +32,12 @@ unfoldable pub spans_at : List ℕ → List ℕ → ℕ → List Span
 spans_at bytes [] o = []
 spans_at bytes (section ∷ sections) o = span_and_rest o section (spans_at bytes sections) (behind (record_at bytes o))
 
+-- the section of each record that the header counts
 abbrev pub counted_sections : List ℕ → List ℕ
 counted_sections bytes = replicate (number16 bytes 6) 0 ++ (replicate (number16 bytes 8) 1
     ++ replicate (number16 bytes 10) 2)
 
+-- the spans of the records after the questions
 abbrev pub spans_from : List ℕ → Result ℕ Fault → List Span
 spans_from bytes (Ok o) = spans_at bytes (counted_sections bytes) o
 spans_from bytes (Err fault) = []

@@ -14,7 +14,7 @@ use message_names::{Bound, Fault, part, put_labels, skip_name};
 use short_octets::ShortOctets;
 use std::alloc::{AllocError, Allocator};
 
-/// The place behind so many octets of the data.
+/// The place after `count` octets of the data.
 #[tactic(auto, unfolding(crate::specs::Data::octets_within))]
 fn skip_octets(bytes: &[u8], stop: usize, offset: usize, count: usize) -> Result<usize, Fault>
     ensures { result ≡ behind (octets_within bytes.now stop offset count) }
@@ -26,7 +26,7 @@ fn skip_octets(bytes: &[u8], stop: usize, offset: usize, count: usize) -> Result
     Ok(offset + count)
 }
 
-/// Writes a name of the data out in full behind the octets, and gives the place behind it.
+/// Appends a name of the data, written out in full; returns the place after it.
 #[tactic(auto, using(crate::proofs::DataLaws::written_name, crate::proofs::DataLaws::written_fault))]
 fn expand_name<A: Allocator>(
     octets: &mut Vec<u8, A>,
@@ -48,7 +48,7 @@ fn expand_name<A: Allocator>(
     Ok(end)
 }
 
-/// Puts some octets of the data behind the octets, and gives the place behind them.
+/// Appends `count` octets of the data; returns the place after them.
 #[tactic(auto, unfolding(crate::specs::Data::octets_within))]
 fn read_octets<A: Allocator>(
     octets: &mut Vec<u8, A>,
@@ -66,7 +66,7 @@ fn read_octets<A: Allocator>(
     Ok(end)
 }
 
-/// Puts a part of the data, written out in full, behind the octets, and gives the place behind it.
+/// Appends a part of the data, written out in full; returns the place after it.
 #[tactic(auto, unfolding(crate::specs::Data::text_within))]
 fn read_part<A: Allocator>(
     octets: &mut Vec<u8, A>,
@@ -95,7 +95,7 @@ fn read_part<A: Allocator>(
     }
 }
 
-/// The place behind a part of the data.
+/// The place after a part of the data.
 #[tactic(auto, unfolding(crate::specs::Data::text_within))]
 fn skip_part(
     bytes: &[u8],
@@ -122,7 +122,7 @@ fn skip_part(
     }
 }
 
-/// The parts from a place on, written out in full behind one another. They must end at `stop`.
+/// The parts from a place on, written out in full one after another. They must end at `stop`.
 #[tactic(auto, using(crate::proofs::DataLaws::read_more, crate::proofs::DataLaws::read_done, crate::proofs::DataLaws::read_short))]
 fn read_parts<A: Allocator>(
     alloc: A,
@@ -148,7 +148,7 @@ fn read_parts<A: Allocator>(
     Ok((octets, at))
 }
 
-/// The place behind the parts from a place on. They must end at `stop`.
+/// The place after the parts from a place on. They must end at `stop`.
 #[tactic(auto, using(crate::proofs::DataLaws::skip_more, crate::proofs::DataLaws::skip_fault, crate::proofs::DataLaws::skip_done, crate::proofs::DataLaws::skip_short))]
 fn skip_parts(
     bytes: &[u8],
@@ -172,7 +172,8 @@ fn skip_parts(
     Ok(at)
 }
 
-/// The data of so many octets of a record of this type, names in it written out in full, and the place behind it.
+/// The data of `len` octets of a record of this type, names in it written out in full, and the
+/// place after it.
 #[tactic(auto, unfolding(crate::specs::Data::data_at))]
 pub(crate) fn read_data<A: Allocator>(
     alloc: A,
@@ -202,7 +203,7 @@ pub(crate) fn read_data<A: Allocator>(
     }
 }
 
-/// The place behind the data of so many octets of a record of this type.
+/// The place after the data of `len` octets of a record of this type.
 #[tactic(auto, unfolding(crate::specs::Data::data_at))]
 pub(crate) fn skip_data(
     bytes: &[u8],
@@ -225,8 +226,8 @@ pub(crate) fn skip_data(
     }
 }
 
-/// The name that is all of these octets, its zero octet at their end. In octets of its own no pointer leads back, so
-/// none is followed. `Err` where memory ran out, which only a name takes.
+/// The name that is all of these octets, with the zero octet at their end. In octets of its own no
+/// pointer leads back, so none is followed. `Err` where memory ran out; only a name allocates.
 #[tactic(auto, using(crate::proofs::ShapeLaws::only_name, crate::proofs::ShapeLaws::no_name))]
 pub fn read_only_name<A: Allocator>(alloc: A, octets: &[u8]) -> Result<Option<Name<A>>, AllocError>
     ensures name { IfOk result (λ name. name ≡ name_of_rdata octets.now) }

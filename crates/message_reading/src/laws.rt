@@ -1,4 +1,5 @@
-//! What is read is what stands in the octets: laws about the definitions that the contracts cite.
+//! The values that are read are those that the octets spell: laws about the definitions that the
+//! contracts cite.
 
 ghost use Rattle.std.specs.Prelude.{◌≡◌, ◌↔◌, ◌≤◌, [], List, ℕ, Ok, Some, ◌+◌, length};
 ghost use Rattle.dns_name.specs.Labels.{IsName, size_of};
@@ -11,7 +12,7 @@ ghost use Rattle.message_names.specs.Numbers.{number16};
 ghost use Rattle.message_reading.specs.Spans.{SpansAt, spans_of, counted_sections};
 ghost use Rattle.message_reading.specs.declared.spans.Span as span;
 
-/// A name, a record's data, a question and a record are read exactly where they stand.
+/// A name, a record's data, a question and a record are read exactly where they are laid out.
 pub fn what_stands_is_read()
     ensures name { (bytes : List ℕ) (o e : ℕ) (labels : List (List ℕ)) → name_at bytes o ≡ Ok (labels, e)
         ↔ (NameAt bytes o o labels e × (size_of labels ≤ 255)) }
@@ -23,8 +24,8 @@ pub fn what_stands_is_read()
         ↔ RecordAt bytes o entry e }
 {}
 
-/// A message and its first question are read exactly where the octets spell them, and no octets spell two messages. The
-/// data of a message's records is of their shapes.
+/// A message and its first question are read exactly where the octets spell them, and no octets
+/// spell two messages. The data of a message's records is of their shapes.
 pub fn messages_are_spelled()
     ensures read { (bytes : List ℕ) (message : values.Message) → message_of bytes ≡ Ok message ↔ Spells bytes message }
     ensures first { (bytes : List ℕ) (question : values.Question) → first_question bytes ≡ Ok question
@@ -40,8 +41,8 @@ pub fn names_are_written_out()
         ↔ (IsName labels × (octets ≡ name_octets labels)) }
 {}
 
-/// The spans of a message are those of the records that can be read, in order, and no others. There are none where a
-/// counted question can't be read.
+/// The spans of a message are those of the records that can be read, in order, and no others. There
+/// are none where a counted question can't be read.
 pub fn spans_are_records()
     ensures spans { (bytes : List ℕ) (questions : List values.Question) (o : ℕ) (spans : List span.Span)
         → InRow (QuestionAt bytes) 12 questions o → length questions ≡ number16 bytes 4

@@ -1,5 +1,5 @@
-//! Messages of the domain name system, read from octets: RFC 1035 section 4, with the data of records by the shape of
-//! its type.
+//! Messages of the domain name system, read from octets: RFC 1035 section 4, with the data of
+//! records by the shape of its type.
 #![tactic(auto)]
 
 mod data;

@@ -43,7 +43,8 @@ impl<A: Allocator> Question<A> {
         })
     }
 
-    /// Equal names, ASCII letter case aside (RFC 1035 2.3.3, RFC 4343), equal types and classes. It takes no memory.
+    /// Whether names, types and classes are equal, ASCII letter case aside (RFC 1035 2.3.3, RFC
+    /// 4343). It does not allocate.
     pub fn is_same(&self, other: &Question<A>) -> bool
         ensures { result ≡ same_question self.now other.now }
     {
@@ -66,21 +67,22 @@ impl<A: Allocator> Model for Rdata<A> {
 }
 
 impl<A: Allocator> Rdata<A> {
-    /// Data of these octets, in which names have to be written out in full. It takes no memory.
+    /// Data of these octets, in which names have to be written out in full. It does not allocate.
     pub fn new(octets: Vec<u8, A>) -> Rdata<A>
         ensures { result ≡ octets.items }
     {
         Rdata::holding(ShortOctets::from_vec(octets))
     }
 
-    /// Data that lies as these octets lie; it takes no memory.
+    /// Data that keeps these octets as they are; it does not allocate.
     pub(crate) fn holding(octets: ShortOctets<A>) -> Rdata<A>
         ensures { result ≡ octets }
     {
         Rdata { octets }
     }
 
-    /// Data of a copy of these octets. Up to 30 take no memory; of more, `Err` where memory ran out.
+    /// Data of a copy of these octets. Up to 30 do not allocate; for more, `Err` where memory ran
+    /// out.
     pub fn from_octets(alloc: A, octets: &[u8]) -> Result<Rdata<A>, AllocError>
         ensures octets { IfOk result (λ copy. copy ≡ octets.now) }
         ensures few { length octets.now ≤ 30 → IsOk result }
@@ -96,8 +98,8 @@ impl<A: Allocator> Rdata<A> {
         self.octets.as_slice()
     }
 
-    /// The name that the data is, written out in full; `None` where it is none, which takes no memory. `Err` where
-    /// memory ran out.
+    /// The name that the data is, written out in full; `None` where it is none, which does not
+    /// allocate. `Err` where memory ran out.
     pub fn name(&self, alloc: A) -> Result<Option<Name<A>>, AllocError>
         ensures name { IfOk result (λ name. name ≡ name_of_rdata self.now) }
         ensures some { OnErr result (name_of_rdata self.now ≡ None → ⊥) }
@@ -105,7 +107,7 @@ impl<A: Allocator> Rdata<A> {
         read_only_name(alloc, self.octets())
     }
 
-    /// Equal data. Up to 30 octets take no memory; of more, `Err` where memory ran out.
+    /// Equal data. Up to 30 octets do not allocate; for more, `Err` where memory ran out.
     pub fn copy(&self, alloc: A) -> Result<Rdata<A>, AllocError>
         ensures data { IfOk result (λ copy. copy ≡ self.now) }
         ensures few { length self.now ≤ 30 → IsOk result }
@@ -123,7 +125,7 @@ pub struct Record<A: Allocator = Global> {
     pub kind: u16,
     /// 1 is IN.
     pub class: u16,
-    /// In seconds, all 32 bits as they stand in the message.
+    /// In seconds, all 32 bits as in the message.
     pub ttl: u32,
     pub rdata: Rdata<A>,
 }

@@ -1,4 +1,4 @@
-//! A question that is looked at where it lies.
+//! A borrowed question.
 
 ghost use Rattle.std.specs.Prelude.{◌≡◌, Ok, IfOk, MatchOption, length};
 ghost use Rattle.dns_name.specs.Labels.{labels_of, lowered, IsLaidOut};
@@ -12,9 +12,10 @@ use message_names::part;
 use std::alloc::{AllocError, Allocator};
 use std::marker::Model;
 
-/// The octets of the name at a place, which can be read and ends before `end`, without the zero octet at its end.
-/// `None` where it has a pointer. The first octet of a pointer is above 191: where the octet before the name's last is
-/// not, the last is the zero octet of a name without a pointer.
+/// The octets of the name at a place, which can be read and ends before `end`, without the zero
+/// octet at its end. `None` where it has a pointer. The first octet of a pointer is above 191:
+/// where the octet before the name's last is not, the last is the zero octet of a name without a
+/// pointer.
 #[tactic(auto, using(crate::proofs::NameLaws::name_begins, crate::proofs::NameLaws::goes_on, crate::proofs::NameLaws::name_lies))]
 fn uncompressed_name(bytes: &[u8], offset: usize, end: usize) -> Option<&[u8]>
     requires { behind (name_at bytes.now offset) ≡ Ok end }
@@ -38,10 +39,10 @@ fn uncompressed_name(bytes: &[u8], offset: usize, end: usize) -> Option<&[u8]>
     }
 }
 
-/// A question, borrowed: its name stands somewhere without a pointer. Contracts see the question.
+/// A question, borrowed: its name is kept elsewhere, without a pointer. Contracts see the question.
 #[derive(Drop)]
 pub struct QuestionRef<'a> {
-    /// The name's labels, each behind its length, without the zero octet.
+    /// The name's labels, each after its length, without the zero octet.
     name: &'a [u8],
     kind: u16,
     class: u16,
@@ -59,7 +60,7 @@ impl<'a> Model for QuestionRef<'a> {
 }
 
 impl<'a> QuestionRef<'a> {
-    /// A question, borrowed. It takes no memory.
+    /// A question, borrowed. It does not allocate.
     pub fn of<A: Allocator>(question: &'a Question<A>) -> QuestionRef<'a>
         ensures { result ≡ question.now }
     {
@@ -70,8 +71,17 @@ impl<'a> QuestionRef<'a> {
         }
     }
 
-    /// The question of this type and class whose name stands at a place without a pointer, and ends before `end`;
-    /// `None` where it has one.
+    /// The question for the name that these octets are, as `Name::octets` gives them. It does not
+    /// allocate.
+    pub fn from_octets(name: &'a [u8], kind: u16, class: u16) -> QuestionRef<'a>
+        requires { IsLaidOut name.now }
+        ensures { result ≡ record { name = labels_of name.now; kind = kind; class = class } }
+    {
+        QuestionRef { name, kind, class }
+    }
+
+    /// The question of this type and class whose name is at a place without a pointer, and ends
+    /// before `end`; `None` where it has one.
     pub(crate) fn at(
         bytes: &'a [u8],
         offset: usize,
@@ -88,7 +98,7 @@ impl<'a> QuestionRef<'a> {
         Some(QuestionRef { name, kind, class })
     }
 
-    /// The name as it stands, without the zero octet at its end: each label behind its length.
+    /// The name's octets, without the zero octet at its end: each label after its length.
     pub fn name(&self) -> &'a [u8]
         ensures laid { IsLaidOut result.now }
         ensures labels { labels_of result.now ≡ self.now.name }
@@ -96,7 +106,7 @@ impl<'a> QuestionRef<'a> {
         self.name
     }
 
-    /// The same, borrowed once more. It takes no memory.
+    /// The same, borrowed once more. It does not allocate.
     pub fn reborrow(&self) -> QuestionRef<'a>
         ensures { result ≡ self.now }
     {
@@ -107,7 +117,8 @@ impl<'a> QuestionRef<'a> {
         }
     }
 
-    /// An equal question that owns its name, whose octets are copied once. `Err` where memory ran out.
+    /// An equal question that owns its name, whose octets are copied once. `Err` where memory ran
+    /// out.
     pub fn copy<A: Allocator>(&self, alloc: A) -> Result<Question<A>, AllocError>
         ensures { IfOk result (λ copy. copy ≡ self.now) }
     {
@@ -119,7 +130,7 @@ impl<'a> QuestionRef<'a> {
         })
     }
 
-    /// The key of the name. It takes no memory.
+    /// The key of the name. It does not allocate.
     pub fn key(&self) -> NameKey
         ensures { result ≡ lowered self.now.name }
     {

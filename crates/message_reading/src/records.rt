@@ -12,7 +12,7 @@ use message_names::{Bound, Fault, number16, number32, read_name, readable_name_e
 use plain_list::PlainList;
 use std::alloc::Allocator;
 
-/// The place behind so many octets.
+/// The place after `count` octets.
 #[tactic(auto, unfolding(crate::specs::Records::octets_end))]
 pub(crate) fn skip_octets(bytes: &[u8], offset: usize, count: usize) -> Result<usize, Fault>
     ensures { result ≡ octets_end bytes.now offset count }
@@ -23,7 +23,7 @@ pub(crate) fn skip_octets(bytes: &[u8], offset: usize, count: usize) -> Result<u
     Ok(offset + count)
 }
 
-/// The question at a place, and the place behind it.
+/// The question at a place, and the place after it.
 #[tactic(auto, unfolding(crate::specs::Records::question_at, crate::specs::Records::octets_end))]
 pub(crate) fn read_question<A: Allocator>(
     alloc: A,
@@ -42,7 +42,7 @@ pub(crate) fn read_question<A: Allocator>(
     Ok((Question { name, kind, class }, end))
 }
 
-/// The place behind the question at a place.
+/// The place after the question at a place.
 #[tactic(auto, using(crate::proofs::RecordLaws::question_behind))]
 pub(crate) fn skip_question(bytes: &[u8], sizes: &mut [u8], offset: usize) -> Result<usize, Fault>
     requires { AreSizes bytes.now sizes.old }
@@ -53,7 +53,7 @@ pub(crate) fn skip_question(bytes: &[u8], sizes: &mut [u8], offset: usize) -> Re
     skip_octets(bytes, after, 4)
 }
 
-/// The record at a place, and the place behind it.
+/// The record at a place, and the place after it.
 #[tactic(auto, unfolding(crate::specs::Records::record_at, crate::specs::Records::octets_end))]
 pub(crate) fn read_record<A: Allocator + Copy>(
     alloc: A,
@@ -85,7 +85,7 @@ pub(crate) fn read_record<A: Allocator + Copy>(
     ))
 }
 
-/// The place behind the record at a place.
+/// The place after the record at a place.
 #[tactic(auto, unfolding(crate::specs::Records::octets_end), using(crate::proofs::RecordLaws::record_behind))]
 pub(crate) fn skip_record(bytes: &[u8], sizes: &mut [u8], offset: usize) -> Result<usize, Fault>
     requires { AreSizes bytes.now sizes.old }
@@ -99,7 +99,7 @@ pub(crate) fn skip_record(bytes: &[u8], sizes: &mut [u8], offset: usize) -> Resu
     skip_data(bytes, sizes, kind, fixed, len)
 }
 
-/// The place behind the record at a place, which can be read. No pointer is followed.
+/// The place after the record at a place, which can be read. No pointer is followed.
 #[tactic(auto, using(crate::proofs::EndLaws::owner_readable, crate::proofs::EndLaws::record_ends))]
 pub(crate) fn readable_record_end(bytes: &[u8], offset: usize) -> usize
     requires { IsOk (record_at bytes.now offset) }
@@ -109,7 +109,7 @@ pub(crate) fn readable_record_end(bytes: &[u8], offset: usize) -> usize
     after + 10 + number16(bytes, after + 8) as usize
 }
 
-/// So many questions from a place on, and the place behind them.
+/// Reads `count` questions at `offset`; returns them and the offset after them.
 #[tactic(auto, using(crate::proofs::Counting::read_more, crate::proofs::Counting::after_none))]
 pub(crate) fn read_questions<A: Allocator + Copy>(
     alloc: A,
@@ -132,7 +132,7 @@ pub(crate) fn read_questions<A: Allocator + Copy>(
     Ok((questions, at))
 }
 
-/// So many records from a place on, and the place behind them.
+/// Reads `count` records at `offset`; returns them and the offset after them.
 #[tactic(auto, using(crate::proofs::Counting::read_more, crate::proofs::Counting::after_none))]
 pub(crate) fn read_records<A: Allocator + Copy>(
     alloc: A,
@@ -155,7 +155,7 @@ pub(crate) fn read_records<A: Allocator + Copy>(
     Ok((records, at))
 }
 
-/// The place behind so many questions.
+/// The place after `count` questions.
 #[tactic(auto, using(crate::proofs::Counting::skip_more, crate::proofs::Counting::skip_fault, crate::proofs::Counting::skip_done))]
 pub(crate) fn skip_questions(
     bytes: &[u8],
@@ -174,7 +174,7 @@ pub(crate) fn skip_questions(
     Ok(at)
 }
 
-/// The place behind so many records.
+/// The place after `count` records.
 #[tactic(auto, using(crate::proofs::Counting::skip_more, crate::proofs::Counting::skip_fault, crate::proofs::Counting::skip_done))]
 pub(crate) fn skip_records(
     bytes: &[u8],

@@ -1,4 +1,4 @@
-//! Which types of records have data with names in it, and how that data is laid out.
+//! The types of records that have names in their data, and the layout of that data.
 
 ghost use Rattle.std.specs.Prelude.{◌≡◌};
 ghost use Rattle.message_reading.specs.Shapes.{shape_of};
@@ -13,14 +13,14 @@ pub enum Part {
     Name,
     /// Two octets.
     Number16,
-    /// The numbers of an SOA behind its names: SERIAL, REFRESH, RETRY, EXPIRE, MINIMUM, of four octets each (RFC 1035
-    /// 3.3.13).
+    /// The numbers of an SOA after its names: SERIAL, REFRESH, RETRY, EXPIRE, MINIMUM, of four
+    /// octets each (RFC 1035 3.3.13).
     SoaNumbers,
     /// A character-string: a length octet and that many octets (RFC 1035 3.3).
     Text,
 }
 
-/// How the data of a type is laid out.
+/// The layout of the data of a type.
 #[derive(Drop)]
 pub struct Shape {
     /// The parts from left to right; they fill the data.

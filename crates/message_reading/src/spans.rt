@@ -1,4 +1,4 @@
-//! Where the records of a message lie.
+//! The places of the records of a message.
 
 ghost use Rattle.std.specs.Iterator.{YieldsFirst, item_count};
 ghost use Rattle.std.specs.Prelude.{◌≡◌, ◌≤◌, ◌∷◌, [], MatchOption, length};
@@ -18,18 +18,18 @@ const AUTHORITY: u8 = 1;
 /// The number of the additional section.
 const ADDITIONAL: u8 = 2;
 
-/// Where a record lies in a message, in octets from its front.
+/// The place of a record in a message, in octets from its front.
 #[derive(Clone, Copy, Debug, PartialEq, Eq)]
 pub struct Span {
     /// The first octet of its owner's name.
     pub start: usize,
-    /// The first octet behind its data.
+    /// The first octet after its data.
     pub end: usize,
     /// 0 for answers, 1 for authority, 2 for additional.
     pub section: u8,
 }
 
-/// How many records of each section are left.
+/// The number of records that are left in each section.
 #[derive(Clone, Copy)]
 pub(crate) struct Left {
     pub answers: u16,
@@ -71,7 +71,7 @@ fn next_section(left: Left) -> Option<(u8, Left)>
     None
 }
 
-/// How many of the counted records can be read, from a place on up to the first that can't be.
+/// The number of counted records that can be read, from a place on up to the first that can't be.
 #[tactic(auto, using(crate::proofs::SpanLaws::one_counted_here, crate::proofs::SpanLaws::none_counted_here, crate::proofs::SpanLaws::none_counted, crate::proofs::SpanLaws::sections_counted))]
 fn readable_records(bytes: &[u8], sizes: &mut [u8], offset: usize, left: Left) -> usize
     requires { AreSizes bytes.now sizes.old }
@@ -90,14 +90,15 @@ fn readable_records(bytes: &[u8], sizes: &mut [u8], offset: usize, left: Left) -
     count
 }
 
-/// The spans of the records that can be read, in order. It takes no memory, and each step takes as long as the octets
-/// of the owner's own name: how many can be read was counted when it was made, so no pointer is followed.
+/// The spans of the records that can be read, in order. It does not allocate. A step takes time in
+/// proportion to the octets of the owner's own name: the number of readable records was counted
+/// before, so no pointer is followed.
 #[derive(Drop)]
 pub struct Records<'a> {
     bytes: &'a [u8],
     offset: usize,
     left: Left,
-    /// How many of those left can be read.
+    /// The number of those left that can be read.
     readable: usize,
 }
 
@@ -140,8 +141,8 @@ impl<'a> Iterator for Records<'a> {
     }
 }
 
-/// The spans of the records of a message, with the octets of the names that pointers lead to remembered
-/// in `sizes`.
+/// The spans of the records of a message, with the octets of the names that pointers lead to
+/// remembered in `sizes`.
 #[tactic(auto, unfolding(crate::specs::Spans::spans_of, crate::specs::Spans::spans_at))]
 fn records_with<'a>(bytes: &'a [u8], sizes: &mut [u8]) -> Records<'a>
     requires header { 12 ≤ length bytes.now }
@@ -176,8 +177,10 @@ fn records_with<'a>(bytes: &'a [u8], sizes: &mut [u8]) -> Records<'a>
     }
 }
 
-/// `records_with` of a message that may have many pointers to one name.
+/// `records_with` of a message that may have many pointers to one name. Out of line, as its 16 KiB
+/// are for few messages.
 #[tactic(auto, using(message_names::proofs::CallerLemmas::zeros_are_sizes))]
+#[inline(never)]
 fn records_in_large<'a>(bytes: &'a [u8]) -> Records<'a>
     requires { 12 ≤ length bytes.now }
     ensures { result ≡ spans_of bytes.now }

@@ -1,4 +1,4 @@
-//! A message that is looked at where it lies. Nothing here takes memory but what makes a value.
+//! A message that is read in place. Nothing here allocates but what makes a value.
 
 ghost use Rattle.std.specs.Prelude.{◌≡◌, ◌↔◌, IsTrue, IsOk, Ok, Err, Some, MatchResult, MatchOption, IfOk};
 ghost use Rattle.message_names.specs.Reading.{Gives, behind};
@@ -25,7 +25,7 @@ use message_names::{Fault, PLACES, SMALL, key_at, number16, skip_same_name};
 use std::alloc::Allocator;
 use std::marker::Model;
 
-/// The place behind the first question, where header and first question can be read.
+/// The place after the first question, where header and first question can be read.
 #[tactic(auto, unfolding(crate::specs::Messages::first_question), using(crate::proofs::MessageLaws::question_read, crate::proofs::MessageLaws::question_fault))]
 fn first_question_end(bytes: &[u8]) -> Result<usize, Fault>
     ensures first { MatchResult result (λ _. IsOk (first_question bytes.now)) (λ fault. first_question bytes.now
@@ -42,7 +42,7 @@ fn first_question_end(bytes: &[u8]) -> Result<usize, Fault>
     Ok(end)
 }
 
-/// The first question is this one, letter case aside.
+/// Whether the first question is this one, letter case aside.
 #[tactic(auto, unfolding(crate::specs::Messages::first_question, crate::specs::Records::question_at, crate::specs::Records::octets_end))]
 fn first_question_is<A: Allocator>(bytes: &[u8], question: &Question<A>) -> bool
     requires { IsViewed bytes.now }
@@ -57,8 +57,8 @@ fn first_question_is<A: Allocator>(bytes: &[u8], question: &Question<A>) -> bool
     number16(bytes, after) == question.kind && number16(bytes, end - 2) == question.class
 }
 
-/// The place behind the last counted record, with the octets of the names that pointers lead to remembered in `sizes`.
-/// The first question was read before: it begins behind that.
+/// The place after the last counted record, with the octets of the names that pointers lead to
+/// remembered in `sizes`. The first question was read before: reading begins after it.
 #[tactic(auto, using(crate::proofs::MessageLaws::message_behind, crate::proofs::MessageLaws::others_behind, crate::proofs::MessageLaws::viewed_long, crate::proofs::MessageLaws::viewed_counts))]
 fn skip_sections(bytes: &[u8], sizes: &mut [u8], question_end: usize) -> Result<usize, Fault>
     requires viewed { IsViewedTo bytes.now question_end }
@@ -71,8 +71,10 @@ fn skip_sections(bytes: &[u8], sizes: &mut [u8], question_end: usize) -> Result<
     skip_records(bytes, sizes, at, number16(bytes, 10))
 }
 
-/// `skip_sections` of a message that may have many pointers to one name.
+/// `skip_sections` of a message that may have many pointers to one name. Out of line: inlined, its
+/// 16 KiB would be on the stack of every reply.
 #[tactic(auto, using(message_names::proofs::CallerLemmas::zeros_are_sizes))]
+#[inline(never)]
 fn skip_large_message(bytes: &[u8], question_end: usize) -> Result<usize, Fault>
     requires { IsViewedTo bytes.now question_end }
     ensures { result ≡ behind (message_at bytes.now) }
@@ -81,7 +83,7 @@ fn skip_large_message(bytes: &[u8], question_end: usize) -> Result<usize, Fault>
     skip_sections(bytes, &mut sizes, question_end)
 }
 
-/// The place behind the last counted record.
+/// The place after the last counted record.
 #[tactic(auto, using(message_names::proofs::CallerLemmas::no_table_is_sizes))]
 fn skip_message(bytes: &[u8], question_end: usize) -> Result<usize, Fault>
     requires { IsViewedTo bytes.now question_end }
@@ -93,7 +95,7 @@ fn skip_message(bytes: &[u8], question_end: usize) -> Result<usize, Fault>
     skip_sections(bytes, &mut [], question_end)
 }
 
-/// The message that the octets spell, where pointers lead remembered in `ends`.
+/// The message that the octets spell; the targets of pointers are remembered in `ends`.
 #[tactic(auto, unfolding(crate::specs::Messages::message_at))]
 fn read_sections<A: Allocator + Copy>(
     alloc: A,
@@ -119,8 +121,10 @@ fn read_sections<A: Allocator + Copy>(
     })
 }
 
-/// `read_sections` of a message that may have long chains of pointers.
+/// `read_sections` of a message that may have long chains of pointers. Out of line: inlined, its
+/// 32 KiB would be on the stack of every reply.
 #[tactic(auto, using(message_names::proofs::CallerLemmas::zeros_are_shortcuts))]
+#[inline(never)]
 fn read_large_message<A: Allocator + Copy>(alloc: A, bytes: &[u8]) -> Result<Message<A>, Fault>
     ensures { Gives (λ m. m) result (message_of bytes.now) }
 {
@@ -143,7 +147,7 @@ fn read_message<A: Allocator + Copy>(alloc: A, bytes: &[u8]) -> Result<Message<A
 #[derive(Drop)]
 pub struct MessageRef<'a> {
     bytes: &'a [u8],
-    /// The place behind the first question.
+    /// The place after the first question.
     question_end: usize,
 }
 
@@ -159,8 +163,9 @@ impl<'a> Model for MessageRef<'a> {
 }
 
 impl<'a> MessageRef<'a> {
-    /// Looks at octets as a message, at most 65,535 of them. `Err` is the first fault from the front: `Short` under 12
-    /// octets, `NoQuestion` where QDCOUNT is 0, else the fault of the first question. It takes no memory.
+    /// Views octets as a message, at most 65,535 of them. `Err` is the first fault from the front:
+    /// `Short` under 12 octets, `NoQuestion` where QDCOUNT is 0, otherwise the fault of the first
+    /// question. It does not allocate.
     pub fn view(bytes: &'a [u8]) -> Result<MessageRef<'a>, Fault>
         ensures same { IfOk result (λ message. message ≡ bytes.now) }
         ensures exact { MatchResult result (λ _. IsOk (first_question bytes.now)) (λ fault. first_question bytes.now
@@ -173,7 +178,7 @@ impl<'a> MessageRef<'a> {
         })
     }
 
-    /// The header. It takes no memory.
+    /// The header. It does not allocate.
     #[tactic(auto, unfolding(crate::specs::Header::header_of), using(crate::proofs::MessageLaws::viewed_long))]
     pub fn header(&self) -> Header
         ensures exact { header_of self.now ≡ Some result }
@@ -185,21 +190,21 @@ impl<'a> MessageRef<'a> {
         header
     }
 
-    /// The type of the first question. It takes no memory.
+    /// The type of the first question. It does not allocate.
     pub fn kind(&self) -> u16
         ensures { IfOk (first_question self.now) (λ question. result ≡ question.kind) }
     {
         number16(self.bytes, self.question_end - 4)
     }
 
-    /// The class of the first question. It takes no memory.
+    /// The class of the first question. It does not allocate.
     pub fn class(&self) -> u16
         ensures { IfOk (first_question self.now) (λ question. result ≡ question.class) }
     {
         number16(self.bytes, self.question_end - 2)
     }
 
-    /// The key of the first question's name. It takes no memory.
+    /// The key of the first question's name. It does not allocate.
     pub fn key(&self) -> NameKey
         ensures { IfOk (first_question self.now) (λ question. result ≡ lowered question.name) }
     {
@@ -209,7 +214,8 @@ impl<'a> MessageRef<'a> {
         }
     }
 
-    /// The first question has this name, letter case aside, this type and this class. It takes no memory.
+    /// Whether the first question has this name, letter case aside, this type and this class. It
+    /// does not allocate.
     pub fn question_is<A: Allocator>(&self, question: &Question<A>) -> bool
         ensures { IsTrue result ↔ QuestionIs (first_question self.now) question.now }
     {
@@ -225,8 +231,8 @@ impl<'a> MessageRef<'a> {
         Ok(question)
     }
 
-    /// The first question where it lies, if its name stands without a pointer (RFC 1035 4.1.4); `None` exactly where a
-    /// pointer stands for a part of the name. It takes no memory.
+    /// The first question, in place, if its name has no pointer (RFC 1035 4.1.4); `None` exactly
+    /// where a part of the name is a pointer. It does not allocate.
     pub fn question_ref(&self) -> Option<QuestionRef<'a>>
         ensures { MatchOption result (IfOk (first_question self.now)
             (λ question. IsUncompressed self.now 12 question.name → ⊥))
@@ -236,7 +242,7 @@ impl<'a> MessageRef<'a> {
         QuestionRef::at(self.bytes, 12, name_end, self.kind(), self.class())
     }
 
-    /// Header, counted questions and counted records can be read. It takes no memory.
+    /// Whether header, counted questions and counted records can be read. It does not allocate.
     #[tactic(auto, using(crate::proofs::WholeLaws::whole_where_read, crate::proofs::WholeLaws::read_where_whole))]
     pub fn is_whole(&self) -> bool
         ensures { IsTrue result ↔ IsWhole self.now }
@@ -244,8 +250,8 @@ impl<'a> MessageRef<'a> {
         skip_message(self.bytes, self.question_end).is_ok()
     }
 
-    /// The spans of the records that can be read, in order. It takes no memory, and with all of them about the time of
-    /// `is_whole`, also where many pointers lead to one name.
+    /// The spans of the records that can be read, in order. It does not allocate, and with all of
+    /// them takes about the time of `is_whole`, also where many pointers lead to one name.
     #[tactic(auto, using(crate::proofs::MessageLaws::viewed_long))]
     pub fn records(&self) -> Records<'a>
         ensures { result ≡ spans_of self.now }
@@ -253,8 +259,8 @@ impl<'a> MessageRef<'a> {
         records_in(self.bytes)
     }
 
-    /// The message that the octets spell, all counted questions and records. `Err` is `Memory`, or the first fault from
-    /// the front.
+    /// The message that the octets spell, all counted questions and records. `Err` is `Memory`, or
+    /// the first fault from the front.
     #[tactic(auto, using(crate::proofs::ShapeLaws::read_shaped))]
     pub fn read_whole<A: Allocator + Copy>(&self, alloc: A) -> Result<Message<A>, Fault>
         ensures exact { Gives (λ message. message) result (message_of self.now) }

@@ -28,10 +28,10 @@ fn data_is_a_name_or_none(rt: HostRuntime) -> Result<(), Fail> {
     Ok(())
 }
 
-/// How many octets data has that is made of a vector: up to 30 lie in place.
+/// Numbers of octets of data that is made of a vector: up to 30 are kept in place.
 const LENGTHS: [u16; 4] = [3, 30, 31, 300];
 
-/// So many octets, which count up.
+/// `length` octets, which count up.
 fn counting<A: Allocator>(alloc: A, length: u16) -> Result<Vec<u8, A>, AllocError> {
     let mut octets = Vec::new(alloc);
     for place in 0..length {
@@ -40,7 +40,7 @@ fn counting<A: Allocator>(alloc: A, length: u16) -> Result<Vec<u8, A>, AllocErro
     Ok(octets)
 }
 
-/// Whether data of a vector of so many octets has these octets, where no growth is granted.
+/// Whether data of a vector of `length` octets has these octets, where no allocation is granted.
 fn is_made_in_place(heap: &Refusing<Global>, length: u16) -> Result<bool, AllocError> {
     heap.allow(u64::MAX);
     let octets = counting(heap, length)?;

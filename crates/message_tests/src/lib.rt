@@ -1,5 +1,6 @@
-//! Tests of messages from outside: octets of worked replies, faults in order, refused growths, and a sweep over changed
-//! messages, in which the judging without memory agrees with the reading, and what is read is written and read again.
+//! Tests of messages from outside: octets of worked replies, faults in order, refused allocations,
+//! and a sweep over changed messages, in which judging without allocation agrees with reading, and
+//! messages that were read are written and read again.
 #![tactic(auto)]
 
 #[cfg(test)]

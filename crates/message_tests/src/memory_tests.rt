@@ -1,5 +1,5 @@
-//! Each growth that a call wants is refused in turn, alone and with each one behind it, until what the call gives is
-//! right: copies are compared with what they copy.
+//! Each allocation of a call is refused in turn, alone and with each one after it, until the call
+//! returns the right value: copies are compared with what they copy.
 
 use crate::equal::{is_equal_question, is_equal_record};
 use crate::messages::{LONG_REPLY, LONG_TEXT, REPLY};
@@ -8,7 +8,7 @@ use refusing_allocator::Refusing;
 use std::alloc::{AllocError, Global};
 use std::test::Fail;
 
-/// A call that takes memory.
+/// A call that allocates.
 #[derive(Clone, Copy)]
 enum Call {
     Question,
@@ -20,11 +20,12 @@ enum Call {
     Write,
 }
 
-/// Each call, the message that it is over, and how many growths it wants at least and at most.
+/// Each call, the message that it is over, and the least and the most allocations that it makes.
 ///
-/// What lies in place wants none. Of what doesn't a copy wants one for each list of octets; a message that is read
-/// one for the name of its question, one for an owner, one for the data, and, as each message, one for each of the
-/// two lists; one that is written one for its octets, and one for the names in it where they are more than 16.
+/// Octets in place need none. Of others a copy needs one for each list of octets; a message that is
+/// read one for the name of its question, one for an owner, one for the data, and, as each message,
+/// one for each of the two lists; one that is written one for its octets, and one for the names in
+/// it where they are more than 16.
 const CALLS: [(Call, &[u8], u64, u64); 17] = [
     (Call::Question, REPLY, 0, 0),
     (Call::Question, LONG_REPLY, 1, 1),
@@ -45,14 +46,14 @@ const CALLS: [(Call, &[u8], u64, u64); 17] = [
     (Call::Write, LONG_REPLY, 2, 60),
 ];
 
-/// Which growth is refused, counted from 0, and whether it is alone.
+/// The allocation that is refused, counted from 0, and whether it is alone.
 #[derive(Clone, Copy)]
 struct Refused {
     growth: u64,
     is_alone: bool,
 }
 
-/// From now on this growth is refused.
+/// From now on this allocation is refused.
 fn refuse(heap: &Refusing<Global>, refused: Refused) {
     if refused.is_alone {
         heap.refuse_one(refused.growth);
@@ -75,7 +76,8 @@ fn copy_question(heap: &Refusing<Global>, octets: &[u8], refused: Refused) -> Re
     Ok(is_equal_question(&question, &copy))
 }
 
-/// Copies a record, or its data, or takes the name out of that, which ends with a zero octet where it is one.
+/// Copies a record, or its data, or takes the name out of that, which ends with a zero octet where
+/// it is one.
 fn copy_record<'a>(
     heap: &'a Refusing<Global>,
     call: Call,
@@ -119,8 +121,8 @@ fn write_message(heap: &Refusing<Global>, octets: &[u8], refused: Refused) -> Re
     Ok(write(heap, &message, 512)?.as_slice() == octets)
 }
 
-/// Makes a call, with ample memory for what it is handed; whether what it gives is right. `Memory` where a growth was
-/// refused.
+/// Makes a call, with ample memory for its arguments; returns whether its value is right. `Memory`
+/// where an allocation was refused.
 fn make(
     heap: &Refusing<Global>,
     call: Call,
@@ -139,8 +141,8 @@ fn make(
     }
 }
 
-/// How many growths a call is refused one after another until it is made right; 64 where it is not, or where
-/// something else than want of memory is told.
+/// The number of allocations of a call that are refused one after another until it is made right;
+/// 64 where it is not, or on any fault but out of memory.
 fn growths_of(heap: &Refusing<Global>, call: Call, octets: &[u8], is_alone: bool) -> u64 {
     for growth in 0..64u64 {
         match make(heap, call, octets, Refused { growth, is_alone }) {
@@ -165,7 +167,7 @@ fn each_refused_growth_is_want_of_memory(rt: HostRuntime) {
     }
 }
 
-/// A reply with so many answers, and a name more, no two of which are equal: `a` is asked for.
+/// A reply with `answers` answers, and a name more, no two of which are equal: `a` is asked for.
 fn with_answers(alloc: Global, answers: u8) -> Result<Vec<u8>, AllocError> {
     let mut octets = Vec::from_slice(alloc, b"\x12\x34\x85\x00\x00\x01\x00")?;
     octets.push(answers)?;

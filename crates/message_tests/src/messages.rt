@@ -4,13 +4,14 @@
 pub const REPLY: &[u8] =
     b"\x00\x08\x85\x00\x00\x01\x00\x01\x00\x00\x00\x00\x01a\x07example\x00\x00\x01\x00\x01\xc0\x0c\x00\x01\x00\x01\x00\x00\x01\x2c\x00\x04\xc63d\x05";
 
-/// A reply with names that don't lie in place: a question for a name of 20 labels, and its alias to another one of
-/// 20, which differs from it in the first.
+/// A reply with names that are not kept in place: a question for a name of 20 labels, and its alias
+/// to another one of 20, which differs from it in the first.
 pub const LONG_REPLY: &[u8] =
     b"\x00\x08\x85\x00\x00\x01\x00\x01\x00\x00\x00\x00\x01a\x01a\x01a\x01a\x01a\x01a\x01a\x01a\
 \x01a\x01a\x01a\x01a\x01a\x01a\x01a\x01a\x01a\x01a\x01a\x01a\x00\x00\x01\x00\x01\xc0\x0c\x00\x05\x00\x01\x00\x00\x01\x2c\x00\x04\x01b\xc0\x0e";
 
-/// A reply whose data has 300 octets: a.example has a text of two strings, 254 and 44 times the letter `a`.
+/// A reply whose data has 300 octets: a.example has a text of two strings, 254 and 44 times the
+/// letter `a`.
 pub const LONG_TEXT: &[u8] =
     b"\x00\x08\x85\x00\x00\x01\x00\x01\x00\x00\x00\x00\x01a\x07example\x00\x00\x10\x00\x01\xc0\x0c\x00\x10\x00\x01\
 \x00\x00\x01\x2c\x01\x2c\xfe\

@@ -13,7 +13,7 @@ const FAULTS: [(&str, Fault); 12] = [
     ),
     // A question's name that points to itself.
     ("000885000001000000000000c00c00010001", Fault::Pointer),
-    // An owner that points to itself, and one that points behind itself.
+    // An owner that points to itself, and one that points to a place after itself.
     (
         "0008850000010001000000000161076578616d706c650000010001c01b000100010000012c0004c6336405",
         Fault::Pointer,
@@ -26,7 +26,8 @@ const FAULTS: [(&str, Fault); 12] = [
         "0008850000010001000000000161076578616d706c6500000100014061000100010000012c0004c6336405",
         Fault::LabelForm,
     ),
-    // Aliases: an octet left over, an octet too few, twice, an octet that is not there, a pointer to itself.
+    // Aliases: an octet left over, an octet too few, twice, an octet that is not there, a pointer
+    // to itself.
     (
         "0008850000010001000000000161076578616d706c650000010001c00c000500010000003c0003c00c00",
         Fault::Rdata,
@@ -58,7 +59,7 @@ fn decoded(alloc: Global, digits: &str) -> Result<Vec<u8>, Fail> {
     Ok(hex::decode(alloc, digits)?)
 }
 
-/// What `view`, and then `read_whole`, refuses octets with.
+/// The fault with which `view`, and then `read_whole`, refuses octets.
 fn fault_of(alloc: Global, octets: &[u8]) -> Option<Fault> {
     match MessageRef::view(octets) {
         Err(fault) => Some(fault),
@@ -75,8 +76,8 @@ fn the_first_fault_is_told(rt: HostRuntime) -> Result<(), Fail> {
     Ok(())
 }
 
-/// Owners that end with a name of 127 labels, at the offset 12, or with its last 126, at 14; and how many labels they
-/// have, or the fault: one has 255 octets, the others 257 and 256.
+/// Owners that end with a name of 127 labels, at the offset 12, or with its last 126, at 14; and
+/// the number of their labels, or the fault: one has 255 octets, the others 257 and 256.
 const LONG_OWNERS: [(&[u8], Result<usize, Fault>); 3] = [
     (b"\x01a\xc0\x0e", Ok(127)),
     (b"\x01a\xc0\x0c", Err(Fault::NameLong)),
@@ -95,7 +96,7 @@ fn under_127_labels(alloc: Global, owner: &[u8]) -> Result<Vec<u8>, Fail> {
     Ok(octets)
 }
 
-/// How many labels the owner of the only answer has.
+/// The number of labels of the owner of the only answer.
 fn labels_of_owner(alloc: Global, octets: &[u8]) -> Result<usize, Fault> {
     let message = MessageRef::view(octets)?.read_whole(alloc)?;
     match message.answers.as_slice() {
@@ -113,7 +114,7 @@ fn a_name_has_at_most_255_octets(rt: HostRuntime) -> Result<(), Fail> {
     Ok(())
 }
 
-/// What is said of each fault.
+/// The text of each fault.
 const SAID: [(Fault, &str); 8] = [
     (Fault::Short, "the octets end too soon"),
     (Fault::LabelForm, "no label and no pointer begins so"),

@@ -4,10 +4,11 @@ use dns_message::{Fault, MessageRef, write};
 use std::alloc::Global;
 use std::test::Fail;
 
-/// A type; its data in a message, where a.example stands at 12 and example at 14; the data written out in full; and the
-/// data as it is written again: with pointers where RFC 1035 3.3 has the type, in full where a later document has it
-/// (RFC 3597 4), and unchanged where the type has no name. Behind a number stands a label of two octets, which with its
-/// length is no number of 16 bits: so data with a number more is told apart.
+/// A type; its data in a message, where a.example is at 12 and example at 14; the data written out
+/// in full; and the data as it is written again: with pointers where RFC 1035 3.3 has the type, in
+/// full where a later document has it (RFC 3597 4), and unchanged where the type has no name. After
+/// a number comes a label of two octets, which with its length is no number of 16 bits: so data
+/// with a number more is distinguished.
 const WORKED: [(u16, &str, &str, &str); 22] = [
     // NS, MD, MF, CNAME, MB, MG, MR, PTR: a name (RFC 1035 3.3).
     (2, "0162c00e", "0162076578616d706c6500", "0162c00e"),

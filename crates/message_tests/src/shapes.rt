@@ -1,5 +1,5 @@
-//! Messages with record data of every shape, by the layouts of RFC 1035 3.3, RFC 1183, RFC 2163, RFC 2782, RFC 3403 and
-//! RFC 3596.
+//! Messages with record data of every shape, by the layouts of RFC 1035 3.3, RFC 1183, RFC 2163,
+//! RFC 2782, RFC 3403 and RFC 3596.
 
 /// In hexadecimal digits.
 pub const SHAPES: [&str; 21] = [

@@ -9,7 +9,7 @@ use rand_pcg::Pcg32;
 use std::alloc::{AllocError, Global};
 use std::test::Fail;
 
-/// How many changed messages are tried.
+/// The number of changed messages that are tried.
 const CHANGED: u32 = 20_000;
 
 /// Octets that mean something in a message: root, lengths, pointers, types.
@@ -19,7 +19,7 @@ fn octets_of(alloc: Global, digits: &str) -> Result<Vec<u8>, Fail> {
     Ok(hex::decode(alloc, digits)?)
 }
 
-/// Whether judging the octets without memory says the same as reading them whole.
+/// Whether judging the octets without allocating agrees with reading them whole.
 fn judging_agrees(alloc: Global, octets: &[u8]) -> Result<bool, AllocError> {
     let Ok(view) = MessageRef::view(octets) else {
         return Ok(true);

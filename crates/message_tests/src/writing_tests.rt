@@ -60,7 +60,7 @@ const WORKED: [(&str, &str); 4] = [
         "123481800001000200000000016804636f7270076578616d706c650000010001c00c0005000100000000000a03777777047465737400c02c000100010000\
          00000004cb007163",
     ),
-    // Another letter case is another name: the label is written, the end behind it is a pointer.
+    // Another letter case is another name: the label is written, the end after it is a pointer.
     (
         "0002818000010001000000000141076578616d706c65000001000101610765\
          78616d706c6500000100010000012c0004c6336405",
@@ -105,12 +105,12 @@ fn two_spellings_are_one_message(rt: HostRuntime) -> Result<(), Fail> {
     Ok(())
 }
 
-/// How many octets stand in front of a name that comes twice, besides 28, and its second place: a pointer leads to
-/// the offset 16,383 at most (RFC 1035 4.1.4).
+/// The number of octets before a name that comes twice, besides 28, and its second place: a pointer
+/// leads to the offset 16,383 at most (RFC 1035 4.1.4).
 const LAST_PLACES: [(u16, &[u8]); 2] = [(16355, b"\xff\xff"), (16356, b"\x01x\x00")];
 
-/// A reply whose first answer has so many octets of data, and two answers of one owner behind it: `x`, and as it is
-/// given.
+/// A reply whose first answer has `length` octets of data, followed by two answers of one owner:
+/// `x`, and as it is given.
 fn behind_a_filler(alloc: Global, length: u16, owner: &[u8]) -> Result<Vec<u8>, Fail> {
     let mut octets = hex::decode(
         alloc,

@@ -1,4 +1,4 @@
--- What the proofs of crates above cite of messages that are written.
+-- Lemmas about messages that are written, which the proofs of crates above cite.
 use Rattle.std.proofs.Common.{ℕ, ◌+◌, ◌<◌, ◌≤◌, List, [], length, Option}
 use Rattle.std.specs.Option.{IfSome}
 use Rattle.dns_name.specs.Labels.{IsName}
@@ -15,8 +15,8 @@ use Rattle.message_writing.proofs.Reading as reading
 use Rattle.message_writing.proofs.Short as short
 use Rattle.message_writing.proofs.RoundTripMessage as round
 
--- What is written of a message spells it, where its header counts its lists, its data is of its types' shapes, and the
--- octets are no more than a message can have.
+-- The octets written for a message spell it, where its header counts its lists, its data is of its
+-- types' shapes, and the octets are no more than a message can have.
 pub written_message_is_spelled : (message : Message) → IsMessage message → IsCounted message → HasShapes message → length (written message) ≤ 65535 → Spells (written message) message
 written_message_is_spelled = round.message_spelled
 

@@ -10,13 +10,13 @@ use Rattle.message_names.proofs.CallerLemmas.{bounded_name_read_stands, bounded_
 use Rattle.message_reading.specs.declared.shape.Part.TheVariants.{Name}
 use Rattle.message_writing.specs.Fields.{first_field}
 
--- labels that stand from a place on, up to e, and fit behind what stands before them
+-- labels from a place on, up to e, that fit after those before them
 pub record Fits (xs : List ℕ) (o e : ℕ) : Type 0 where
   pub labels : List (List ℕ)
   pub at : NameAt xs o 0 labels e
   pub short : o + size_of labels ≤ 255
 
--- the name in front is what stands from o on, behind labels
+-- the name in front goes on at o, after its first labels
 pub record GoesBy (xs : List ℕ) (o : ℕ) : Type 0 where
   pub back : (e : ℕ) → Fits xs o e → Fits xs 0 e
   pub on : (e : ℕ) → Fits xs 0 e → Fits xs o e
@@ -32,7 +32,7 @@ begins_inside xs o f e ls (at_pointer high inside back rest here) = omega arith
 label_size : (xs l : List ℕ) (o len : ℕ) → o + 1 + len ≤ length xs → l ≡ take len (drop (o + 1) xs) → length l ≡ len
 label_size xs l o len inside is = omega (arith, ap length is, length-take len (drop (o + 1) xs), length-drop (o + 1) xs)
 
--- a label stands at o
+-- a label is at o
 pub label_goes : (xs : List ℕ) (o p : ℕ) → 0 < get_or xs o 0 → get_or xs o 0 ≤ 63 → p ≡ o + (get_or xs o 0 + 1) → GoesBy xs o → GoesBy xs p
 label_goes xs o p some short next so_far = record { back = λ e fits. so_far.back e (longer e fits); on = λ e fits. shorter e (so_far.on e fits) }
   where
@@ -58,14 +58,14 @@ label_goes xs o p some short next so_far = record { back = λ e fits. so_far.bac
     shorter : (e : ℕ) → Fits xs o e → Fits xs p e
     shorter e fits = shorter_by e fits.labels fits.at fits.short
 
--- the zero octet stands at o
+-- the zero octet is at o
 pub ends_at : (xs : List ℕ) (o : ℕ) → o < length xs → o < 255 → get_or xs o 0 ≡ 0 → GoesBy xs o → Ok (o + 1) ≡ behind (name_within xs (inside (length xs)) 0)
 ends_at xs o in_ short none so_far =
     let whole = so_far.back (o + 1) (record { labels = []; at = at_root in_ none refl; short = omega (arith, short) }) in
     let fit = whole.short in
     rw (bounded_standing_name_is_read xs (inside (length xs)) 0 whole.labels (o + 1) whole.at (omega (arith, fit)) (omega (arith, in_))) refl
 
--- where nothing stands at o that ends or goes on, there is no name
+-- where nothing at o ends or goes on, there is no name
 pub no_name : (xs : List ℕ) (o : ℕ) → ((e : ℕ) → Fits xs o e → ⊥) → GoesBy xs o → first_field Name xs ≡ None
 unfolding first_field
 no_name xs o nothing so_far = none_by (name_within xs (inside (length xs)) 0) refl

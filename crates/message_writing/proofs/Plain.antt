@@ -55,7 +55,7 @@ left_first left others part xs first behind split h some =
     let is : is_some (fields_of (part ∷ others) xs) ≡ true = rw split at some in
     rw split (part_left part others xs first behind h is)
 
--- ---- octets without a name stand as they are
+-- ---- octets without a name stay as they are
 
 both_as_is : (xs ys : List ℕ) → (as_is xs ▹ as_is ys) ≡ as_is (xs ++ ys)
 unfolding ◌▹◌
@@ -124,7 +124,7 @@ parts_size (SoaNumbers ∷ []) size xs is some = by_test (nat_lt (length xs) 20)
         let twenty : 20 ≡ size = cc in
         omega (arith, none, length-drop 20 xs, enough (length xs) 20 long, twenty)
 
--- where the parts behind a name have one size, the name ends where they begin
+-- where the parts after a name have one size, the name ends where they begin
 pub ends_before : (others : List Part) (size : ℕ) (xs : List ℕ) → size_of_parts others ≡ Some size → is_some (fields_of (Name ∷ others) xs) ≡ true
     → (size ≤ length xs) × (Ok (length xs - size) ≡ behind (name_within xs (inside (length xs)) 0))
 unfolding first_field

@@ -1,4 +1,4 @@
--- What was written stands there: the data of records.
+-- The data of records that was written is there.
 use Rattle.std.proofs.Common.{◌≡◌, ℕ, ◌+◌, ◌≤◌, Bool, true, false, cond, List, [], ◌∷◌, ◌++◌, length, take, drop, get_or, Option, Some, None, refl, sym, ap, subst, ◌∙◌, append_assoc, arith}
 use Rattle.std.specs.List.{AllByRecursion}
 use Rattle.std.specs.Prelude.{IsTrue, is_some}
@@ -58,7 +58,7 @@ parts_here (part ∷ parts) xs all front more stop (more_parts first rest is_par
 
 -- ---- parts written field by field
 
--- what is written of a part stands there
+-- what is written of a part is there
 record Made (part : Part) (first rest : List ℕ) : Type 0 where
   field : Field
   is : first_field part (first ++ rest) ≡ Some (field, rest)
@@ -99,7 +99,7 @@ made String first rest (text, is) =
           (rw here (octets_stand all t (label_octets text) (length text + 1) stop (omega arith) b le), as_is_stands all t (label_octets text) stand);
     })
 
--- what is written of the parts stands there
+-- what is written of the parts is there
 pub record Fielded (parts : List Part) (xs : List ℕ) : Type 0 where
   pub fields : List Field
   pub is : fields_of parts xs ≡ Some fields
@@ -179,7 +179,7 @@ data_by (Some shape) rdata all t shaped stand b = by_flag shape.compressed b
     by_flag true b' = fields_stand shape.parts rdata all t (fielded shape.parts rdata shaped) stand b'
     by_flag false b' = plain_stands shape.parts false rdata all t shaped stand b'
 
--- the data that was written stands there
+-- the data that was written is there
 pub data_stands : (kind : ℕ) (rdata all : List ℕ) (t : Text) (len : ℕ) → IsShaped kind rdata → PlacesStand all t → Begins all (after t (data_text kind rdata)).octets
     → length (after t (data_text kind rdata)).octets ≡ length t.octets + len → DataAt kind all (length t.octets) len rdata × PlacesStand all (after t (data_text kind rdata))
 unfolding data_text

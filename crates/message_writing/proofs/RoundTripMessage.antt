@@ -1,4 +1,4 @@
--- What was written stands there: questions, records and whole messages.
+-- The questions, records and whole messages that were written are there.
 use Rattle.std.proofs.Common.{◌≡◌, ℕ, ◌+◌, ◌*◌, ◌/◌, ◌%◌, ◌<◌, ◌≤◌, Bool, true, false, List, [], ◌∷◌, ◌++◌, length, drop, get_or, Some, Result, Ok, Err, refl, sym, ap, subst, ◌∙◌, append_assoc, arith}
 use Rattle.std.specs.Prelude.{OnOk}
 use Rattle.std.specs.List.{AllByRecursion}
@@ -78,14 +78,14 @@ question_stands all q t is stand b =
 
 -- ---- records
 
--- data behind its length is the length, and the data behind it
+-- data after its length is the length, followed by the data
 with_length_is : (t : Text) (w : Writing) → after t (with_length w) ≡ after (after t (as_is (octets16 (length (w t.places (length t.octets + 2)).octets)))) w
 unfolding after with_length
 with_length_is t w =
     let text : List ℕ = (w t.places (length t.octets + 2)).octets in
     rw (append-nil t.places, length-append t.octets (octets16 (length text)), append_assoc t.octets (octets16 (length text)) text) refl
 
--- what was written of the head stands there, and the places go on standing
+-- what was written of the head is there, and the places stay
 record HeadStands (all : List ℕ) (r : Record) (t h : Text) : Type 0 where
   after : ℕ
   owner : NameAt all (length t.octets) (length t.octets) r.owner after

@@ -8,7 +8,7 @@ use Rattle.message_reading.specs.Values.{Question, Message}
 use Rattle.message_writing.specs.Borrowed.{message_of}
 use Rattle.message_writing.specs.Writing.{Place, Writing, as_is, ◌▹◌, each, octets16, pointer_or, label_text, name_text, question_text, record_text, header_text, written, place_of}
 
--- wherever it is written, it has at most so many octets
+-- wherever it is written, it has at most `most` octets
 abbrev Short : ℕ → Writing → Type 0
 Short most w = (places : List Place) (o : ℕ) → length (w places o).octets ≤ most
 

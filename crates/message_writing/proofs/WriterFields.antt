@@ -18,7 +18,7 @@ use Rattle.message_writing.specs.Writer.{field_in, IsFirst}
 
 -- ---- a name that no pointer can end
 
--- a name without a pointer stands there in full
+-- a name without a pointer is there in full
 pub record InFull (bytes : List ℕ) (o e : ℕ) (ls : List (List ℕ)) : Type 0 where
   pub octets : drop o bytes ≡ octets_of ls ++ (0 ∷ drop e bytes)
   pub each : AllByRecursion IsLabel ls
@@ -72,7 +72,7 @@ pub name_first : (xs : List ℕ) (e : ℕ) → InFront xs e → IsFirst Name xs 
 unfolding first_field
 name_first xs e front = record { is = rw front.is refl; laid = λ same. front.laid }
 
--- ---- one part behind another
+-- ---- one part after another
 
 is_some_map : (f : Field) (o : Option (List Field)) → is_some (option_map (λ fields. f ∷ fields) o) ≡ is_some o
 is_some_map f None = refl

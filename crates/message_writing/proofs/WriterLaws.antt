@@ -1,4 +1,4 @@
--- What a writer holds after something more was written.
+-- The state of a writer after something more was written.
 use Rattle.std.proofs.Common.{◌≡◌, ℕ, ◌+◌, ◌-◌, ◌<◌, ◌≤◌, Bool, true, false, cond, ◌&&◌, leb, take, List, [], ◌∷◌, ◌++◌, length, Option, Some, None, refl, sym, ap, ◌∙◌, append_assoc, arith}
 use Rattle.std.specs.Bool.{Decides}
 use Rattle.std.specs.Option.{option_map, IfSome}
@@ -12,9 +12,9 @@ use Rattle.message_writing.specs.declared.writer.Writer.{Writer}
 use Rattle.message_writing.specs.Writing.{Place, Text, Writing, as_is, after, ◌▹◌, labels_eq, place_of, pointer_to, octets16, places_at, label_text, name_text}
 use Rattle.message_writing.specs.Writer.{Holds, HoldsText, Writes, IsKnown, IsPutIn, pointer_known, pointer_in}
 
--- ---- one thing behind another
+-- ---- one thing after another
 
--- what is written behind the one is written behind what it left
+-- writing both after a text is writing the second after the text with the first
 pub after_both : (t : Text) (a b : Writing) → after t (a ▹ b) ≡ after (after t a) b
 unfolding after ◌▹◌
 after_both t a b =
@@ -37,7 +37,7 @@ after_octets : (t : Text) (xs ys : List ℕ) → after (after t (as_is xs)) (as_
 unfolding after
 after_octets t xs ys = rw (append_assoc t.octets xs ys, append-nil t.places, append-nil t.places) refl
 
--- octets that are written at once are written one behind another
+-- octets that are written at once are written one after another
 pub in_turn : {A : Type 0} (old new : Writer A) (a : Writing) (xs ys : List ℕ) → Writes old new (a ▹ as_is (xs ++ ys)) → Writes old new (a ▹ as_is xs ▹ as_is ys)
 in_turn old new a xs ys step t h =
     let apart : after t (a ▹ as_is xs ▹ as_is ys) ≡ after t (a ▹ as_is (xs ++ ys)) =
@@ -46,7 +46,7 @@ in_turn old new a xs ys step t h =
 
 -- ---- on the way
 
--- the writer holds a text behind which what is left gives the goal
+-- the writer holds a text that becomes the goal once what is left is written
 pub record Reaches {A : Type 0} (now : Writer A) (left : Writing) (goal : Text) : Type 0 where
   pub text : Text
   pub holds : Holds now text
@@ -180,14 +180,15 @@ known_left ps octets label rest pointer laid labels known u into =
         let e : pointer_to p ≡ pointer = cc in
         rw (labels, ← e) (pointer_left u label rest p (rw labels at there))
 
--- the text that stands once a name's front is written, and these pointers are those into it
+-- the text once a name's front is written, and these pointers are those into it
 pub record Ahead {A : Type 0} (ps : Pointers A) (front : List ℕ) (left : Writing) (start goal : Text) : Type 0 where
   pub text : Text
   pub octets : text.octets ≡ start.octets ++ front
   pub into : PointInto ps text.places
   pub rest : after text left ≡ goal
 
--- the ends of a name are looked up and remembered down to this one, and none of its octets is written
+-- the ends of a name are looked up and remembered down to this one, and none of its octets is
+-- written
 pub record OnTheWay {A : Type 0} (start now : Writer A) (name end : List ℕ) (is_first : Bool) : Type 0 where
   pub front : List ℕ
   pub whole : name ≡ front ++ end
@@ -206,7 +207,7 @@ way_begins w name is_first laid none = record {
   left = λ t h. record { text = t; octets = sym (append-nil t.octets); into = h.pointers; rest = refl };
 }
 
--- the end is its first label and the end behind it
+-- the end is its first label and the end after it
 end_splits : (end label behind : List ℕ) → IsLaidOut end → Splits end label behind → end ≡ label_octets label ++ behind
 end_splits end label behind laid splits =
     let same : octets_of (labels_of end) ≡ label_octets label ++ octets_of (labels_of behind) = ap octets_of splits.labels in
@@ -238,7 +239,7 @@ way_goes_on start now next name end label behind is_first offset way splits unkn
 pub all_of : (name end : List ℕ) → end ≡ [] → name ≡ take (length name - length end) name
 all_of name end none = sym (take_all (length name - length end) name (omega (arith, ap length none)))
 
--- the octets of the front are written, and what stands for the end
+-- the octets of the front are written, and what is written for the end
 pub way_ends : {A : Type 0} (start now mid new : Writer A) (name end front last : List ℕ) (is_first : Bool) → OnTheWay start now name end is_first → front ≡ take (length name - length end) name
     → mid.octets.items ≡ now.octets.items ++ front → mid.pointers ≡ now.pointers → ((u : Text) → PointInto now.pointers u.places → after u (name_text (labels_of end)) ≡ after u (as_is last)) → Writes mid new (as_is last)
     → Writes start new (name_text (labels_of name))
@@ -261,7 +262,7 @@ pointer_is_name w octets pointer laid known t h = is_by (labels_of octets) refl
         absurd (omega (arith, known.some, ap length empty))
     is_by (label ∷ rest) is = known_left w.pointers octets label rest pointer laid is known.is t h.pointers
 
--- a known name, and octets behind it
+-- a known name, followed by octets
 pub known_written : {A : Type 0} (old new : Writer A) (octets : List ℕ) (pointer : ℕ) (xs : List ℕ) → IsLaidOut octets → IsKnown old octets pointer → Writes old new (as_is (octets16 pointer ++ xs))
     → Writes old new (name_text (labels_of octets) ▹ as_is xs)
 known_written old new octets pointer xs laid known step t h =
@@ -277,7 +278,7 @@ place_stays (p ∷ ps) qs name o there = stays_by (labels_eq p.name name) (place
     stays_by true more is = is
     stays_by false more is = more is
 
--- what is written behind leaves the pointer of a name as it is
+-- what is written later leaves the pointer of a name as it is
 pub stays_known : {A : Type 0} (old new : Writer A) (w : Writing) (octets : List ℕ) (pointer : ℕ) → IsLaidOut octets → HoldsText old → Writes old new w → IsKnown old octets pointer → IsKnown new octets pointer
 unfolding after
 stays_known old new w octets pointer laid (t, h) step known = record { is = known_by (place_of t.places (labels_of octets)) refl; some = known.some }

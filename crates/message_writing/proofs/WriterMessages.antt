@@ -115,7 +115,7 @@ pub whole_done : {A : Type 0} (limit : ℕ) (done : Result (Unit {0}) Fault) (ol
 whole_done limit (Ok x) old new m fact empty puts = written_whole limit old new m empty puts.0 puts.1
 whole_done limit (Err fault) old new m fact empty refused = refused_whole limit fault old m empty refused
 
--- ---- a part that is refused, and more behind it
+-- ---- a part that is refused, and more after it
 
 pub refused_more : {A : Type 0} (limit : ℕ) (fault : Fault) (old : Writer A) (a b : Writing) → Refused limit fault old a → Refused limit fault old (a ▹ b)
 refused_more limit Memory old a b refused = tt

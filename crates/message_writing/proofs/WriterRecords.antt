@@ -1,4 +1,4 @@
--- Questions and records, written one behind another within a limit.
+-- Questions and records, written one after another within a limit.
 use Rattle.std.proofs.Common.{◌≡◌, ℕ, ◌+◌, ◌-◌, ◌<◌, ◌≤◌, List, [], ◌∷◌, ◌++◌, length, take, drop, get_or, refl, sym, ap, subst, ◌∙◌, append_assoc, arith}
 use Rattle.std.proofs.lemmas.List.{append-nil, length-append, length-take, length-drop, take_at, drop_at, drop_more, drop_all, take_all, take_more}
 use Rattle.message_names.specs.declared.fault.Fault.{Fault}
@@ -36,7 +36,7 @@ pub too_large : {A : Type 0} (limit : ℕ) (fault : Fault) (old new : Writer A) 
 too_large limit fault old new a step is passed =
     rw is (λ t h. omega (arith, passed, ap length (step t h).octets))
 
--- ---- a list, one behind another
+-- ---- a list, one thing after another
 
 pub each_at : {X : Type 0} (w : X → Writing) (xs : List X) (i : ℕ) (x : X) → i < length xs → x ≡ get_or xs i x → each w (drop i xs) ≡ (w x ▹ each w (drop (i + 1) xs))
 unfolding each
@@ -52,9 +52,9 @@ holds_on start mid left whole so_far (t, h) = let r = so_far t h in (r.text, r.h
 pub holds_after : {A : Type 0} (old new : Writer A) (a : Writing) → Writes old new a → HoldsText old → HoldsText new
 holds_after old new a step (t, h) = (after t a, step t h)
 
--- ---- data behind its length
+-- ---- data after its length
 
--- what is there once the data was written behind two zero octets
+-- the text once the data was written after two zero octets
 pub record Zeroed (t : Text) (w : Writing) : Type 0 where
   pub octets : (after (after t (as_is (0 ∷ 0 ∷ []))) w).octets ≡ (t.octets ++ 0 ∷ 0 ∷ []) ++ (w t.places (length t.octets + 2)).octets
   pub places : (after (after t (as_is (0 ∷ 0 ∷ []))) w).places ≡ t.places ++ (w t.places (length t.octets + 2)).places
@@ -66,7 +66,7 @@ zeroed t w = record {
   places = rw (append-nil t.places, length-append t.octets (0 ∷ 0 ∷ [])) refl;
 }
 
--- the length is that of what stands behind the two octets
+-- the length is that of what follows the two octets
 pub length_behind : (t : Text) (w : Writing) → length (after (after t (as_is (0 ∷ 0 ∷ []))) w).octets ≡ length t.octets + 2 + length (w t.places (length t.octets + 2)).octets
 length_behind t w =
     let z = zeroed t w in
@@ -82,7 +82,7 @@ length_set t w full xs start len start_is len_is full_is set =
     let behind : drop (start + 2) full ≡ text = ap (drop (start + 2)) (full_is ∙ (zeroed t w).octets) ∙ drop_at (t.octets ++ 0 ∷ 0 ∷ []) text (start + 2) (omega (arith, length-append t.octets (0 ∷ 0 ∷ []), start_is)) in
     set ∙ rw (front, behind, len_is) (append_assoc t.octets (octets16 (length text)) text)
 
--- octets with no name in them, behind their length
+-- octets with no name in them, after their length
 plain_after : (t : Text) (xs : List ℕ) → after t (with_length (as_is xs)) ≡ after t (as_is (octets16 (length xs)) ▹ as_is xs)
 unfolding after with_length ◌▹◌
 plain_after t xs = refl
@@ -113,7 +113,7 @@ question_written old mid new q labels kind class xs named is_kind is_class is na
     (both old mid new (name_text q.name) (as_is (octets16 q.kind ++ octets16 q.class)) (writes_as old mid (name_text labels) (name_text q.name) (ap name_text named) name)
     (writes_as mid new (as_is xs) (as_is (octets16 q.kind ++ octets16 q.class)) (ap as_is (is ∙ rw (is_kind, is_class) refl)) step))
 
--- what stands before the data, the numbers at once
+-- what comes before the data, the numbers at once
 pub head_written : {A : Type 0} (old new : Writer A) (r : Record) (xs : List ℕ) → xs ≡ octets16 r.kind ++ (octets16 r.class ++ octets32 r.ttl) → Writes old new (name_text r.owner ▹ as_is xs) → Writes old new (head_text r)
 head_written old new r xs is step =
     in_turn old new (name_text r.owner ▹ as_is (octets16 r.kind)) (octets16 r.class) (octets32 r.ttl)
@@ -159,7 +159,7 @@ refused_behind limit NameLong old mid a b step refused = absurd refused
 refused_behind limit Rdata old mid a b step refused = absurd refused
 refused_behind limit NoQuestion old mid a b step refused = absurd refused
 
--- ---- data behind its length, as a writer holds it
+-- ---- data after its length, as a writer holds it
 
 -- the length of what was written
 pub so_long : {A : Type 0} (old mid full : Writer A) (w : Writing) → HoldsText old → Writes old mid (as_is (0 ∷ 0 ∷ [])) → Writes mid full w → length old.octets.items + 2 ≤ length full.octets.items

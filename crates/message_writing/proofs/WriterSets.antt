@@ -1,4 +1,4 @@
--- The records of sets, written one set behind another.
+-- The records of sets, written one set after another.
 use Rattle.std.proofs.Common.{◌≡◌, ℕ, ◌+◌, ◌<◌, ◌≤◌, List, [], ◌∷◌, ◌++◌, length, take, get_or, refl, sym, ap, subst, ◌∙◌, arith}
 use Rattle.std.specs.Prelude.{Result, Ok, Err}
 use Rattle.std.specs.List.{AllByRecursion}
@@ -88,7 +88,7 @@ pub puts_one : {A : Type 0} (limit : ℕ) (r : Result (Unit {0}) Fault) (old new
 puts_one limit (Ok x) old new entry puts = (one_written old new record_text entry puts.0, puts.1, (puts.2, tt))
 puts_one limit (Err fault) old new entry puts = one_refused limit fault old record_text entry puts
 
--- ---- one set behind another
+-- ---- one set after another
 
 more_text : {X : Type 0} (text : X → Writing) (xs ys : List X) → SameText (each text xs ▹ each text ys) (each text (xs ++ ys))
 unfolding each
@@ -112,7 +112,7 @@ pub all_sets : (sets : List (List Record)) → AllByRecursion (AllByRecursion Is
 all_sets [] all = tt
 all_sets (set ∷ sets) all = all_append IsRecord set (records_in sets) all.0 (all_sets sets all.1)
 
--- ---- how many records there are
+-- ---- the number of records
 
 pub set_size : (records : List Record) (owner : List (List ℕ)) (kind class ttl : ℕ) (rows : List (List ℕ)) → records_of owner kind class ttl rows ≡ records → length records ≡ length rows
 set_size records owner kind class ttl rows is = sym (ap length is) ∙ length-map rows (record_of owner kind class ttl)

@@ -18,10 +18,11 @@ record_of owner kind class ttl rdata = record { owner = owner; kind = kind; clas
 abbrev pub records_of : List (List ℕ) → ℕ → ℕ → ℕ → List (List ℕ) → List Record
 records_of owner kind class ttl rows = map (record_of owner kind class ttl) rows
 
--- the records of sets, one set behind another
+-- the records of sets, one set after another
 abbrev pub records_in : List (List Record) → List Record
 records_in sets = flat_map (λ records. records) sets
 
+-- a question, if any, as a list
 abbrev pub questions_of : Option Question → List Question
 questions_of None = []
 questions_of (Some question) = question ∷ []

@@ -1,4 +1,4 @@
--- What a writer holds.
+-- The text that a writer holds.
 use Rattle.std.specs.Prelude.{◌≡◌, ◌≤◌, ◌<◌, ℕ, List, [], ◌∷◌, length, Option, Some, None, Result, Ok, Err, nat_le}
 use Rattle.std.specs.Prelude.{◌&&◌, if◌then◌else◌}
 use Rattle.std.specs.Borrow.{Bor}
@@ -17,10 +17,11 @@ use Rattle.message_writing.specs.declared.pointers.Pointers.{Pointers}
 use Rattle.message_writing.specs.declared.writer.Writer.{Writer}
 use Rattle.message_writing.specs.Writing.{Text, Writing, place_of, pointer_to, after}
 
+-- a name that begins in the octets, and the pointer to it
 abbrev pub KnownName : Type 0
 KnownName = Bor (List ℕ) × ℕ
 
--- the pointer that stands beside these octets
+-- the pointer next to these octets
 unfoldable pub pointer_among : List KnownName → List ℕ → Option ℕ
 pointer_among [] octets = None
 pointer_among (entry ∷ entries) octets = if bytes_eq entry.0.now octets then Some entry.1
@@ -31,6 +32,7 @@ abbrev pub pointer_known : {A : Type 0} → Pointers A → List ℕ → Option �
 pointer_known ps octets = option_or (pointer_among ps.few.items octets)
     (get_by (λ k. slice_cmp nat_cmp octets k.now) ps.many)
 
+-- the pointer to a name that begins in what was written
 abbrev pub pointer_in : {A : Type 0} → Writer A → List ℕ → Option ℕ
 pointer_in w octets = pointer_known w.pointers octets
 
@@ -49,12 +51,13 @@ pub record IsKnown {A : Type 0} (w : Writer A) (octets : List ℕ) (pointer : �
   pub is : pointer_in w octets ≡ Some pointer
   pub some : 0 < length octets
 
--- The writer holds this text: its octets, and for each name that begins at a place a pointer to the earliest one.
+-- The writer holds this text: its octets, and for each name that begins at a place a pointer to the
+-- earliest one.
 pub record Holds {A : Type 0} (w : Writer A) (t : Text) : Type 0 where
   pub octets : w.octets.items ≡ t.octets
   pub pointers : (name : List (List ℕ)) → pointer_in w (octets_of name) ≡ option_map pointer_to (place_of t.places name)
 
--- whatever text the one holds, the other holds that and what is written behind it
+-- whatever text the one holds, the other holds that, followed by what is written
 abbrev pub Writes : {A : Type 0} → Writer A → Writer A → Writing → Type 0
 Writes old new written = (t : Text) → Holds old t → Holds new (after t written)
 
@@ -82,7 +85,7 @@ abbrev pub field_in : Part → List ℕ → Field
 field_in Name first = named (labels_of first)
 field_in part first = plain first
 
--- the part in front of octets is this, and those stand behind it
+-- the part in front of octets is this, and those follow it
 pub record IsFirst (part : Part) (octets first behind : List ℕ) : Type 0 where
   pub is : first_field part octets ≡ Some (field_in part first, behind)
   pub laid : part ≡ Name → IsLaidOut first

@@ -1,5 +1,5 @@
--- The one text of a message: RFC 1035 4.1. A name's longest end that was written before is a pointer to where it was
--- first: RFC 1035 4.1.4.
+-- The one text of a message: RFC 1035 4.1. A name's longest end that was written before is a
+-- pointer to where it was first: RFC 1035 4.1.4.
 use Rattle.std.specs.Prelude.{ℕ, ◌+◌, ◌*◌, ◌/◌, ◌%◌, ◌≤◌, List, [], ◌∷◌, ◌++◌, length, Option, Some, None, Result, Ok}
 use Rattle.std.specs.Prelude.{Err, Bool, true, false, nat_le, nat_lt, slice_index, if◌then◌else◌}
 use Rattle.std.specs.Str.{bytes_eq}
@@ -21,7 +21,7 @@ pub record Text : Type 0 where
   pub octets : List ℕ
   pub places : List Place
 
--- the text that something has at an offset, behind these places
+-- the text of something at an offset, after these places
 abbrev pub Writing : Type 0
 Writing = List Place → ℕ → Text
 
@@ -29,29 +29,31 @@ Writing = List Place → ℕ → Text
 abbrev pub as_is : List ℕ → Writing
 as_is xs places o = record { octets = xs; places = [] }
 
--- the one text, and the other behind it
+-- the one text, followed by the other
 abbrev pub joined : Text → Text → Text
 joined t u = record { octets = t.octets ++ u.octets; places = t.places ++ u.places }
 
--- a text with something more written behind it
+-- a text, followed by what is written
 unfoldable pub after : Text → Writing → Text
 after t w = joined t (w t.places (length t.octets))
 
 infixl 20 ◌▹◌
--- the one, and the other behind it
+-- the one, followed by the other
 unfoldable pub ◌▹◌ : Writing → Writing → Writing
 (a ▹ b) places o = let first = a places o in joined first (b (places ++ first.places) (o + length first.octets))
 
--- each of these, one behind another
+-- each of these, one after another
 unfoldable pub each : {X : Type 0} → (X → Writing) → List X → Writing
 each w [] = as_is []
 each w (x ∷ xs) = w x ▹ each w xs
 
 -- ---- numbers, the high octet first: RFC 1035 2.3.2
 
+-- the two octets of a number, the high one first
 abbrev pub octets16 : ℕ → List ℕ
 octets16 n = n / 256 % 256 ∷ n % 256 ∷ []
 
+-- the four octets of a number, the highest first
 abbrev pub octets32 : ℕ → List ℕ
 octets32 n = n / 16777216 % 256 ∷ n / 65536 % 256 ∷ n / 256 % 256 ∷ n % 256 ∷ []
 
@@ -78,6 +80,7 @@ places_at o name = if nat_le o 16383 then record { offset = o; name = name } ∷
 abbrev pub label_text : List ℕ → List (List ℕ) → Writing
 label_text label rest places o = record { octets = label_octets label; places = places_at o (label ∷ rest) }
 
+-- the pointer to an offset, if any, otherwise the other text
 abbrev pub pointer_or : Option ℕ → Writing → Writing
 pointer_or (Some offset) written = as_is (octets16 (pointer_to offset))
 pointer_or None written = written
@@ -95,26 +98,28 @@ name_text (label ∷ rest) places o =
 abbrev pub question_text : Question → Writing
 question_text q = name_text q.name ▹ as_is (octets16 q.kind) ▹ as_is (octets16 q.class)
 
+-- the text of a part of record data
 abbrev pub field_text : Field → Writing
 field_text (named labels) = name_text labels
 field_text (plain xs) = as_is xs
 
+-- the text of record data: by its parts, or as it is
 abbrev pub by_fields : Option (List Field) → List ℕ → Writing
 by_fields (Some fields) rdata = each field_text fields
 by_fields None rdata = as_is rdata
 
--- Data of a type whose names may be pointers, where it is of its type's shape, is written field by field.
--- All other data stands as it is.
+-- Data of a type whose names may be pointers, where it is of its type's shape, is written field by
+-- field. All other data is written as it is.
 unfoldable pub data_text : ℕ → List ℕ → Writing
 data_text kind rdata = by_fields (fields_of_kind kind rdata) rdata
 
--- RDLENGTH, and so many octets
+-- RDLENGTH, and the octets that it counts
 unfoldable pub with_length : Writing → Writing
 with_length w places o =
     let text = w places (o + 2) in
     record { octets = octets16 (length text.octets) ++ text.octets; places = text.places }
 
--- what stands before the data of a record and its length
+-- the text before the data of a record and its length
 abbrev pub head_text : Record → Writing
 head_text r = name_text r.owner ▹ as_is (octets16 r.kind) ▹ as_is (octets16 r.class) ▹ as_is (octets32 r.ttl)
 
@@ -141,6 +146,7 @@ counted_header h counts =
     ▹ as_is (octets16 (slice_index counts 1))
     ▹ as_is (octets16 (slice_index counts 2)) ▹ as_is (octets16 (slice_index counts 3))
 
+-- the counts of a header: questions, answers, authority, additional
 abbrev pub list_counts : Message → List ℕ
 list_counts m = length m.questions ∷ length m.answers ∷ length m.authority ∷ length m.additional ∷ []
 
@@ -148,16 +154,18 @@ list_counts m = length m.questions ∷ length m.answers ∷ length m.authority �
 abbrev pub header_text : Message → Writing
 header_text m = counted_header m.header (list_counts m)
 
+-- the text of a message: header, question, answers, authority, additional
 abbrev pub message_text : Message → Writing
 message_text m =
     header_text m ▹ each question_text m.questions ▹ each record_text m.answers ▹ each record_text m.authority
     ▹ each record_text m.additional
 
--- the octets of a message
+-- the octets of a message: in each name that may have a pointer, the longest end that was written
+-- before is one (RFC 1035 4.1.4)
 unfoldable pub written : Message → List ℕ
 written m = (message_text m [] 0).octets
 
--- the octets, where they are at most so many
+-- the octets, if they are at most `limit`
 unfoldable pub written_within : ℕ → Message → Result (List ℕ) Fault
 written_within limit m = if nat_lt limit (length (written m)) then Err TooLarge else Ok (written m)
 

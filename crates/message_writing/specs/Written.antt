@@ -1,4 +1,4 @@
--- What every message of a program is, and what is written of it: RFC 1035 4.1.
+-- The messages that a program can hold, and their octets (RFC 1035 4.1).
 use Rattle.std.specs.Prelude.{◌≡◌, ◌<◌, ◌≤◌, [], ◌∷◌, length}
 use Rattle.std.specs.List.{AllByRecursion}
 use Rattle.dns_name.specs.Labels.{IsName}

@@ -18,7 +18,7 @@ pub enum DataRef<'a, A: Allocator = Global> {
 }
 
 impl<'a, A: Allocator> DataRef<'a, A> {
-    /// How many records have it.
+    /// The number of records that have it.
     pub(crate) fn count(&self) -> usize
         ensures { result ≡ length (data_of self.now) }
     {
@@ -29,8 +29,8 @@ impl<'a, A: Allocator> DataRef<'a, A> {
     }
 }
 
-/// Records of one owner, type, class and TTL, whose data is borrowed and of the shape of its type, so that it is
-/// written without being looked through before. Contracts see the list of these records.
+/// Records of one owner, type, class and TTL, whose data is borrowed and of the shape of its type,
+/// so that it is written unchecked. Contracts see the list of these records.
 #[derive(Drop)]
 pub struct RowsRef<'a, A: Allocator = Global> {
     pub owner: &'a Name<A>,
@@ -55,7 +55,8 @@ impl<'a, A: Allocator> Model for RowsRef<'a, A> {
     ghost invariant = { λ r. AllByRecursion (IsShaped r.kind) (data_of r.data) };
 }
 
-/// A message that is put together from borrowed things, without an additional section. Contracts see the message.
+/// A message that is put together from borrowed things, without an additional section. Contracts
+/// see the message.
 #[derive(Drop)]
 pub struct MessageParts<'a, A: Allocator = Global> {
     /// Its counts are not looked at.

@@ -23,7 +23,8 @@ const NAME_MOST: usize = 255;
 /// The most octets of a label (RFC 1035 2.3.4).
 const LABEL_MOST: usize = 63;
 
-/// The place behind the name in front of octets, in which no pointer can be. It ends behind its zero octet.
+/// The place after the name in front of octets, in which no pointer can be. It ends after its zero
+/// octet.
 #[tactic(auto, unfolding(crate::specs::Fields::first_field))]
 fn name_end(octets: &[u8]) -> Option<usize>
     ensures { MatchOption result (first_field Part.Name octets.now ≡ None) (λ end. Ok end
@@ -44,7 +45,7 @@ fn name_end(octets: &[u8]) -> Option<usize>
     None
 }
 
-/// The name in front of octets, whose end this is, its zero octet left out; and what stands behind it.
+/// The name in front of octets, whose end this is, its zero octet left out; and what follows it.
 fn split_name(octets: &[u8], end: usize) -> (&[u8], &[u8])
     requires { Ok end ≡ behind (name_within octets.now (inside (length octets.now)) 0) }
     ensures { IsFirst Part.Name octets.now result.0.now result.1.now }
@@ -53,7 +54,7 @@ fn split_name(octets: &[u8], end: usize) -> (&[u8], &[u8])
     (&name[..end - 1], behind)
 }
 
-/// The part in front of the octets, and what stands behind it; of a name the zero octet is left out.
+/// The part in front of the octets, and what follows it; the zero octet of a name is left out.
 #[tactic(auto, unfolding(crate::specs::Fields::first_field))]
 fn split_part(part: Part, octets: &[u8]) -> Option<(&[u8], &[u8])>
     ensures { MatchOption result (first_field part octets.now ≡ None) (λ x. IsFirst part octets.now x.0.now x.1.now) }
@@ -69,7 +70,7 @@ fn split_part(part: Part, octets: &[u8]) -> Option<(&[u8], &[u8])>
     }
 }
 
-/// So many octets, and what stands behind them.
+/// The first `count` octets, and what follows them.
 fn split_octets(octets: &[u8], count: usize) -> Option<(&[u8], &[u8])>
     ensures { MatchOption result (length octets.now < count) (λ x. (x.0.now ≡ take count octets.now)
         × (x.1.now ≡ drop count octets.now) × (count ≤ length octets.now)) }
@@ -80,7 +81,7 @@ fn split_octets(octets: &[u8], count: usize) -> Option<(&[u8], &[u8])>
     Some(octets.split_at(count))
 }
 
-/// How many octets these parts are, where they are as many in all data.
+/// The number of octets of these parts, where it is the same in all data.
 #[tactic(auto, unfolding(crate::specs::Fields::size_of_parts))]
 fn size_of_parts(parts: &[Part]) -> Option<usize>
     ensures { result ≡ size_of_parts parts.now }
@@ -92,8 +93,8 @@ fn size_of_parts(parts: &[Part]) -> Option<usize>
     }
 }
 
-/// `split_part` of octets that are this part and these others. The last name ends where they begin, so it is not walked
-/// along.
+/// `split_part` of octets that are this part and these others. The last name ends where they begin,
+/// so it is not walked along.
 fn split_before<'a>(part: Part, others: &[Part], octets: &'a [u8]) -> Option<(&'a [u8], &'a [u8])>
     requires { IsTrue (is_some (fields_of (part ∷ others.now) octets.now)) }
     ensures { MatchOption result (first_field part octets.now ≡ None) (λ x. IsFirst part octets.now x.0.now x.1.now) }
@@ -104,7 +105,7 @@ fn split_before<'a>(part: Part, others: &[Part], octets: &'a [u8]) -> Option<(&'
     }
 }
 
-/// The octets are these parts, one behind another.
+/// Whether the octets are these parts, one after another.
 fn are_parts(parts: &[Part], octets: &[u8]) -> bool
     ensures { result ≡ is_some (fields_of parts.now octets.now) }
 {
@@ -145,7 +146,7 @@ fn has_name(parts: &[Part]) -> bool
     false
 }
 
-/// Writes octets that are these parts: those behind the last name at once.
+/// Writes octets that are these parts: those after the last name at once.
 fn put_parts<'a, A: Allocator + Copy>(
     writer: &mut Writer<'a, A>,
     parts: &[Part],
@@ -171,7 +172,7 @@ fn put_parts<'a, A: Allocator + Copy>(
     Ok(())
 }
 
-/// Puts a number in the place of two octets.
+/// Puts a number in place of two octets.
 fn set_u16(octets: &mut [u8], offset: usize, number: u16)
     requires { offset + 2 ≤ length octets.old }
     ensures { octets.new ≡ take offset octets.old ++ octets16 number ++ drop (offset + 2) octets.old }
@@ -179,7 +180,7 @@ fn set_u16(octets: &mut [u8], offset: usize, number: u16)
     BigEndian::write_u16(&mut octets[offset..offset + 2], number);
 }
 
-/// Writes octets that are these parts behind their length.
+/// Writes octets that are these parts after their length.
 #[inline(always)]
 fn put_parts_with_length<'a, A: Allocator + Copy>(
     writer: &mut Writer<'a, A>,
@@ -202,7 +203,8 @@ fn put_parts_with_length<'a, A: Allocator + Copy>(
     Ok(())
 }
 
-/// Writes octets with no name in them behind their length, nothing where the limit does not let them.
+/// Writes octets with no name in them after their length, nothing where the limit does not let
+/// them.
 fn put_plain_with_length<'a, A: Allocator + Copy>(
     writer: &mut Writer<'a, A>,
     octets: &[u8],
@@ -221,7 +223,7 @@ fn put_plain_with_length<'a, A: Allocator + Copy>(
     Ok(())
 }
 
-/// Writes the data of a record of this type behind its length, as far as the limit lets it.
+/// Writes the data of a record of this type after its length, as far as the limit lets it.
 #[tactic(auto, unfolding(crate::specs::Writing::data_text))]
 pub(crate) fn put_with_length<'a, A: Allocator + Copy>(
     writer: &mut Writer<'a, A>,
@@ -241,8 +243,8 @@ pub(crate) fn put_with_length<'a, A: Allocator + Copy>(
     }
 }
 
-/// Writes data of the shape of its type behind its length, as far as the limit lets it. It is not looked through
-/// before.
+/// Writes data of the shape of its type after its length, as far as the limit lets it. It is not
+/// checked before.
 #[tactic(auto, unfolding(crate::specs::Writing::data_text))]
 pub(crate) fn put_shaped_with_length<'a, A: Allocator + Copy>(
     writer: &mut Writer<'a, A>,

@@ -1,4 +1,5 @@
-//! What is written is read back, and what is read can be written: laws about the definitions that the contracts cite.
+//! A written message is read back, and a message that was read can be written: laws about the
+//! definitions that the contracts cite.
 
 ghost use Rattle.std.specs.Prelude.{List, ℕ};
 ghost use Rattle.plain_list.specs.Octets.{AreOctets};
@@ -6,13 +7,15 @@ ghost use Rattle.message_reading.specs.Messages.{Spells};
 ghost use Rattle.message_reading.specs.Values as values;
 ghost use Rattle.message_writing.specs.Written.{IsMessage, IsSpelledBack};
 
-/// What is written of a message spells it, wherever the header counts its lists, the data of its records is of their
-/// shapes, and the octets are no more than a message can have: a message that is read back is the one that was written.
+/// The octets of a message spell it, wherever the header counts its lists, the data of its records
+/// is of their shapes, and the octets are no more than a message can have: a message that is read
+/// back is the one that was written.
 pub fn what_is_written_is_spelled()
     ensures { (message : values.Message) → IsMessage message → IsSpelledBack message }
 {}
 
-/// The names of a message that is read of octets are names, and its numbers fit their fields: so it can be written.
+/// The names of a message that is read of octets are names, and its numbers fit their fields: so it
+/// can be written.
 pub fn what_is_read_can_be_written()
     ensures { (bytes : List ℕ) (message : values.Message) → AreOctets bytes → Spells bytes message → IsMessage message }
 {}

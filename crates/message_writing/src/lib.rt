@@ -1,5 +1,5 @@
-//! Messages of the domain name system, written as octets: RFC 1035 section 4, with pointers to names that were written
-//! before.
+//! Messages of the domain name system, written as octets: RFC 1035 section 4, with pointers to
+//! names that were written before.
 #![tactic(auto)]
 
 mod borrowed;

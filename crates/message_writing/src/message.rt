@@ -49,7 +49,7 @@ fn flags_of(header: &Header) -> u16
         + header.rcode as u16
 }
 
-/// A header has room for the counts of the lists.
+/// Whether a header has room for the counts of the lists.
 fn can_be_counted<A: Allocator>(message: &Message<A>) -> bool
     ensures { IsTrue result ↔ CanBeCounted message.now }
 {
@@ -62,7 +62,7 @@ fn can_be_counted<A: Allocator>(message: &Message<A>) -> bool
     message.questions.as_slice().len().max(records) <= LAST_COUNT
 }
 
-/// How many records the sets have; `None` where a header cannot count them.
+/// The number of records of the sets; `None` where a header cannot count them.
 fn count_of<A: Allocator>(sets: &[RowsRef<A>]) -> Option<u16>
     ensures { MatchOption result (65535 < length (records_in sets.now)) (λ count. count
         ≡ length (records_in sets.now)) }
@@ -165,13 +165,14 @@ fn put_parts<'a, A: Allocator + Copy>(
     Ok(())
 }
 
-/// The octets of a message, with the counts of its lists in the header; those in `header.counts` are not looked at.
+/// The octets of a message, with the counts of its lists in the header; those in `header.counts`
+/// are not looked at.
 ///
-/// In the names of questions and owners, and in the data of the types whose names may be pointers, the longest end of
-/// a name that began earlier in these octets is a pointer to where it began first (RFC 1035 4.1.4).
-/// `TooLarge` where these are more octets than `limit`, and at once where a list has more things than a header counts;
-/// `Memory` where a growth was refused. What is written spells the message again, where its header counts the lists and
-/// its data is of its shapes.
+/// In the names of questions and owners, and in the data of the types whose names may be pointers,
+/// the longest end of a name that began earlier in these octets is a pointer to where it began
+/// first (RFC 1035 4.1.4). `TooLarge` where these are more octets than `limit`, and at once where a
+/// list has more things than a header counts; `Memory` where an allocation was refused. The octets
+/// spell the message again, where its header counts the lists and its data is of its shapes.
 pub fn write<A: Allocator + Copy>(
     alloc: A,
     message: &Message<A>,
@@ -196,10 +197,11 @@ pub fn write<A: Allocator + Copy>(
     Ok(Octets::from_vec(octets))
 }
 
-/// The octets that `write` gives of the message with these parts, put into a vector in the place of what it has.
+/// The octets that `write` gives of the message with these parts, put into a vector in place of
+/// what it has.
 ///
-/// A vector with room for them is not made larger; beside it memory is taken only where more than 16 names begin in
-/// the octets. `TooLarge` and `Memory` as `write` tells them; then the vector has some octets or none.
+/// A vector with room for them is not made larger; apart from it, only more than 16 names in the
+/// octets allocate. `TooLarge` and `Memory` as in `write`; then the vector has some octets or none.
 pub fn write_parts<A: Allocator + Copy>(
     alloc: A,
     octets: &mut Vec<u8, A>,

@@ -10,7 +10,8 @@ use arrayvec::ArrayVec;
 use std::alloc::{AllocError, Allocator};
 use std::collections::BTreeMap;
 
-/// So many names are found one by one, without memory; further ones by a map.
+/// The number of names that are found one by one, without allocating; further ones are found by a
+/// map.
 const FEW: usize = 16;
 
 /// The last offset that the 14 bits of a pointer reach (RFC 1035 4.1.4).
@@ -26,7 +27,7 @@ pub(crate) struct Pointers<'a, A: Allocator> {
     many: BTreeMap<&'a [u8], u16, A>,
 }
 
-/// The pointer that stands beside a name.
+/// The pointer next to a name.
 fn pointer_among(few: &[(&[u8], u16)], name: &[u8]) -> Option<u16>
     ensures { result ≡ pointer_among few.now name.now }
 {
@@ -39,7 +40,7 @@ fn pointer_among(few: &[(&[u8], u16)], name: &[u8]) -> Option<u16>
 }
 
 impl<'a, A: Allocator + Copy> Pointers<'a, A> {
-    /// None; it takes no memory.
+    /// None; it does not allocate.
     pub fn new(alloc: A) -> Pointers<'a, A>
         ensures { (name : List ℕ) → pointer_known result name ≡ None }
     {
@@ -90,8 +91,8 @@ impl<'a, A: Allocator + Copy> Pointers<'a, A> {
         Ok(())
     }
 
-    /// Remembers that a name that is not known begins at this offset, as far as a pointer reaches. It takes memory once
-    /// there are more than a few.
+    /// Remembers that a name that is not known begins at this offset, as far as a pointer reaches.
+    /// It allocates once there are more than a few.
     pub fn insert(&mut self, name: &'a [u8], offset: usize) -> Result<(), AllocError>
         requires { pointer_known self.old name.now ≡ None }
         ensures { OnOk result (IsPutIn self.old self.new name.now offset) }

@@ -1,4 +1,4 @@
-//! Questions and records, written one behind another: RFC 1035 4.1.2 and 4.1.3.
+//! Questions and records, written one after another (RFC 1035 4.1.2 and 4.1.3).
 
 ghost use Rattle.std.specs.Prelude.{◌≡◌, ◌++◌, ◌≤◌, ◌<◌, ℕ, List, length, OnOk};
 ghost use Rattle.std.specs.Option.{IfSome};
@@ -58,7 +58,7 @@ pub(crate) fn put_questions<'a, A: Allocator + Copy>(
     Ok(())
 }
 
-/// Writes the question, if there is one, as far as the limit lets it.
+/// Writes the question, if any, as far as the limit lets it.
 pub(crate) fn put_only_question<'a, A: Allocator + Copy>(
     writer: &mut Writer<'a, A>,
     question: &Option<QuestionRef<'a>>,
@@ -77,10 +77,10 @@ pub(crate) fn put_only_question<'a, A: Allocator + Copy>(
     }
 }
 
-/// What the records of a set have in common.
+/// The common part of the records of a set.
 #[derive(Drop)]
 struct Head<'a> {
-    /// The owner's labels, each behind its length, without the zero octet.
+    /// The owner's labels, each after its length, without the zero octet.
     owner: &'a [u8],
     kind: u16,
     class: u16,
@@ -97,7 +97,7 @@ fn numbers_of(head: &Head<'_>) -> [u8; 8]
     octets
 }
 
-/// The pointer to an owner, and these octets behind it.
+/// The pointer to an owner, followed by these octets.
 fn behind_pointer(pointer: u16, numbers: [u8; 8]) -> [u8; 10]
     ensures { result ≡ octets16 pointer ++ numbers }
 {
@@ -107,7 +107,8 @@ fn behind_pointer(pointer: u16, numbers: [u8; 8]) -> [u8; 10]
     octets
 }
 
-/// Writes what stands before the data of a record and its length. This is the pointer to its owner, if any.
+/// Writes the part of a record before its data and their length. `known` is the pointer to its
+/// owner, if any.
 fn put_head<'a, A: Allocator + Copy>(
     writer: &mut Writer<'a, A>,
     head: &Head<'a>,
@@ -129,8 +130,8 @@ fn put_head<'a, A: Allocator + Copy>(
     Ok(())
 }
 
-/// Writes a record with this data, as far as the limit lets it. This is the pointer to its owner, if any.
-/// Data that is not of its type's shape is written as it is.
+/// Writes a record with this data, as far as the limit lets it. `known` is the pointer to its
+/// owner, if any. Data that is not of its type's shape is written as it is.
 fn put_any_row<'a, A: Allocator + Copy>(
     writer: &mut Writer<'a, A>,
     head: &Head<'a>,
@@ -188,8 +189,8 @@ fn put_record<'a, A: Allocator + Copy>(
     Ok(())
 }
 
-/// Writes a record with this data, which is of its type's shape, as far as the limit lets it. This is the pointer to
-/// its owner, if any.
+/// Writes a record with this data, which is of its type's shape, as far as the limit lets it.
+/// `known` is the pointer to its owner, if any.
 fn put_row<'a, A: Allocator + Copy>(
     writer: &mut Writer<'a, A>,
     head: &Head<'a>,
@@ -210,7 +211,8 @@ fn put_row<'a, A: Allocator + Copy>(
     Ok(())
 }
 
-/// Writes records with this data, as far as the limit lets them. Their owner is looked up until it has a pointer.
+/// Writes records with this data, as far as the limit lets them. Their owner is looked up until it
+/// has a pointer.
 fn put_rows<'a, A: Allocator + Copy>(
     writer: &mut Writer<'a, A>,
     head: &Head<'a>,

@@ -11,7 +11,7 @@ use dns_name::split_label;
 use message_names::Fault;
 use std::alloc::{AllocError, Allocator};
 
-/// What was written so far.
+/// The text that was written so far.
 #[derive(Drop)]
 pub(crate) struct Writer<'a, A: Allocator> {
     pub octets: Vec<u8, A>,
@@ -20,7 +20,7 @@ pub(crate) struct Writer<'a, A: Allocator> {
 }
 
 impl<'a, A: Allocator + Copy> Writer<'a, A> {
-    /// Nothing, in a vector of no octets; it takes no memory.
+    /// Nothing, in a vector of no octets; it does not allocate.
     pub fn new(alloc: A, octets: Vec<u8, A>) -> Writer<'a, A>
         requires { octets.items ≡ [] }
         ensures { IsEmpty result }
@@ -47,7 +47,7 @@ impl<'a, A: Allocator + Copy> Writer<'a, A> {
         Ok(())
     }
 
-    /// Writes a number. Two octets are sooner pushed than copied.
+    /// Writes a number. Pushing two octets is faster than copying them.
     pub fn put_u16(&mut self, number: u16) -> Result<(), AllocError>
         ensures { OnOk result (Writes self.old self.new (as_is (octets16 number))) }
     {
@@ -57,7 +57,8 @@ impl<'a, A: Allocator + Copy> Writer<'a, A> {
         Ok(())
     }
 
-    /// Writes the first name: none of its ends is looked up, since no two ends of one name are equal.
+    /// Writes the first name: none of its ends is looked up, since no two ends of one name are
+    /// equal.
     fn put_first_name(&mut self, name: &'a [u8]) -> Result<(), AllocError>
         requires laid { IsLaidOut name.now }
         requires none { (other : List ℕ) → pointer_in self.old other ≡ None }
@@ -75,7 +76,8 @@ impl<'a, A: Allocator + Copy> Writer<'a, A> {
         Ok(())
     }
 
-    /// Writes a name, its longest end that is known as a pointer. The octets in front of that are written at once.
+    /// Writes a name, its longest end that is known as a pointer. The octets in front of that are
+    /// written at once.
     #[inline(always)]
     pub fn put_later_name(&mut self, name: &'a [u8]) -> Result<(), AllocError>
         requires { IsLaidOut name.now }
@@ -109,7 +111,7 @@ impl<'a, A: Allocator + Copy> Writer<'a, A> {
         self.put_later_name(name)
     }
 
-    /// The pointer to this name, where there is one. It is looked up unless it was found before.
+    /// The pointer to this name, if any. It is looked up unless it was found before.
     pub fn known(&self, name: &[u8], before: Option<u16>) -> Option<u16>
         requires { IfSome before (λ pointer. IsKnown self.now name.now pointer) }
         ensures { IfSome result (λ pointer. IsKnown self.now name.now pointer) }
@@ -120,7 +122,7 @@ impl<'a, A: Allocator + Copy> Writer<'a, A> {
         self.pointers.find(name)
     }
 
-    /// How many octets the limit leaves.
+    /// The number of octets that the limit leaves.
     pub fn room(&self, limit: usize) -> usize
         ensures { result ≡ limit - length self.now.octets.items }
     {

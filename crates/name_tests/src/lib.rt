@@ -1,4 +1,5 @@
-//! Tests of names from outside: which octets a name has, its first fault, and that memory is found where there is some.
+//! Tests of names from outside: which octets a name has, its first fault, and that allocations
+//! succeed where there is memory.
 #![tactic(auto)]
 
 #[cfg(test)]

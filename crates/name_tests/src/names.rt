@@ -1,5 +1,5 @@
-//! Names in concrete octets (RFC 1035 2.3.4, 3.1), and what no contract can say: that memory is found where there is
-//! some.
+//! Names in concrete octets (RFC 1035 2.3.4, 3.1), and what no contract can say: that allocations
+//! succeed where there is memory.
 
 use dns_name::{Name, NameFault, NameKey};
 use refusing_allocator::Refusing;
@@ -7,12 +7,12 @@ use std::alloc::{AllocError, Allocator, Global};
 use std::hash::{BuildHasher, BuildHasherDefault, FoldHasher};
 use std::test::Fail;
 
-/// How many labels the name of a text has, or its fault.
+/// The number of labels of the name of a text, or its fault.
 fn label_count(heap: Global, text: &str) -> Result<usize, NameFault> {
     Ok(Name::from_text(heap, text)?.labels().count())
 }
 
-/// Texts, and how many labels their names have, or the first fault.
+/// Texts, and the number of labels of their names, or the first fault.
 const TEXTS: [(&str, Result<usize, NameFault>); 13] = [
     (".", Ok(0)),
     ("a.example", Ok(2)),
@@ -36,7 +36,7 @@ fn texts_and_their_first_fault(rt: HostRuntime) {
     }
 }
 
-/// A text of so many labels, each of so many letters and followed by a dot.
+/// A text of `labels` labels, each of `letters` letters and followed by a dot.
 fn text_of(heap: Global, labels: usize, letters: usize) -> Result<String, AllocError> {
     let mut text = String::new(heap);
     for _ in 0..labels {
@@ -48,7 +48,8 @@ fn text_of(heap: Global, labels: usize, letters: usize) -> Result<String, AllocE
     Ok(text)
 }
 
-/// How many labels there are, of how many letters each; and how many labels the name has, or the first fault.
+/// Numbers of labels and of letters in each, and the number of labels of the name, or the first
+/// fault.
 const LONGEST: [(usize, usize, Result<usize, NameFault>); 5] = [
     (127, 1, Ok(127)),
     (128, 1, Err(NameFault::NameLong)),
@@ -57,13 +58,13 @@ const LONGEST: [(usize, usize, Result<usize, NameFault>); 5] = [
     (200, 64, Err(NameFault::LabelLong)),
 ];
 
-/// How many labels the name of a text of so many labels has.
+/// The number of labels of the name of a text of `labels` labels.
 fn count_of_text(heap: Global, labels: usize, letters: usize) -> Result<usize, NameFault> {
     let text = text_of(heap, labels, letters)?;
     label_count(heap, text.as_str())
 }
 
-/// So many labels of so many letters.
+/// `labels` labels of `letters` letters.
 fn parts_of(heap: Global, labels: usize, letters: usize) -> Result<Vec<Vec<u8>>, AllocError> {
     let mut parts = Vec::new(heap);
     for _ in 0..labels {
@@ -72,7 +73,7 @@ fn parts_of(heap: Global, labels: usize, letters: usize) -> Result<Vec<Vec<u8>>,
     Ok(parts)
 }
 
-/// How many labels the name of so many labels has.
+/// The number of labels of the name of `labels` labels.
 fn count_of_labels(heap: Global, labels: usize, letters: usize) -> Result<usize, NameFault> {
     let parts = parts_of(heap, labels, letters)?;
     Ok(Name::from_labels(heap, parts.as_slice())?.labels().count())
@@ -98,7 +99,7 @@ fn the_longest_labels_and_names(rt: HostRuntime) -> Result<(), Fail> {
     Ok(())
 }
 
-/// What a hasher makes of a key.
+/// The hash of a key.
 fn hash_of(key: &NameKey) -> u64 {
     let hasher: BuildHasherDefault<FoldHasher> = BuildHasherDefault::default();
     hasher.hash_one(key)
@@ -202,7 +203,7 @@ abcdefghijklmnopqrstuvwxyz0123456789abcdefghijklmnopqrstuvwxyz0.\
 abcdefghijklmnopqrstuvwxyz0123456789abcdefghijklmnopqrstuvwxyz0.\
 abcdefghijklmnopqrstuvwxyz0123456789abcdefghijklmnopqrstuvwxy";
 
-/// How many labels the copy and the parent of a name have together.
+/// The number of labels of the copy and the parent of a name together.
 fn made<A: Allocator + Copy>(heap: A, text: &str) -> Result<usize, NameFault> {
     let name = Name::from_text(heap, text)?;
     let copy = name.copy(heap)?;
@@ -211,7 +212,7 @@ fn made<A: Allocator + Copy>(heap: A, text: &str) -> Result<usize, NameFault> {
     Ok(count + parent.map_or(0, |parent| parent.labels().count()))
 }
 
-/// Grants so many growths and refuses the next one, alone or with each one behind it.
+/// Grants `growths` allocations and refuses the next one, alone or with each one after it.
 fn refuse(heap: &Refusing<Global>, growths: u64, is_alone: bool) {
     if is_alone {
         heap.refuse_one(growths);
@@ -220,8 +221,8 @@ fn refuse(heap: &Refusing<Global>, growths: u64, is_alone: bool) {
     }
 }
 
-/// How many growths are refused one after another, alone or with each one behind it, until there are so many labels;
-/// `None` where anything else is told than want of memory.
+/// The number of allocations that are refused one after another, alone or with each one after it,
+/// until the name has `labels` labels; `None` on any fault but out of memory.
 fn growths_of(heap: &Refusing<Global>, text: &str, labels: usize, is_alone: bool) -> Option<u64> {
     for count in 0..100u64 {
         refuse(heap, count, is_alone);
@@ -234,8 +235,9 @@ fn growths_of(heap: &Refusing<Global>, text: &str, labels: usize, is_alone: bool
     None
 }
 
-/// A name, how many labels its copy and its parent have together, and how many growths are wanted: up to 30 octets
-/// lie in place; more of them take one growth for the name, one for its copy and one for its parent.
+/// A name, the number of labels of its copy and its parent together, and the number of allocations:
+/// up to 30 octets are kept in place; more of them take one allocation for the name, one for its
+/// copy and one for its parent.
 const GROWTHS: [(&str, usize, u64); 5] = [
     ("a.example", 3, 0),
     (SHORT, 3, 0),
@@ -271,7 +273,7 @@ fn one_label<A: Allocator + Copy>(heap: A) -> Result<Vec<Vec<u8, A>, A>, AllocEr
     Ok(labels)
 }
 
-/// How many labels its name has, where a growth is refused after so many.
+/// The number of labels of its name, where an allocation is refused after `growths`.
 fn of_one_label(heap: &Refusing<Global>, growths: u64, is_alone: bool) -> Result<usize, NameFault> {
     heap.allow(u64::MAX);
     let labels = one_label(heap)?;

@@ -22,7 +22,7 @@ pub or_none : (o : Option Held) → o ≡ option_or o None
 or_none None = refl
 or_none (Some h) = refl
 
--- the nearest is that of the name itself, else the nearest above
+-- the nearest is that of the name itself, otherwise the nearest above
 pub climbed_is : (there : There) (key : List (List ℕ)) → climbed there key ≡ option_or (there key) (above there key)
 climbed_is there [] = or_none (there [])
 climbed_is there (label ∷ key) = refl
@@ -87,7 +87,7 @@ pub under_higher : (key rest higher : List (List ℕ)) (label : List ℕ) → re
 under_higher key rest higher label is under =
     under_transitive key rest higher under (subst (λ (n : List (List ℕ)). IsUnder n higher) (sym is) (longer_is_under label higher higher (under_itself higher)))
 
--- the labels behind the first one are in lower case too
+-- the labels after the first one are in lower case too
 pub lower_higher : (rest higher : List (List ℕ)) (label : List ℕ) → rest ≡ label ∷ higher → lowered rest ≡ rest → lowered higher ≡ higher
 lower_higher rest higher label is lower = let both : lowered (label ∷ higher) ≡ label ∷ higher = subst (λ (r : List (List ℕ)). lowered r ≡ r) is lower in cc
 

@@ -40,7 +40,7 @@ one_test true false f g = sym (f refl)
 one_test false true f g = g refl
 one_test false false f g = refl
 
--- ---- what `denies` tells
+-- ---- the answer of `denies`
 
 abbrev IsError : ℕ → Held → Type 0
 IsError class h = (is_name_error h.piece ≡ true) × (class ≡ h.piece.slot.class)

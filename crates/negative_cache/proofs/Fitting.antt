@@ -1,4 +1,4 @@
--- What is found is alive, fits the question, and is the nearest.
+-- The found entry is alive, fits the question, and is the nearest.
 use Rattle.std.proofs.Common.{◌≡◌, ◌≢◌, ℕ, ◌≤◌, Bool, true, false, cond, if◌then◌else◌, ◌&&◌, ◌==◌, nat_lt, ◌⊎◌, inl, inr, List, [], ◌∷◌, length, filter, Option, None, Some, refl, sym, ap, ◌∙◌, subst, arith}
 use Rattle.std.specs.List.{find, AllByRecursion}
 use Rattle.std.specs.Cmp.{first_so, second_so}

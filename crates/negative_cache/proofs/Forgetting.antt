@@ -1,4 +1,4 @@
--- What is forgotten of a name and of the names above it.
+-- Removal of the name errors of a name and of the names above it.
 use Rattle.std.proofs.Common.{◌≡◌, ℕ, Bool, true, false, cond, ◌||◌, not, inl, inr, List, [], ◌∷◌, filter, refl, sym, ap, ◌∙◌}
 use Rattle.std.specs.List.{AllByRecursion}
 use Rattle.dns_name.specs.Labels.{lowered}

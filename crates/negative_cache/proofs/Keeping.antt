@@ -1,4 +1,4 @@
--- What changes no look-up, and what is forgotten.
+-- Changes that leave each look-up as it was, and the removed name errors.
 use Rattle.std.proofs.Common.{◌≡◌, ℕ, Bool, true, false, if◌then◌else◌, ◌&&◌, ◌||◌, ◌==◌, not, nat_eq, nat_le, List, filter, Option, None, Some, refl, sym, ap, ◌∙◌}
 use Rattle.std.specs.Prelude.{is_none}
 use Rattle.std.specs.Option.{option_eq}
@@ -52,7 +52,7 @@ promotion_keeps_found routes moment capacity entries q slot held =
     ∙ (λ i. found_by_slot routes moment (λ s. promotion_keeps_entry slot s entries held.apart i) (lowered q.name) q.class q.kind)
     ∙ by_slot routes moment capacity entries q held
 
--- ---- what is forgotten
+-- ---- the removed name errors
 
 and_false : (b : Bool) → (b && false) ≡ false
 and_false true = refl

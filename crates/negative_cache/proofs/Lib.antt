@@ -7,6 +7,7 @@ pub mod Fitting
 pub mod Keeping
 pub mod PastEnds
 pub mod Forgetting
+pub mod Ways
 pub mod Worked
 pub mod WorkedStale
 pub mod CallerLemmas

@@ -1,4 +1,4 @@
--- What is there, where it passes a test.
+-- An optional entry, kept where it passes a test.
 use Rattle.std.proofs.Common.{◌≡◌, ℕ, Bool, true, false, if◌then◌else◌, ◌&&◌, nat_eq, Option, None, Some, refl, ap, subst}
 use Rattle.std.specs.Option.{option_eq}
 use Rattle.std.specs.Bool.{Decides}
@@ -20,7 +20,7 @@ only_true test h is = rw is refl
 pub only_false : (test : Held → Bool) (h : Held) → test h ≡ false → only test (Some h) ≡ None
 only_false test h is = rw is refl
 
--- one test behind another is both of them
+-- one test after another is both of them
 pub only_both : (first second : Held → Bool) (o : Option Held) → only second (only first o) ≡ only (λ h. first h && second h) o
 only_both first second None = refl
 only_both first second (Some h) = (elim (first h) as (λ b. only second (if b then Some h else None) ≡ (if b && second h then Some h else None)) [

@@ -1,4 +1,4 @@
--- What is found past the ends of entries: by the code's way, slot by slot, and what it is good for.
+-- Look-ups of stale entries: as the code goes, slot by slot, and their laws.
 use Rattle.std.proofs.Common.{◌≡◌, ◌≢◌, ℕ, ◌+◌, ◌*◌, Bool, true, false, if◌then◌else◌, ◌&&◌, ◌==◌, nat_eq, nat_lt, List, Option, None, Some, refl, sym, ap, ◌∙◌, arith}
 use Rattle.std.specs.List.{find, AllByRecursion}
 use Rattle.std.specs.Cmp.{first_so, second_so}
@@ -93,7 +93,7 @@ set_is moment entries q kind =
     (all_are (λ h. (is_of_type q kind h && (is_within 0 moment h && is_set h)) ≡ (is_of_type q kind h && (is_alive moment h && is_set h)))
     (λ h. ap (λ b. is_of_type q kind h && (b && is_set h)) (within_none moment h)) entries)
 
--- denials are left out, wherever they stand
+-- denials are left out, wherever they are
 denials_out : (set other empty error : Option Held) → found_or rows set (found_or alias other miss)
     ≡ set_or_alias (found_or rows set (found_or alias other (found_or no_data empty (found_or denied error miss))))
 denials_out (Some h) other empty error = refl

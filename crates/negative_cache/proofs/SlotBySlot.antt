@@ -160,7 +160,8 @@ module _ (T below : Held → Bool) (s : Slot) where
   other e es rest true false short = rest
   other e es rest false w short = rest
 
-  -- the nearest of the slot's entry and of others with fewer labels is the slot's entry, where it is there
+  -- the nearest of the slot's entry and of others with fewer labels is the slot's entry, where it
+  -- is there
   joined : (es : List Held) → AreApart es → AllByRecursion Short es → option_or (only T (entry_of s es)) (nearest (shorter_ones es)) ≡ nearest (both es)
   joined [] apart short = refl
   joined (e ∷ es) apart short = (elim (of_slot s e) as (λ b. of_slot s e ≡ b → option_or (only T (cond b (Some e) (entry_of s es))) (nearest (shorter_ones (e ∷ es))) ≡ nearest (cond (T e && (b || below e)) (e ∷ both es) (both es))) [

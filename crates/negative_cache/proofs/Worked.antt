@@ -25,7 +25,7 @@ e = (101 ∷ []) ∷ []
 abbrev pub below : ℕ → List (List ℕ) → List (List ℕ)
 below letter name = (letter ∷ []) ∷ name
 
--- kept at 1000 for so many seconds
+-- kept at 1000 for this number of seconds
 abbrev pub held : List (List ℕ) → Option ℕ → Body → ℕ → Held
 held name kind body lifetime = record {
   piece = record { owner = name; slot = record { key = name; class = 1; kind = kind }; body = body; lifetime = lifetime; rank = 3; route = 0 };
@@ -122,12 +122,12 @@ sibling_is_kept = refl
 abbrev denying : List Route
 denying = record { suffix = []; deny = false; servers = server ∷ [] } ∷ record { suffix = below 108 []; deny = true; servers = [] } ∷ []
 
--- a denied name is told so before an entry is looked at, in any letter case
+-- a denied name is answered as such before an entry is looked at, in any letter case
 told_local : found_or_local denying 60999 entries (asked (below 76 []) 1) ≡ finds.local
 unfolding route_of
 told_local = refl
 
--- beside it, and where no route denies, what is held is found
+-- next to it, and where no route denies, the held entry is found
 told_beside : found_or_local denying 60999 entries (asked (below 110 []) 1) ≡ finds.no_data no_address
 unfolding route_of
 told_beside = refl

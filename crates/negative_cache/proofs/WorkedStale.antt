@@ -1,4 +1,4 @@
--- Worked look-ups past the ends of entries, computed, each beside one that is not so.
+-- Worked look-ups of stale entries, computed, each with one that is otherwise.
 use Rattle.std.proofs.Common.{◌≡◌, ℕ, List, [], ◌∷◌, Some, None, refl}
 use Rattle.trust_rank.specs.Values.{rows, no_data, denied}
 use Rattle.record_cache.specs.Values.{Held}
@@ -17,7 +17,7 @@ set = held name (Some 1) (rows ((192 ∷ 0 ∷ 2 ∷ 5 ∷ []) ∷ [])) 60
 abbrev alias : Held
 alias = held name (Some 5) (rows ((1 ∷ 101 ∷ 0 ∷ []) ∷ [])) 60
 
--- what is found for the name in a window of so many seconds
+-- the outcome for the name in a window of this number of seconds
 abbrev found_for : ℕ → ℕ → List Held → ℕ → finds.Found
 found_for window moment entries kind = stale window moment entries (asked name kind)
 
@@ -28,7 +28,7 @@ living_set_is_found = refl
 living_set_is_not_missed : found_for 30 60999 (set ∷ []) 1 ≡ finds.miss → ⊥
 living_set_is_not_missed is = cc
 
--- one that has ended is found too
+-- an expired one is found too
 ended_set_is_found : found_for 30 61000 (set ∷ []) 1 ≡ finds.rows set
 ended_set_is_found = refl
 
@@ -60,7 +60,8 @@ alive_is_found = refl
 ended_is_missed : found_for 0 61000 (set ∷ []) 1 ≡ finds.rows set → ⊥
 ended_is_missed is = cc
 
--- the set stands before the alias, in whichever order the entries are, and the alias alone does for it
+-- the set comes before the alias, in whichever order the entries are, and the alias alone is found
+-- too
 set_is_first : found_for 30 61000 (alias ∷ set ∷ []) 1 ≡ finds.rows set
 set_is_first = refl
 

@@ -1,4 +1,5 @@
--- The code's way to what is found: slot by slot, from a name to the names above it. Names are keys here: in lower case.
+-- Look-ups as the code makes them: slot by slot, from a name to the names above it. Names are keys
+-- here: in lower case.
 use Rattle.std.specs.Prelude.{ℕ, Bool, nat_eq, if◌then◌else◌, ◌==◌, List, [], ◌∷◌, Option, Some, None}
 use Rattle.std.specs.Option.{option_eq, option_or}
 use Rattle.suffix_routes.specs.Values.{Route}
@@ -16,10 +17,11 @@ use Rattle.negative_cache.specs.Stale.{is_within}
 abbrev pub Slots : Type 0
 Slots = Slot → Option Held
 
+-- the entries, found by their slots
 abbrev pub slots_of : List Held → Slots
 slots_of entries slot = entry_of slot entries
 
--- what is there, where it passes the test
+-- the entry, where it passes the test
 abbrev pub only : (Held → Bool) → Option Held → Option Held
 only test None = None
 only test (Some h) = if test h then Some h else None
@@ -41,15 +43,15 @@ alias_at moment slots key class kind = if kind == 5 then None else only is_set (
 abbrev pub name_error_of : ℕ → Slots → ℕ → List (List ℕ) → Option Held
 name_error_of moment slots class key = living_entry moment slots (record { key = key; class = class; kind = None })
 
--- the name of an entry is on this route
+-- the name of an entry has this route
 abbrev pub is_on : List Route → Option ℕ → Held → Bool
 is_on routes route h = option_eq nat_eq (route_of routes h.piece.slot.key) route
 
--- the same, where its name is on the route
+-- the same, where its name has the route
 abbrev pub name_error_on : List Route → Option ℕ → ℕ → Slots → ℕ → List (List ℕ) → Option Held
 name_error_on routes route moment slots class key = only (is_on routes route) (name_error_of moment slots class key)
 
--- what is there for the first of a name and the names above it for which something is there
+-- the entry of the first of a name and the names above it that has one
 abbrev pub climbed : (List (List ℕ) → Option Held) → List (List ℕ) → Option Held
 climbed there [] = there []
 climbed there (label ∷ key) = option_or (there (label ∷ key)) (climbed there key)
@@ -64,7 +66,7 @@ abbrev pub nearest_error : List Route → ℕ → Slots → ℕ → List (List �
 nearest_error routes moment slots class key =
     climbed (name_error_on routes (route_of routes key) moment slots class) key
 
--- what a look-up finds
+-- the outcome of a look-up
 abbrev pub found_by_slot : List Route → ℕ → Slots → List (List ℕ) → ℕ → ℕ → Found
 found_by_slot routes moment slots key class kind =
     found_or rows (only is_set (typed_entry moment slots key class kind))
@@ -82,7 +84,7 @@ abbrev pub alias_within : ℕ → ℕ → Slots → List (List ℕ) → ℕ → 
 alias_within window moment slots key class kind =
     if kind == 5 then None else only is_set (entry_within window moment slots key class 5)
 
--- what a look-up past the ends of entries finds
+-- the outcome of a look-up of stale entries
 abbrev pub stale_by_slot : ℕ → ℕ → Slots → List (List ℕ) → ℕ → ℕ → Found
 stale_by_slot window moment slots key class kind =
     found_or rows (only is_set (entry_within window moment slots key class kind))

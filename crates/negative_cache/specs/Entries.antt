@@ -1,23 +1,27 @@
--- What an entry tells: a set, NODATA (RFC 2308 2.2), or that a name isn't there (RFC 2308 2.1).
+-- The content of an entry: a set, NODATA (RFC 2308 2.2), or that a name isn't there (RFC 2308 2.1).
 use Rattle.std.specs.Prelude.{ℕ, Bool, true, false, ◌==◌, ◌&&◌, List}
 use Rattle.dns_name.specs.Labels.{is_under}
 use Rattle.trust_rank.specs.Values.{Body, rows, no_data, denied}
 use Rattle.trust_rank.specs.Replacing.{is_name_error}
 use Rattle.record_cache.specs.Values.{Held}
 
+-- the content is a record set
 abbrev pub are_rows : Body → Bool
 are_rows (rows each) = true
 are_rows (no_data soa) = false
 are_rows (denied soa) = false
 
+-- the content is a NODATA (RFC 2308 2.2)
 abbrev pub tells_no_data : Body → Bool
 tells_no_data (rows each) = false
 tells_no_data (no_data soa) = true
 tells_no_data (denied soa) = false
 
+-- the entry is a record set
 abbrev pub is_set : Held → Bool
 is_set h = are_rows h.piece.body
 
+-- the entry is a NODATA (RFC 2308 2.2)
 abbrev pub is_no_data : Held → Bool
 is_no_data h = tells_no_data h.piece.body
 

@@ -1,4 +1,5 @@
--- What a look-up finds among the entries: RFC 1034 3.6.2, RFC 2308 2, RFC 8020 2. No two entries are of one slot.
+-- Look-ups among the entries: RFC 1034 3.6.2, RFC 2308 2, RFC 8020 2. No two entries are of one
+-- slot.
 use Rattle.std.specs.Prelude.{ℕ, Bool, nat_eq, nat_lt, if◌then◌else◌, ◌==◌, ◌&&◌, List, [], ◌∷◌, length, filter, Option}
 use Rattle.std.specs.Prelude.{Some, None}
 use Rattle.std.specs.List.{find}
@@ -32,7 +33,7 @@ alias_for moment entries q = if q.kind == 5 then None else set_for moment entrie
 abbrev pub no_data_for : ℕ → List Held → Question → Option Held
 no_data_for moment entries q = find (λ h. is_of_type q q.kind h && (is_alive moment h && is_no_data h)) entries
 
--- a living name error at or above the question's name, on its route
+-- a living name error at or above the question's name, of its route
 abbrev pub is_denial_for : List Route → ℕ → Question → Held → Bool
 is_denial_for routes moment q h = is_alive moment h && is_on_route routes q h && denies q.name q.class h
 
@@ -50,13 +51,14 @@ nearest (h ∷ entries) = Some (nearer h (nearest entries))
 abbrev pub denial_for : List Route → ℕ → List Held → Question → Option Held
 denial_for routes moment entries q = nearest (filter (is_denial_for routes moment q) entries)
 
--- what was found so, else the next
+-- the first, if it was found, otherwise the next
 abbrev pub found_or : (Held → Found) → Option Held → Found → Found
 found_or so (Some h) next = so h
 found_or so None next = next
 
--- The first of these that is there: the set of the type, the alias, NODATA of the type, and the nearest name error at
--- or above the name whose own name is on the route of the name. So a set below a name error is found until it ends.
+-- The first of these that is there: the set of the type, the alias, NODATA of the type, and the
+-- nearest name error at or above the name whose own name has the route of the name. So a set below
+-- a name error is found until it expires.
 abbrev pub found : List Route → ℕ → List Held → Question → Found
 found routes moment entries q =
     found_or rows (set_for moment entries q q.kind)
@@ -64,6 +66,7 @@ found routes moment entries q =
     (found_or no_data (no_data_for moment entries q)
     (found_or denied (denial_for routes moment entries q) miss)))
 
--- What a look-up of a question comes to: first of all that the route of its name denies it, else what is found.
+-- The outcome of a look-up of a question: `local` where the route of its name denies it, otherwise
+-- the found entry.
 abbrev pub found_or_local : List Route → ℕ → List Held → Question → Found
 found_or_local routes moment entries q = if is_denied routes q.name then local else found routes moment entries q

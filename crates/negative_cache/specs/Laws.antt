@@ -1,4 +1,4 @@
--- What the definitions of look-ups are good for, as statements.
+-- Statements about look-ups.
 use Rattle.std.specs.Prelude.{◌≡◌, ◌≢◌, ◌≤◌, ℕ, true, false, ◌&&◌, List, length}
 use Rattle.std.specs.List.{AllByRecursion}
 use Rattle.dns_name.specs.Labels.{IsSame}
@@ -28,7 +28,8 @@ pub record IsTyped (moment : ℕ) (entries : List Held) (q : Question) (kind : �
   pub living : IsLiving moment entries h
   pub slot : is_of_type q kind h ≡ true
 
--- alive, and a name error of the question's class, at or above its name, whose own name has the route of its name
+-- alive, and a name error of the question's class, at or above its name, whose own name has the
+-- route of its name
 pub record IsDenial (routes : List Route) (moment : ℕ) (entries : List Held) (q : Question) (h : Held) : Type 0 where
   pub living : IsLiving moment entries h
   pub denies : denies q.name q.class h ≡ true
@@ -43,8 +44,8 @@ Fits routes moment entries q (no_data h) = IsTyped moment entries q q.kind h × 
 Fits routes moment entries q (denied h) = IsDenial routes moment entries q h
 Fits routes moment entries q miss = Unit {0}
 
--- What a look-up finds is one of the entries, alive, and fits the question: it is in the question's slot or in the
--- alias's, or it is a name error at or above the name, on the name's route.
+-- A look-up finds one of the entries, alive, that fits the question: it is in the question's slot
+-- or in the alias's, or it is a name error at or above the name, within the name's route.
 abbrev pub FoundFits : Type 0
 FoundFits = (routes : List Route) (moment : ℕ) (entries : List Held) (q : Question)
     → Fits routes moment entries q (found routes moment entries q)
@@ -58,7 +59,8 @@ IsNearer (no_data h) other = Unit {0}
 IsNearer (denied h) other = length other.piece.slot.key ≤ length h.piece.slot.key
 IsNearer miss other = ⊥
 
--- Where a living entry denies the name, no look-up misses, and no name error that it finds is farther away.
+-- Where a living entry denies the name, no look-up misses, and no name error that it finds is
+-- farther away.
 abbrev pub NearestIsFound : Type 0
 NearestIsFound = (routes : List Route) (moment : ℕ) (entries : List Held) (q : Question) (other : Held)
     → IsDenial routes moment entries q other
@@ -68,8 +70,8 @@ NearestIsFound = (routes : List Route) (moment : ℕ) (entries : List Held) (q :
 abbrev pub NoneIsDenied : List Route → List Held → Type 0
 NoneIsDenied routes entries = AllByRecursion (λ h. is_denied routes h.piece.slot.key ≡ false) entries
 
--- Where no entry is of a denied name, nothing is found for such a name, alive or past its end: so what is found needs
--- no look at routes before.
+-- Where no entry is of a denied name, nothing is found for such a name, alive or stale. So the
+-- look-up need not ask first whether the name is denied.
 abbrev pub NothingIsFoundOfDenied : Type 0
 NothingIsFoundOfDenied = (routes : List Route) (window moment : ℕ) (entries : List Held) (q : Question)
     → NoneIsDenied routes entries → is_denied routes q.name ≡ true
@@ -88,19 +90,20 @@ EqualQuestionsFindTheSame = (routes : List Route) (moment : ℕ) (entries : List
     → found routes moment entries (record { name = name; kind = kind; class = class })
     ≡ found routes moment entries (record { name = other; kind = kind; class = class })
 
--- What is forgotten where a set or NODATA is offered are the name errors whose place it takes.
+-- The name errors that are removed where a set or NODATA is offered are those whose place it takes.
 abbrev pub ShownIsReplaced : Type 0
 ShownIsReplaced = (piece : Piece) (h : Held) → IsPiece piece → is_name_error piece ≡ false
     → denies piece.owner piece.slot.class h ≡ (is_name_error h.piece && takes_place_of piece h.piece)
 
--- one of the entries, a set within the window, in the slot of the question's name and class and of this type
+-- one of the entries, a set within the window, in the slot of the question's name and class and of
+-- this type
 pub record IsTypedWithin (window moment : ℕ) (entries : List Held) (q : Question) (kind : ℕ) (h : Held) : Type 0 where
   pub among : Among h entries
   pub slot : is_of_type q kind h ≡ true
   pub within : is_within window moment h ≡ true
   pub set : is_set h ≡ true
 
--- what was found past the ends of entries fits the question and the window; it is no denial
+-- the stale entry that was found fits the question and the window; it is no denial
 abbrev pub FitsWithin : ℕ → ℕ → List Held → Question → Found → Type 0
 FitsWithin window moment entries q local = ⊥
 FitsWithin window moment entries q (rows h) = IsTypedWithin window moment entries q q.kind h
@@ -109,7 +112,7 @@ FitsWithin window moment entries q (no_data h) = ⊥
 FitsWithin window moment entries q (denied h) = ⊥
 FitsWithin window moment entries q miss = Unit {0}
 
--- What a look-up past the ends of entries finds is one of them, a set in the question's slot or in the alias's, and
+-- A look-up of stale entries finds one of them, a set in the question's slot or in the alias's, and
 -- within the window.
 abbrev pub StaleFits : Type 0
 StaleFits = (window moment : ℕ) (entries : List Held) (q : Question)
@@ -124,18 +127,18 @@ set_or_alias (no_data h) = miss
 set_or_alias (denied h) = miss
 set_or_alias miss = miss
 
--- Where the window is 0, what is found past the ends of entries is the set or alias that is found alive.
+-- Where the window is 0, a look-up of stale entries finds the set or alias that is found alive.
 abbrev pub NoWindowFindsTheLiving : Type 0
 NoWindowFindsTheLiving = (routes : List Route) (moment : ℕ) (entries : List Held) (q : Question)
     → stale 0 moment entries q ≡ set_or_alias (found routes moment entries q)
 
--- A promotion changes no look-up past the ends of entries.
+-- A promotion changes no look-up of stale entries.
 abbrev pub PromotionKeepsStale : Type 0
 PromotionKeepsStale = (window moment capacity : ℕ) (entries : List Held) (q : Question) (slot : Slot)
     → AreHeld (record { capacity = capacity; entries = entries })
     → stale window moment (promoted slot entries) q ≡ stale window moment entries q
 
--- Equal questions find the same past the ends of entries, however their names are spelled.
+-- Equal questions find the same stale entries, however their names are spelled.
 abbrev pub EqualQuestionsFindTheSameStale : Type 0
 EqualQuestionsFindTheSameStale = (window moment : ℕ) (entries : List Held) (kind class : ℕ)
     → (name other : List (List ℕ)) → IsSame name other

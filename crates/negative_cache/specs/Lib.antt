@@ -1,4 +1,5 @@
 pub mod Values
+pub mod Moments
 pub mod Entries
 pub mod Finding
 pub mod Stale

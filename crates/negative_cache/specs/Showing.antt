@@ -1,4 +1,4 @@
--- What a set or NODATA shows to be there: its name, and each name above it (RFC 8020 2).
+-- The names that a set or NODATA shows to be there: its own, and each above it (RFC 8020 2).
 use Rattle.std.specs.Prelude.{ℕ, not, List, filter}
 use Rattle.record_cache.specs.Values.{Held}
 use Rattle.negative_cache.specs.Entries.{denies}

@@ -1,4 +1,4 @@
--- What a look-up past the ends of entries finds among them (RFC 8767 5). No two entries are of one slot.
+-- Look-ups of stale entries (RFC 8767 5). No two entries are of one slot.
 use Rattle.std.specs.Prelude.{ℕ, ◌+◌, ◌*◌, Bool, nat_lt, if◌then◌else◌, ◌==◌, ◌&&◌, List, Option, None}
 use Rattle.std.specs.List.{find}
 use Rattle.dns_message.specs.Values.{Question}
@@ -7,7 +7,8 @@ use Rattle.negative_cache.specs.Values.{Found, rows, alias, miss}
 use Rattle.negative_cache.specs.Entries.{is_set}
 use Rattle.negative_cache.specs.Finding.{is_of_type, found_or}
 
--- alive, or ended fewer than so many seconds ago: the window
+-- alive, or expired fewer than `window` seconds ago: gone at 1,000 × (lifetime + window) ms; with a
+-- window of 0 just alive
 abbrev pub is_within : ℕ → ℕ → Held → Bool
 is_within window moment h = nat_lt moment (h.accepted + 1000 * (h.piece.lifetime + window))
 
@@ -20,7 +21,8 @@ stale_set_for window moment entries q kind =
 abbrev pub stale_alias_for : ℕ → ℕ → List Held → Question → Option Held
 stale_alias_for window moment entries q = if q.kind == 5 then None else stale_set_for window moment entries q 5
 
--- The first of these that is there: the set of the type, and the alias. No denial is found, and none hides an alias.
+-- The first of these that is there: the set of the type, and the alias. No denial is found, and
+-- none hides an alias.
 abbrev pub stale : ℕ → ℕ → List Held → Question → Found
 stale window moment entries q =
     found_or rows (stale_set_for window moment entries q q.kind)

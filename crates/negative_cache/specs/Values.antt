@@ -1,12 +1,13 @@
--- What a contract sees of what a look-up found.
+-- The outcome of a look-up as contracts see it.
 use Rattle.std.specs.Prelude.{◌≡◌}
 use Rattle.trust_rank.specs.declared.slot.Slot.{Slot}
 use Rattle.record_cache.specs.Values.{Held}
 use Rattle.negative_cache.specs.declared.found.Found.{Found as OwnedFound}
 use Rattle.negative_cache.specs.declared.found.Found.TheVariants as owned
 
--- that the configuration denies the name; the set of the type; an alias in its place (RFC 1034 3.6.2); NODATA
--- (RFC 2308 2.2); a name error of the name or of one above it (RFC 2308 2.1, RFC 8020 2); or nothing that is alive
+-- one of these: the configuration denies the name; the set of the type; an alias in its place (RFC
+-- 1034 3.6.2); NODATA (RFC 2308 2.2); a name error of the name or of one above it (RFC 2308 2.1 and
+-- RFC 8020 2); no living entry
 pub data Found : Type 0 where
   local : Found
   rows : Held → Found
@@ -15,6 +16,7 @@ pub data Found : Type 0 where
   denied : Held → Found
   miss : Found
 
+-- the result of the code's look-up as a plain value
 abbrev pub found_of : {A : Type 0} → OwnedFound A → Found
 found_of owned.Local = local
 found_of (owned.Rows held) = rows held.now

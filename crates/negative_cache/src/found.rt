@@ -1,12 +1,13 @@
-//! What a look-up finds.
+//! The outcome of a look-up.
 
 use record_cache::Held;
 use std::alloc::{Allocator, Global};
 
-/// What a look-up of a question comes to: mostly what the cache holds alive for it.
+/// The outcome of a look-up of a question: mostly a living entry of the cache.
 #[derive(Drop)]
 pub enum Found<'a, A: Allocator = Global> {
-    /// The route of the name denies it, so there is no such name, whatever a server says (RFC 6761 6.4).
+    /// The route of the name denies it (RFC 6761 6.4): there is no such name, whatever a server
+    /// says.
     Local,
     /// The set of the type (RFC 2181 5).
     Rows(&'a Held<A>),
@@ -14,8 +15,9 @@ pub enum Found<'a, A: Allocator = Global> {
     Alias(&'a Held<A>),
     /// NODATA: the name has no records of the type (RFC 2308 2.2).
     NoData(&'a Held<A>),
-    /// A name error of the name or of one above it, under which no name is (RFC 2308 2.1, RFC 8020 2).
+    /// A name error of the name or of one above it (RFC 2308 2.1). No name is below such a one (RFC
+    /// 8020 2).
     Denied(&'a Held<A>),
-    /// Nothing of these.
+    /// None of these.
     Miss,
 }

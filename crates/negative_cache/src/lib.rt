@@ -1,6 +1,7 @@
-//! Look-ups among what is kept of replies, name errors at and above a name among it (RFC 2308, RFC 8020).
+//! Look-ups in the cache of replies, with name errors at and above a name (RFC 2308, RFC 8020).
 #![tactic(auto)]
 
+mod cache_at;
 mod errors;
 mod finding;
 mod found;
@@ -9,11 +10,12 @@ mod living;
 mod showing;
 mod stale;
 
-pub use finding::{find, find_by_octets};
+pub use cache_at::CacheAt;
+pub use finding::find;
 pub use found::Found;
 pub use laws::{
     found_fits, found_is_settled, nearest_is_found, nothing_is_found_of_denied, shown_is_replaced,
     stale_fits, stale_is_settled,
 };
 pub use showing::shown;
-pub use stale::{find_stale, find_stale_by_octets};
+pub use stale::find_stale;

@@ -6,23 +6,24 @@ ghost use Rattle.record_cache.specs.Entries.{AreHeld};
 ghost use Rattle.negative_cache.specs.Entries.{is_no_data, is_set};
 ghost use Rattle.negative_cache.specs.BySlot.{living_entry, only, slots_of};
 
-use record_cache::{Cache, Held};
+use crate::cache_at::CacheAt;
+use record_cache::Held;
 use std::alloc::Allocator;
 use std::hash::BuildHasher;
 use trust_rank::{Body, Slot};
 
-/// The entry of a slot, where it is alive at a moment in milliseconds. `held` says what holds of all entries.
+/// The entry of a slot, where it is alive. `held` says what holds of all entries.
 pub(crate) fn living_entry<'a, H: BuildHasher + Drop, A: Allocator + Copy>(
-    cache: &'a Cache<H, A>,
+    at: &CacheAt<'a, H, A>,
     slot: &Slot,
-    moment: u64,
 ) -> Option<&'a Held<A>>
-    ensures found { option_copied result ≡ living_entry moment (slots_of cache.now.entries) slot.now }
+    ensures found { option_copied result
+        ≡ living_entry at.now.moment (slots_of at.now.cache.entries) slot.now }
     ensures slot { IfSome (option_copied result) (λ h. slot.now ≡ h.piece.slot) }
-    ensures held { AreHeld cache.now }
+    ensures held { AreHeld at.now.cache }
 {
-    let held = cache.peek(slot)?;
-    if held.is_alive(moment) {
+    let held = at.cache.peek(slot)?;
+    if held.is_alive(at.moment) {
         Some(held)
     } else {
         None

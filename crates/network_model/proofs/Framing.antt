@@ -26,7 +26,7 @@ shorter message rest stream leads =
     let sum = length-append (framed message) rest in
     omega (arith, long, sum)
 
--- so far: these messages were served, and what the reader has goes on behind them
+-- so far: these messages were served, and what the reader has goes on after them
 pub record FramesSoFar (sender : Sender) (stream rest : List ℕ) (before after : Standing) : Type 0 where
   pub chains : List (List Taken)
   pub done : List (List ℕ)

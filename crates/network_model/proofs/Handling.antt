@@ -1,4 +1,4 @@
--- What the parts of a turn do, put together.
+-- The effects of the parts of a turn, put together.
 use Rattle.std.proofs.Common.{◌≡◌, ◌∙◌, refl, sym, ap, subst, ℕ, zero, suc, ◌+◌, ◌*◌, ◌<◌, ◌≤◌, ◌⊎◌, inl, inr, List, [], ◌∷◌, ◌++◌, length, append_assoc, append-nil, Option, Some, None, Bool, true, false, arith}
 use Rattle.std.specs.Prelude.{option_map, map, IsSome}
 use Rattle.std.specs.List.{AllByRecursion}
@@ -149,7 +149,7 @@ hands_err before after o p q counts counts' now words e same bounded a b lost re
       falls = λ own. inr (refl, ap left same, λ _. refl);
     }
 
--- ---- an event and what fails behind it
+-- ---- an event and what fails after it
 
 abbrev pub if_failed : Option Path → ℕ
 if_failed None = 0
@@ -159,7 +159,7 @@ at_most_one : (o : Option Path) → if_failed o ≤ 1
 at_most_one None = omega arith
 at_most_one (Some path) = omega arith
 
--- so far: the first event and those behind it; what comes next is the failure of the path, if one failed
+-- so far: the first event and those after it; the failure of the path comes next, if one failed
 pub record HandsSoFar (event : Event) (more : Bool) (failed : Option Path) (before after : Standing) : Type 0 where
   pub first : Taken
   pub others : List Taken

@@ -1,4 +1,4 @@
--- What a wire tells grows, and a count that grows stays at its last value.
+-- The report of a wire grows, and a count that grows stays at its last value.
 use Rattle.std.proofs.Common.{◌≡◌, ◌∙◌, refl, sym, ap, ℕ, zero, suc, ◌+◌, ◌≤◌, length, List, [], ◌∷◌, ◌++◌, append_assoc, append-nil, Option, Some, None, false, arith}
 use Rattle.std.specs.Prelude.{option_map, map, slice_get}
 use Rattle.std.proofs.lemmas.List.{map-append}
@@ -10,7 +10,7 @@ use Rattle.network_model.specs.Events.{Taken, later, refused_path, failed_of}
 use Rattle.network_model.specs.Serving.{Adds, told_of, told_of_all, lost_in, refused_by, refused_of, refused_in}
 use Rattle.network_model.specs.Handing.{told_of_puts, Puts}
 
--- ---- what is told
+-- ---- reports
 
 pub then_silence : (a : Told) → a then silence ≡ a
 then_silence a i = record { arrivals = append-nil a.arrivals i; puts = append-nil a.puts i; moments = append-nil a.moments i; words = append-nil a.words i }
@@ -79,7 +79,7 @@ refused_append (x ∷ xs) ys = let rest = refused_append xs ys in omega (arith, 
 
 -- ---- what is put
 
--- Where a list has nothing at a place, it ends before.
+-- A list with nothing at a place ends before it.
 pub ends_before : {X : Type 0} (xs : List X) (i : ℕ) → slice_get xs i ≡ None → length xs ≤ i
 ends_before [] i none = omega arith
 ends_before (x ∷ xs) zero none = absurd (cc)

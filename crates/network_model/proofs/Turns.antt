@@ -186,7 +186,7 @@ are_more : (c : Config) (past : List (Option Arrival)) (turns : List Turn) (t : 
 are_more c past [] t are is = (subst (λ (p : List (Option Arrival)). IsTurn c p t) (append-nil past) is, tt)
 are_more c past (u ∷ turns) t are is = (are.0, are_more c (past ++ u.arrival ∷ []) turns t are.1 (subst (λ (p : List (Option Arrival)). IsTurn c p t) (sym (append_assoc past (u.arrival ∷ []) (map (λ (v : Turn). v.arrival) turns))) is))
 
--- so many turns so far, and the readers with what is left of the streams
+-- `count` turns so far, and the readers with what is left of the streams
 pub record TurnsSoFar {A : Type 0} (count : ℕ) (s : Streams A) (before after : Standing) : Type 0 where
   pub turns : List Turn
   pub long : length turns ≡ count

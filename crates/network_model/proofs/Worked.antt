@@ -1,4 +1,4 @@
--- Worked arrivals: the events that they stand for, computed.
+-- Worked arrivals: their events, computed.
 use Rattle.std.proofs.Common.{◌≡◌, refl, false, [], ◌∷◌, Some, None}
 use Rattle.tcp_frames.specs.Frames.{frames_within, frames_of}
 use Rattle.suffix_routes.specs.declared.peer.Peer.{Peer}

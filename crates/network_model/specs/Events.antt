@@ -1,4 +1,4 @@
--- The events that the arrivals of a wire stand for, and how a turn serves them.
+-- The events of a wire's arrivals, and how a turn serves them.
 use Rattle.std.specs.Prelude.{◌≡◌, ℕ, suc, ◌+◌, ◌*◌, ◌≤◌, Bool, true, false, if◌then◌else◌, ◌==◌, List, [], ◌∷◌, ◌++◌}
 use Rattle.std.specs.Prelude.{length, map, drop, Option, Some, None, option_map}
 use Rattle.std.specs.List.{filter_map}
@@ -15,7 +15,8 @@ use Rattle.wires.specs.Wire.{server_stream, path_gone, Put}
 
 -- ---- streams
 
--- the octets on a client's connection since the beginning or since it closed, once this has come too
+-- the octets on a client's connection since the beginning or since it closed, once this has come
+-- too
 abbrev pub client_octets_with : ℕ → List ℕ → Option Arrival → List ℕ
 client_octets_with conn octets None = octets
 client_octets_with conn octets (Some nothing) = octets
@@ -39,11 +40,13 @@ server_octets_with conn octets (Some (server_stream other from piece)) =
 server_octets_with conn octets (Some (path_gone (Udp port))) = octets
 server_octets_with conn octets (Some (path_gone (Tcp other))) = if conn == other then [] else octets
 
--- the octets on a connection since the first of these arrivals or since it closed, behind those that were there
+-- the octets on a connection: those that were there, followed by those of these arrivals; only
+-- those since it closed, where it did
 abbrev pub client_octets : ℕ → List ℕ → List (Option Arrival) → List ℕ
 client_octets conn octets [] = octets
 client_octets conn octets (a ∷ arrivals) = client_octets conn (client_octets_with conn octets a) arrivals
 
+-- the octets that arrived from a server on a connection
 abbrev pub server_octets : ℕ → List ℕ → List (Option Arrival) → List ℕ
 server_octets conn octets [] = octets
 server_octets conn octets (a ∷ arrivals) = server_octets conn (server_octets_with conn octets a) arrivals
@@ -52,16 +55,19 @@ server_octets conn octets (a ∷ arrivals) = server_octets conn (server_octets_w
 abbrev pub completed : List ℕ → List ℕ → List (List ℕ)
 completed before piece = drop (length (frames_of before)) (frames_of (before ++ piece))
 
--- ---- what an arrival stands for
+-- ---- the events of an arrival
 
+-- a message of a client over TCP, as an event
 abbrev pub client_message : ℕ → List ℕ → Event
 client_message conn message = from_client (client.Tcp conn) message
 
+-- a message of a server over TCP, as an event
 abbrev pub server_message : ℕ → Peer → List ℕ → Event
 server_message conn from message = delivery (Tcp conn) from message
 
--- Nothing, the end of a client's connection and a refused arrival stand for no event, a datagram for one, a piece of a
--- stream for one for each frame that it completes, in order; the end of a path to a server is its failure.
+-- The events of an arrival. Nothing, the end of a client's connection and a refused arrival are no
+-- event. A datagram is one, and a piece of a stream is one for each frame that it completes, in
+-- order. The end of a path to a server is its failure.
 abbrev pub events_of : List (Option Arrival) → Option Arrival → List Event
 events_of past None = []
 events_of past (Some nothing) = []
@@ -74,14 +80,15 @@ events_of past (Some (server_stream conn from piece)) =
     map (server_message conn from) (completed (server_octets conn [] past) piece)
 events_of past (Some (path_gone path)) = path_failed path ∷ []
 
--- ---- events that are handed to the forwarder
+-- ---- events that the forwarder takes
 
--- an event that was handed to the forwarder, its outcome, unless memory ran out, and what was put of it
+-- an event that the forwarder took, its outcome, unless memory ran out, and what was put of it
 pub record Taken : Type 0 where
   pub handed : Handed
   pub answer : Option Outcome
   pub puts : List Put
 
+-- the actions of an outcome; none where memory ran out
 abbrev pub actions_in : Option Outcome → List Action
 actions_in None = []
 actions_in (Some outcome) = outcome.actions
@@ -90,6 +97,7 @@ actions_in (Some outcome) = outcome.actions
 abbrev pub PutsItsActions : Taken → Type 0
 PutsItsActions x = map (λ p. p.action) x.puts ≡ actions_in x.answer
 
+-- the step that was made, if memory was there
 abbrev pub step_in : Taken → Option Step
 step_in x = option_map (λ outcome. record { handed = x.handed; outcome = outcome }) x.answer
 
@@ -101,6 +109,7 @@ steps_in taken = filter_map step_in taken
 abbrev pub refused_path : Put → Option Path
 refused_path p = if p.sent then None else option_map (λ ask. ask.path) (ask_in p.action)
 
+-- the second path, or the first where there is no second
 abbrev pub later : Option Path → Option Path → Option Path
 later last None = last
 later last (Some path) = Some path
@@ -110,7 +119,7 @@ abbrev pub failed_of : Option Path → List Put → Option Path
 failed_of last [] = last
 failed_of last (p ∷ puts) = failed_of (later last (refused_path p)) puts
 
--- The event, if there is one, and behind each ask that the wire refused the failure of its path.
+-- The event, if any, and after each ask that the wire refused the failure of its path.
 abbrev pub IsChain : Option Event → List Taken → Type 0
 IsChain None [] = Unit {0}
 IsChain None (x ∷ taken) = ⊥
@@ -118,6 +127,7 @@ IsChain (Some event) [] = ⊥
 IsChain (Some event) (x ∷ taken) = (x.handed.event ≡ event)
     × IsChain (option_map path_failed (failed_of None x.puts)) taken
 
+-- the steps of all chains, in order
 abbrev pub joined : List (List Taken) → List Taken
 joined [] = []
 joined (chain ∷ chains) = chain ++ joined chains
@@ -154,21 +164,24 @@ pub record Turn : Type 0 where
   pub served : List (List Taken)
   pub ticks : List (List Taken)
 
+-- the steps of a turn: those of its events, and its ticks
 abbrev pub taken_in_turn : Turn → List Taken
 taken_in_turn t = joined t.served ++ joined t.ticks
 
+-- the steps of all turns
 abbrev pub taken_in : List Turn → List Taken
 taken_in [] = []
 taken_in (t ∷ turns) = taken_in_turn t ++ taken_in turns
 
--- A whole turn behind these arrivals: each event of its arrival, then ticks, no more than one and as many as questions
--- and tries there can be.
+-- A whole turn after these arrivals: each event of its arrival, then ticks, at most one more than
+-- the questions and tries that there can be.
 pub record IsTurn (c : Config) (past : List (Option Arrival)) (t : Turn) : Type 0 where
   pub served : AreChains (events_of past t.arrival) t.served
   pub ticks : AreTicks true t.ticks
   pub few : length t.ticks ≤ suc (c.limits.questions + c.limits.inquiries * c.limits.tries)
 
--- a piece of a stream: a reader has to hold it, and to give its frames, before these are events, which takes memory
+-- a piece of a stream: a reader has to hold it, and to give its frames, before these are events,
+-- which allocates
 abbrev pub IsPiece : Option Arrival → Type 0
 IsPiece None = ⊥
 IsPiece (Some nothing) = ⊥
@@ -179,8 +192,9 @@ IsPiece (Some (server_datagram port from datagram)) = ⊥
 IsPiece (Some (server_stream conn from piece)) = Unit {0}
 IsPiece (Some (path_gone path)) = ⊥
 
--- A turn in which memory ran out between two events of its arrival, which is a piece of a stream: those before were
--- served. What the forwarder lost for want of memory cuts no turn short.
+-- A turn in which memory ran out between two events of its arrival, which is a piece of a stream:
+-- those before were served. An event that the forwarder lost because memory ran out cuts no turn
+-- short.
 pub record IsCutShort (past : List (Option Arrival)) (t : Turn) : Type 0 where
   pub piece : IsPiece t.arrival
   pub done : List Event
@@ -189,6 +203,7 @@ pub record IsCutShort (past : List (Option Arrival)) (t : Turn) : Type 0 where
   pub served : AreChains done t.served
   pub ticks : t.ticks ≡ []
 
+-- each is a turn of the loop after the arrivals before it
 abbrev pub AreTurns : Config → List (Option Arrival) → List Turn → Type 0
 AreTurns c past [] = Unit {0}
 AreTurns c past (t ∷ turns) = IsTurn c past t × AreTurns c (past ++ t.arrival ∷ []) turns

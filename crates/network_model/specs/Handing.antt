@@ -1,4 +1,4 @@
--- What the parts of a turn do.
+-- The effects of the parts of a turn.
 use Rattle.std.specs.Prelude.{◌≡◌, ◌⊎◌, ℕ, suc, ◌+◌, ◌*◌, ◌<◌, ◌≤◌, Bool, true, false, List, [], ◌∷◌, length, map}
 use Rattle.std.specs.Prelude.{Option, Some, None}
 use Rattle.outstanding.specs.declared.ask.Path.{Path}
@@ -9,10 +9,12 @@ use Rattle.wires.specs.Wire.{Put, Told, Telling, silence, TellsMore}
 use Rattle.network_model.specs.Events.{Taken, failed_of, more_in, tells_more, joined, IsChain, AreTicks}
 use Rattle.network_model.specs.Serving.{Standing, Does, Adds, refused_of, left}
 
+-- the report of puts
 abbrev pub told_of_puts : List Put → Told
 told_of_puts puts = record silence { puts = puts }
 
--- These actions were put in order; behind the path that failed last before, this one has.
+-- These actions were put in order. `last` is the path that failed last before them, `failed` the
+-- one after them.
 pub record Puts (last : Option Path) (actions : List Action) (failed : Option Path) (told told_after : Telling)
     (counts counts_after : Served) : Type 0 where
   pub puts : List Put
@@ -36,12 +38,13 @@ IsOwn (path_failed path) = Unit {0}
 IsOwn tick = Unit {0}
 IsOwn restart = ⊥
 
--- Less is left to do; or nothing was done, no path failed by it, and a tick told that nothing more is due.
+-- Less is left to do; or nothing was done, no path failed by it, and a tick reported that nothing
+-- more is due.
 abbrev pub StepsDown : Running → Running → Event → Option Path → Bool → Type 0
 StepsDown before after event failed more = (left after < left before)
     ⊎ ((failed ≡ None) × (left after ≡ left before) × (event ≡ tick → more ≡ false))
 
--- One event was handed to the forwarder.
+-- The forwarder took one event.
 pub record Hands (event : Event) (failed : Option Path) (more : Bool) (before after : Standing) : Type 0 where
   pub taken : Taken
   pub event_is : taken.handed.event ≡ event
@@ -51,7 +54,7 @@ pub record Hands (event : Event) (failed : Option Path) (more : Bool) (before af
   pub bounded : left before.running ≤ most_left before.running
   pub falls : IsOwn event → StepsDown before.running after.running event failed more
 
--- An event was handed to the forwarder, and behind it what failed by it.
+-- The forwarder took an event, and after it the failures of the paths that failed by it.
 pub record HandsOn (event : Event) (more : Bool) (before after : Standing) : Type 0 where
   pub chain : List Taken
   pub is_chain : IsChain (Some event) chain
@@ -60,7 +63,7 @@ pub record HandsOn (event : Event) (more : Bool) (before after : Standing) : Typ
   pub bounded : left before.running ≤ most_left before.running
   pub falls : event ≡ tick → more ≡ true → left after.running < left before.running
 
--- Ticks were handed to the forwarder until nothing more was due.
+-- The forwarder took ticks until nothing more was due.
 pub record Ticks (before after : Standing) : Type 0 where
   pub chains : List (List Taken)
   pub are_ticks : AreTicks true chains

@@ -1,4 +1,4 @@
--- A forwarder beside its stored history.
+-- A forwarder with its stored history.
 use Rattle.std.specs.Prelude.{List}
 use Rattle.step_values.specs.Values.{Step}
 use Rattle.step_table.specs.State.{Running}

@@ -1,4 +1,4 @@
--- What `serve` does over a wire.
+-- The effect of `serve` over a wire.
 use Rattle.std.specs.Prelude.{◌≡◌, ℕ, ◌+◌, ◌-◌, ◌^◌, ◌≤◌, Bool, true, false, if◌then◌else◌, min, List, [], ◌∷◌, ◌++◌}
 use Rattle.std.specs.Prelude.{length, map, Option, Some, None, Result, Ok, Err}
 use Rattle.std.specs.List.{AllByRecursion}
@@ -13,48 +13,55 @@ use Rattle.wires.specs.Wire.{Arrival, Put, Told, Telling, silence, ◌then◌, T
 use Rattle.network_model.specs.Events.{Taken, PutsItsActions, steps_in, Turn, taken_in_turn, taken_in, AreTurns}
 use Rattle.network_model.specs.Events.{IsCutShort}
 
--- ---- what a wire is told of
+-- ---- the report of a wire
 
 -- a moment and words for each event, and what was put of it
 abbrev pub told_of : Taken → Told
 told_of x = record { arrivals = []; puts = x.puts; moments = x.handed.now ∷ []; words = x.handed.words ∷ [] }
 
+-- the report of all steps
 abbrev pub told_of_all : List Taken → Told
 told_of_all [] = silence
 told_of_all (x ∷ taken) = told_of x then told_of_all taken
 
+-- the report of a turn
 abbrev pub told_in_turn : Turn → Told
 told_in_turn t = arrived t.arrival then told_of_all (taken_in_turn t)
 
+-- the report of all turns
 abbrev pub told_in : List Turn → Told
 told_in [] = silence
 told_in (t ∷ turns) = told_in_turn t then told_in turns
 
 -- ---- counts
 
--- the event found no memory
+-- 1 for an event that found no memory, otherwise 0
 abbrev pub lost_by : Option Outcome → ℕ
 lost_by None = 1
 lost_by (Some outcome) = 0
 
+-- how many events found no memory
 abbrev pub lost_in : List Taken → ℕ
 lost_in [] = 0
 lost_in (x ∷ taken) = lost_by x.answer + lost_in taken
 
--- what was put is no ask, and the wire refused it
+-- 1 for an action other than an ask that the wire refused, otherwise 0
 abbrev pub refused_by : Option SentAsk → Bool → ℕ
 refused_by ask true = 0
 refused_by (Some ask) false = 0
 refused_by None false = 1
 
+-- how many of these puts were refused, asks left out
 abbrev pub refused_of : List Put → ℕ
 refused_of [] = 0
 refused_of (p ∷ puts) = refused_by (ask_in p.action) p.sent + refused_of puts
 
+-- how many puts of these steps were refused, asks left out
 abbrev pub refused_in : List Taken → ℕ
 refused_in [] = 0
 refused_in (x ∷ taken) = refused_of x.puts + refused_in taken
 
+-- 1 for a refused arrival, otherwise 0
 abbrev pub missed_by : Option Arrival → ℕ
 missed_by None = 1
 missed_by (Some arrival) = 0
@@ -64,26 +71,28 @@ abbrev pub missed_in : List Turn → ℕ
 missed_in [] = 0
 missed_in (t ∷ turns) = missed_by t.arrival + missed_in turns
 
--- a count that has come to its last value stays there
+-- a count that has reached its last value stays there
 abbrev pub capped : ℕ → ℕ
 capped n = min n (2 ^ 64 - 1)
 
--- what a count adds to what it was
+-- a count that rose by `n`, up to its last value
 abbrev pub Adds : ℕ → ℕ → ℕ → Type 0
 Adds before n after = before ≤ 2 ^ 64 - 1 → after ≡ capped (before + n)
 
 -- ---- what is done
 
--- where the loop stands: the forwarder, what the wire told with its faults, and the counts
+-- where the loop is: the forwarder, what the wire reported with its faults, and the counts
 pub record Standing : Type 0 where
   pub running : Running
   pub told : Telling
   pub counts : Served
 
+-- where the loop is: the forwarder, what the wire reported, and the counts
 abbrev pub standing : Running → Telling → Served → Standing
 standing running told counts = record { running = running; told = told; counts = counts }
 
--- Between the two these events were handed to the forwarder: the steps are a run of it, and all that they do was put.
+-- Between the two the forwarder took these events: the steps are a run of it, and all their actions
+-- were put.
 pub record Does (before : Standing) (taken : List Taken) (after : Standing) : Type 0 where
   pub config : after.running.config ≡ before.running.config
   pub run : Run before.running.config before.running.state (steps_in taken) after.running.state
@@ -98,8 +107,8 @@ pub record Does (before : Standing) (taken : List Taken) (after : Standing) : Ty
 abbrev pub left : Running → ℕ
 left r = left_to_do r.config r.state
 
--- A call of `serve` that was to take so many turns: whole ones, as many, or, where memory ran out, fewer and one cut
--- short.
+-- A call of `serve` that was to take `wanted` turns: as many whole ones; or, where memory ran out,
+-- fewer and one cut short.
 abbrev pub Ends : Running → ℕ → List Turn → Result Served AllocError → Type 0
 Ends before wanted turns (Ok counts) = (length turns ≡ wanted) × AreTurns before.config [] turns × (counts ≡ record {
   turns = wanted;
@@ -111,10 +120,11 @@ Ends before wanted turns (Err refused) = (whole : List Turn)
     × ((last : Turn) × (turns ≡ whole ++ last ∷ []) × (length turns ≤ wanted) × AreTurns before.config [] whole
     × IsCutShort (map (λ (t : Turn). t.arrival) whole) last)
 
--- What `serve` does: its turns are those of the wire's arrivals, the steps are a run of the forwarder, what was put are
--- the actions in order, and the wire tells of nothing else, and of all of it where it told before and counted no fault.
--- From a new forwarder these steps serve truly, and so they do behind whatever steps a forwarder made before since it
--- was new.
+-- The effect of `serve`. Its turns are those of the wire's arrivals, the steps are a run of the
+-- forwarder, and what was put are the actions in order. The wire reports nothing else; it reports
+-- all of it where it reported before and counted no fault. The counts are the lost events, the
+-- refused puts and the refused arrivals; each stays at its last value. From a new forwarder these
+-- steps serve truly, and so they do after whatever steps a forwarder made before since it was new.
 pub record Serves (before : Running) (told_before : Telling) (wanted : ℕ) (result : Result Served AllocError)
     (after : Running) (told_after : Telling) : Type 0 where
   pub turns : List Turn

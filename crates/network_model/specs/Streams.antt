@@ -1,4 +1,4 @@
--- What is left unfinished of the streams, and the events that an arrival completes.
+-- The unfinished rest of the streams, and the events that an arrival completes.
 use Rattle.std.specs.Prelude.{◌≡◌, ℕ, suc, ◌≤◌, true, if◌then◌else◌, ◌==◌, List, [], ◌∷◌, ◌++◌, length, map, Option}
 use Rattle.std.specs.Prelude.{Some, None, unwrap_or, Result, OnOk, OnErr}
 use Rattle.std.specs.Ordering.{nat_cmp}
@@ -22,6 +22,7 @@ use Rattle.network_model.specs.Handing.{most_left}
 abbrev pub left_on : BTreeMap ℕ (List ℕ) → ℕ → List ℕ
 left_on readers conn = unwrap_or (get nat_cmp readers conn) []
 
+-- a message over TCP by its sender, as an event
 abbrev pub message_from : Sender → List ℕ → Event
 message_from (FromClient conn) message = client_message conn message
 message_from (FromServer conn from) message = server_message conn from message
@@ -50,6 +51,7 @@ client_left_with conn left (Some (server_datagram port from datagram)) = left
 client_left_with conn left (Some (server_stream other from piece)) = left
 client_left_with conn left (Some (path_gone path)) = left
 
+-- the unfinished octets of a server's connection after an arrival
 abbrev pub server_left_with : ℕ → List ℕ → Option Arrival → List ℕ
 server_left_with conn left None = left
 server_left_with conn left (Some nothing) = left
@@ -72,7 +74,8 @@ pub record Tracks {A : Type 0} (past : List (Option Arrival)) (s : Streams A) : 
   pub clients : (conn : ℕ) → left_on s.clients conn ≡ unfinished_of (client_octets conn [] past)
   pub servers : (conn : ℕ) → left_on s.servers conn ≡ unfinished_of (server_octets conn [] past)
 
--- These messages of the reader were served, in order, each as an event; where memory ran out, the first of them alone.
+-- These messages of the reader were served, in order, each as an event; where memory ran out, the
+-- first of them alone.
 pub record ServesFrames (sender : Sender) (stream : List ℕ) (result : Result (Unit {0}) AllocError) (rest : List ℕ)
     (before after : Standing) : Type 0 where
   pub chains : List (List Taken)
@@ -122,6 +125,7 @@ pub record StopsShort {A : Type 0} (s : Streams A) (t : Turn) : Type 0 where
   pub served : AreChains done t.served
   pub ticks : t.ticks ≡ []
 
+-- the loop makes this turn, and leaves these streams
 pub record MakesTurn {A : Type 0} (s : Streams A) (t : Turn) (s' : Streams A) (before : Standing) : Type 0 where
   pub served : AreChains (events_by s t.arrival) t.served
   pub ticks : AreTicks true t.ticks

@@ -1,14 +1,15 @@
-//! What a call of `serve` counted.
+//! The counts of a call of `serve`.
 
-/// What a call of `serve` counted. Each count stays at its last value, 2^64 - 1, once it has come to it.
+/// The counts of a call of `serve`. Each count stays at its last value, 2^64 - 1, once it has
+/// reached it.
 #[derive(Clone, Copy, PartialEq, Eq, Debug, Drop)]
 pub struct Served {
-    /// How many turns were made.
+    /// The number of turns.
     pub turns: u64,
-    /// Events that found no memory.
+    /// The number of events that found no memory.
     pub lost: u64,
-    /// Actions other than asks that the wire refused.
+    /// The number of actions other than asks that the wire refused.
     pub refused_puts: u64,
-    /// Arrivals that the wire refused.
+    /// The number of arrivals that the wire refused.
     pub refused_arrivals: u64,
 }

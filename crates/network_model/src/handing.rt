@@ -1,4 +1,4 @@
-//! Events that are handed to the forwarder, and what is put of them.
+//! Gives events to the forwarder, and puts the actions of their steps.
 
 ghost use Rattle.std.specs.Prelude.{◌≡◌, ◌∷◌, [], None, option_map};
 ghost use Rattle.step_values.specs.Values.{event_of, action_of, actions_of, ask_in, tick};
@@ -13,16 +13,16 @@ use std::hash::BuildHasher;
 use step_values::{Action, Actions, Event, Path};
 use wires::Wire;
 
-/// What came of one event.
+/// The result of one event.
 #[derive(Clone, Copy, Drop)]
 pub(crate) struct Handled {
     /// The path of an ask that the wire refused.
     pub failed: Option<Path>,
-    /// Something is due already.
+    /// Whether something is due already.
     pub more: bool,
 }
 
-/// The path of an ask.
+/// Returns the path of an ask; `None` for another action.
 fn path_of_ask<A: Allocator>(action: &Action<A>) -> Option<Path>
     ensures { result ≡ option_map (λ ask. ask.path) (ask_in (action_of action.now)) }
 {
@@ -33,14 +33,16 @@ fn path_of_ask<A: Allocator>(action: &Action<A>) -> Option<Path>
     }
 }
 
-/// Puts one action. The answer is the path of the ask that was refused last.
+/// Puts one action. Returns the path of the ask that was refused last.
 fn put<A: Allocator, W: Wire<A>>(
     wire: &mut W,
     counts: &mut Served,
     action: &Action<A>,
     failed: Option<Path>,
 ) -> Option<Path>
-    ensures { Puts failed (action_of action.now ∷ []) result (telling (W.told wire.old) (W.fault_count wire.old)) (telling (W.told wire.new) (W.fault_count wire.new)) counts.old counts.new }
+    ensures { Puts failed (action_of action.now ∷ []) result
+        (telling (W.told wire.old) (W.fault_count wire.old))
+        (telling (W.told wire.new) (W.fault_count wire.new)) counts.old counts.new }
 {
     match wire.put(action) {
         Ok(()) => failed,
@@ -54,13 +56,15 @@ fn put<A: Allocator, W: Wire<A>>(
     }
 }
 
-/// Puts actions in order. The answer is the path of the ask that was refused, if one was.
+/// Puts actions in order. Returns the path of the ask that was refused, if any.
 fn put_all<A: Allocator + Copy, W: Wire<A>>(
     wire: &mut W,
     counts: &mut Served,
     actions: &Actions<A>,
 ) -> Option<Path>
-    ensures { Puts None (actions_of actions.now) result (telling (W.told wire.old) (W.fault_count wire.old)) (telling (W.told wire.new) (W.fault_count wire.new)) counts.old counts.new }
+    ensures { Puts None (actions_of actions.now) result
+        (telling (W.told wire.old) (W.fault_count wire.old))
+        (telling (W.told wire.new) (W.fault_count wire.new)) counts.old counts.new }
 {
     let mut failed = None;
     for place in 0..actions.len() {
@@ -72,14 +76,16 @@ fn put_all<A: Allocator + Copy, W: Wire<A>>(
     failed
 }
 
-/// Hands one event to the forwarder, and puts what comes of it. An event that finds no memory is lost.
+/// Gives one event to the forwarder, and puts the actions of its step. An event that finds no
+/// memory is lost.
 fn hand<H: BuildHasher + Drop, A: Allocator + Copy, W: Wire<A>>(
     wire: &mut W,
     forwarder: &mut Forwarder<H, A>,
     counts: &mut Served,
     event: &Event<A>,
 ) -> Handled
-    ensures { Hands (event_of event.now) result.failed result.more (standing forwarder.old (telling (W.told wire.old) (W.fault_count wire.old)) counts.old)
+    ensures { Hands (event_of event.now) result.failed result.more
+        (standing forwarder.old (telling (W.told wire.old) (W.fault_count wire.old)) counts.old)
         (standing forwarder.new (telling (W.told wire.new) (W.fault_count wire.new)) counts.new) }
 {
     let now = wire.moment();
@@ -99,15 +105,16 @@ fn hand<H: BuildHasher + Drop, A: Allocator + Copy, W: Wire<A>>(
     }
 }
 
-/// Hands an event to the forwarder, and behind each ask that the wire refuses the failure of its path. The answer is
-/// whether more was due after the event.
+/// Gives an event to the forwarder, and after each ask that the wire refuses the failure of its
+/// path. Returns whether more was due after the event.
 pub(crate) fn hand_on<H: BuildHasher + Drop, A: Allocator + Copy, W: Wire<A>>(
     wire: &mut W,
     forwarder: &mut Forwarder<H, A>,
     counts: &mut Served,
     event: &Event<A>,
 ) -> bool
-    ensures { HandsOn (event_of event.now) result (standing forwarder.old (telling (W.told wire.old) (W.fault_count wire.old)) counts.old)
+    ensures { HandsOn (event_of event.now) result
+        (standing forwarder.old (telling (W.told wire.old) (W.fault_count wire.old)) counts.old)
         (standing forwarder.new (telling (W.told wire.new) (W.fault_count wire.new)) counts.new) }
 {
     let handled = hand(wire, forwarder, counts, event);
@@ -118,15 +125,16 @@ pub(crate) fn hand_on<H: BuildHasher + Drop, A: Allocator + Copy, W: Wire<A>>(
     handled.more
 }
 
-/// Hands the event of a datagram to the forwarder, and the memory of its octets back to the wire. The answer is whether
-/// more was due after the event.
+/// Gives the event of a datagram to the forwarder, and the memory of its octets back to the wire.
+/// Returns whether more was due after the event.
 pub(crate) fn hand_datagram<H: BuildHasher + Drop, A: Allocator + Copy, W: Wire<A>>(
     wire: &mut W,
     forwarder: &mut Forwarder<H, A>,
     counts: &mut Served,
     mut event: Event<A>,
 ) -> bool
-    ensures { HandsOn (event_of event) result (standing forwarder.old (telling (W.told wire.old) (W.fault_count wire.old)) counts.old)
+    ensures { HandsOn (event_of event) result
+        (standing forwarder.old (telling (W.told wire.old) (W.fault_count wire.old)) counts.old)
         (standing forwarder.new (telling (W.told wire.new) (W.fault_count wire.new)) counts.new) }
 {
     let more = hand_on(wire, forwarder, counts, &event);
@@ -137,13 +145,14 @@ pub(crate) fn hand_datagram<H: BuildHasher + Drop, A: Allocator + Copy, W: Wire<
     more
 }
 
-/// Hands ticks to the forwarder until one tells that nothing more is due, or finds no memory.
+/// Gives ticks to the forwarder until one reports that nothing more is due, or finds no memory.
 pub(crate) fn tick_on<H: BuildHasher + Drop, A: Allocator + Copy, W: Wire<A>>(
     wire: &mut W,
     forwarder: &mut Forwarder<H, A>,
     counts: &mut Served,
 )
-    ensures { Ticks (standing forwarder.old (telling (W.told wire.old) (W.fault_count wire.old)) counts.old)
+    ensures { Ticks
+        (standing forwarder.old (telling (W.told wire.old) (W.fault_count wire.old)) counts.old)
         (standing forwarder.new (telling (W.told wire.new) (W.fault_count wire.new)) counts.new) }
 {
     while hand_on(wire, forwarder, counts, &Event::Tick) {}

@@ -1,5 +1,5 @@
-//! Runs of the forwarder: over a list, step by step beside the stored history, which is sound whenever it is seen, and
-//! over a wire, whose arrivals are its events.
+//! Runs of the forwarder: over a list; step by step, with the stored history, which is sound
+//! whenever it is seen; and over a wire, whose arrivals are its events.
 #![tactic(auto)]
 
 mod counts;

@@ -1,4 +1,4 @@
-//! A forwarder beside its stored history.
+//! A forwarder with its stored history.
 
 ghost use Rattle.std.specs.Prelude.{◌≡◌, ◌∷◌, ◌++◌, [], IfOk, OnOk, OnErr};
 ghost use Rattle.step_values.specs.Values.{Outcome};
@@ -13,7 +13,8 @@ use std::marker::Model;
 use step_values::{Handed, Step};
 use suffix_routes::Config;
 
-/// A forwarder and the steps that it has made since it was new. They serve truly, whenever they are seen.
+/// A forwarder and the steps that it has made since it was new. They serve truly, whenever they are
+/// seen.
 #[derive(Drop)]
 pub struct Recorded<H: BuildHasher, A: Allocator = Global> {
     forwarder: Forwarder<H, A>,
@@ -44,7 +45,7 @@ impl<H: BuildHasher + Drop, A: Allocator + Copy> Recorded<H, A> {
         })
     }
 
-    /// The steps so far, the oldest first. It takes no memory.
+    /// The steps so far, the oldest first. It does not allocate.
     pub fn steps(&self) -> &[Step<A>]
         ensures steps { result.now ≡ self.now.steps }
         ensures truly { ServesTruly self.now.running.config result.now }
@@ -52,12 +53,14 @@ impl<H: BuildHasher + Drop, A: Allocator + Copy> Recorded<H, A> {
         self.steps.as_slice()
     }
 
-    /// One step more: what is handed in, and what comes of it. `Err` where memory ran out, and then nothing has
-    /// changed.
+    /// Makes one step more, and stores what was passed in with its outcome. `Err` where memory ran
+    /// out: nothing has changed.
     pub fn step(&mut self, handed: Handed<A>) -> Result<(), AllocError>
         ensures ok { OnOk result ((outcome : Outcome)
-            × (self.new.steps ≡ self.old.steps ++ record { handed = handed; outcome = outcome } ∷ [])
-            × Row self.old.running.config self.old.running.state handed outcome self.new.running.state) }
+            × (self.new.steps
+            ≡ self.old.steps ++ record { handed = handed; outcome = outcome } ∷ [])
+            × Row self.old.running.config self.old.running.state handed outcome
+            self.new.running.state) }
         ensures config { self.new.running.config ≡ self.old.running.config }
         ensures err { OnErr result (self.new ≡ self.old) }
     {

@@ -1,4 +1,4 @@
-//! A run over a list of what is handed in.
+//! A run over a list of moments, words and events.
 
 ghost use Rattle.std.specs.Prelude.{◌≡◌, map, IfOk};
 ghost use Rattle.step_table.specs.State.{State};
@@ -12,18 +12,20 @@ use std::alloc::{AllocError, Allocator};
 use step_values::{Handed, Step};
 use suffix_routes::Config;
 
-/// The steps of a new forwarder that is handed these, in their order. `Err` where memory ran out.
+/// The steps of a new forwarder that takes these in their order. `Err` where memory ran out.
 pub fn run_list<A: Allocator + Copy>(
     alloc: A,
     config: &Config<A>,
     handed: &[Handed<A>],
 ) -> Result<Vec<Step<A>, A>, AllocError>
     ensures handed { IfOk result (λ steps. map (λ s. s.handed) steps.items ≡ handed.now) }
-    ensures run { IfOk result (λ steps. (last : State) × Run config.now (start config.now) steps.items last) }
-    // With one list of owners of the replies: each reply is right for the question that owns it, each step tells
-    // whether more is due, and no more questions own no reply than may wait; the listed asks are apart, each goes where
-    // it may, and each is wanted by a question that waits, which wants no other; and each question of which enough
-    // stands is answered by its own step, where the cache has room.
+    ensures run { IfOk result (λ steps. (last : State)
+        × Run config.now (start config.now) steps.items last) }
+    // With one list of owners of the replies: each reply is right for the question that owns it.
+    // Each step reports whether more is due, and no more questions own no reply than may wait. The
+    // listed asks are apart, each goes where it may, and each is wanted by a question that waits,
+    // which wants no other. Each question for which enough stands is answered by its own step,
+    // where the cache has room.
     ensures truly { IfOk result (λ steps. ServesTruly config.now steps.items) }
 {
     let own = config.copy(alloc)?;

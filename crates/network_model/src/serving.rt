@@ -4,7 +4,8 @@ ghost use Rattle.std.specs.Prelude.{◌≡◌, OnErr, OnOk, Some};
 ghost use Rattle.wires.specs.Wire.{telling, arrival_of, path_gone};
 ghost use Rattle.network_model.specs.Events.{IsPiece};
 ghost use Rattle.network_model.specs.Serving.{standing, Serves};
-ghost use Rattle.network_model.specs.Streams.{events_by, Follows, ServesEvents, TakesArrival, TakesTurn};
+ghost use Rattle.network_model.specs.Streams.{events_by, Follows, ServesEvents, TakesArrival};
+ghost use Rattle.network_model.specs.Streams.{TakesTurn};
 
 use crate::counts::Served;
 use crate::handing::{hand_datagram, hand_on, tick_on};
@@ -14,7 +15,6 @@ use std::alloc::{AllocError, Allocator};
 use std::collections::BTreeMap;
 use std::hash::BuildHasher;
 use step_values::{Client, Event, Path};
-use tcp_frames::pieces_continue;
 use wires::{Arrival, Wire};
 
 /// Forgets what is left of the stream on a path that is gone.
@@ -29,7 +29,8 @@ fn forget_path<A: Allocator + Copy>(alloc: A, streams: &mut Streams<A>, path: Pa
     }
 }
 
-/// Serves the events of one arrival. `Err` where a frame reader could not be made, grow or give a frame.
+/// Serves the events of one arrival. `Err` where memory ran out for a frame reader, its octets or a
+/// frame.
 fn serve_arrival<H: BuildHasher + Drop, A: Allocator + Copy, W: Wire<A>>(
     alloc: A,
     wire: &mut W,
@@ -39,7 +40,8 @@ fn serve_arrival<H: BuildHasher + Drop, A: Allocator + Copy, W: Wire<A>>(
     arrival: Arrival<A>,
 ) -> Result<(), AllocError>
     ensures serves { ServesEvents (events_by streams.old (Some (arrival_of arrival))) result
-        (standing forwarder.old (telling (W.told wire.old) (W.fault_count wire.old)) counts.old) (standing forwarder.new (telling (W.told wire.new) (W.fault_count wire.new)) counts.new) }
+        (standing forwarder.old (telling (W.told wire.old) (W.fault_count wire.old)) counts.old)
+        (standing forwarder.new (telling (W.told wire.new) (W.fault_count wire.new)) counts.new) }
     ensures follows { OnOk result (Follows streams.old (Some (arrival_of arrival)) streams.new) }
     ensures piece { OnErr result (IsPiece (Some (arrival_of arrival))) }
 {
@@ -103,7 +105,8 @@ fn take_arrival<H: BuildHasher + Drop, A: Allocator + Copy, W: Wire<A>>(
     counts: &mut Served,
     streams: &mut Streams<A>,
 ) -> Result<(), AllocError>
-    ensures { TakesArrival streams.old result streams.new (standing forwarder.old (telling (W.told wire.old) (W.fault_count wire.old)) counts.old)
+    ensures { TakesArrival streams.old result streams.new
+        (standing forwarder.old (telling (W.told wire.old) (W.fault_count wire.old)) counts.old)
         (standing forwarder.new (telling (W.told wire.new) (W.fault_count wire.new)) counts.new) }
 {
     match wire.arrival() {
@@ -115,7 +118,7 @@ fn take_arrival<H: BuildHasher + Drop, A: Allocator + Copy, W: Wire<A>>(
     }
 }
 
-/// One turn: an arrival with its events, then ticks.
+/// Takes one turn: an arrival with its events, then ticks.
 fn take_turn<H: BuildHasher + Drop, A: Allocator + Copy, W: Wire<A>>(
     alloc: A,
     wire: &mut W,
@@ -123,7 +126,8 @@ fn take_turn<H: BuildHasher + Drop, A: Allocator + Copy, W: Wire<A>>(
     counts: &mut Served,
     streams: &mut Streams<A>,
 ) -> Result<(), AllocError>
-    ensures { TakesTurn streams.old result streams.new (standing forwarder.old (telling (W.told wire.old) (W.fault_count wire.old)) counts.old)
+    ensures { TakesTurn streams.old result streams.new
+        (standing forwarder.old (telling (W.told wire.old) (W.fault_count wire.old)) counts.old)
         (standing forwarder.new (telling (W.told wire.new) (W.fault_count wire.new)) counts.new) }
 {
     take_arrival(alloc, wire, forwarder, counts, streams)?;
@@ -131,24 +135,26 @@ fn take_turn<H: BuildHasher + Drop, A: Allocator + Copy, W: Wire<A>>(
     Ok(())
 }
 
-/// Serves so many turns over a wire. A turn takes one arrival and hands its events to the forwarder: a datagram is one,
-/// a piece of a stream is one for each frame that it completes, and the end of a path to a server is its failure. What
-/// the forwarder wants done of an event is put at once, in order; an ask that the wire refuses is the failure of its
-/// path, which comes next. Then ticks are handed in until one tells that nothing more is due. The wire gives a moment
-/// and words for each event. From a new forwarder the steps that it makes serve truly, for all that the wire may bring;
-/// from another they do behind those that it made since it was new.
+/// Serves `turns` turns over a wire. A turn takes one arrival and gives its events to the
+/// forwarder: a datagram is one event, a piece of a stream is one for each frame that it completes,
+/// and the end of a path to a server is its failure. The actions of an event are put at once, in
+/// order. An ask that the wire refuses is the failure of its path, which comes next. Then ticks
+/// follow until one reports that nothing more is due. The wire gives a moment and words for each
+/// event. From a new forwarder the steps that it makes serve truly, for all that the wire may
+/// bring; from another they do after those that it made since it was new.
 ///
-/// It returns wherever the calls of its wire do. `Err` only where a frame reader could not be made, grow or give a
-/// frame; the forwarder is then as after the last event. An event that finds no memory is lost and counted.
+/// It returns wherever the calls of its wire do. `Err` only where memory ran out for a frame
+/// reader, for its octets or for a frame; the forwarder is then as after the last event. An event
+/// that finds no memory is lost and counted.
 pub fn serve<H: BuildHasher + Drop, A: Allocator + Copy, W: Wire<A>>(
     alloc: A,
     wire: &mut W,
     forwarder: &mut Forwarder<H, A>,
     turns: u64,
 ) -> Result<Served, AllocError>
-    ensures { Serves forwarder.old (telling (W.told wire.old) (W.fault_count wire.old)) turns result forwarder.new (telling (W.told wire.new) (W.fault_count wire.new)) }
+    ensures { Serves forwarder.old (telling (W.told wire.old) (W.fault_count wire.old)) turns
+        result forwarder.new (telling (W.told wire.new) (W.fault_count wire.new)) }
 {
-    pieces_continue();
     let mut counts = Served {
         turns,
         lost: 0,

@@ -16,10 +16,10 @@ use std::collections::BTreeMap;
 use std::hash::BuildHasher;
 use step_values::{Client, Event, Path};
 use suffix_routes::Peer;
-use tcp_frames::{FrameReader, all_frames_are_taken, cut_does_not_matter};
+use tcp_frames::FrameReader;
 use wires::Wire;
 
-/// What came of the streams and is no whole frame yet, by the number of the connection.
+/// The octets of streams that are no whole frame yet, by the number of the connection.
 #[derive(Drop)]
 pub(crate) struct Streams<A: Allocator> {
     /// Of connections that clients opened.
@@ -28,7 +28,7 @@ pub(crate) struct Streams<A: Allocator> {
     pub servers: BTreeMap<u64, FrameReader<A>, A>,
 }
 
-/// Whose messages a stream carries.
+/// The sender of the messages on a stream.
 #[derive(Clone, Copy, Drop)]
 pub(crate) enum Sender {
     FromClient(u64),
@@ -36,7 +36,7 @@ pub(crate) enum Sender {
 }
 
 impl Sender {
-    /// The event that a message is.
+    /// Returns the event of a message.
     fn event<A: Allocator>(self, bytes: Octets<A>) -> Event<A>
         ensures { event_of result ≡ message_from self bytes }
     {
@@ -54,7 +54,7 @@ impl Sender {
     }
 }
 
-/// Takes the reader of a connection out; a new one where there is none.
+/// Takes out the reader of a connection; a new one where there is none.
 pub(crate) fn take_out<A: Allocator + Copy>(
     alloc: A,
     readers: &mut BTreeMap<u64, FrameReader<A>, A>,
@@ -91,19 +91,18 @@ fn serve_frames<H: BuildHasher + Drop, A: Allocator + Copy, W: Wire<A>>(
     reader: &mut FrameReader<A>,
     sender: Sender,
 ) -> Result<(), AllocError>
-    ensures { ServesFrames sender reader.old result reader.new (standing forwarder.old (telling (W.told wire.old) (W.fault_count wire.old)) counts.old)
+    ensures { ServesFrames sender reader.old result reader.new
+        (standing forwarder.old (telling (W.told wire.old) (W.fault_count wire.old)) counts.old)
         (standing forwarder.new (telling (W.told wire.new) (W.fault_count wire.new)) counts.new) }
 {
-    cut_does_not_matter();
-    all_frames_are_taken();
     while let Some(message) = reader.take()? {
         hand_on(wire, forwarder, counts, &sender.event(message));
     }
     Ok(())
 }
 
-/// A piece of a stream: serves each frame that it completes. `Err` where a reader could not be made, grow or give a
-/// frame.
+/// Takes a piece of a stream: serves each frame that it completes. `Err` where memory ran out for a
+/// reader, its octets or a frame.
 pub(crate) fn serve_piece<H: BuildHasher + Drop, A: Allocator + Copy, W: Wire<A>>(
     wire: &mut W,
     forwarder: &mut Forwarder<H, A>,
@@ -112,8 +111,10 @@ pub(crate) fn serve_piece<H: BuildHasher + Drop, A: Allocator + Copy, W: Wire<A>
     sender: Sender,
     piece: &[u8],
 ) -> Result<(), AllocError>
-    ensures serves { ServesEvents (map (message_from sender) (frames_of (reader.old ++ piece.now))) result
-        (standing forwarder.old (telling (W.told wire.old) (W.fault_count wire.old)) counts.old) (standing forwarder.new (telling (W.told wire.new) (W.fault_count wire.new)) counts.new) }
+    ensures serves { ServesEvents (map (message_from sender) (frames_of (reader.old ++ piece.now)))
+        result
+        (standing forwarder.old (telling (W.told wire.old) (W.fault_count wire.old)) counts.old)
+        (standing forwarder.new (telling (W.told wire.new) (W.fault_count wire.new)) counts.new) }
     ensures reader { OnOk result (reader.new ≡ unfinished_of (reader.old ++ piece.now)) }
 {
     reader.feed(piece)?;

@@ -1,4 +1,4 @@
--- What the proofs of crates above cite of asks that are under way.
+-- Lemmas about open asks that the proofs of crates above cite.
 use Rattle.std.proofs.Common.{◌≡◌, ℕ, ◌<◌, List, [], ◌∷◌, ◌++◌, length, true, is_eq, nat_cmp, Some, None}
 use Rattle.std.specs.Cmp.{IsTotalOrder}
 use Rattle.std.specs.Ordering.{ordering_then}
@@ -59,7 +59,7 @@ next_may_begin = retries.next_begins
 
 -- ---- keys of questions
 
--- numbers that differ tell how keys compare
+-- numbers that differ decide how keys compare
 pub question_numbers_tell : (a b : QuestionKey) → ordering_then (nat_cmp a.number b.number) (key_cmp a b) ≡ key_cmp a b
 question_numbers_tell = orders.key_numbers_tell
 

@@ -1,4 +1,4 @@
--- What is found of indexed asks, and what one ask more or less leaves.
+-- Searches of indexed asks, and the indexes after one ask more or less.
 use Rattle.std.proofs.Common.{◌≡◌, ℕ, ◌+◌, ◌<◌, List, [], ◌∷◌, ◌++◌, length, get_or, Bool, true, not, Option, Some, None, is_eq, Ordering, refl, sym, ap, ◌∙◌, subst, arith}
 use Rattle.std.specs.Prelude.{slice_index, filter}
 use Rattle.std.specs.List.{find, insert, remove}
@@ -129,7 +129,7 @@ module _ (s : Slab Ask) (by_path by_question in_turn : List ℕ) (indexed : AreI
       pub take_len : length (asks_under s' (remove in_turn t)) + 1 ≡ length (asks_under s in_turn)
       take_len = omega (arith, length_under s' (remove in_turn t) take_indexed.turns.present, length_under s in_turn indexed.turns.present, length-remove in_turn t placed.turn_in)
 
--- ---- as lists of keys are told
+-- ---- by lists of keys
 
 pub indexed_same : (s : Slab Ask) (p q t p' q' t' : List ℕ) → p' ≡ p → q' ≡ q → t' ≡ t → AreIndexed s p q t → AreIndexed s p' q' t'
 indexed_same s p q t p' q' t' paths questions turns indexed =

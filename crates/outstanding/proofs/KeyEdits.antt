@@ -11,7 +11,7 @@ use Rattle.slab.specs.Slab.{Slab, get, Updates}
 use Rattle.outstanding.specs.Values.{Ask}
 use Rattle.outstanding.specs.Tables.{Covers, Rises, IsGap}
 
--- where a key stood before one was put at a place, or taken out there
+-- the place of a key before one was put at a place, or taken out there
 record Stood (old new : List ℕ) (i : ℕ) : Type 0 where
   pub place : ℕ
   pub within : place < length old
@@ -211,7 +211,7 @@ module _ (keys : List ℕ) (at key : ℕ) (in_range : at < length keys) (is : sl
 
 -- ---- none
 
--- where no ask stands, no keys cover them
+-- where there is no ask, no keys cover them
 pub no_keys : (s : Slab Ask) → ((key : ℕ) → get s key ≡ None) → Covers s []
 no_keys s none = record {
   present = λ i within. absurd (omega arith);

@@ -1,4 +1,4 @@
--- What holds of listed asks after one more, or one less.
+-- Listed asks after one more, or one less.
 use Rattle.std.proofs.Common.{◌≡◌, ℕ, ◌<◌, ◌≤◌, List, [], ◌∷◌, ◌++◌, length, Bool, true, false, cond, refl, sym, ap, subst, arith, length-append, Some, None}
 use Rattle.std.specs.Prelude.{not, filter}
 use Rattle.std.specs.List.{find, AllByRecursion}

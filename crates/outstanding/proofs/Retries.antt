@@ -1,4 +1,5 @@
--- One question has one ask, so the next ask for it may begin where that one ended. And a port that is drawn is free.
+-- One question has one ask, so the next ask for it may begin where that one ended. And a port that
+-- is drawn is free.
 use Rattle.std.proofs.Common.{◌≡◌, ℕ, ◌%◌, ◌≤◌, inl, inr, List, [], ◌∷◌, Bool, true, false, cond, refl, sym, ap, ◌∙◌, subst, Option, Some, None, is_some, Bor}
 use Rattle.std.specs.Prelude.{not, filter, ◌||◌, IfSome, MatchOption}
 use Rattle.std.specs.List.{find, list_any, AllByRecursion}
@@ -151,7 +152,7 @@ any_found {X} p (x ∷ xs) = by (p x) (any_found p xs)
     by true rest = refl
     by false rest = rest
 
--- a look-up tells whether a port is used
+-- a look-up decides whether a port is used
 pub used_is : (port : ℕ) (asks : List Ask) (r : Option (Bor Ask)) → MatchOption r (on_path (Udp port) asks ≡ None) (λ (ask : Bor Ask). on_path (Udp port) asks ≡ Some ask.now) → is_some r ≡ is_used port asks
 used_is port asks None e = sym (any_found (λ (a : Ask). same_path a.path (Udp port)) asks ∙ ap is_some e)
 used_is port asks (Some a) e = sym (any_found (λ (a : Ask). same_path a.path (Udp port)) asks ∙ ap is_some e)

@@ -1,4 +1,4 @@
--- What a search of the keys of asks finds.
+-- The finding of a search of the keys of asks.
 use Rattle.std.proofs.Common.{◌≡◌, ◌⊎◌, ℕ, ◌<◌, ◌≤◌, List, length, map, get_or, Option, Some, None, IsSome, Result, Ok, Err, IfOk, IfErr, nat_cmp, Ordering, Less, Equal, Greater, refl, sym, ap, ap₂, ◌∙◌, subst, subst₂, inl, inr, arith}
 use Rattle.std.specs.Prelude.{slice_index}
 use Rattle.std.specs.List.{All}
@@ -110,7 +110,8 @@ module _ {X Y : Type 0} (f : X → Y) (to : X → Ordering) (to' : Y → Orderin
         λ j e low high. each j d e (omega (arith, length-map xs f)) ∙ parts.1 j d low (omega (arith, length-map xs f)),
       )
 
--- where numbers that differ tell the order, a search that compares them first ends at the ask that is sought, or where it would go
+-- where numbers that differ decide the order, a search that compares them first ends at the ask
+-- that is sought, or where it would go
 module _ {K : Type 0} (R : K → K → Ordering) (total : IsTotalOrder R) (read : Ask → K) (number : K → ℕ) (tell : (y z : K) → ordering_then (nat_cmp (number y) (number z)) (R y z) ≡ R y z)
     (s : Slab Ask) (keys : List NumberedKey) (covers : Covers s (keys_of keys)) (rises : Rises R read s (keys_of keys)) (numbered : AreNumbered (λ a. number (read a)) s keys) (x : K) (n : ℕ) (is : n ≡ number x) where
   compared_same : All (λ k. compared_by_number n (λ a. R (read a) x) s k ≡ compared (λ a. R (read a) x) (get s k.key)) keys

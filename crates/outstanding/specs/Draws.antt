@@ -20,6 +20,7 @@ abbrev pub is_freed : ℕ → Option ℕ → Bool
 is_freed port None = false
 is_freed port (Some freed) = port == freed
 
+-- the port has no listed ask, or is given up in this step
 abbrev pub is_free : ℕ → List Ask → Option ℕ → Bool
 is_free port asks freed = is_freed port freed || not (is_used port asks)
 
@@ -55,7 +56,7 @@ ask_message id q = record {
   additional = [];
 }
 
--- by TCP, identifier and connection: that of the first word, and how many asks went by TCP before; the last number is
--- never given
+-- by TCP, identifier and connection: that of the first word, and the count of asks by TCP before;
+-- the last number is never given
 abbrev pub drawn_by_tcp : List ℕ → ℕ → Option (ℕ × ℕ)
 drawn_by_tcp words count = if count == 2 ^ 64 - 1 then None else Some (get_or words 0 0 % 65536, count)

@@ -1,9 +1,9 @@
--- When asks are due.
+-- The moments at which asks are due.
 use Rattle.std.specs.Prelude.{ℕ, ◌+◌, nat_le, if◌then◌else◌, List, [], ◌∷◌, Option, Some, None}
 use Rattle.outstanding.specs.declared.ask.Path.{Path}
 use Rattle.outstanding.specs.Values.{Ask}
 
--- so many milliseconds after it was asked
+-- the moment at which an ask is due, this many milliseconds after it was asked, and its path
 abbrev pub due_of : ℕ → Ask → ℕ × Path
 due_of ask_ms ask = (ask.asked + ask_ms, ask.path)
 

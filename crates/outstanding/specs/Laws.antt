@@ -1,4 +1,4 @@
--- What the definitions of the list are good for, as statements.
+-- Statements about the list.
 use Rattle.std.specs.Prelude.{◌≡◌, ◌≤◌, true, List, Some, None}
 use Rattle.std.specs.List.{AllByRecursion}
 use Rattle.outstanding.specs.declared.ask.Path.{Path}
@@ -18,7 +18,7 @@ NextMayBegin =
 abbrev pub EndedIsUnlisted : Type 0
 EndedIsUnlisted = (asks : List Ask) (path : Path) → on_path path (without_path path asks) ≡ None
 
--- What is not listed is not listed either once an ask has ended.
+-- An ask that is not listed is not listed either once another ask has been ended.
 abbrev pub UnlistedStaysSo : Type 0
 UnlistedStaysSo = (asks : List Ask) (path other : Path) → on_path path asks ≡ None
     → on_path path (without_path other asks) ≡ None

@@ -1,4 +1,5 @@
--- Lists of asks, in the order in which they were asked: what is looked up in them, and what holds of each that is kept.
+-- Lists of asks, in the order in which they were asked: what is looked up in them, and what holds
+-- of each that is kept.
 use Rattle.std.specs.Prelude.{◌≡◌, ◌^◌, ◌≤◌, Bool, false, ◌==◌, not, List, [], ◌∷◌, length, filter, Option, None, true}
 use Rattle.std.specs.List.{find, AllByRecursion}
 use Rattle.dns_message.specs.Values.{Question}
@@ -30,13 +31,14 @@ without_path path asks = filter (λ a. not (same_path a.path path)) asks
 abbrev pub IsInTime : Ask → Type 0
 IsInTime a = a.asked ≤ 2 ^ 62
 
--- b may stand anywhere behind a
+-- b may come anywhere after a
 pub record Follows (a b : Ask) : Type 0 where
   pub path : same_path a.path b.path ≡ false
   pub question : same_question a.question b.question ≡ false
   pub asked : a.asked ≤ b.asked
 
--- each ask follows each one before it: no two are on one path or have equal questions, and the moments never fall
+-- each ask follows each one before it: no two are on one path or have equal questions, and the
+-- moments never fall
 abbrev pub AreInTurn : List Ask → Type 0
 AreInTurn [] = Unit {0}
 AreInTurn (a ∷ asks) = AllByRecursion (Follows a) asks × AreInTurn asks
@@ -47,13 +49,15 @@ pub record AreListed (inquiries : Inquiries) : Type 0 where
   pub in_turn : AreInTurn inquiries.asks
   pub in_time : AllByRecursion IsInTime inquiries.asks
 
--- an ask may be put behind these: its path and its question are not listed, and it was asked no earlier than they
+-- an ask may be put after these: its path and its question are not listed, and it was asked no
+-- earlier than they
 pub record MayBegin (ask : Ask) (asks : List Ask) : Type 0 where
   pub path : on_path ask.path asks ≡ None
   pub question : of_question ask.question asks ≡ None
   pub later : AllByRecursion (λ a. a.asked ≤ ask.asked) asks
   pub in_time : IsInTime ask
 
+-- the path is a connection over TCP
 abbrev pub is_tcp : Path → Bool
 is_tcp (Udp port) = false
 is_tcp (Tcp conn) = true

@@ -10,13 +10,16 @@ use Rattle.outstanding.specs.declared.keyed.QuestionKey.{QuestionKey}
 use Rattle.outstanding.specs.contracts.ask.PathOrd.TheImpl as path_ord
 use Rattle.outstanding.specs.contracts.keyed.QuestionKeyOrd.TheImpl as key_ord
 
+-- the order of paths
 abbrev pub path_cmp : Path → Path → Ordering
 path_cmp = (path_ord.ghosts).cmp
 
+-- the order of the keys of questions
 abbrev pub key_cmp : QuestionKey → QuestionKey → Ordering
 key_cmp = (key_ord.ghosts).cmp
 
--- the number of octets: that of those before the last, multiplied by 0x01000193, and the last, modulo 2^32
+-- the number of octets: that of those before the last, multiplied by 0x01000193, and the last,
+-- modulo 2^32
 unfoldable pub octets_number : List ℕ → ℕ
 octets_number octets = fold (λ number octet. (number * 16777619 + octet) % 2 ^ 32) 0 octets
 

@@ -1,5 +1,5 @@
--- Asks under the keys of a slab, and lists of those keys: one in the order of asking, two that are searched and have
--- numbers.
+-- Asks under the keys of a slab, and lists of those keys: one in the order of asking, two that are
+-- searched and have numbers.
 use Rattle.std.specs.Prelude.{◌≡◌, ◌≢◌, ℕ, ◌<◌, ◌≤◌, ◌^◌, true, List, length, map, Option, Some, None, IsSome}
 use Rattle.std.specs.Prelude.{slice_index}
 use Rattle.std.specs.List.{All, filter_map}
@@ -19,7 +19,7 @@ use Rattle.outstanding.specs.Values.{Ask}
 abbrev pub asks_under : Slab Ask → List ℕ → List Ask
 asks_under s keys = filter_map (λ key. get s key) keys
 
--- the keys are those under which an ask stands, each once
+-- the keys are those of the asks, each once
 pub record Covers (s : Slab Ask) (keys : List ℕ) : Type 0 where
   pub present : (i : ℕ) → i < length keys → IsSome (get s (slice_index keys i))
   pub complete : (key : ℕ) → IsSome (get s key) → (i : ℕ) × (i < length keys) × (slice_index keys i ≡ key)
@@ -42,7 +42,7 @@ pub record IsAt (f : Ask → Ordering) (s : Slab Ask) (keys : List ℕ) (i : ℕ
   pub in_range : i < length keys
   pub equal : (a : Ask) → get s (slice_index keys i) ≡ Some a → f a ≡ Equal
 
--- what is sought would go to place i: those before come before it, and the others behind
+-- what is sought would go to place i: those before come before it, and the others after
 pub record IsGap (f : Ask → Ordering) (s : Slab Ask) (keys : List ℕ) (i : ℕ) : Type 0 where
   pub in_range : i ≤ length keys
   pub before : (j : ℕ) (a : Ask) → j < i → get s (slice_index keys j) ≡ Some a → f a ≡ Less
@@ -56,16 +56,20 @@ keys_of keys = map (λ k. k.key) keys
 abbrev pub HasNumber : (Ask → ℕ) → Slab Ask → NumberedKey → Type 0
 HasNumber number s k = (a : Ask) → get s k.key ≡ Some a → k.number ≡ number a
 
+-- each key has the number of its ask next to it
 abbrev pub AreNumbered : (Ask → ℕ) → Slab Ask → List NumberedKey → Type 0
 AreNumbered number s keys = All (HasNumber number s) keys
 
--- how the ask under a key compares to what is sought, which has this number: numbers that differ tell it
+-- how the ask under a key compares to what is sought, which has this number: numbers that differ
+-- decide
 abbrev pub compared_by_number : ℕ → (Ask → Ordering) → Slab Ask → NumberedKey → Ordering
 compared_by_number number f s k = ordering_then (nat_cmp k.number number) (compared f (get s k.key))
 
+-- how the path of an ask compares with this one
 abbrev pub to_path : Path → Ask → Ordering
 to_path path a = path_cmp a.path path
 
+-- how the question of an ask compares with this key
 abbrev pub to_question : QuestionKey → Ask → Ordering
 to_question key a = key_cmp (question_key a.question) key
 
@@ -87,7 +91,7 @@ pub record IsIndexed {A : Type 0} (t : Table A) : Type 0 where
   pub path_numbers : AreNumbered (λ a. path_number a.path) t.asks t.by_path.items
   pub question_numbers : AreNumbered (λ a. (question_key a.question).number) t.asks t.by_question.items
 
--- one more ask takes no memory
+-- one more ask does not allocate
 pub record HasRoom {A : Type 0} (t : Table A) : Type 0 where
   pub asks : HasRoomFor t.asks 1
   pub by_path : deque_len t.by_path < deque_capacity t.by_path

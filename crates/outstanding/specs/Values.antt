@@ -15,7 +15,7 @@ pub record Ask : Type 0 where
   pub id : ℕ
   pub asked : ℕ  -- the moment, in milliseconds
 
--- the listed asks in the order in which they were asked, and how many there may be
+-- the listed asks in the order in which they were asked, and the most that there may be
 pub record Inquiries : Type 0 where
   pub capacity : ℕ
   pub asks : List Ask

@@ -9,17 +9,17 @@ use std::alloc::{Allocator, Global};
 use std::marker::Model;
 use suffix_routes::{Peer, RouteId};
 
-/// The way that an ask goes and its reply comes.
+/// The path of an ask and of its reply.
 #[derive(Clone, Copy, Debug, PartialEq, Eq, PartialOrd, Ord)]
 pub enum Path {
-    /// By UDP, from this port of ours.
+    /// By UDP, from this local port.
     Udp(u16),
     /// Over TCP, on the connection of this number.
     Tcp(u64),
 }
 
 impl Path {
-    /// Whether both are one port, or one connection. It takes no memory.
+    /// Whether both are one port, or one connection. It does not allocate.
     pub fn is_same(self, other: Path) -> bool
         ensures { result ≡ same_path self other }
     {
@@ -30,8 +30,8 @@ impl Path {
         }
     }
 
-    /// The number that a search compares first: the port, and for all connections one number above the ports. So
-    /// numbers that differ tell how paths compare. It takes no memory.
+    /// The number that a search compares first: the port, and for all connections one number above
+    /// the ports. So numbers that differ decide how paths compare. It does not allocate.
     #[inline]
     pub(crate) fn number(self) -> u32
         ensures { result ≡ path_number self }
@@ -46,17 +46,17 @@ impl Path {
 /// A question that was sent to a server and may still be answered.
 #[derive(Drop)]
 pub struct Ask<A: Allocator = Global> {
-    /// What was asked, in the spelling that was sent.
+    /// The question, in the spelling that was sent.
     pub question: Question<A>,
     /// The route of the question's name.
     pub route: RouteId,
     /// The place of the asked server among the servers of the route, from 0.
     pub server: usize,
-    /// That server.
+    /// The asked server.
     pub peer: Peer,
-    /// How many tries the inquiry has used, this one included.
+    /// The number of tries that the inquiry has used, this one included.
     pub used: u8,
-    /// Where the reply has to come.
+    /// The path on which the reply has to come.
     pub path: Path,
     /// The identifier of the message (RFC 1035 4.1.1).
     pub id: u16,

@@ -1,4 +1,5 @@
-//! The port and the identifier of an ask by UDP: both are drawn, so that a forger has to guess them (RFC 5452 9.2).
+//! The port and the identifier of an ask by UDP: both are drawn, so that a forger has to guess them
+//! (RFC 5452 9.2).
 
 ghost use Rattle.std.specs.Prelude.{◌≡◌, None, IfSome};
 ghost use Rattle.outstanding.specs.Draws.{is_freed, is_used, port_of, udp_draw, without_port};
@@ -8,10 +9,10 @@ use crate::ask::Path;
 use crate::inquiries::Inquiries;
 use std::alloc::Allocator;
 
-/// Identifier and port of the first word whose port has no listed ask; the port `freed`, which is about to be given up,
-/// counts as free. A word `w` stands for identifier `w mod 65536` and port `1024 + (w / 65536) mod 64512`. `None`
-/// exactly where all eight ports are listed and not freed. So no ask is listed on the port once the freed one is given
-/// up. It takes no memory.
+/// Identifier and port of the first word whose port has no listed ask; the port `freed`, which is
+/// about to be given up, counts as free. A word `w` gives identifier `w mod 65536` and port `1024 +
+/// (w / 65536) mod 64512`. `None` exactly where all eight ports are listed and not freed. So no ask
+/// is listed on the port once the freed one is given up. It does not allocate.
 pub fn draw<A: Allocator>(
     words: [u32; 8],
     inquiries: &Inquiries<A>,
@@ -47,7 +48,7 @@ fn port_from(word: u32) -> u16
     (1024 + (word / 65536) % 64512) as u16
 }
 
-/// The port is about to be given up.
+/// Whether the port is about to be given up.
 fn is_freed(port: u16, freed: Option<u16>) -> bool
     ensures { result ≡ is_freed port freed }
 {
@@ -57,7 +58,7 @@ fn is_freed(port: u16, freed: Option<u16>) -> bool
     }
 }
 
-/// An ask is listed on the port.
+/// Whether an ask is listed on the port.
 fn is_used<A: Allocator>(port: u16, inquiries: &Inquiries<A>) -> bool
     ensures { result ≡ is_used port inquiries.now.asks }
 {

@@ -1,4 +1,4 @@
-//! The list of asks that are under way.
+//! The list of open asks.
 
 ghost use Rattle.std.specs.Prelude.{◌≡◌, ◌<◌, ◌≤◌, ◌↔◌, ◌^◌, ◌∷◌, ◌++◌, [], length, Some, None, slice_get, IfErr};
 ghost use Rattle.std.specs.Prelude.{IsSome, MatchOption, OnErr, OnOk};
@@ -17,7 +17,7 @@ use thiserror::Error;
 /// Why an ask was not listed.
 #[derive(Clone, Copy, Debug, PartialEq, Eq, Error)]
 pub enum Refusal {
-    /// As many asks are listed as there may be.
+    /// `capacity` asks are listed.
     #[error("as many asks are listed as there may be")]
     Full,
     /// Memory ran out.
@@ -25,8 +25,9 @@ pub enum Refusal {
     Memory,
 }
 
-/// The listed asks, in the order in which they were asked, at most `capacity` of them. Each stands for an inquiry: no
-/// two are on one path, no two have equal questions, and the moments of asking never fall along the list.
+/// The listed asks, in the order in which they were asked, at most `capacity` of them. Each is of
+/// one inquiry: no two are on one path, no two have equal questions, and the moments of asking
+/// never fall along the list.
 #[derive(Drop)]
 pub struct Inquiries<A: Allocator = Global> {
     capacity: usize,
@@ -46,7 +47,8 @@ impl<A: Allocator> Model for Inquiries<A> {
 }
 
 impl<A: Allocator> Inquiries<A> {
-    /// No asks, with room for `capacity` of them. It takes no memory; what `begin` takes later comes from `alloc`.
+    /// No asks, with room for `capacity` of them. It does not allocate; `begin` later allocates
+    /// from `alloc`.
     pub fn new(alloc: A, capacity: usize) -> Inquiries<A>
     where
         A: Copy,
@@ -59,11 +61,12 @@ impl<A: Allocator> Inquiries<A> {
         }
     }
 
-    /// Lists an ask, behind all others.
+    /// Lists an ask, after all others.
     ///
-    /// The ask comes back with `Full` exactly where `capacity` asks are listed, and with `Memory` where a growth was
-    /// refused; then the list is as it was. The caller sees to it that its path and its question are not listed, that
-    /// no listed ask was asked later, and that its moment is at most 2^62 milliseconds.
+    /// The ask comes back with `Full` exactly where `capacity` asks are listed, and with `Memory`
+    /// where an allocation was refused; then the list is as it was. The caller makes sure that its
+    /// path and its question are not listed, that no listed ask was asked later, and that its
+    /// moment is at most 2^62 milliseconds.
     pub fn begin(&mut self, ask: KeyedAsk<A>) -> Result<(), (KeyedAsk<A>, Refusal)>
         requires { MayBegin ask self.old.asks }
         ensures ok { OnOk result (self.new ≡ record self.old { asks = self.old.asks ++ ask ∷ [] }) }
@@ -84,11 +87,12 @@ impl<A: Allocator> Inquiries<A> {
         Ok(())
     }
 
-    /// Ends the ask on a path, and lists another one behind all others: it gets the room of the one that ended, so this
-    /// is never refused and takes no memory. The ended ask is the answer, with the key of its question.
+    /// Ends the ask on a path, and lists another one after all others: it gets the room of the one
+    /// that ended, so this is never refused and does not allocate. Returns the ended ask, with the
+    /// key of its question.
     ///
-    /// The caller sees to it that the path is listed, and that what `begin` asks of the new one holds without the ended
-    /// one.
+    /// The caller makes sure that the path is listed, and that what `begin` requires of the new one
+    /// holds without the ended one.
     pub fn replace(&mut self, path: Path, ask: Ask<A>) -> KeyedAsk<A>
         requires listed { IsSome (on_path path self.old.asks) }
         requires begins { MayBegin ask (without_path path self.old.asks) }
@@ -103,8 +107,9 @@ impl<A: Allocator> Inquiries<A> {
         ended
     }
 
-    /// Ends the ask on a path: it is taken out, with the key of its question, and the others stay in order. `None`
-    /// exactly where no ask is listed on the path; then nothing changes. It takes no memory.
+    /// Ends the ask on a path: it is taken out, with the key of its question, and the others stay
+    /// in order. `None` exactly where no ask is listed on the path; then nothing changes. It does
+    /// not allocate.
     pub fn end(&mut self, path: Path) -> Option<KeyedAsk<A>>
         ensures ended { result ≡ on_path path self.old.asks }
         ensures list { self.new ≡ record self.old { asks = without_path path self.old.asks } }
@@ -113,8 +118,8 @@ impl<A: Allocator> Inquiries<A> {
         self.table.take(path)
     }
 
-    /// The ask on a path, with the key of its question. `None` exactly where no ask is listed there. It takes no memory.
-    /// `listed` says again what holds of each list.
+    /// The ask on a path, with the key of its question. `None` exactly where no ask is listed
+    /// there. It does not allocate. `listed` repeats what holds of each list.
     pub fn by_path(&self, path: Path) -> Option<&KeyedAsk<A>>
         ensures found { MatchOption result (on_path path self.now.asks ≡ None) (λ ask. on_path path self.now.asks
             ≡ Some ask.now) }
@@ -123,8 +128,9 @@ impl<A: Allocator> Inquiries<A> {
         self.table.on_path(path)
     }
 
-    /// The ask with a question of this key, which is equal to each that has it: the same name, letter case aside, the
-    /// same type and class. `None` exactly where none is listed. It takes no memory.
+    /// The ask with a question of this key, which is equal to each that has it: the same name,
+    /// letter case aside, the same type and class. `None` exactly where none is listed. It does not
+    /// allocate.
     pub fn by_question(&self, key: &QuestionKey) -> Option<&Ask<A>>
         ensures found { (question : Question) → key.now ≡ question_key question
             → MatchOption result (of_question question self.now.asks ≡ None)
@@ -134,8 +140,9 @@ impl<A: Allocator> Inquiries<A> {
         self.table.of_question(key)
     }
 
-    /// The least moment at which an ask is due, which is `ask_ms` milliseconds after it was asked, and the path of that
-    /// ask; the older one where more are due then. `None` exactly where no ask is listed. It takes no memory.
+    /// The least moment at which an ask is due, which is `ask_ms` milliseconds after it was asked,
+    /// and the path of that ask; the older one where more are due then. `None` exactly where no ask
+    /// is listed. It does not allocate.
     pub fn next_due(&self, ask_ms: u64) -> Option<(u64, Path)>
         requires { ask_ms ≤ 2 ^ 62 }
         ensures { result ≡ next_due ask_ms self.now.asks }
@@ -144,8 +151,8 @@ impl<A: Allocator> Inquiries<A> {
         Some(due_of(oldest.ask(), ask_ms))
     }
 
-    /// The ask that was asked first, which is due first, with the key of its question. `None` exactly where no ask is
-    /// listed. It takes no memory.
+    /// The ask that was asked first, which is due first, with the key of its question. `None`
+    /// exactly where no ask is listed. It does not allocate.
     pub fn oldest(&self) -> Option<&KeyedAsk<A>>
         ensures first { MatchOption result (self.now.asks ≡ []) (λ ask. slice_get self.now.asks 0 ≡ Some ask.now) }
         ensures listed { AreListed self.now }
@@ -153,7 +160,7 @@ impl<A: Allocator> Inquiries<A> {
         self.table.oldest()
     }
 
-    /// Ends all asks. It takes no memory.
+    /// Ends all asks. It does not allocate.
     pub fn clear(&mut self)
         ensures list { self.new ≡ record self.old { asks = [] } }
         ensures listed { AreListed self.new }
@@ -161,7 +168,7 @@ impl<A: Allocator> Inquiries<A> {
         self.table.clear();
     }
 
-    /// How many asks are listed. It takes no memory.
+    /// The number of listed asks. It does not allocate.
     pub fn len(&self) -> usize
         ensures count { result ≡ length self.now.asks }
         ensures listed { AreListed self.now }
@@ -170,7 +177,7 @@ impl<A: Allocator> Inquiries<A> {
     }
 }
 
-/// When an ask is due, and its path.
+/// The moment at which an ask is due, in milliseconds, and its path.
 fn due_of<A: Allocator>(ask: &Ask<A>, ask_ms: u64) -> (u64, Path)
     requires short { ask_ms ≤ 2 ^ 62 }
     requires in_time { IsInTime ask.now }

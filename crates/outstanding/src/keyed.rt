@@ -10,11 +10,12 @@ use std::alloc::{Allocator, Global};
 use std::cmp::Ordering;
 use std::marker::Model;
 
-/// A question for comparing: keys are equal exactly where questions are, letter case aside. The number, which is that
-/// of the name, is compared first: a list that is searched has it beside each key of a slab (`NumberedKey`), so most
-/// questions are told apart without a look at their names, which stand far from one another in memory. It is no hash
-/// against strangers: names that were sought out to have one number are told apart by their octets, which takes no more
-/// than it would without numbers.
+/// A question for comparing: keys are equal exactly where questions are, letter case aside. The
+/// number, which is that of the name, is compared first. A list that is searched has it next to
+/// each key of a slab (`NumberedKey`), so most questions are distinguished without a look at their
+/// names, which are far from one another in memory. It is no hash against strangers: names that
+/// were sought out to have one number are distinguished by their octets, which costs no more than
+/// without numbers.
 #[derive(Clone, Copy, PartialEq, Eq, PartialOrd, Ord)]
 pub struct QuestionKey {
     number: u32,
@@ -24,21 +25,22 @@ pub struct QuestionKey {
 }
 
 impl QuestionKey {
-    /// The key of a question. It takes no memory.
+    /// The key of a question. It does not allocate.
     pub fn of<A: Allocator>(question: &Question<A>) -> QuestionKey
         ensures { result ≡ question_key question.now }
     {
         QuestionKey::of_ref(&QuestionRef::of(question))
     }
 
-    /// The key of a question where it lies. It takes no memory.
+    /// The key of a borrowed question. It does not allocate.
     pub fn of_ref(question: &QuestionRef<'_>) -> QuestionKey
         ensures { result ≡ question_key question.now }
     {
         QuestionKey::of_name(question.key(), question.kind(), question.class())
     }
 
-    /// The key of the question of this type and class for a name, by the key of the name. It takes no memory.
+    /// The key of the question of this type and class for a name, by the key of the name. It does
+    /// not allocate.
     pub fn of_name(name: NameKey, kind: u16, class: u16) -> QuestionKey
         ensures { result ≡ record { number = name_number name; name = name; kind = kind; class = class } }
     {
@@ -50,14 +52,14 @@ impl QuestionKey {
         }
     }
 
-    /// The key of the question's name. It takes no memory.
+    /// The key of the question's name. It does not allocate.
     pub fn name(&self) -> &NameKey
         ensures { result.now ≡ self.now.name }
     {
         &self.name
     }
 
-    /// The number, which is compared first. It takes no memory.
+    /// The number, which is compared first. It does not allocate.
     #[inline]
     pub fn number(&self) -> u32
         ensures { result ≡ self.now.number }
@@ -65,8 +67,9 @@ impl QuestionKey {
         self.number
     }
 
-    /// How it compares to another. It takes no memory. Numbers that differ tell it alone. Equal keys, to which a search
-    /// comes at its end, are told without a look at the zeros behind their names.
+    /// The order of this key and another. It does not allocate. Numbers that differ decide alone.
+    /// For equal keys, which a search meets at its end, the zeros after their names are not
+    /// compared.
     pub fn compare(&self, other: &QuestionKey) -> Ordering
         ensures { result ≡ key_cmp self.now other.now }
     {
@@ -80,8 +83,8 @@ impl QuestionKey {
     }
 }
 
-/// What the number of the octets before is multiplied by at each octet. By this prime, which is that of the FNV hashes
-/// of 32 bits, names that differ in few letters get numbers that differ.
+/// The factor of the number of the octets before, at each octet. By this prime, which is that of
+/// the FNV hashes of 32 bits, names that differ in few letters get numbers that differ.
 const SPREAD: u32 = 0x01000193;
 
 /// The number of a name, by its octets in lower case.
@@ -95,8 +98,8 @@ fn number_of(octets: &[u8]) -> u32
     number
 }
 
-/// An ask, and the key of its question, which is made once. It is seen as the ask. The key stands first, where a search
-/// by question looks.
+/// An ask, and the key of its question, which is made once. It is seen as the ask. The key comes
+/// first, where a search by question looks.
 #[derive(Drop)]
 pub struct KeyedAsk<A: Allocator = Global> {
     key: QuestionKey,
@@ -116,7 +119,7 @@ impl<A: Allocator> Model for KeyedAsk<A> {
 }
 
 impl<A: Allocator> KeyedAsk<A> {
-    /// An ask with the key of its question, which was made before. It takes no memory.
+    /// An ask with the key of its question, which was made before. It does not allocate.
     pub fn new(ask: Ask<A>, key: QuestionKey) -> KeyedAsk<A>
         requires { key ≡ question_key ask.question }
         ensures { result ≡ ask }
@@ -124,7 +127,7 @@ impl<A: Allocator> KeyedAsk<A> {
         KeyedAsk { key, ask }
     }
 
-    /// An ask, whose key is made. It takes no memory.
+    /// An ask, whose key is made. It does not allocate.
     pub fn of(ask: Ask<A>) -> KeyedAsk<A>
         ensures { result ≡ ask }
     {
@@ -132,28 +135,28 @@ impl<A: Allocator> KeyedAsk<A> {
         KeyedAsk { key, ask }
     }
 
-    /// The ask. It takes no memory.
+    /// The ask. It does not allocate.
     pub fn ask(&self) -> &Ask<A>
         ensures { result.now ≡ self.now }
     {
         &self.ask
     }
 
-    /// The key of its question. It takes no memory.
+    /// The key of its question. It does not allocate.
     pub fn key(&self) -> &QuestionKey
         ensures { result.now ≡ question_key self.now.question }
     {
         &self.key
     }
 
-    /// How its path compares to another.
+    /// The order of its path and another.
     pub(crate) fn cmp_path(&self, path: Path) -> Ordering
         ensures { result ≡ path_cmp self.now.path path }
     {
         self.ask.path.cmp(&path)
     }
 
-    /// How its question compares to another.
+    /// The order of its question and another.
     pub(crate) fn cmp_question(&self, key: &QuestionKey) -> Ordering
         ensures { result ≡ key_cmp (question_key self.now.question) key.now }
     {

@@ -1,5 +1,5 @@
-//! The asks that are under way: which question went to which server, on which path, and when. No two of them have one
-//! path or equal questions.
+//! The open asks: which question went to which server, on which path, and when. No two of them have
+//! one path or equal questions.
 #![tactic(auto)]
 
 mod ask;

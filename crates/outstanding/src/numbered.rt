@@ -2,18 +2,18 @@
 
 ghost use Rattle.std.specs.Prelude.{◌≡◌, ◌<◌, ◌^◌};
 
-/// A key of a slab, with the number of what stands under it. A search compares numbers where it looks, and goes to what
-/// stands under the keys, which is far away in memory, only where numbers are equal.
+/// A key of a slab, with the number of its entry. A search compares the numbers in its list, and
+/// goes to the entries under the keys, which are far away in memory, only where numbers are equal.
 #[derive(Clone, Copy, Debug, PartialEq, Eq)]
 pub struct NumberedKey {
-    /// The number of what stands under the key.
+    /// The number of the entry under the key.
     pub number: u32,
     /// The key, in as few octets as the number.
     pub key: u32,
 }
 
 impl NumberedKey {
-    /// A key with a number. It takes no memory. The caller sees to it that the key is below 2^32.
+    /// A key with a number. It does not allocate. The caller makes sure that the key is below 2^32.
     #[inline]
     pub fn new(number: u32, key: usize) -> NumberedKey
         requires { key < 2 ^ 32 }
@@ -25,7 +25,7 @@ impl NumberedKey {
         }
     }
 
-    /// The key, as a slab takes it. It takes no memory.
+    /// The key, as a slab takes it. It does not allocate.
     #[inline]
     pub fn key(self) -> usize
         ensures key { result ≡ self.key }

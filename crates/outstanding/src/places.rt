@@ -1,4 +1,4 @@
-//! Where keys stand, found by searches.
+//! The places of keys, found by searches.
 
 ghost use Rattle.std.specs.Prelude.{◌≡◌, ◌<◌, ◌≤◌, IfOk, IfErr};
 ghost use Rattle.std.specs.VecDeque.{deque_len};
@@ -14,7 +14,8 @@ use std::alloc::Allocator;
 use std::cmp::Ordering;
 use std::collections::VecDeque;
 
-/// Where the key of the ask on a path stands among keys in the order of the paths, or where it would go.
+/// The place of the key of the ask on a path among keys in the order of the paths, or the place
+/// where it would go.
 pub(crate) fn place_on<A: Allocator>(
     asks: &Slab<KeyedAsk<A>, A>,
     keys: &VecDeque<NumberedKey, A>,
@@ -32,8 +33,9 @@ pub(crate) fn place_on<A: Allocator>(
     keys.binary_search_by(|key| compare_path(asks, *key, number, path))
 }
 
-/// How the path of the ask under a key compares to another, which has this number: numbers that differ tell it, and
-/// only where they are equal the ask is looked at. A key without an ask comes first then.
+/// How the path of the ask under a key compares to another, which has this number: numbers that
+/// differ decide, and only where they are equal the ask is looked at. A key without an ask comes
+/// first then.
 #[inline]
 fn compare_path<A: Allocator>(
     asks: &Slab<KeyedAsk<A>, A>,
@@ -52,7 +54,8 @@ fn compare_path<A: Allocator>(
     }
 }
 
-/// Where the key of the ask with a question stands among keys in the order of the questions, or where it would go.
+/// The place of the key of the ask with a question among keys in the order of the questions, or the
+/// place where it would go.
 pub(crate) fn place_of<A: Allocator>(
     asks: &Slab<KeyedAsk<A>, A>,
     keys: &VecDeque<NumberedKey, A>,
@@ -70,8 +73,9 @@ pub(crate) fn place_of<A: Allocator>(
     keys.binary_search_by(|key| compare_question(asks, *key, number, question))
 }
 
-/// How the question of the ask under a key compares to another, which has this number: numbers that differ tell it, and
-/// only where they are equal the ask is looked at. A key without an ask comes first then.
+/// How the question of the ask under a key compares to another, which has this number: numbers that
+/// differ decide, and only where they are equal the ask is looked at. A key without an ask comes
+/// first then.
 #[inline]
 fn compare_question<A: Allocator>(
     asks: &Slab<KeyedAsk<A>, A>,

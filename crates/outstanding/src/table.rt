@@ -18,10 +18,10 @@ use slab::Slab;
 use std::alloc::{AllocError, Allocator};
 use std::collections::VecDeque;
 
-/// The asks, each under a key that the slab picks, and the keys in the order of the paths, of the questions, and of
-/// asking. The first two lists have the number of the path or of the question beside each key, so that a search mostly
-/// stays in its list; where a key is put or taken out there, those before it move or those behind it, whichever are
-/// fewer.
+/// The asks, each under a key that the slab picks, and the keys in the order of the paths, of the
+/// questions, and of asking. The first two lists have the number of the path or of the question
+/// next to each key, so that a search mostly stays in its list; where a key is put or taken out
+/// there, the keys on the shorter side move.
 #[derive(Drop)]
 pub(crate) struct Table<A: Allocator> {
     asks: Slab<KeyedAsk<A>, A>,
@@ -31,7 +31,7 @@ pub(crate) struct Table<A: Allocator> {
 }
 
 impl<A: Allocator> Table<A> {
-    /// No asks. It takes no memory.
+    /// No asks. It does not allocate.
     pub(crate) fn new(alloc: A) -> Table<A>
     where
         A: Copy,
@@ -46,7 +46,7 @@ impl<A: Allocator> Table<A> {
         }
     }
 
-    /// How many asks there are.
+    /// The number of asks.
     pub(crate) fn len(&self) -> usize
         requires { IsIndexed self.now }
         ensures { result ≡ length (asks_of self.now) }
@@ -88,8 +88,8 @@ impl<A: Allocator> Table<A> {
         }
     }
 
-    /// Makes room for one more ask. `Err` where memory ran out; that its key doesn't fit into 32 bits, as the lists
-    /// want it, counts as such.
+    /// Makes room for one more ask. `Err` where memory ran out, or where its key doesn't fit into
+    /// 32 bits, as the lists need it.
     pub(crate) fn reserve(&mut self) -> Result<(), AllocError>
         requires { IsIndexed self.old }
         ensures indexed { IsIndexed self.new }
@@ -156,7 +156,7 @@ impl<A: Allocator> Table<A> {
         Some(self.asks.remove(key))
     }
 
-    /// Takes all asks out. It takes no memory.
+    /// Takes all asks out. It does not allocate.
     pub(crate) fn clear(&mut self)
         ensures indexed { IsIndexed self.new }
         ensures list { asks_of self.new ≡ [] }

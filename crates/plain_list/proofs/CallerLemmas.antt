@@ -1,4 +1,4 @@
--- What the proofs of crates above cite of octets.
+-- Lemmas about octets that the proofs of crates above cite.
 use Rattle.std.proofs.Common.{◌≡◌, ℕ, List, [], ◌∷◌, true, refl, ap, ◌∙◌, subst}
 use Rattle.std.specs.Prelude.{◌==◌}
 use Rattle.std.specs.Bool.{Decides}

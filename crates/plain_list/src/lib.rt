@@ -1,4 +1,4 @@
-//! A list that contracts see as its elements, in order, and nothing else: no capacity, no allocator.
+//! A list that contracts see as its elements, in order: neither capacity nor allocator shows.
 #![tactic(auto)]
 
 ghost use Rattle.std.specs.Prelude.{◌≡◌, ◌<◌, ◌∷◌, ◌++◌, [], List, OnOk, OnErr, IfOk};
@@ -6,7 +6,8 @@ ghost use Rattle.std.specs.Prelude.{◌≡◌, ◌<◌, ◌∷◌, ◌++◌, [],
 use std::alloc::{AllocError, Allocator, Global};
 use std::marker::Model;
 
-/// Elements on the heap, in order. It is made from a `Vec` and gives it back without taking memory.
+/// Elements on the heap, in order. It is made from a `Vec` and turned back into one without
+/// allocating.
 #[derive(Drop)]
 pub struct PlainList<T, A: Allocator = Global> {
     items: Vec<T, A>,
@@ -24,7 +25,7 @@ impl<T, A: Allocator> Model for PlainList<T, A> {
 }
 
 impl<T, A: Allocator> PlainList<T, A> {
-    /// No elements; it takes no memory.
+    /// No elements; it does not allocate.
     pub fn new(alloc: A) -> PlainList<T, A>
         ensures { result ≡ [] }
     {
@@ -33,14 +34,14 @@ impl<T, A: Allocator> PlainList<T, A> {
         }
     }
 
-    /// The elements of the `Vec`; it takes no memory.
+    /// The elements of the `Vec`; it does not allocate.
     pub fn from_vec(items: Vec<T, A>) -> PlainList<T, A>
         ensures { result ≡ items.items }
     {
         PlainList { items }
     }
 
-    /// The `Vec` of these elements; it takes no memory.
+    /// The `Vec` of these elements; it does not allocate.
     pub fn into_vec(self) -> Vec<T, A>
         ensures { result.items ≡ self }
     {

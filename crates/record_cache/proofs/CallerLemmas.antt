@@ -1,4 +1,4 @@
--- What the proofs of crates above cite of the cache.
+-- Lemmas about the cache that the proofs of crates above cite.
 use Rattle.std.proofs.Common.{◌≡◌, ℕ, Bool, true, false, ◌&&◌, List, ◌∷◌, length, filter, Option, None, Some, arith}
 use Rattle.std.specs.Bool.{Decides}
 use Rattle.std.specs.List.{list_any, AllByRecursion}
@@ -29,7 +29,7 @@ slots_are_the_same = keeping.one_slot_is_the_same
 pub entry_has_slot : (slot : Slot) (entries : List Held) (h : Held) → entry_of slot entries ≡ Some h → slot ≡ h.piece.slot
 entry_has_slot slot entries h found = lists.slot_is slot h (lists.entry_is_of slot entries h found)
 
--- behind the entry of a slot none is of it
+-- after the entry of a slot none is of it
 pub none_behind : (slot : Slot) (h : Held) (entries : List Held) → AreApart (h ∷ entries) → of_slot slot h ≡ true → AllByRecursion (λ e. of_slot slot e ≡ false) entries
 none_behind = lists.none_behind
 

@@ -52,7 +52,7 @@ module _ (f : Slot → Option ℕ) where
   pub counted_promoted : (n : ℕ) (s : Slot) (es : List Held) → AreApart es → counted f n (promoted s es) ≡ counted f n es
   counted_promoted n s es apart = rw (promoted_is s es apart) (omega (arith, counted_append n (option_to_list (entry_of s es)) (without s es), counted_entry n (entry_of s es), counted_without n s es apart))
 
-  -- what is counted are the first and the one behind them
+  -- the count is that of the first m, and of the one after them
   pub counted_take : (n m : ℕ) (es : List Held) → length es ≤ m + 1 → counted f n es ≡ told n (number_in f (slice_get es m)) + counted f n (take m es)
   counted_take n zero [] short = refl
   counted_take n zero (h ∷ []) short = refl

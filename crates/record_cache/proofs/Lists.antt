@@ -55,7 +55,7 @@ any_none : (s : Slot) (Q : Held → Bool) (es : List Held) → NoneOf s es → l
 any_none s Q [] h = refl
 any_none s Q (e ∷ es) h = rw h.0 (any_none s Q es h.1)
 
--- behind the entry of a slot none is of it
+-- after the entry of a slot none is of it
 pub none_behind : (s : Slot) (h : Held) (es : List Held) → AreApart (h ∷ es) → of_slot s h ≡ true → NoneOf s es
 none_behind s h es apart is = subst (λ t. NoneOf t es) (sym (slot_is s h is)) apart.0
 

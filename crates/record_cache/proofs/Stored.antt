@@ -1,4 +1,4 @@
--- What each call of `lru` does to entries that stand under their slots.
+-- The effect of each call of `lru` on entries that are under their slots.
 use Rattle.std.proofs.Common.{◌≡◌, ℕ, zero, suc, ◌+◌, ◌-◌, ◌<◌, ◌≤◌, ◌^◌, Bool, true, false, cond, ◌&&◌, not, nat_lt, List, [], ◌∷◌, ◌++◌, length, take, get_or, Option, None, Some, option_map, IfSome, IsSome, refl, sym, ap, subst, ◌∙◌, arith, length-take}
 use Rattle.std.specs.List.{slice_get, list_any}
 use Rattle.std.specs.Option.{option_map_or, option_to_list}
@@ -70,7 +70,7 @@ take_keyed zero es = refl
 take_keyed (suc n) [] = refl
 take_keyed (suc n) (h ∷ es) = ap (λ xs. pair h ∷ xs) (take_keyed n es)
 
--- ---- the entry in front, and what is left behind it
+-- ---- the entry in front, and those left after it
 
 take_front : (n : ℕ) (h : Held) (es : List Held) → 0 < n → take n (h ∷ es) ≡ h ∷ take (n - 1) es
 take_front zero h es some = absurd (omega arith)

@@ -1,4 +1,4 @@
--- Endings of names and of the names above them, and what counts by sizes and endings tell.
+-- Endings of names and of the names above them, and the meaning of counts by sizes and endings.
 use Rattle.std.proofs.Common.{◌≡◌, ℕ, zero, suc, ◌+◌, ◌-◌, ◌<◌, ◌≤◌, ◌%◌, Bool, true, false, ◌||◌, nat_lt, ◌⊎◌, inl, inr, List, [], ◌∷◌, ◌++◌, length, map, drop, Option, None, Some, refl, sym, ap, subst, ◌∙◌, arith, length-append}
 use Rattle.std.specs.Prelude.{is_none}
 use Rattle.std.specs.Int.{w64, from_be_bytes}
@@ -68,7 +68,7 @@ code_long octets last laid long is =
     ap (λ (os : List ℕ). from_be_bytes w64 os % 251 + 1) same
     ∙ sym (ending_long (octets_of (lowered (labels_of octets))) (omega (arith, long, ap length (lower_octets octets laid), length-map octets to_ascii_lowercase)))
 
--- of a key's own octets, as they stand
+-- of a key's own octets, as they are
 pub key_short : (octets : List ℕ) (key : List (List ℕ)) → IsLaidOut octets → labels_of octets ≡ key → length octets < 8 → 0 ≡ ending key
 key_short octets key laid is short = sym (ending_short octets short) ∙ ap ending_of (sym laid.whole) ∙ ap ending is
 
@@ -107,7 +107,7 @@ denied_above (label ∷ front) name entries none = denied_above front name entri
 pub none_at_ending : (name : List (List ℕ)) (entries : List Held) → may_deny name entries ≡ false → has_number name_error_ending (ending name) entries ≡ false
 none_at_ending name entries none = or_right (has_number name_error_ending 0 entries) (has_number name_error_ending (ending name) entries) none
 
--- ---- what the counts tell
+-- ---- the meaning of the counts
 
 kind_none : (kind : Option ℕ) → is_none kind ≡ true → None ≡ kind
 kind_none None e = refl

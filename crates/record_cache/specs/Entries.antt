@@ -1,5 +1,5 @@
--- Lists of entries, the most recently used first: what is looked up in them, what is counted of them, and what holds of
--- each that is kept.
+-- Lists of entries, the most recently used first: what is looked up in them, what is counted of
+-- them, and what holds of each that is kept.
 use Rattle.std.specs.Prelude.{◌≡◌, ◌<◌, ◌≤◌, ℕ, ◌+◌, ◌-◌, ◌%◌, Bool, false, if◌then◌else◌, ◌==◌, ◌&&◌, ◌||◌, not}
 use Rattle.std.specs.Prelude.{nat_eq, nat_lt, List, [], ◌∷◌, ◌++◌, length, filter, drop, Option, Some, None}
 use Rattle.std.specs.Int.{w64, from_be_bytes}
@@ -45,12 +45,14 @@ abbrev pub of_alias : Option ℕ → ℕ → Option ℕ
 of_alias None number = None
 of_alias (Some kind) number = if kind == 5 then Some number else None
 
--- the ending of octets: 0 where they are fewer than eight, else 1 and the rest by 251 of the last eight as one number
+-- the ending of octets: 0 for fewer than eight, otherwise 1 more than the last eight as one number
+-- modulo 251
 abbrev pub ending_of : List ℕ → ℕ
 ending_of octets =
     if nat_lt (length octets) 8 then 0 else from_be_bytes w64 (drop (length octets - 8) octets) % 251 + 1
 
--- the ending of a name: a name above it has the same, or 0
+-- the ending of a name: 0 below eight octets, otherwise 1 more than the last eight as a number
+-- modulo 251; so a name above it has the same one, or 0
 abbrev pub ending : List (List ℕ) → ℕ
 ending name = ending_of (octets_of name)
 
@@ -75,7 +77,7 @@ is_number n (Some m) = m == n
 abbrev pub has_number : (Slot → Option ℕ) → ℕ → List Held → Bool
 has_number number n entries = list_any (λ h. is_number n (number h.piece.slot)) entries
 
--- a name error of a name with so many octets is there
+-- there is a name error of a name with this number of octets
 abbrev pub has_name_error : ℕ → List Held → Bool
 has_name_error size entries = has_number name_error_size size entries
 

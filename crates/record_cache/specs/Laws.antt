@@ -1,4 +1,4 @@
--- What the definitions of the cache are good for, as statements.
+-- Statements about the cache.
 use Rattle.std.specs.Prelude.{◌≡◌, ◌<◌, ℕ, Bool, true, false, ◌⊎◌, List, [], ◌∷◌, length, Some}
 use Rattle.dns_name.specs.Labels.{lowered, octets_of, IsSame, IsUnder}
 use Rattle.trust_rank.specs.declared.slot.Slot.{Slot}
@@ -12,10 +12,12 @@ use Rattle.record_cache.specs.Offers.{answer, kept, offered}
 use Rattle.record_cache.specs.declared.cache.Offered.{Offered}
 use Rattle.record_cache.specs.declared.cache.Offered.TheVariants.{Unkept}
 
+-- the entry is one of these
 abbrev pub Among : Held → List Held → Type 0
 Among h [] = ⊥
 Among h (e ∷ entries) = (e ≡ h) ⊎ Among h entries
 
+-- the entry is the last of these
 abbrev pub IsLast : Held → List Held → Type 0
 IsLast h [] = ⊥
 IsLast h (e ∷ []) = e ≡ h
@@ -27,12 +29,12 @@ pub record IsDropped (capacity : ℕ) (slot : Slot) (h : Held) (entries : List H
   pub full : length entries ≡ capacity
   pub last : IsLast h entries
 
--- What was kept last is the entry of its slot.
+-- The piece that was kept last is the entry of its slot.
 abbrev pub KeptIsFound : Type 0
 KeptIsFound = (capacity : ℕ) (h : Held) (entries : List Held) → 0 < capacity
     → entry_of h.piece.slot (kept capacity h entries) ≡ Some h
 
--- An offer is refused for want of memory only where its slot has no entry.
+-- An offer runs out of memory only where its slot has no entry.
 abbrev pub UnkeptIsNew : Type 0
 UnkeptIsNew = (moment : ℕ) (room : Bool) (piece : Piece) (entries : List Held)
     → answer moment room piece entries ≡ Unkept

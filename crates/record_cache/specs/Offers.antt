@@ -1,4 +1,4 @@
--- What an offer does to the list of entries.
+-- The list of entries after an offer.
 use Rattle.std.specs.Prelude.{ℕ, Bool, true, false, if◌then◌else◌, ◌==◌, ◌&&◌, ◌||◌, not, nat_lt, List, ◌∷◌, take}
 use Rattle.std.specs.List.{list_any}
 use Rattle.trust_rank.specs.Values.{Piece}
@@ -17,7 +17,7 @@ outranks moment piece h = of_slot piece.slot h && (is_alive moment h && nat_lt p
 abbrev pub is_outranked : ℕ → Piece → List Held → Bool
 is_outranked moment piece entries = not (is_name_error piece) && list_any (outranks moment piece) entries
 
--- how an offer ends, where room tells whether there is memory for one entry more
+-- how an offer ends; `room` says whether there is memory for one more entry
 abbrev pub answer : ℕ → Bool → Piece → List Held → Offered
 answer moment room piece entries =
     if is_outranked moment piece entries
@@ -27,7 +27,8 @@ answer moment room piece entries =
     then NotKept
     else if room || has_slot piece.slot entries then Kept else Unkept
 
--- the entry goes to the front: its slot's old entry is replaced, or the last entry of a full cache is dropped
+-- the entry goes to the front: its slot's old entry is replaced, or the last entry of a full cache
+-- is dropped
 abbrev pub kept : ℕ → Held → List Held → List Held
 kept capacity h entries = take capacity (h ∷ without h.piece.slot entries)
 
@@ -38,7 +39,7 @@ offered Outranked capacity moment piece entries = entries
 offered NotKept capacity moment piece entries = without piece.slot entries
 offered Unkept capacity moment piece entries = entries
 
--- memory was found: no offer tells otherwise but the one that ended in want of it
+-- memory was found: every offer but `Unkept`
 abbrev pub found_room : Offered → Bool
 found_room Kept = true
 found_room Outranked = true

@@ -1,4 +1,4 @@
--- How the entries stand in the `lru` cache, and what is counted beside it.
+-- The entries in the `lru` cache, and the counts next to it.
 use Rattle.std.specs.Prelude.{◌≡◌, ◌<◌, ◌^◌, ℕ, ◌+◌, if◌then◌else◌, List, [], ◌∷◌, map, get_or, Option, Some, None}
 use Rattle.std.specs.Prelude.{IfSome}
 use Rattle.std.specs.Map.{values_of}
@@ -22,7 +22,7 @@ number_in number (Some h) = number h.piece.slot
 abbrev pub marks_of : Slot → Marks
 marks_of slot = record { size = name_error_size slot; ending = name_error_ending slot; alias = alias_ending slot }
 
--- those of an entry, where there is one
+-- the marks of an entry, if any
 abbrev pub marks_in : Option Held → Marks
 marks_in h = record {
   size = number_in name_error_size h;
@@ -61,6 +61,7 @@ HasRoom counts number = IfSome number (λ n. (n < 256) × (get_or counts n 0 + 1
 abbrev pub OneMore : List ℕ → Option ℕ → List ℕ → Type 0
 OneMore more number less = (n : ℕ) → get_or more n 0 ≡ told n number + get_or less n 0
 
+-- the counts with one more entry that has these marks
 pub record AreOneMore (more : Tables) (marks : Marks) (less : Tables) : Type 0 where
   pub sizes : OneMore more.sizes.counts marks.size less.sizes.counts
   pub endings : OneMore more.endings.counts marks.ending less.endings.counts

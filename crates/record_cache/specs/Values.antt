@@ -1,4 +1,4 @@
--- What a contract sees of a cache and its entries.
+-- A cache and its entries as contracts see them.
 use Rattle.std.specs.Prelude.{ℕ, List}
 use Rattle.trust_rank.specs.Values.{Piece}
 

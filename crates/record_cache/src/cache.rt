@@ -34,7 +34,7 @@ pub enum Offered {
 #[derive(Drop)]
 pub struct Cache<H: BuildHasher, A: Allocator = Global> {
     entries: LruCache<Slot, Held<A>, H, A>,
-    /// What is counted of the entries.
+    /// Counts of the entries.
     tables: Tables,
 }
 
@@ -51,7 +51,8 @@ impl<H: BuildHasher, A: Allocator> Model for Cache<H, A> {
 }
 
 impl<H: BuildHasher + Drop, A: Allocator + Copy> Cache<H, A> {
-    /// No entries, and room for `capacity` of them, which is at least 1. `Err` where memory ran out.
+    /// No entries, and room for `capacity` of them, which is at least 1. `Err` where memory ran
+    /// out.
     pub fn new(alloc: A, capacity: usize, hasher: H) -> Result<Cache<H, A>, AllocError>
         requires { 0 < capacity }
         ensures { IfOk result (λ cache. cache ≡ record { capacity = capacity; entries = [] }) }
@@ -67,10 +68,11 @@ impl<H: BuildHasher + Drop, A: Allocator + Copy> Cache<H, A> {
 
     /// Offers a piece that was accepted at a moment, in milliseconds.
     ///
-    /// `Outranked`, where its slot has a living entry of a higher rank (RFC 2181 5.4.1), which a name error never
-    /// minds: nothing changes. Else `NotKept`, where its lifetime is 0: the entry of its slot is removed. Else `Kept`:
-    /// it goes to the front, in place of its slot's entry; or else a full cache drops its last entry. `Unkept`, where
-    /// its slot has no entry and a growth was refused: nothing changes.
+    /// `Outranked`, where its slot has a living entry of a higher rank (RFC 2181 5.4.1), which a
+    /// name error never minds: nothing changes. Otherwise `NotKept`, where its lifetime is 0: the
+    /// entry of its slot is removed. Otherwise `Kept`: it goes to the front, in place of its slot's
+    /// entry; for a new slot a full cache drops its last entry. `Unkept`, where its slot has no
+    /// entry and an allocation was refused: nothing changes.
     pub fn offer(&mut self, piece: Piece<A>, moment: u64) -> Offered
         ensures answer { result ≡ answer moment (found_room result) piece self.old.entries }
         ensures list { self.new ≡ record self.old {
@@ -96,7 +98,8 @@ impl<H: BuildHasher + Drop, A: Allocator + Copy> Cache<H, A> {
         }
     }
 
-    /// Whether its slot has an entry that outranks it when it is accepted; a name error is never outranked.
+    /// Whether its slot has an entry that outranks it when it is accepted; a name error is never
+    /// outranked.
     fn is_outranked(&self, held: &Held<A>) -> bool
         ensures { result ≡ is_outranked held.now.accepted held.now.piece self.now.entries }
     {
@@ -109,8 +112,8 @@ impl<H: BuildHasher + Drop, A: Allocator + Copy> Cache<H, A> {
         }
     }
 
-    /// The entry of a slot, alive or dead; the order stays. `None` where the slot has none. It takes no
-    /// memory. `held` says again what holds of all entries.
+    /// The entry of a slot, alive or expired; the order stays. `None` where the slot has none. It
+    /// does not allocate. `held` repeats what holds of all entries.
     pub fn peek(&self, slot: &Slot) -> Option<&Held<A>>
         ensures found { MatchOption result (entry_of slot.now self.now.entries ≡ None)
             (λ held. entry_of slot.now self.now.entries ≡ Some held.now) }
@@ -119,21 +122,22 @@ impl<H: BuildHasher + Drop, A: Allocator + Copy> Cache<H, A> {
         self.entries.peek(slot)
     }
 
-    /// Makes the entry of a slot the most recently used; nothing where the slot has none. It takes no memory.
+    /// Makes the entry of a slot the most recently used; nothing where the slot has none. It does
+    /// not allocate.
     pub fn promote(&mut self, slot: &Slot)
         ensures { self.new ≡ record self.old { entries = promoted slot.now self.old.entries } }
     {
         self.entries.promote(slot);
     }
 
-    /// Removes the entry of a slot; nothing where the slot has none. It takes no memory.
+    /// Removes the entry of a slot; nothing where the slot has none. It does not allocate.
     pub fn forget(&mut self, slot: &Slot)
         ensures { self.new ≡ record self.old { entries = without slot.now self.old.entries } }
     {
         take_out(&mut self.entries, &mut self.tables, slot);
     }
 
-    /// Removes all entries. It takes no memory.
+    /// Removes all entries. It does not allocate.
     pub fn clear(&mut self)
         ensures { self.new ≡ record self.old { entries = [] } }
     {
@@ -141,7 +145,8 @@ impl<H: BuildHasher + Drop, A: Allocator + Copy> Cache<H, A> {
         self.tables = Tables::new();
     }
 
-    /// How many entries there are, dead ones too. `held` says what holds of them. It takes no memory.
+    /// The number of entries, expired ones included. `held` repeats what holds of all entries. It
+    /// does not allocate.
     pub fn len(&self) -> usize
         ensures count { result ≡ length self.now.entries }
         ensures held { AreHeld self.now }
@@ -149,9 +154,9 @@ impl<H: BuildHasher + Drop, A: Allocator + Copy> Cache<H, A> {
         self.entries.len()
     }
 
-    /// Whether a name error is held, alive or dead, of a name with so many octets, the zero octet at its end left out:
-    /// where none is, no look-up for one is needed. It takes no memory, and looks at no entry. `held` says again what
-    /// holds of all entries.
+    /// Whether a name error is held, alive or expired, of a name with `size` octets, without its
+    /// zero octet. Where none is, no look-up for one is needed. It does not allocate, and looks at
+    /// no entry. `held` repeats what holds of all entries.
     pub fn has_name_error(&self, size: usize) -> bool
         ensures told { result ≡ has_name_error size self.now.entries }
         ensures held { AreHeld self.now }
@@ -159,9 +164,9 @@ impl<H: BuildHasher + Drop, A: Allocator + Copy> Cache<H, A> {
         self.tables.sizes.has(size)
     }
 
-    /// Whether some name error, alive or dead, may be of a name with this ending or of one above it: one whose name is
-    /// short, or has the same ending. Where none may, no look-up for one is needed. It takes no memory, and looks at no
-    /// entry. `held` says again what holds of all entries.
+    /// Whether a name error, alive or expired, may be of a name with this ending or of one above
+    /// it: its name is short, or has the same ending. Where none may, no look-up for one is needed.
+    /// It does not allocate, and looks at no entry. `held` repeats what holds of all entries.
     pub fn may_deny(&self, ending: usize) -> bool
         ensures told { result ≡ may_deny_at ending self.now.entries }
         ensures held { AreHeld self.now }
@@ -170,9 +175,9 @@ impl<H: BuildHasher + Drop, A: Allocator + Copy> Cache<H, A> {
         endings.has(0) || endings.has(ending)
     }
 
-    /// Whether some entry of type CNAME, alive or dead, may be of a name with this ending: one whose owner has it too.
-    /// Where none may, no look-up for one is needed. It takes no memory, and looks at no entry. `held` says again what
-    /// holds of all entries.
+    /// Whether an entry of type CNAME, alive or expired, may be of a name with this ending: its
+    /// owner has it too. Where none may, no look-up for one is needed. It does not allocate, and
+    /// looks at no entry. `held` repeats what holds of all entries.
     pub fn may_have_alias(&self, ending: usize) -> bool
         ensures told { result ≡ may_have_alias_at ending self.now.entries }
         ensures held { AreHeld self.now }
@@ -181,8 +186,8 @@ impl<H: BuildHasher + Drop, A: Allocator + Copy> Cache<H, A> {
     }
 }
 
-/// Puts an entry first, in place of its slot's or of the last one of a full cache. `false` where its slot has no entry
-/// and a growth was refused, and then nothing has changed.
+/// Puts an entry first, in place of its slot's or of the last one of a full cache. `false` where
+/// its slot has no entry and an allocation was refused: nothing has changed.
 fn put_first<H: BuildHasher + Drop, A: Allocator + Copy>(
     entries: &mut LruCache<Slot, Held<A>, H, A>,
     tables: &mut Tables,

@@ -57,7 +57,7 @@ pub(crate) struct Marks {
     pub alias: Option<usize>,
 }
 
-/// What is counted of all entries.
+/// The counts of all entries.
 #[derive(Drop)]
 pub(crate) struct Tables {
     /// Name errors by the sizes of their names.

@@ -10,8 +10,9 @@ use dns_name::NameKey;
 /// How many octets an ending is made of.
 const LAST: usize = 8;
 
-/// The ending of the name of a key: 0 where its octets are fewer than eight, else 1 and the rest by 251 of the last
-/// eight as one number. `Cache::may_deny` and `Cache::may_have_alias` are asked by it. It takes no memory.
+/// The ending of the name of a key, a number for `Cache::may_deny` and `Cache::may_have_alias`: 0
+/// for fewer than eight octets, otherwise 1 more than the last eight as one number modulo 251. It
+/// does not allocate.
 pub fn key_ending(key: &NameKey) -> usize
     ensures ending { result ≡ ending key.now }
     ensures few { result < 256 }
@@ -22,7 +23,8 @@ pub fn key_ending(key: &NameKey) -> usize
     }
 }
 
-/// The same of the name that these octets are, as `Name::octets` gives them, letter case aside. It takes no memory.
+/// The same of the name that these octets are, as `Name::octets` gives them, letter case aside. It
+/// does not allocate.
 pub fn ending(octets: &[u8]) -> usize
     requires { IsLaidOut octets.now }
     ensures ending { result ≡ ending (lowered (labels_of octets.now)) }

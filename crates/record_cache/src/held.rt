@@ -8,16 +8,17 @@ ghost use Rattle.trust_rank.specs.Replacing.{is_name_error};
 
 use crate::counts::Marks;
 use crate::endings::ending;
+use dns_message::types::CNAME;
 use std::alloc::{Allocator, Global};
 use std::marker::Model;
-use trust_rank::{CNAME, Piece, Slot};
+use trust_rank::{Piece, Slot};
 
 /// A piece, and when it was accepted.
 #[derive(Drop)]
 pub struct Held<A: Allocator = Global> {
     /// The moment of acceptance, in milliseconds.
     pub accepted: u64,
-    /// What is held.
+    /// The piece.
     pub piece: Piece<A>,
 }
 
@@ -30,8 +31,8 @@ impl<A: Allocator> Model for Held<A> {
 }
 
 impl<A: Allocator> Held<A> {
-    /// Whether the entry is alive at a moment, in milliseconds: that is before its lifetime, in seconds, has passed
-    /// since it was accepted (RFC 1035 3.2.1). It takes no memory.
+    /// Whether the entry is alive at a moment, in milliseconds: its lifetime, in seconds, has not
+    /// passed since it was accepted (RFC 1035 3.2.1). It does not allocate.
     pub fn is_alive(&self, moment: u64) -> bool
         ensures { result ≡ is_alive moment self.now }
     {
@@ -41,8 +42,8 @@ impl<A: Allocator> Held<A> {
         }
     }
 
-    /// The whole seconds that are left of the entry at a moment, in milliseconds, that is not before it was accepted; 0
-    /// where it has ended. It takes no memory.
+    /// The whole seconds that are left of the entry at a moment, in milliseconds, that is not
+    /// before it was accepted; 0 where it has expired. It does not allocate.
     pub fn seconds_left(&self, moment: u64) -> u64
         requires { self.now.accepted ≤ moment }
         ensures { result ≡ seconds_left moment self.now }
@@ -72,14 +73,15 @@ impl<A: Allocator> Held<A> {
         self.piece.lifetime == 0
     }
 
-    /// Whether the entry is alive when the other one is accepted, and has a higher rank (RFC 2181 5.4.1).
+    /// Whether the entry is alive when the other one is accepted, and has a higher rank (RFC 2181
+    /// 5.4.1).
     pub(crate) fn outranks(&self, other: &Held<A>) -> bool
         ensures { result ≡ (is_alive other.now.accepted self.now && nat_lt other.now.piece.rank self.now.piece.rank) }
     {
         self.is_alive(other.accepted) && other.piece.rank < self.piece.rank
     }
 
-    /// The slot of the entry. `formed` says again what holds of each piece.
+    /// The slot of the entry. `formed` repeats what holds of each piece.
     pub(crate) fn slot(&self) -> Slot
         ensures slot { result ≡ self.now.piece.slot }
         ensures formed { IsPiece self.now.piece }

@@ -1,5 +1,6 @@
-//! What is kept of the pieces of replies: entries with the moments at which they were accepted, of different slots and
-//! no more than the capacity. A full cache drops the one that was used least recently.
+//! A cache of the pieces of replies: entries of different slots, each with the moment at which it
+//! was accepted, at most as many as the capacity. A full cache drops the one that was used least
+//! recently.
 #![tactic(auto)]
 
 mod cache;

@@ -1,4 +1,5 @@
--- The call of `is_spent` in `allocate`: what it is handed, and that it answers a truth value. Assumes `Logic`.
+-- The call of `is_spent` in `allocate`: its argument, and that it returns a truth value. Assumes
+-- `Logic`.
 use Rattle.std.proofs.Common.{◌≡◌, ℕ, Bool, List, [], ◌∷◌, refl, ap}
 use seplogic.Ra.Ura.{Ura}
 use mir.Val.{Val, vbool, vptr}

@@ -1,4 +1,5 @@
--- A `&Refusing<B>` as the two walks see it: a `&` to the allocator within and a `&` to the counts. Assumes `Logic`.
+-- A `&Refusing<B>` as the two walks see it: a `&` to the allocator within and a `&` to the counts.
+-- Assumes `Logic`.
 use Rattle.std.proofs.Common.{ℕ, ◌+◌, [], ◌∷◌, Bor}
 use seplogic.Ra.Ura.{Ura}
 use mir.Syntax.{Args, a_type, dnil, dcons}
@@ -30,7 +31,7 @@ module _ (Z : Al) where
   abbrev pub receiver : Slot 2
   receiver = RefOf (0 ∷ []) tt (plain (λ _. Whole)) (λ _. tt)
 
-  -- where the two fields lie
+  -- the places of the two fields
   abbrev pub inner_place : ℕ × ℕ → ℕ × ℕ
   inner_place at = (at.0, at.1 + up (align (α Z)) 0)
 

@@ -1,29 +1,32 @@
-//! An allocator for tests: it grants as many growths as it was told, and then refuses each one, or the next one alone.
+//! An allocator for tests: it grants a given number of allocations, and then refuses each one, or
+//! the next one alone.
 #![tactic(auto)]
 
 use std::alloc::{AllocError, Allocator};
 use std::cell::Cell;
 
-/// Ample memory: with this count no growth is refused, however many come.
+/// Ample memory: with this count no allocation is refused.
 const AMPLE: u64 = u64::MAX;
 
-/// A handle on the memory of `inner` that can be told to run out of it.
+/// A handle on the memory of `inner` that a test can make run out.
 ///
-/// A test makes one, sets its state up with ample memory, calls `allow` or `refuse_one` with 0, 1, 2, .. before the
-/// step that it tests, and looks at what the step does where its first, second, third, .. growth is refused: with
-/// each one after it, or alone. Collections take it by reference, as `&Refusing<Global>`, so that the test still has
-/// it in hand.
+/// A test makes one, sets its state up with ample memory, calls `allow` or `refuse_one` with 0, 1,
+/// 2, .. before the step that it tests, and looks at what the step does where its first, second,
+/// third, .. allocation is refused: with each one after it, or alone. Collections take it by
+/// reference, as `&Refusing<Global>`, so that the test keeps it.
 ///
-/// A growth is one call of `allocate`; a collection that moves its items to a larger block asks once for it. Giving
-/// memory back is never refused, and gives no growth back.
+/// An allocation is one call of `allocate`; a collection that moves its items to a larger block
+/// asks once for it. Freeing is never refused, and gives no allocation back.
 #[derive(Drop)]
 pub struct Refusing<B: Allocator> {
-    // The order of the two fields counts: the proofs below `proofs/RefusingAllocator` name their places.
+    // The order of the two fields counts: the proofs below `proofs/RefusingAllocator` name their
+    // places.
     inner: B,
     growths: Growths,
 }
 
-/// How many more growths are granted before one is refused, and how many more after each that is refused.
+/// The number of allocations that are still granted before one is refused, and the number after
+/// each that is refused.
 #[derive(Drop)]
 struct Growths {
     left: Cell<u64>,
@@ -42,21 +45,22 @@ impl<B: Allocator> Refusing<B> {
         }
     }
 
-    /// From now on `count` more growths are granted, and each one after them is refused. At `u64::MAX` none is.
+    /// From now on grants `count` more allocations, and refuses each one after them. At `u64::MAX`
+    /// none is refused.
     pub fn allow(&self, count: u64) {
         self.growths.left.set(count);
         self.growths.refill.set(0);
     }
 
-    /// From now on `count` more growths are granted, the one after them is refused, and each later one is granted. At
-    /// `u64::MAX` none is refused.
+    /// From now on grants `count` more allocations, refuses the one after them, and grants each
+    /// later one. At `u64::MAX` none is refused.
     pub fn refuse_one(&self, count: u64) {
         self.growths.left.set(count);
         self.growths.refill.set(AMPLE);
     }
 }
 
-/// Whether the next growth is refused. It counts the growth where it is not.
+/// Whether the next allocation is refused. Counts the allocation where it is not.
 fn is_spent(growths: &Growths) -> bool {
     match growths.left.get() {
         0 => {
@@ -93,7 +97,7 @@ mod tests {
     use std::alloc::Global;
     use std::test::Fail;
 
-    /// Three blocks of one octet each: how many of them were granted.
+    /// Asks for three blocks of one octet each; returns the number granted.
     fn blocks(heap: &Refusing<Global>) -> u8 {
         let first = Box::new(heap, 1u8);
         let second = Box::new(heap, 2u8);

@@ -51,7 +51,7 @@ no_feed text e = absent text (none_found (nat_lt (position_or_len is_feed text) 
 
 -- ---- the parts
 
--- what stands before the rest of a text
+-- what is before the rest of a text
 front : (text before rest : List ℕ) → text ≡ before ++ rest → take (length text - length rest) text ≡ before
 front text before rest e =
     let long : length text - length rest ≡ length before = (let sum = ap length e ∙ length-append before rest in omega (arith, sum)) in

@@ -1,4 +1,4 @@
--- What reading a configuration tells of the octets that were read.
+-- The result of reading a configuration, and the octets that were read.
 use Rattle.std.specs.Prelude.{◌≡◌, ℕ, List, take, Option, IfSome, Err, IsUtf8, ◌⊎◌}
 use Rattle.std.specs.Str.Lossy.{utf8_valid_len}
 use Rattle.suffix_routes.specs.Positions.{position_of}
@@ -8,7 +8,8 @@ use Rattle.suffix_routes.specs.declared.fault.ConfigFault.TheVariants.{Toml}
 use Rattle.replay_script.specs.declared.fault.ReplayFault.{ReplayFault}
 use Rattle.replay_script.specs.declared.fault.ReplayFault.TheVariants.{Config, Line, Memory, Device}
 
--- octets that are refused for a fault: the first fault of their text, or the position behind all that is text
+-- octets that are refused for a fault: the first fault of their text, or the position after all
+-- that is text
 abbrev pub IsRefused : List ℕ → ConfigFault → Type 0
 IsRefused octets fault =
     (IsUtf8 octets × IsReadIn octets (Err fault)) ⊎ ((¬ IsUtf8 octets)
@@ -26,8 +27,8 @@ IsFaultIn left (Config fault) = IfSome left (λ octets. IsRefused octets fault)
 IsFaultIn left (Line line) = ⊥
 IsFaultIn left _ = Unit {0}
 
--- a fault of reading alone
-abbrev pub IsOfReading : ReplayFault → Type 0
-IsOfReading Memory = Unit {0}
-IsOfReading Device = Unit {0}
-IsOfReading _ = ⊥
+-- a fault of reading or writing alone
+abbrev pub IsOfStream : ReplayFault → Type 0
+IsOfStream Memory = Unit {0}
+IsOfStream Device = Unit {0}
+IsOfStream _ = ⊥

@@ -6,12 +6,12 @@ use Rattle.suffix_routes.specs.declared.fault.ConfigFault.TheVariants.{Memory as
 use Rattle.replay_script.specs.declared.fault.ReplayFault.{ReplayFault}
 use Rattle.replay_script.specs.declared.fault.ReplayFault.TheVariants.{Config, Device, Memory}
 
--- a refused configuration stops a replay, but for want of memory, which is told as such
+-- a refused configuration stops a replay; where memory ran out, that is the fault
 abbrev pub replay_fault : ConfigFault → ReplayFault
 replay_fault OutOfMemory = Memory
 replay_fault fault = Config fault
 
--- what an error of reading or writing comes to, by its kind: want of memory is told as such, all else as a device
+-- the fault of an error of reading or writing, by its kind: out of memory, or a device
 abbrev pub device_fault : ErrorKind → ReplayFault
 device_fault OutOfMemoryKind = Memory
 device_fault kind = Device

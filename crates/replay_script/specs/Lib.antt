@@ -4,3 +4,5 @@ pub mod Faults
 pub mod Configs
 pub mod Lines
 pub mod Parts
+pub mod Printing
+pub mod Runs

@@ -20,15 +20,16 @@ use Rattle.replay_script.specs.declared.events.Refusal.TheVariants.{Form, Memory
 use Rattle.replay_script.specs.declared.fault.ReplayFault.{ReplayFault}
 use Rattle.replay_script.specs.declared.fault.ReplayFault.TheVariants.{Line, Memory as OutOfMemory}
 
+-- the line was refused since memory ran out
 abbrev pub wants_memory : Refusal → Bool
 wants_memory Memory = true
 wants_memory Form = false
 
--- What a call answered, seen by view, is the answer, unless memory ran out.
+-- The result of a call, seen by view, is the answer, unless memory ran out.
 abbrev pub Gives : {X Y : Type 0} → (X → Y) → Result X Refusal → Result Y Refusal → Type 0
 Gives view given answer = reading.Gives wants_memory view given answer
 
--- What a call answered, seen by view, is the answer; such a call takes no memory.
+-- The result of a call, seen by view, is the answer; such a call does not allocate.
 abbrev pub Shows : {X Y : Type 0} → (X → Y) → Result X Refusal → Result Y Refusal → Type 0
 Shows view (Ok x) answer = answer ≡ Ok (view x)
 Shows view (Err refusal) answer = answer ≡ Err refusal
@@ -45,19 +46,20 @@ read_of (Err refusal) = None
 
 -- ---- fields
 
+-- the octet is a space
 abbrev pub is_space : ℕ → Bool
 is_space octet = octet == 32
 
--- the first field, and what stands behind the space after it
+-- the first field, and what is after the space after it
 unfoldable pub cut : List ℕ → Result (List ℕ × List ℕ) Refusal
 cut text = if nat_lt (position_or_len is_space text) (length text)
     then Ok (before_first is_space text, after_first is_space text) else Err Form
 
--- 1 to so many digits, and nothing else
+-- 1 to `most` digits, and nothing else
 abbrev pub is_numeral : ℕ → List ℕ → Bool
 is_numeral most text = nat_lt 0 (length text) && (nat_le (length text) most && list_all is_ascii_digit text)
 
--- a decimal number of 1 to so many digits that fits 64 bits
+-- a decimal number of 1 to `most` digits that fits 64 bits
 unfoldable pub number_in : ℕ → List ℕ → Result ℕ Refusal
 number_in most text = if is_numeral most text then (if nat_lt (decimal_value text) (2 ^ 64) then Ok (decimal_value text)
     else Err Form) else Err Form
@@ -66,12 +68,15 @@ number_in most text = if is_numeral most text then (if nat_lt (decimal_value tex
 abbrev pub port_from : ℕ → Result ℕ Refusal
 port_from n = if nat_lt n (2 ^ 16) then Ok n else Err Form
 
+-- a port of at most 5 digits
 unfoldable pub port_in : List ℕ → Result ℕ Refusal
 port_in text = number_in 5 text >>= port_from
 
+-- an address and a port
 unfoldable pub peer_in : List ℕ → Result Peer Refusal
 peer_in text = formed (peer_of text)
 
+-- octets in hexadecimal digits, or the refusal Form
 abbrev pub decoded : Result (List ℕ) FromHexError → Result (List ℕ) Refusal
 decoded (Ok octets) = Ok octets
 decoded (Err fault) = Err Form
@@ -132,6 +137,7 @@ event_of_kind kind rest =
     else (if bytes_eq kind (codes "reply") then reply_event_in rest
     else (if bytes_eq kind (codes "failed") then failed_event_in rest else Err Form))
 
+-- the event of a line after its moment
 unfoldable pub event_in : List ℕ → Result Event Refusal
 event_in text = cut text >>= λ first. event_of_kind first.0 first.1
 

@@ -3,6 +3,7 @@ use Rattle.std.specs.Prelude.{◌≡◌, ℕ, ◌==◌, ◌⊎◌, ◌&&◌, not
 use Rattle.std.specs.List.{flat_map, list_all, list_any}
 use Rattle.std.specs.Str.{bytes_eq}
 
+-- the octet ends a line
 abbrev pub is_feed : ℕ → Bool
 is_feed octet = octet == 10
 
@@ -10,7 +11,8 @@ is_feed octet = octet == 10
 abbrev pub separator : List ℕ
 separator = codes "---"
 
--- whether these octets can be a line of the configuration: they have no line feed, and are not the separating line
+-- whether these octets can be a line of the configuration: they have no line feed, and are not the
+-- separating line
 abbrev pub is_of_config : List ℕ → Bool
 is_of_config line = not (list_any is_feed line) && not (bytes_eq line separator)
 
@@ -18,13 +20,13 @@ is_of_config line = not (list_any is_feed line) && not (bytes_eq line separator)
 abbrev pub ended : List ℕ → List ℕ
 ended line = line ++ 10 ∷ []
 
--- So many lines of the configuration stand before the rest.
+-- These lines of the configuration are before the rest.
 pub record FollowsLines (script rest : List ℕ) (lines : List (List ℕ)) : Type 0 where
   pub of_config : list_all is_of_config lines ≡ true
   pub script_is : script ≡ flat_map ended lines ++ rest
 
--- Behind the configuration, which is lines, stands the first separating line: at the end of the script, or before the
--- event lines.
+-- The first separating line follows the configuration, which is lines: at the end of the script, or
+-- before the event lines.
 pub record AreParts (script config events : List ℕ) : Type 0 where
   pub lines : List (List ℕ)
   pub config_is : config ≡ flat_map ended lines

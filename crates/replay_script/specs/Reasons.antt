@@ -1,10 +1,11 @@
--- The numbers of the reasons that printed lines tell.
+-- The numbers of the reasons in printed lines.
 use Rattle.std.specs.Prelude.{ℕ}
 use Rattle.step_values.specs.declared.action.Why.{Why}
 use Rattle.step_values.specs.declared.action.Why.TheVariants.{Answered, BadFormat, BadOpcode, NotServed, NoRoute}
 use Rattle.step_values.specs.declared.action.Why.TheVariants.{QuestionsFull, InquiriesFull, NoPort, Exhausted, Deadline}
 use Rattle.step_values.specs.declared.action.Why.TheVariants.{ChainLong, TooLarge, Stale, LocalDenied}
 
+-- the number of a reason, as printed lines have it
 abbrev pub number_of : Why → ℕ
 number_of Answered = 0
 number_of BadFormat = 1

@@ -1,20 +1,57 @@
 //! Actions, printed a line each.
 
-ghost use Rattle.std.specs.Prelude.{◌≡◌};
+ghost use Rattle.std.specs.Prelude.{◌≡◌, IfOk, string_bytes};
+ghost use Rattle.step_values.specs.Values.{action_of, actions_of};
+ghost use Rattle.replay_script.specs.Printing.{printed, printed_all, printed_reply, Writes};
 ghost use Rattle.replay_script.specs.Reasons.{number_of};
 
 use crate::fault::ReplayFault;
-use forwarder_core::{Action, Client, Why};
-use std::alloc::Allocator;
+use crate::output::write_text;
+use forwarder_core::{Action, Actions, Client, Why};
+use std::alloc::{AllocError, Allocator};
 use std::io::Write;
 
-/// Prints an action of the event line of this number. `Device` where writing fails, `Memory` where memory ran out.
-pub fn print<A: Allocator, W: Write>(
+/// Prints the actions of the event line of this number, in order. `Device` where writing fails,
+/// `Memory` where memory ran out; a beginning of their lines is then written.
+pub(crate) fn print_all<A: Allocator + Copy, W: Write>(
+    alloc: A,
+    writer: &mut W,
+    line: u32,
+    actions: &Actions<A>,
+) -> Result<(), ReplayFault>
+    ensures { Writes (W.contents writer.old) (printed_all line (actions_of actions.now)) result (W.contents writer.new) }
+{
+    for place in 0..actions.len() {
+        let Some(action) = actions.get(place) else {
+            unreachable!();
+        };
+        print(alloc, writer, line, action)?;
+    }
+    Ok(())
+}
+
+/// Prints an action of the event line of this number. `Device` where writing fails, `Memory` where
+/// memory ran out; a beginning of its line is then written.
+pub fn print<A: Allocator + Copy, W: Write>(
     alloc: A,
     writer: &mut W,
     line: u32,
     action: &Action<A>,
-) -> Result<(), ReplayFault> {
+) -> Result<(), ReplayFault>
+    ensures { Writes (W.contents writer.old) (printed line (action_of action.now)) result (W.contents writer.new) }
+{
+    let text = text_of(alloc, line, action)?;
+    write_text(writer, text.as_bytes())
+}
+
+/// The line of an action. `Err` where memory ran out.
+fn text_of<A: Allocator + Copy>(
+    alloc: A,
+    line: u32,
+    action: &Action<A>,
+) -> Result<String<A>, AllocError>
+    ensures { IfOk result (λ text. string_bytes text ≡ printed line (action_of action.now)) }
+{
     match action {
         Action::AskUdp {
             port,
@@ -22,7 +59,7 @@ pub fn print<A: Allocator, W: Write>(
             bytes,
         } => {
             let octets = hex::encode(alloc, bytes.as_slice())?;
-            writeln!(writer, "{line} ask-udp {port} {server} {octets}")?;
+            format!(in alloc; "{line} ask-udp {port} {server} {octets}\n")
         }
         Action::AskTcp {
             conn,
@@ -30,26 +67,35 @@ pub fn print<A: Allocator, W: Write>(
             bytes,
         } => {
             let octets = hex::encode(alloc, bytes.as_slice())?;
-            writeln!(writer, "{line} ask-tcp {conn} {server} {octets}")?;
+            format!(in alloc; "{line} ask-tcp {conn} {server} {octets}\n")
         }
-        Action::CloseUdp { port } => writeln!(writer, "{line} close-udp {port}")?,
-        Action::CloseTcp { conn } => writeln!(writer, "{line} close-tcp {conn}")?,
+        Action::CloseUdp { port } => format!(in alloc; "{line} close-udp {port}\n"),
+        Action::CloseTcp { conn } => format!(in alloc; "{line} close-tcp {conn}\n"),
         Action::Reply { client, bytes, why } => {
-            let why = number_of(*why);
-            let octets = hex::encode(alloc, bytes.as_slice())?;
-            match client {
-                Client::Udp(peer) => writeln!(writer, "{line} reply udp {peer} {why} {octets}")?,
-                Client::Tcp(number) => writeln!(
-                    writer,
-                    "{line} reply tcp {number} {why} {octets}"
-                )?,
-            }
+            text_of_reply(alloc, line, *client, bytes.as_slice(), *why)
         }
     }
-    Ok(())
 }
 
-/// The number by which a printed line tells why a question got its reply.
+/// The line of a reply. `Err` where memory ran out.
+fn text_of_reply<A: Allocator + Copy>(
+    alloc: A,
+    line: u32,
+    client: Client,
+    reply: &[u8],
+    why: Why,
+) -> Result<String<A>, AllocError>
+    ensures { IfOk result (λ text. string_bytes text ≡ printed_reply line client reply.now why) }
+{
+    let why = number_of(why);
+    let octets = hex::encode(alloc, reply)?;
+    match client {
+        Client::Udp(peer) => format!(in alloc; "{line} reply udp {peer} {why} {octets}\n"),
+        Client::Tcp(number) => format!(in alloc; "{line} reply tcp {number} {why} {octets}\n"),
+    }
+}
+
+/// The number of the reason for a reply, as printed lines have it.
 pub(crate) fn number_of(why: Why) -> u8
     ensures { result ≡ number_of why }
 {

@@ -44,7 +44,7 @@ pub(crate) struct TimedEvent<A: Allocator> {
     pub event: Event<A>,
 }
 
-/// The words that are handed over with the event line of this number.
+/// The words that are passed with the event line of this number.
 pub(crate) fn words(line: u32) -> [u32; 8]
     requires { line ≤ MOST_LINES }
     ensures { result ≡ words_of line }
@@ -62,7 +62,8 @@ pub(crate) fn words(line: u32) -> [u32; 8]
     ]
 }
 
-/// What the event line of this number hands over. `Line` where it has none of the forms, `Memory` where memory ran out.
+/// The moment, words and event of the event line of this number. `Line` where it has none of the
+/// forms, `Memory` where memory ran out.
 pub fn handed_by<A: Allocator>(alloc: A, number: u32, line: &[u8]) -> Result<Handed<A>, ReplayFault>
     requires { number ≤ MOST_LINES }
     ensures words { IfOk result (λ handed. handed.words ≡ words_of number) }
@@ -80,8 +81,8 @@ pub fn handed_by<A: Allocator>(alloc: A, number: u32, line: &[u8]) -> Result<Han
     }
 }
 
-/// The event of a line: `MOMENT client udp PEER OCTETS`, `MOMENT client tcp NUMBER OCTETS`,
-/// `MOMENT reply udp PORT PEER OCTETS`, `MOMENT reply tcp NUMBER PEER OCTETS`, `MOMENT failed udp PORT`,
+/// The event of a line: `MOMENT client udp PEER OCTETS`, `MOMENT client tcp NUMBER OCTETS`, `MOMENT
+/// reply udp PORT PEER OCTETS`, `MOMENT reply tcp NUMBER PEER OCTETS`, `MOMENT failed udp PORT`,
 /// `MOMENT failed tcp NUMBER`, `MOMENT tick` or `MOMENT restart`.
 #[tactic(auto, unfolding(crate::specs::Lines::line_in))]
 pub(crate) fn timed_event<A: Allocator>(alloc: A, line: &[u8]) -> Result<TimedEvent<A>, Refusal>
@@ -103,7 +104,7 @@ fn moment_and_event<A: Allocator>(alloc: A, text: &str) -> Result<TimedEvent<A>,
     Ok(TimedEvent { moment, event })
 }
 
-/// What happens, a kind alone or a kind with more.
+/// The event of a line: a kind alone, or a kind with fields.
 #[tactic(auto, unfolding(crate::specs::Lines::happening_in))]
 fn happening<A: Allocator>(alloc: A, text: &str) -> Result<Event<A>, Refusal>
     ensures { Gives event_of result (happening_in text.now) }
@@ -129,7 +130,7 @@ fn event_of_kind<A: Allocator>(alloc: A, text: &str) -> Result<Event<A>, Refusal
     }
 }
 
-/// The first field, and what stands behind the space after it.
+/// The first field, and what is after the space after it.
 #[tactic(auto, unfolding(crate::specs::Lines::cut))]
 fn cut(text: &str) -> Result<(&str, &str), Refusal>
     ensures { Shows (λ parts. (parts.0.now, parts.1.now)) result (cut text.now) }
@@ -194,7 +195,8 @@ fn path(transport: &str, at: &str) -> Result<Path, Refusal>
     }
 }
 
-/// The number that 1 to 20 decimal digits write, and nothing else; `None` also where 64 bits don't have it.
+/// The number that 1 to 20 decimal digits write, and nothing else; `None` also where 64 bits don't
+/// have it.
 pub fn decimal(text: &str) -> Option<u64>
     ensures { result ≡ read_of (number_in 20 text.now) }
 {

@@ -1,4 +1,4 @@
-//! What ends a replay.
+//! The faults that end a replay.
 
 ghost use Rattle.std.specs.Prelude.{◌≡◌};
 ghost use Rattle.std.specs.IoError.{error_kind};
@@ -10,13 +10,14 @@ use std::io;
 use suffix_routes::ConfigFault;
 use thiserror::Error;
 
-/// Why a replay stops. Its text is what the program tells.
+/// The reason why a replay stops. Its text is what the program prints.
 #[derive(Clone, Copy, PartialEq, Eq, Debug, Error)]
 pub enum ReplayFault {
-    /// The configuration is refused; never for want of memory, which is `Memory`.
+    /// The configuration is refused; not since memory ran out, which is `Memory`.
     #[error("fault {}", .0.number())]
     Config(ConfigFault),
-    /// The event line of this number, from 1, is refused; 0 where no line `---` ends the configuration.
+    /// The event line of this number, from 1, is refused; 0 where no line `---` ends the
+    /// configuration.
     #[error("line {0}")]
     Line(u32),
     /// Memory ran out.

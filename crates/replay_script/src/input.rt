@@ -3,7 +3,7 @@
 ghost use Rattle.std.specs.Prelude.{◌≡◌, ◌≤◌, ◌++◌, false, Ok, IfOk, IfErr, IfSome, IfNone, vec_len};
 ghost use Rattle.std.specs.List.{list_any, position};
 ghost use Rattle.suffix_routes.specs.Reading.{IsReadIn};
-ghost use Rattle.replay_script.specs.Configs.{IsOfReading, IsFaultOf, IsFaultIn};
+ghost use Rattle.replay_script.specs.Configs.{IsOfStream, IsFaultOf, IsFaultIn};
 ghost use Rattle.replay_script.specs.Parts.{AreParts, HasOnePart, ended, is_feed};
 
 use crate::fault::ReplayFault;
@@ -17,15 +17,15 @@ pub(crate) const LARGEST: usize = 16_777_216;
 /// The line between a script's configuration and its event lines.
 const SEPARATOR: &[u8] = b"---";
 
-/// All octets that the reader has left. `Device` where reading fails or there are more than 16,777,216; it reads at
-/// most one more than these. `Memory` where memory ran out.
+/// All octets that the reader has left. `Device` where reading fails or there are more than
+/// 16,777,216; it reads at most one more than these. `Memory` where memory ran out.
 pub fn read_limited<A: Allocator, R: Read>(
     alloc: A,
     reader: &mut R,
 ) -> Result<Vec<u8, A>, ReplayFault>
     ensures fits { IfOk result (λ octets. vec_len octets ≤ LARGEST) }
     ensures whole { IfOk result (λ octets. IfSome (R.remaining reader.old) (λ all. octets.items ≡ all)) }
-    ensures faults { IfErr result IsOfReading }
+    ensures faults { IfErr result IsOfStream }
 {
     let mut octets = Vec::new(alloc);
     let mut limited = reader.take(LARGEST as u64 + 1);
@@ -36,7 +36,8 @@ pub fn read_limited<A: Allocator, R: Read>(
     Ok(octets)
 }
 
-/// A script's configuration, and the event lines behind its first line `---`; `None` where it has no such line.
+/// A script's configuration, and the event lines after its first line `---`; `None` where it has no
+/// such line.
 pub fn parts(script: &[u8]) -> Option<(&[u8], &[u8])>
     ensures some { IfSome result (λ parts. AreParts script.now parts.0.now parts.1.now) }
     ensures none { IfNone result (HasOnePart script.now) }
@@ -54,8 +55,8 @@ pub fn parts(script: &[u8]) -> Option<(&[u8], &[u8])>
     None
 }
 
-/// The first line, and what stands behind its line feed; `None` where there is no line feed.
-fn first_line(text: &[u8]) -> Option<(&[u8], &[u8])>
+/// The first line, and what is after its line feed; `None` where there is no line feed.
+pub(crate) fn first_line(text: &[u8]) -> Option<(&[u8], &[u8])>
     ensures some { IfSome result (λ cut. (list_any is_feed cut.0.now ≡ false)
         × (text.now ≡ ended cut.0.now ++ cut.1.now)) }
     ensures none { IfNone result (list_any is_feed text.now ≡ false) }
@@ -71,8 +72,9 @@ fn first_feed(text: &[u8]) -> Option<usize>
     text.iter().position(|octet| *octet == b'\n')
 }
 
-/// The configuration in these octets; octets that are no UTF-8 are no TOML. `heap` is for the reading of TOML, `alloc`
-/// for all else. `Config` where the configuration is refused, `Memory` where memory ran out.
+/// The configuration in these octets; octets that are no UTF-8 are no TOML. `heap` is for the
+/// reading of TOML, `alloc` for all else. `Config` where the configuration is refused, `Memory`
+/// where memory ran out.
 pub fn config_in<A: Allocator + Copy>(
     heap: Global,
     alloc: A,
@@ -92,9 +94,9 @@ pub fn config_in<A: Allocator + Copy>(
     Ok(config)
 }
 
-/// The configuration that the reader gives; it is read to its end. `heap` is for the reading of TOML, `alloc` for all
-/// else. `Device` where reading fails or passes 16,777,216 octets, `Config` where the configuration is refused,
-/// `Memory` where memory ran out.
+/// The configuration that the reader gives; it is read to its end. `heap` is for the reading of
+/// TOML, `alloc` for all else. `Device` where reading fails or passes 16,777,216 octets, `Config`
+/// where the configuration is refused, `Memory` where memory ran out.
 pub fn read_config<A: Allocator + Copy, R: Read>(
     heap: Global,
     alloc: A,

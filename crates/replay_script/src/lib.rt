@@ -1,11 +1,12 @@
-//! Scripts of the forwarder: a configuration, a line `---`, and event lines, which run on a new forwarder and print a
-//! line for each action.
+//! Scripts of the forwarder: a configuration, a line `---`, and event lines, which run on a new
+//! forwarder and print a line for each action.
 #![tactic(auto)]
 
 mod actions;
 mod events;
 mod fault;
 mod input;
+mod output;
 mod replay;
 
 pub use actions::print;

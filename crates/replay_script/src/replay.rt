@@ -1,11 +1,12 @@
 //! A script, run.
 
-ghost use Rattle.std.specs.Prelude.{◌≤◌};
+ghost use Rattle.std.specs.Prelude.{◌≡◌, ◌<◌, ◌≤◌, ◌∷◌, [], length};
+ghost use Rattle.replay_script.specs.Runs.{lines_of, RunsLines, ReplaysText, Replays};
 
-use crate::actions::print;
+use crate::actions::print_all;
 use crate::events::{MOST_LINES, handed_by};
 use crate::fault::ReplayFault;
-use crate::input::{config_in, parts, read_limited};
+use crate::input::{config_in, first_line, parts, read_limited};
 use forwarder_core::Forwarder;
 use std::alloc::{Allocator, Global};
 use std::hash::{BuildHasherDefault, FoldHasher};
@@ -13,23 +14,40 @@ use std::io::{Read, Write};
 
 /// Reads a script whole, runs its events on a new forwarder and prints each action, a line each.
 ///
-/// A script is a configuration in TOML, a line `---`, and event lines. `heap` is for the reading of TOML, `alloc` for
-/// all else. Faults come in this order: `Device` where reading fails or passes 16,777,216 octets, `Line(0)` where
-/// there is no line `---`, `Config`, then what the run meets: `Line` for an event line of none of the forms and for
-/// each one past 8,191 (lines before it have run and are printed), `Device` where writing fails. `Memory` where memory
-/// ran out at any place.
+/// A script is a configuration in TOML, a line `---`, and event lines. `heap` is for the reading of
+/// TOML, `alloc` for all else. Faults come in this order: `Device` where reading fails or passes
+/// 16,777,216 octets, `Line(0)` where there is no line `---`, `Config`, then what the run meets:
+/// `Line` for an event line of none of the forms and for each one past 8,191 (lines before it have
+/// run and are printed), `Device` where writing fails. `Memory` where memory ran out at any place.
 ///
-/// Each step is one of `Forwarder::step` on a new forwarder, so by that call's clause `truly` the run serves truly, as
-/// far as it comes. No clause here says so: nothing that is given back or written has steps in it (printed lines are
-/// held by tests), and that some run serves truly would hold of a body that makes none.
+/// The lines run one after another, each as a step of `Forwarder::step`, up to the first that is
+/// refused. What is written are the lines of the actions of these steps, in order, and these steps
+/// serve truly. Where memory ran out or writing failed, a beginning of these lines is written.
+/// Where a fault comes before the run, nothing is.
 pub fn replay_run<A: Allocator + Copy, R: Read, W: Write>(
     heap: Global,
     alloc: A,
     reader: &mut R,
     writer: &mut W,
-) -> Result<(), ReplayFault> {
+) -> Result<(), ReplayFault>
+    ensures { Replays (R.remaining reader.old) (W.contents writer.old) result (W.contents writer.new) }
+{
     let script = read_limited(alloc, reader)?;
-    let (config, events) = parts(&script).ok_or(ReplayFault::Line(0))?;
+    replay_text(heap, alloc, &script, writer)
+}
+
+/// The same of a script that is read.
+fn replay_text<A: Allocator + Copy, W: Write>(
+    heap: Global,
+    alloc: A,
+    script: &[u8],
+    writer: &mut W,
+) -> Result<(), ReplayFault>
+    ensures { ReplaysText script.now (W.contents writer.old) result (W.contents writer.new) }
+{
+    let Some((config, events)) = parts(script) else {
+        return Err(ReplayFault::Line(0));
+    };
     let config = config_in(heap, alloc, config)?;
     let hasher = BuildHasherDefault::<FoldHasher>::default();
     let mut forwarder = Forwarder::new(alloc, config, hasher)?;
@@ -42,21 +60,37 @@ fn run_lines<A: Allocator + Copy, W: Write>(
     forwarder: &mut Forwarder<BuildHasherDefault<FoldHasher>, A>,
     events: &[u8],
     writer: &mut W,
-) -> Result<(), ReplayFault> {
-    if events.is_empty() {
-        return Ok(());
-    }
-    let lines = events.strip_suffix(b"\n".as_slice()).unwrap_or(events);
-    for (before, line) in lines.split(|octet| *octet == b'\n').enumerate() {
-        let number = match u32::try_from(before) {
-            Ok(before) if before < MOST_LINES => before + 1,
-            _ => return Err(ReplayFault::Line(MOST_LINES + 1)),
-        };
+) -> Result<(), ReplayFault>
+    ensures { RunsLines 1 (lines_of events.now) forwarder.old (W.contents writer.old) result forwarder.new
+        (W.contents writer.new) }
+{
+    let mut rest = events;
+    let mut number = 0;
+    while !rest.is_empty() {
+        if number == MOST_LINES {
+            return Err(ReplayFault::Line(MOST_LINES + 1));
+        }
+        number += 1;
+        let (line, after) = next_line(rest);
         run_line(alloc, forwarder, number, line, writer)?;
+        rest = after;
     }
     Ok(())
 }
 
+/// The first line of these octets, which may end without a line feed, and what is after it.
+fn next_line(text: &[u8]) -> (&[u8], &[u8])
+    requires { 0 < length text.now }
+    ensures first { lines_of text.now ≡ result.0.now ∷ lines_of result.1.now }
+    ensures shorter { length result.1.now < length text.now }
+{
+    match first_line(text) {
+        Some(parts) => parts,
+        None => (text, &[]),
+    }
+}
+
+/// Runs the event line of this number: it is one step, whose actions are printed.
 fn run_line<A: Allocator + Copy, W: Write>(
     alloc: A,
     forwarder: &mut Forwarder<BuildHasherDefault<FoldHasher>, A>,
@@ -65,13 +99,10 @@ fn run_line<A: Allocator + Copy, W: Write>(
     writer: &mut W,
 ) -> Result<(), ReplayFault>
     requires { number ≤ MOST_LINES }
+    ensures { RunsLines number (line.now ∷ []) forwarder.old (W.contents writer.old) result forwarder.new
+        (W.contents writer.new) }
 {
     let handed = handed_by(alloc, number, line)?;
     let outcome = forwarder.step(handed.now, handed.words, &handed.event)?;
-    for place in 0..outcome.actions.len() {
-        if let Some(action) = outcome.actions.get(place) {
-            print(alloc, writer, number, action)?;
-        }
-    }
-    Ok(())
+    print_all(alloc, writer, number, &outcome.actions)
 }

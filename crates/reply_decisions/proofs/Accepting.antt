@@ -1,5 +1,5 @@
--- What an accepted reply gives those that wait for it, and what it carries.
-use Rattle.std.proofs.Common.{◌≡◌, ℕ, ◌+◌, ◌^◌, ◌<◌, ◌≤◌, List, [], ◌∷◌, ◌++◌, length, Bool, true, false, cond, refl, sym, ap, ◌∙◌, subst, Option, Some, None, arith}
+-- The replies that an accepted reply gives those that wait for it, and its pieces.
+use Rattle.std.proofs.Common.{◌≡◌, ◌⊎◌, inl, inr, ℕ, ◌+◌, ◌^◌, ◌<◌, ◌≤◌, List, [], ◌∷◌, ◌++◌, length, Bool, true, false, cond, refl, sym, ap, ◌∙◌, subst, Option, Some, None, arith}
 use Rattle.std.specs.Prelude.{Ok, map, nat_le, slice_index}
 use Rattle.std.specs.List.{AllByRecursion}
 use Rattle.std.proofs.lemmas.Bool.{cond-true, cond-false, cond_both, le-leb, lt-leb, leb-true, leb-false}
@@ -11,12 +11,11 @@ use Rattle.dns_message.specs.Messages.{message_of, Spells}
 use Rattle.dns_message.specs.Numbers.{number16}
 use Rattle.dns_message.proofs.CallerLemmas.{message_read_is_spelled, number_at_place_is_small}
 use Rattle.suffix_routes.specs.Values.{Config}
-use Rattle.suffix_routes.specs.Routes.{serving, route_of as route_among}
+use Rattle.suffix_routes.specs.Routes.{serving, route_of}
 use Rattle.suffix_routes.proofs.CallerLemmas.{serving_lowered, serving_is}
 use Rattle.trust_rank.specs.declared.slot.Slot.{Slot}
-use Rattle.dns_name.specs.declared.name.Name.{Name}
 use Rattle.trust_rank.specs.declared.walk.End.{End as OwnedEnd}
-use Rattle.trust_rank.specs.declared.walk.End.TheVariants.{Found, NoData, Denied, Elsewhere, Lame as LameEnd}
+use Rattle.trust_rank.specs.declared.walk.End.TheVariants.{Found, NoData, Denied}
 use Rattle.trust_rank.specs.Values.{Piece, End, found, ends_no_data, ends_denied, elsewhere, lame, Walk, Reply, reply_of, end_of}
 use Rattle.trust_rank.specs.Walks.{most_aliases, walk_from, walk_of, begins_set, servers_with, servers_at, servers_from, carries_servers, is_lame, has_last}
 use Rattle.trust_rank.specs.Laws.{IsCarriedFor, Lead, last_kind, Closes, EndsSo, IsServerSet}
@@ -27,7 +26,7 @@ use Rattle.outstanding.specs.declared.ask.Path.{Path}
 use Rattle.outstanding.specs.Lists.{on_path as ask_on}
 use Rattle.outstanding.specs.Values.{Ask}
 use Rattle.step_values.specs.Values.{Action}
-use Rattle.suffix_routes.specs.Serving.{route_of}
+use Rattle.suffix_routes.specs.Serving.{serving_route_of}
 use Rattle.step_actions.specs.Spelling.{Source}
 use Rattle.step_table.specs.State.{State, turn}
 use Rattle.waiting_questions.specs.Values.{Waiting, waits_for}
@@ -42,11 +41,11 @@ use Rattle.retry_failover.specs.declared.Failure.TheVariants.{Lame}
 use Rattle.step_table.proofs.CallerLemmas.{All-append, header_there, looked_at_end, closed_at_end}
 use Rattle.step_actions.specs.declared.decision.Change.TheVariants.{Close}
 use Rattle.step_actions.specs.Decision.{changed, gives_from, told_from, with_replies, IsRouted}
-use Rattle.reply_decisions.specs.Walked.{leads_on, IsWalkFor}
+use Rattle.reply_decisions.specs.Walked.{IsWalkFor}
 use Rattle.reply_decisions.proofs.Deciding.{closed_is, given_frees}
 use Rattle.alias_chains.proofs.CallerLemmas.{same_pieces}
 
--- ---- a section has no more records than its count of 16 bits tells
+-- ---- a section has no more records than its count of 16 bits says
 
 pub authority_counted : (bytes : List ℕ) (m : Message) → AreOctets bytes → message_of bytes ≡ Ok m → length m.authority < 65536
 authority_counted bytes m octets read =
@@ -92,7 +91,7 @@ Serves r = serving r.config.routes (Some r.route) ≡ Some r.route
 
 piece_routed : (r : Reply) → Serves r → (name : List (List ℕ)) (kind : Option ℕ) (p : Piece) → IsCarriedFor r name kind p → IsRouted r.config p
 piece_routed r serves name kind p carried =
-    ap (λ (s : Slot). route_of r.config s.key) carried.slot ∙ serving_lowered r.config.routes name ∙ ap (serving r.config.routes) carried.on_route ∙ serves ∙ ap Some (sym carried.route)
+    ap (λ (s : Slot). serving_route_of r.config s.key) carried.slot ∙ serving_lowered r.config.routes name ∙ ap (serving r.config.routes) carried.on_route ∙ serves ∙ ap Some (sym carried.route)
 
 lead_routed : (r : Reply) → Serves r → (name last : List (List ℕ)) (ps : List Piece) → Lead r name ps last → AllByRecursion (IsRouted r.config) ps
 lead_routed r serves name last [] lead = tt
@@ -117,7 +116,7 @@ ends_at_last : (n : ℕ) (held : List Held) (q : Question) (aliases : List Piece
 ends_at_last n held q [] last = refl
 ends_at_last n held q (p ∷ ps) last = λ i. record { held = held ++ map (held_at n) (before_last_is p ps last i); wanted = q; met = ends (held_at n (last_of_is p ps last i)); used = [] }
 
--- aliases, and a last piece behind them
+-- aliases, and a last piece after them
 abbrev ClosesAt : Reply → List Piece → End → Type 0
 ClosesAt r pieces end = Closes r most_aliases r.question.name end pieces
 
@@ -158,12 +157,12 @@ walk_routed r serves pieces authority lame h = subst (AllByRecursion (IsRouted r
 
 -- ---- the walk of a reply that is accepted
 
-module _ (c : Config) (n : ℕ) (a : Ask) (w : Walk) (walk : IsWalkFor c a w) (on : route_of c a.question.name ≡ Some a.route) where
+module _ (c : Config) (n : ℕ) (a : Ask) (w : Walk) (walk : IsWalkFor c a w) (on : serving_route_of c a.question.name ≡ Some a.route) where
   abbrev r : Reply
   r = reply_of c walk.message a.question a.route
 
-  own : (route_among c.routes a.question.name ≡ Some a.route) × (serving c.routes (Some a.route) ≡ Some a.route)
-  own = serving_is c.routes (route_among c.routes a.question.name) a.route on
+  own : (route_of c.routes a.question.name ≡ Some a.route) × (serving c.routes (Some a.route) ≡ Some a.route)
+  own = serving_is c.routes (route_of c.routes a.question.name) a.route on
 
   ends_so : EndsSo r w.pieces w.authority w.end
   ends_so = subst (λ (v : Walk). EndsSo r v.pieces v.authority v.end) (sym walk.is) (walk_leads c walk.message a.question a.route walk.read.shapes own.0)
@@ -251,22 +250,17 @@ module _ (c : Config) (n : ℕ) (a : Ask) (w : Walk) (walk : IsWalkFor c a w) (o
             ∙ ap (λ (fates : List Fate). settling_step n (Some a) fates None (with_preferred_server a s)) (sym (fates_are s.cache.entries s.waiting))
             ∙ sym (closed_at_end c n words a w (fate_by c n s.cache.entries a w) (with_preferred_server a s) w.end last)
 
--- ---- how a walk that isn't lame ends
+-- ---- a walk that ends with a set or a denial
 
-pub last_or_on : (e : End) → is_lame e ≡ false → leads_on e ≡ false → has_last e ≡ true
-last_or_on found fine stays = refl
-last_or_on ends_no_data fine stays = refl
-last_or_on ends_denied fine stays = refl
-last_or_on (elsewhere name) fine stays = absurd (cc)
-last_or_on lame fine stays = absurd (cc)
+pub ends_there : {A : Type 0} (e : OwnedEnd A) → (e ≡ Found) ⊎ ((e ≡ NoData) ⊎ (e ≡ Denied)) → has_last (end_of e) ≡ true
+ends_there {A} e (inl is) = ap (λ (o : OwnedEnd A). has_last (end_of o)) is
+ends_there {A} e (inr (inl is)) = ap (λ (o : OwnedEnd A). has_last (end_of o)) is
+ends_there {A} e (inr (inr is)) = ap (λ (o : OwnedEnd A). has_last (end_of o)) is
 
--- a walk that leads on ends at a name
-pub leads_there : {A : Type 0} (e : OwnedEnd A) → leads_on (end_of e) ≡ true → ((name : Name A) → e ≡ Elsewhere name → ⊥) → ⊥
-leads_there {A} Found leads none = absurd (cc)
-leads_there {A} NoData leads none = absurd (cc)
-leads_there {A} Denied leads none = absurd (cc)
-leads_there {A} (Elsewhere name) leads none = none name refl
-leads_there {A} LameEnd leads none = absurd (cc)
+pub ends_fine : {A : Type 0} (e : OwnedEnd A) → (e ≡ Found) ⊎ ((e ≡ NoData) ⊎ (e ≡ Denied)) → is_lame (end_of e) ≡ false
+ends_fine {A} e (inl is) = ap (λ (o : OwnedEnd A). is_lame (end_of o)) is
+ends_fine {A} e (inr (inl is)) = ap (λ (o : OwnedEnd A). is_lame (end_of o)) is
+ends_fine {A} e (inr (inr is)) = ap (λ (o : OwnedEnd A). is_lame (end_of o)) is
 
 -- ---- a walk that is lame, and one that isn't
 

@@ -1,4 +1,4 @@
--- What becomes of those that wait for one question, among all that wait.
+-- The fates of those that wait for one question, among all that wait.
 use Rattle.std.proofs.Common.{◌≡◌, List, [], ◌∷◌, length, Bool, true, false, cond, Option, Some, None, refl, sym, ap, ◌∙◌, arith}
 use Rattle.std.specs.Prelude.{filter, map}
 use Rattle.std.specs.List.{filter_map, cons_option}
@@ -94,7 +94,7 @@ none_wanted (x ∷ xs) [] none = refl
 none_wanted (x ∷ xs) (replied action ∷ each) none = none_wanted xs each none
 none_wanted (x ∷ xs) (sent s ∷ each) none = absurd (cc)
 
--- the first that waits on, and those behind it
+-- the first that waits on, and those after it
 pub record FirstWaits (wanted : Question) (xs : List Waiting) : Type 0 where
   pub first : Waiting
   pub others : List Waiting

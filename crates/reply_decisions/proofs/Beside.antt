@@ -1,4 +1,4 @@
--- The asks beside one that is answered, and what is drawn once it is closed.
+-- The asks other than the answered one, and the draw once it is closed.
 use Rattle.std.proofs.Common.{◌≡◌, ◌≢◌, ℕ, zero, suc, ◌<◌, List, [], ◌∷◌, length, Bool, true, false, cond, Option, Some, None, refl, sym, ap, ◌∙◌, slice_get, get_or, arith}
 use Rattle.std.specs.Prelude.{not, is_some}
 use Rattle.std.proofs.lemmas.Bool.{cond-true, cond-false, true≢false}
@@ -52,7 +52,8 @@ abbrev pub is_other : Path → Option Ask → Bool
 is_other path None = false
 is_other path (Some a) = not (same_path a.path path)
 
--- an ask of the question is listed beside the one on this path exactly where the one that is listed is another
+-- an ask of the question is listed next to the one on this path exactly where the listed one is
+-- another
 pub asked_beside : (q : Question) (path : Path) (asks : List Ask) (o : Option Ask) → AreInTurn asks → of_question q asks ≡ o → is_some (of_question q (without_path path asks)) ≡ is_other path o
 asked_beside q path asks None turn found = ap is_some (none_stays q path asks found)
 asked_beside q path asks (Some a) turn found = by (same_path a.path path) refl

@@ -1,2 +1,2 @@
--- What the proofs of crates above cite.
+-- Lemmas for the proofs of crates above.
 pub use Rattle.reply_decisions.proofs.Ticks.{rest_is}

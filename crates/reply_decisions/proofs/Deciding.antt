@@ -1,4 +1,4 @@
--- What was decided is what the row has.
+-- The decision is the row's.
 use Rattle.std.proofs.Common.{◌≡◌, ℕ, ◌+◌, List, [], ◌∷◌, ◌++◌, Bool, true, false, cond, refl, sym, ap, ◌∙◌, subst, Option, Some, None, arith}
 use Rattle.std.specs.Prelude.{filter, map, not, drop, slice_set, nat_lt, IsSome, Box}
 use Rattle.std.specs.List.{cons_option, filter_map, AllByRecursion}

@@ -1,4 +1,4 @@
--- What a question is sent on with was accepted by now.
+-- The aliases with which a question is sent on were accepted by now.
 use Rattle.std.proofs.Common.{◌≡◌, ℕ, zero, suc, List, [], ◌∷◌, ◌++◌, length, Option, None, Some, sym, subst, inl, inr, arith}
 use Rattle.std.specs.Prelude.{map, nat_le, ◌-◌}
 use Rattle.std.specs.List.{AllByRecursion}
@@ -13,7 +13,7 @@ use Rattle.negative_cache.specs.Finding.{found}
 use Rattle.negative_cache.specs.Laws.{Fits}
 use Rattle.negative_cache.proofs.CallerLemmas.{found_fits}
 use Rattle.dns_message.specs.Questions.{asked_at}
-use Rattle.suffix_routes.specs.Serving.{route_of}
+use Rattle.suffix_routes.specs.Serving.{serving_route_of}
 use Rattle.waiting_questions.specs.Onward.{Onward, sent_on}
 use Rattle.waiting_questions.specs.Values.{Waiting}
 use Rattle.alias_chains.specs.LookingUp.{LookUpEnd, ends, too_long, missed, LookUp, look_up_behind, look_up_after, one_too_many, through, look_up}
@@ -62,7 +62,7 @@ missed_holds P c n x y l (Some route) is all = let same : record x { held = l.he
 met_holds : (P : Held → Type 0) (c : Config) (n : ℕ) (x y : Waiting) (l : LookUp) (m : LookUpEnd) → fate_at c n x l m ≡ waits y → AllByRecursion P l.held → AllByRecursion P y.held
 met_holds P c n x y l (ends e) is all = absurd (cc)
 met_holds P c n x y l too_long is all = absurd (cc)
-met_holds P c n x y l missed is all = missed_holds P c n x y l (route_of c l.wanted.name) is all
+met_holds P c n x y l missed is all = missed_holds P c n x y l (serving_route_of c l.wanted.name) is all
 
 module _ (P : Held → Type 0) (c : Config) (n : ℕ) (entries aliases : List Held) (name : List (List ℕ)) (all : AllByRecursion P entries) (lead : AllByRecursion P aliases) where
   behind_holds : (x y : Waiting) → AllByRecursion P x.held → fate_behind c n entries aliases name x ≡ waits y → AllByRecursion P y.held

@@ -1,6 +1,6 @@
--- A look-up that goes on behind held aliases, and what it makes of a question.
-use Rattle.std.proofs.Common.{◌≡◌, ℕ, ◌+◌, ◌-◌, ◌≤◌, ◌<◌, List, [], ◌∷◌, ◌++◌, length, Bool, false, Option, Some, None, refl, sym, ap, ◌∙◌, subst, inl, inr, arith}
-use Rattle.std.specs.Prelude.{is_none, is_some, not, map, nat_le}
+-- A look-up that goes on after held aliases, and the fate that it gives a question.
+use Rattle.std.proofs.Common.{◌≡◌, ℕ, ◌+◌, ◌-◌, ◌≤◌, ◌<◌, List, [], ◌∷◌, ◌++◌, length, true, false, Option, Some, None, refl, sym, ap, ◌∙◌, subst, inl, inr, arith}
+use Rattle.std.specs.Prelude.{map, nat_le}
 use Rattle.std.specs.List.{AllByRecursion}
 use Rattle.std.proofs.lemmas.Bool.{cond-true, cond-false, le-leb, lt-leb}
 use Rattle.std.proofs.lemmas.List.{append_assoc, length-append}
@@ -11,13 +11,14 @@ use Rattle.trust_rank.specs.Walks.{most_aliases}
 use Rattle.record_cache.specs.Values.{Held}
 use Rattle.record_cache.specs.Laws.{Among}
 use Rattle.answer_builder.specs.Transports.{answer_of}
-use Rattle.step_values.specs.declared.action.Why.TheVariants.{Answered, ChainLong}
+use Rattle.step_values.specs.declared.action.Why.TheVariants.{Answered, ChainLong, NoRoute}
+use Rattle.step_values.specs.Values.{Action}
 use Rattle.dns_message.specs.Questions.{asked_at}
-use Rattle.suffix_routes.specs.Serving.{route_of}
+use Rattle.suffix_routes.specs.Serving.{serving_route_of, is_local}
 use Rattle.waiting_questions.specs.Values.{Waiting}
 use Rattle.alias_chains.specs.LookingUp as rules
 use Rattle.alias_chains.specs.LookingUp.{LookUp, look_up, ends, too_long, missed}
-use Rattle.step_table.specs.Steps.{Fate, gets, waits, gives_up, sends, transport_of}
+use Rattle.step_table.specs.Steps.{Fate, gets, waits, gives_up, denied_locally, sends, transport_of}
 use Rattle.step_table.specs.Replies.{goes_on, too_many}
 use Rattle.step_table.specs.Clients.{fate_missed, fate_at}
 use Rattle.alias_chains.specs.Seen.{Seen, seen_at, seen_of, last_target, UsesFew}
@@ -44,7 +45,8 @@ all_of_entries P entries (h ∷ used) all among = (all_among P h entries all amo
 
 -- ---- the look-up
 
--- with so many aliases left to take, it is the one that begins with none, behind those that are held
+-- with this number of aliases left to take, it is the one that begins with none, after those that
+-- are held
 pub goes_on_is : (c : Config) (n : ℕ) (entries held : List Held) (q : Question) (more : ℕ) → more + length held ≡ 8 → goes_on c n entries held q ≡ behind held (look_up c.routes n entries more [] q)
 goes_on_is c n entries held q more count =
     let left : most_aliases - length held ≡ more = omega (arith, count) in
@@ -72,7 +74,7 @@ module _ (c : Config) (n : ℕ) (x : Waiting) (held own : List Held) (wanted : Q
   too_long_so too_long is = refl
   too_long_so missed is = absurd (cc)
 
-  missed_so : (m : rules.LookUpEnd) (f : Fate) → Missed ≡ (seen_at own m).met → (m ≡ missed → f ≡ fate_missed c n x (whole missed) (route_of c wanted.name)) → f ≡ fate_at c n x (whole m) m
+  missed_so : (m : rules.LookUpEnd) (f : Fate) → Missed ≡ (seen_at own m).met → (m ≡ missed → f ≡ fate_missed c n x (whole missed) (serving_route_of c wanted.name)) → f ≡ fate_at c n x (whole m) m
   missed_so (ends e) f is then = absurd (cc)
   missed_so too_long f is then = absurd (cc)
   missed_so missed f is then = then refl
@@ -83,7 +85,7 @@ seen_missed own (ends e) is = absurd (cc)
 seen_missed own too_long is = absurd (cc)
 seen_missed own missed is = refl
 
--- what is wanted behind these, of a question at this name
+-- the question that is wanted after these, of a question at this name
 wanted_is : (q : Question) (name : List (List ℕ)) (o : Option (List (List ℕ))) → led_to (asked_at q name) o ≡ asked_at q (or_name o name)
 wanted_is q name None = refl
 wanted_is q name (Some target) = refl
@@ -111,7 +113,7 @@ module _ (c : Config) (n : ℕ) (x : Waiting) (entries aliases : List Held) (nam
   too_long_fate met = too_long_so c n x held l.held l.wanted l.used l.met (met ∙ ap (λ (v : Seen). v.met) is) ∙ fate_is
 
   pub missed_fate : Missed ≡ seen.met
-      → fate_missed c n x (record { held = held ++ seen.used; wanted = asked_at x.wanted (name_behind seen.used name); met = missed; used = [] }) (route_of c (name_behind seen.used name)) ≡ fate_behind c n entries aliases name x
+      → fate_missed c n x (record { held = held ++ seen.used; wanted = asked_at x.wanted (name_behind seen.used name); met = missed; used = [] }) (serving_route_of c (name_behind seen.used name)) ≡ fate_behind c n entries aliases name x
   missed_fate met = missed_so c n x held l.held l.wanted l.used l.met _ at then ∙ fate_is
     where
       at : Missed ≡ (seen_of l).met
@@ -120,15 +122,15 @@ module _ (c : Config) (n : ℕ) (x : Waiting) (entries aliases : List Held) (nam
       used_is : seen.used ≡ l.held
       used_is = ap (λ (v : Seen). v.used) is ∙ seen_missed l.held l.met at
 
-      then : l.met ≡ missed → fate_missed c n x (record { held = held ++ seen.used; wanted = asked_at x.wanted (name_behind seen.used name); met = missed; used = [] }) (route_of c (name_behind seen.used name))
-          ≡ fate_missed c n x (record { held = held ++ l.held; wanted = l.wanted; met = missed; used = l.used }) (route_of c l.wanted.name)
+      then : l.met ≡ missed → fate_missed c n x (record { held = held ++ seen.used; wanted = asked_at x.wanted (name_behind seen.used name); met = missed; used = [] }) (serving_route_of c (name_behind seen.used name))
+          ≡ fate_missed c n x (record { held = held ++ l.held; wanted = l.wanted; met = missed; used = l.used }) (serving_route_of c l.wanted.name)
       then m =
           let wants : asked_at x.wanted (name_behind seen.used name) ≡ l.wanted =
           ap (λ (hs : List Held). asked_at x.wanted (name_behind hs name)) used_is ∙ sym (wanted_is x.wanted name (last_target l.held)) ∙ sym (missed_wants c.routes n entries more (asked_at x.wanted name) m) in
-          by (held ++ seen.used) (held ++ l.held) (asked_at x.wanted (name_behind seen.used name)) l.wanted (ap (λ (hs : List Held). held ++ hs) used_is) wants (route_of c l.wanted.name)
+          by (held ++ seen.used) (held ++ l.held) (asked_at x.wanted (name_behind seen.used name)) l.wanted (ap (λ (hs : List Held). held ++ hs) used_is) wants (serving_route_of c l.wanted.name)
         where
-          by : (hs ks : List Held) (w v : Question) → hs ≡ ks → w ≡ v → (r : Option ℕ) → fate_missed c n x (record { held = hs; wanted = w; met = missed; used = [] }) (route_of c w.name) ≡ fate_missed c n x (record { held = ks; wanted = v; met = missed; used = l.used }) (route_of c v.name)
-          by hs ks w v e f r = (λ i. fate_missed c n x (record { held = e i; wanted = f i; met = missed; used = [] }) (route_of c (f i).name)) ∙ same_used (route_of c v.name)
+          by : (hs ks : List Held) (w v : Question) → hs ≡ ks → w ≡ v → (r : Option ℕ) → fate_missed c n x (record { held = hs; wanted = w; met = missed; used = [] }) (serving_route_of c w.name) ≡ fate_missed c n x (record { held = ks; wanted = v; met = missed; used = l.used }) (serving_route_of c v.name)
+          by hs ks w v e f r = (λ i. fate_missed c n x (record { held = e i; wanted = f i; met = missed; used = [] }) (serving_route_of c (f i).name)) ∙ same_used (serving_route_of c v.name)
             where
               same_used : (o : Option ℕ) → fate_missed c n x (record { held = ks; wanted = v; met = missed; used = [] }) o ≡ fate_missed c n x (record { held = ks; wanted = v; met = missed; used = l.used }) o
               same_used None = refl
@@ -138,15 +140,30 @@ module _ (c : Config) (n : ℕ) (x : Waiting) (entries aliases : List Held) (nam
   pub used_fate : map (λ (h : Held). h.piece.slot) seen.used ≡ (looked_behind c n entries aliases name x).used
   used_fate = ap (λ (v : Seen). map (λ (h : Held). h.piece.slot) v.used) is ∙ sym (uses_what_is_seen c.routes n entries more (asked_at x.wanted name)) ∙ sym (ap (λ (v : LookUp). v.used) behind_is)
 
--- what is no none is some
-pub none_is : {X : Type 0} (o : Option X) (b : Bool) → is_some o ≡ not b → b ≡ false → is_none o ≡ false
-none_is None b is none = absurd (cc)
-none_is (Some x) b is none = refl
+-- ---- a question whose look-up missed, by what the configuration says of the name
 
--- it waits on, since the name has a route
-pub missed_on : (c : Config) (n : ℕ) (x : Waiting) (hs ks : List Held) (w v : Question) (r : Option ℕ) → is_none r ≡ false → hs ≡ ks → w ≡ v → waits (record x { held = hs; wanted = w }) ≡ fate_missed c n x (record { held = ks; wanted = v; met = missed; used = [] }) r
-missed_on c n x hs ks w v None some e f = absurd (cc)
-missed_on c n x hs ks w v (Some route) some e f = λ i. waits (record x { held = e i; wanted = f i })
+module _ (c : Config) (n : ℕ) (x : Waiting) (held : List Held) (wanted : Question) where
+  abbrev unanswered : LookUp
+  unanswered = record { held = held; wanted = wanted; met = missed; used = [] }
+
+  -- a route serves the name: it waits on
+  pub missed_on : (route : ℕ) → Some route ≡ serving_route_of c wanted.name
+      → waits (record x { held = held; wanted = wanted }) ≡ fate_missed c n x unanswered (serving_route_of c wanted.name)
+  missed_on route served = ap (fate_missed c n x unanswered) served
+
+  -- the configuration denies the name
+  pub denied_on : None ≡ serving_route_of c wanted.name → true ≡ is_local c wanted.name
+      → gets (denied_locally n x held) ≡ fate_missed c n x unanswered (serving_route_of c wanted.name)
+  denied_on none denied =
+      ap (λ (a : Action). gets a) (sym (cond-true (is_local c wanted.name) _ _ (sym denied)))
+      ∙ ap (fate_missed c n x unanswered) none
+
+  -- the name has no route
+  pub unrouted_on : None ≡ serving_route_of c wanted.name → false ≡ is_local c wanted.name
+      → gets (gives_up NoRoute x) ≡ fate_missed c n x unanswered (serving_route_of c wanted.name)
+  unrouted_on none not_denied =
+      ap (λ (a : Action). gets a) (sym (cond-false (is_local c wanted.name) _ _ (sym not_denied)))
+      ∙ ap (fate_missed c n x unanswered) none
 
 -- a look-up that missed used no more than was left
 pub few_missed : (held : List Held) (more : ℕ) (seen : Seen) → UsesFew more seen → more + length held ≡ 8 → seen.met ≡ Missed → length (held ++ seen.used) ≤ 8

@@ -45,7 +45,7 @@ wanted_here {A} items i f s lt is sent =
 
 -- ---- the fates
 
--- the one at a place, behind those before it
+-- the one at a place, after those before it
 take_at : (xs : List Waiting) (i : ℕ) (x : Waiting) → slice_get xs i ≡ Some x → take (suc i) xs ≡ take i xs ++ x ∷ []
 take_at [] i x there = absurd (cc)
 take_at (y ∷ xs) zero x there = let same : y ≡ x = cc in ap (λ (z : Waiting). z ∷ []) same
@@ -75,7 +75,7 @@ one_more fate xs i each more x so_far there put = record {
       ∙ sym (map-append fate (take i xs) (x ∷ [])) ∙ ap (map fate) (sym (take_at xs i x there)) ∙ ap (λ (k : ℕ). map fate (take k xs)) (let next : suc i ≡ i + 1 = omega arith in next);
 }
 
--- what each used, one behind another
+-- the slots that each used, one after another
 pub used_more : (used : Waiting → List Slot) (xs : List Waiting) (i : ℕ) (slots more : List Slot) (x : Waiting) → slots ≡ flat_map used (take i xs) → slice_get xs i ≡ Some x → more ≡ slots ++ used x → more ≡ flat_map used (take (i + 1) xs)
 used_more used xs i slots more x so_far there put =
     put ∙ ap (λ (ss : List Slot). ss ++ used x) so_far ∙ ap (λ (ss : List Slot). flat_map used (take i xs) ++ ss) (sym (append-nil (used x))) ∙ sym (flat_map-append used (take i xs) (x ∷ []))
@@ -88,7 +88,7 @@ drop_at [] i x there = absurd (cc)
 drop_at (y ∷ xs) zero x there = let same : y ≡ x = cc in ap (λ (z : Waiting). z ∷ xs) same
 drop_at (y ∷ xs) (suc i) x there = drop_at xs i x there
 
--- what was told so far, and what is left of the fates
+-- the fates so far, and those that are left
 abbrev pub told_with : List Waiting → List Becomes → List Becomes → List Fate
 told_with xs told rest = fates_in xs told ++ map without_port (fates_in (drop (length told) xs) rest)
 

@@ -12,7 +12,7 @@ use Rattle.trust_rank.specs.declared.slot.Slot.{Slot}
 use Rattle.trust_rank.specs.Values.{Piece, End, elsewhere, Walk}
 use Rattle.record_cache.specs.Values.{Held, Cache}
 use Rattle.answer_builder.specs.Answers.{IsEarlier}
-use Rattle.suffix_routes.specs.Serving.{route_of}
+use Rattle.suffix_routes.specs.Serving.{serving_route_of}
 use Rattle.waiting_questions.specs.Onward.{Onward}
 use Rattle.step_table.specs.State.{State, turn}
 use Rattle.waiting_questions.specs.Values.{Waiting, waits_for}
@@ -146,8 +146,8 @@ module _ (c : Config) (n : ℕ) (words : List ℕ) (a : Ask) (w : Walk) (s : Sta
       (with_preferred_server a s))) a fate (asked_are i))
       ∙ sym (ap (row_of_end (turn c n words (with_preferred_server a s)) a w fate) leads))
 
-  -- what was decided is what the table has: each looked on behind these aliases, and then it was known whether there
-  -- is an ask
+  -- the decision is the table's: each question is looked up after these aliases, and then it is
+  -- known whether there is an ask
   module _ (aliases : List Held) (xs : List Waiting) (each : List Becomes) (next : Option Ask)
       (aliases_are : aliases ≡ map (held_at n) w.pieces) (xs_are : xs ≡ those)
       (each_are : fates_in xs each ≡ map (fate_behind c n s.cache.entries aliases name) xs) where
@@ -259,7 +259,7 @@ module _ (c : Config) (n : ℕ) (words : List ℕ) (a : Ask) (e : Cache) (i : In
   kept_then = kept_without c e i left ws ps m k (Some a.path) kept refl
 
   by_route : (q : Question) (next : Ask) → of_question q (without_path a.path i.asks) ≡ None → (r : Option ℕ)
-      → route_of c q.name ≡ r → first_ask_on (turn c n words (closing_state a now)) q r ≡ Some next
+      → serving_route_of c q.name ≡ r → first_ask_on (turn c n words (closing_state a now)) q r ≡ Some next
       → CanFollow c n (closing_state a now) (without_path a.path i.asks) next
   by_route q next new None none is = absurd (cc)
   by_route q next new (Some route) there is =
@@ -272,7 +272,7 @@ module _ (c : Config) (n : ℕ) (words : List ℕ) (a : Ask) (e : Cache) (i : In
       → ask_for (turn c n words (closing_state a now)) asked ≡ Some next
       → CanFollow c n (closing_state a now) (without_path a.path i.asks) next
   by_asked None next new is = absurd (cc)
-  by_asked (Some q) next new is = by_route q next (new q refl) (route_of c q.name) refl is
+  by_asked (Some q) next new is = by_route q next (new q refl) (serving_route_of c q.name) refl is
 
   pub next_follows : (fates : List Fate) (next : Option Ask)
       → next ≡ ask_for (turn c n words (closing_state a now)) (asked_for a now fates)

@@ -1,4 +1,4 @@
--- What becomes of questions that waited for a reply which leads on to a name that it does not answer.
+-- The fates of questions that waited for a reply which leads on to a name that it does not answer.
 use Rattle.std.specs.Prelude.{◌≡◌, ℕ, ◌+◌, ◌<◌, false, List, [], ◌∷◌, ◌++◌, filter, length, map, Option, Some, None}
 use Rattle.std.specs.List.{AllByRecursion}
 use Rattle.dns_message.specs.Values.{Question}
@@ -18,11 +18,12 @@ use Rattle.waiting_questions.specs.Onward.{Onward, sent_on}
 use Rattle.reply_decisions.specs.declared.fate.Fate.{Fate}
 use Rattle.reply_decisions.specs.declared.fate.Fate.TheVariants.{Reply, SentOn}
 
--- what becomes of one: its reply, or what it is sent on with
+-- the fate of one: its reply, or the aliases and the question that it is sent on with
 pub data Becomes : Type 0 where
   replied : Action → Becomes
   sent : Onward → Becomes
 
+-- the fate of a question, as a plain value
 abbrev pub becomes : {A : Type 0} → Fate A → Becomes
 becomes (Reply action) = replied (action_of action)
 becomes (SentOn s) = sent s
@@ -58,11 +59,12 @@ abbrev pub unless_sent : Waiting → Becomes → Becomes
 unless_sent x (replied action) = replied action
 unless_sent x (sent s) = replied (steps.gives_up NoPort x)
 
--- of those that are sent on, what the first wants
+-- the question that it wants, if it is sent on, otherwise this one
 abbrev pub or_wanted : Option Onward → Option Question → Option Question
 or_wanted None q = q
 or_wanted (Some s) q = Some s.wanted
 
+-- the question that the first of those who wait on wants
 abbrev pub first_wanted : List Becomes → Option Question
 first_wanted [] = None
 first_wanted (b ∷ each) = or_wanted (onward_in b) (first_wanted each)
@@ -72,13 +74,15 @@ abbrev pub or_name : Option (List (List ℕ)) → List (List ℕ) → List (List
 or_name None name = name
 or_name (Some target) name = target
 
+-- the name to which the aliases of a look-up lead
 abbrev pub name_behind : List Held → List (List ℕ) → List (List ℕ)
 name_behind used name = or_name (last_target used) name
 
--- the look-up of what a question wants, once it holds the aliases of the reply too
+-- the look-up of a question, once it holds the aliases of the reply too
 abbrev pub looked_behind : Config → ℕ → List Held → List Held → List (List ℕ) → Waiting → LookUp
 looked_behind c n entries aliases name x = goes_on c n entries (x.held ++ aliases) (asked_at x.wanted name)
 
+-- the fate of a question after the aliases of a reply
 abbrev pub fate_behind : Config → ℕ → List Held → List Held → List (List ℕ) → Waiting → steps.Fate
 fate_behind c n entries aliases name x = fate_of c n x (looked_behind c n entries aliases name x)
 
@@ -96,13 +100,13 @@ abbrev pub IfLooksOn : Config → ℕ → List Held → List Held → List (List
 IfLooksOn c n entries aliases name x None = 8 < length (x.held ++ aliases)
 IfLooksOn c n entries aliases name x (Some l) = LooksOn c n entries aliases name x l
 
--- what becomes of one question more, by this fate
+-- the fate of one more question, as this fate has it
 pub record OneMore (fate : Waiting → steps.Fate) (x : Waiting) (before after : List Becomes) : Type 0 where
   pub one : Becomes
   pub put : after ≡ before ++ one ∷ []
   pub is : fate_in x one ≡ fate x
 
--- these become of the questions that wait for one as a fate has it, and all others wait on
+-- these are the fates of the questions that wait for one, and all others wait on
 pub record Become (q : Question) (fate : Waiting → steps.Fate) (xs : List Waiting) (each : List Becomes) : Type 0 where
   pub count : length each ≡ length (filter (waits_for q) xs)
   pub those : fates_in (filter (waits_for q) xs) each ≡ map fate (filter (waits_for q) xs)

@@ -1,21 +1,21 @@
 -- The walk of a reply that was read.
-use Rattle.std.specs.Prelude.{◌≡◌, ◌<◌, Bool, true, false, length}
+use Rattle.std.specs.Prelude.{◌≡◌, ℕ, ◌<◌, List, length}
 use Rattle.plain_list.specs.Octets.{AreOctets}
 use Rattle.dns_message.specs.Values.{Message}
 use Rattle.dns_message.specs.Messages.{HasShapes}
 use Rattle.suffix_routes.specs.Values.{Config}
-use Rattle.trust_rank.specs.Values.{End, found, ends_no_data, ends_denied, elsewhere, lame, Walk}
+use Rattle.trust_rank.specs.Values.{Piece, elsewhere, Walk}
 use Rattle.trust_rank.specs.Walks.{walk_of}
 use Rattle.outstanding.specs.Values.{Ask}
 use Rattle.reply_match.specs.declared.verdict.Judged.{Judged}
 use Rattle.reply_match.specs.declared.verdict.Judged.TheVariants.{Whole}
 
--- each octet of the view, where there is one, is below 256
+-- each octet of the view, if any, is below 256
 abbrev pub ShowsOctets : Judged → Type 0
 ShowsOctets (Whole message) = AreOctets message
 ShowsOctets other = Unit {0}
 
--- a message as it is read: the data of each record is of its type's shape, and a section's count has 16 bits
+-- a read message: the data of each record is of its type's shape, and a section's count has 16 bits
 pub record IsRead (m : Message) : Type 0 where
   pub shapes : HasShapes m
   pub few : length m.authority < 65536
@@ -26,10 +26,6 @@ pub record IsWalkFor (c : Config) (a : Ask) (w : Walk) : Type 0 where
   pub read : IsRead message
   pub is : w ≡ walk_of c message a.question a.route
 
--- it ends at a name that is to be asked for
-abbrev pub leads_on : End → Bool
-leads_on (elsewhere name) = true
-leads_on found = false
-leads_on ends_no_data = false
-leads_on ends_denied = false
-leads_on lame = false
+-- the walk that carries these and leads on to this name
+abbrev pub walk_on : List Piece → List Piece → List (List ℕ) → Walk
+walk_on pieces authority name = record { pieces = pieces; authority = authority; end = elsewhere name }

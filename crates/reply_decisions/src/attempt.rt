@@ -1,4 +1,4 @@
-//! What a failed attempt calls for: another ask, or an end.
+//! The decision on a failed attempt: another ask, or an end.
 
 ghost use Rattle.std.specs.Prelude.{◌≡◌, Bool, List, ◌^◌, ◌<◌, ◌≤◌, ◌+◌, IfOk, IfSome, Some, None};
 ghost use Rattle.outstanding.specs.Values.{Ask as AskValue};
@@ -6,7 +6,7 @@ ghost use Rattle.outstanding.specs.Lists.{on_path as ask_on, without_path};
 ghost use Rattle.step_table.specs.Attempts.{ask_by, peer_at};
 ghost use Rattle.step_table.specs.Steps.{closing_step, fails};
 ghost use Rattle.step_table.specs.Failures.{row_of_attempt, row_of_failure, row_of_failed_path, runs_out};
-ghost use Rattle.step_actions.specs.Decision.{IsQuiet, CanFollow, MeetsRow};
+ghost use Rattle.step_actions.specs.Decision.{IsQuiet, CanFollow, MeetsStep};
 ghost use Rattle.step_table.specs.State.{turn};
 
 use outstanding::{Ask, KeyedAsk, Path, draw};
@@ -19,7 +19,7 @@ use step_actions::{
 };
 use step_values::{Actions, Why};
 
-/// The ask on a path is closed, and those that wait for it are told why.
+/// Closes the ask on a path; those that wait for it fail for this reason.
 pub(crate) fn give_up<'a, 's, H: BuildHasher + Drop, A: Allocator + Copy>(
     turn: &TurnRef<'a, H, A>,
     path: Path,
@@ -27,37 +27,30 @@ pub(crate) fn give_up<'a, 's, H: BuildHasher + Drop, A: Allocator + Copy>(
     why: Why,
 ) -> Result<Decision<'a, 's, A>, AllocError>
     requires { ask_on path turn.now.state.asks ≡ Some ask.now }
-    ensures decides { IfOk result (MeetsRow turn.now (λ _. closing_step turn.now.moment ask.now
+    ensures decides { IfOk result (MeetsStep turn.now (closing_step turn.now.moment ask.now
         (fails why ask.now.question) None turn.now.state)) }
 {
     let actions = failures(turn.alloc, ask, turn.waiting, why)?;
     Ok(Decision::without_cache(turn.alloc, actions, Change::Close(path, None)))
 }
 
-/// The ask on a path is closed, whose question has no try left: those that wait for it get the last that can be
-/// told.
+/// Closes the ask on a path, whose question has no try left; those that wait for it get their last
+/// reply.
 fn run_out<'a, 's, H: BuildHasher + Drop, A: Allocator + Copy>(
     turn: &TurnRef<'a, H, A>,
     path: Path,
     ask: &KeyedAsk<A>,
 ) -> Result<Decision<'a, 's, A>, AllocError>
     requires on { ask_on path turn.now.state.asks ≡ Some ask.now }
-    ensures decides { IfOk result (MeetsRow turn.now (λ _. closing_step turn.now.moment ask.now
+    ensures decides { IfOk result (MeetsStep turn.now (closing_step turn.now.moment ask.now
         (runs_out turn.now.config turn.now.moment turn.now.state.cache.entries ask.now.question) None
         turn.now.state)) }
 {
-    let actions = last_replies(
-        turn.alloc,
-        ask,
-        turn.cache,
-        turn.config,
-        turn.moment,
-        turn.waiting,
-    )?;
+    let actions = last_replies(turn, ask)?;
     Ok(Decision::without_cache(turn.alloc, actions, Change::Close(path, None)))
 }
 
-/// The ask on a path is closed, and the next one goes out.
+/// Closes the ask on a path, and sends the next one.
 fn ask_again<'a, 's, H: BuildHasher + Drop, A: Allocator + Copy>(
     turn: &TurnRef<'a, H, A>,
     path: Path,
@@ -67,7 +60,7 @@ fn ask_again<'a, 's, H: BuildHasher + Drop, A: Allocator + Copy>(
     requires on { ask_on path turn.now.state.asks ≡ Some ask.now }
     requires follows { CanFollow turn.now.config turn.now.moment turn.now.state
         (without_path path turn.now.state.asks) next }
-    ensures decides { IfOk result (MeetsRow turn.now (λ _. row_of_attempt turn.now.moment ask.now turn.now.state
+    ensures decides { IfOk result (MeetsStep turn.now (row_of_attempt turn.now.moment ask.now turn.now.state
         (Some next))) }
 {
     let mut actions = Actions::new(turn.alloc);
@@ -78,7 +71,8 @@ fn ask_again<'a, 's, H: BuildHasher + Drop, A: Allocator + Copy>(
     Ok(Decision::without_cache(turn.alloc, actions, Change::AskAgain(path, next)))
 }
 
-/// The ask on a path is closed. Another server is asked over what was drawn; without a path those that wait fail.
+/// Closes the ask on a path, and asks another server over the drawn path. Without one those that
+/// wait fail.
 fn retry<'a, 's, H: BuildHasher + Drop, A: Allocator + Copy>(
     turn: &TurnRef<'a, H, A>,
     path: Path,
@@ -91,7 +85,7 @@ fn retry<'a, 's, H: BuildHasher + Drop, A: Allocator + Copy>(
     requires follows { (next : AskValue) → ask_by turn.now.moment ask.now.question ask.now.route server
         (ask.now.used + 1) (peer_at turn.now.config ask.now.route server) drawn ≡ Some next
         → CanFollow turn.now.config turn.now.moment turn.now.state (without_path path turn.now.state.asks) next }
-    ensures decides { IfOk result (MeetsRow turn.now (λ _. row_of_attempt turn.now.moment ask.now turn.now.state
+    ensures decides { IfOk result (MeetsStep turn.now (row_of_attempt turn.now.moment ask.now turn.now.state
         (ask_by turn.now.moment ask.now.question ask.now.route server (ask.now.used + 1)
         (peer_at turn.now.config ask.now.route server) drawn))) }
 {
@@ -114,7 +108,8 @@ fn retry<'a, 's, H: BuildHasher + Drop, A: Allocator + Copy>(
     }
 }
 
-/// An attempt failed: its ask is closed; then the next one goes out, or those that wait for it are told why not.
+/// Closes the ask of a failed attempt; then the next one goes out, or those that wait for it get
+/// the reason.
 pub(crate) fn fail<'a, 's, H: BuildHasher + Drop, A: Allocator + Copy>(
     turn: &TurnRef<'a, H, A>,
     path: Path,
@@ -122,7 +117,7 @@ pub(crate) fn fail<'a, 's, H: BuildHasher + Drop, A: Allocator + Copy>(
     failure: Failure,
 ) -> Result<Decision<'a, 's, A>, AllocError>
     requires on { ask_on path turn.now.state.asks ≡ Some ask.now }
-    ensures decides { IfOk result (MeetsRow turn.now (λ _. row_of_failure turn.now ask.now failure)) }
+    ensures decides { IfOk result (MeetsStep turn.now (row_of_failure turn.now ask.now failure)) }
 {
     let asked = ask.ask();
     let plan = plan(turn.config, asked);
@@ -139,12 +134,13 @@ pub(crate) fn fail<'a, 's, H: BuildHasher + Drop, A: Allocator + Copy>(
     }
 }
 
-/// A path can't be used any more.
+/// Decides that a path can't be used any more: its ask is a failed attempt. Nothing where it has no
+/// ask. `Err` where memory ran out.
 pub fn on_failed_path<'a, 's, H: BuildHasher + Drop, A: Allocator + Copy>(
     turn: &TurnRef<'a, H, A>,
     path: Path,
 ) -> Result<Decision<'a, 's, A>, AllocError>
-    ensures decides { IfOk result (MeetsRow turn.now (λ _. row_of_failed_path turn.now
+    ensures decides { IfOk result (MeetsStep turn.now (row_of_failed_path turn.now
         (ask_on path turn.now.state.asks))) }
     ensures unlisted { ask_on path turn.now.state.asks ≡ None → IsQuiet result }
 {

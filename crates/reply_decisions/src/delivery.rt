@@ -1,10 +1,17 @@
-//! What a message on a path to a server calls for.
+//! The decision on a message on a path to a server. The public function is `on_delivery`, the last
+//! in this file. A reply takes this way:
+//!
+//! 1. `on_delivery`: nothing where no ask on the path is live; otherwise the octets are judged.
+//! 2. `on_verdict`: nothing for a stranger's, `attempt::fail` for a failure, or `on_whole`.
+//! 3. `on_whole` reads the message: `attempt::fail` where it is malformed, or `on_message`.
+//! 4. `on_message` walks it from the question: `attempt::fail` where the server is lame,
+//!    `sending::send_on` where its aliases lead elsewhere, or `accept`.
+//! 5. `accept` answers all questions that wait for the ask, and keeps the pieces.
 
 ghost use Rattle.std.specs.Prelude.{◌≡◌, ◌^◌, ◌≤◌, ℕ, true, false, Bool, List, IfOk, Some};
 ghost use Rattle.dns_message.specs.Messages.{message_of};
 ghost use Rattle.dns_message.specs.Reading.{wants_memory};
-ghost use Rattle.trust_rank.specs.Values.{end_of};
-ghost use Rattle.trust_rank.specs.Walks.{walk_of, is_lame, has_last};
+ghost use Rattle.trust_rank.specs.Walks.{walk_of, has_last};
 ghost use Rattle.reply_match.specs.Judged.{IsViewOf, verdict_of};
 ghost use Rattle.reply_match.specs.declared.verdict.Verdict.TheVariants as Verdict;
 ghost use Rattle.step_table.specs.Replies.{row_of_verdict, row_of_delivery, row_of_acceptance, row_of_walk};
@@ -12,9 +19,11 @@ ghost use Rattle.step_table.specs.Replies.{row_of_message, verdict_on};
 ghost use Rattle.outstanding.specs.Lists.{on_path as ask_on};
 ghost use Rattle.step_actions.specs.Decision.{IsQuiet, MeetsRow};
 ghost use Rattle.plain_list.specs.Octets.{AreOctets};
-ghost use Rattle.reply_decisions.specs.Walked.{leads_on, IsRead, IsWalkFor, ShowsOctets};
+ghost use Rattle.reply_decisions.specs.Walked.{IsRead, IsWalkFor, ShowsOctets};
 ghost use Rattle.step_table.specs.State.{turn};
 
+use crate::attempt::fail;
+use crate::sending::send_on;
 use alias_chains::{SlotsRef, held_from};
 use dns_message::{Fault, Message, MessageRef};
 use outstanding::{KeyedAsk, Path};
@@ -22,36 +31,11 @@ use reply_match::{Judged, judge};
 use retry_failover::Failure;
 use std::alloc::{AllocError, Allocator};
 use std::hash::BuildHasher;
-use step_actions::{Change, Decision, Preferred, TurnRef, answers_to, is_live};
+use step_actions::{Change, Decision, Preferred, TurnRef, answers_to, is_live, nothing};
 use suffix_routes::Peer;
 use trust_rank::{End, Walk, pieces};
 
-/// The reply is a failed attempt, since its walk is lame.
-fn is_lame<A: Allocator>(end: &End<A>) -> bool
-    ensures { result ≡ is_lame (end_of end.now) }
-{
-    matches!(end, End::Lame)
-}
-
-/// Its aliases lead on to a name that is to be asked for.
-fn leads_on<A: Allocator>(end: &End<A>) -> bool
-    ensures { result ≡ leads_on (end_of end.now) }
-{
-    matches!(end, End::Elsewhere(_))
-}
-
-/// The fault is none of the octets: memory ran out.
-fn wants_memory(fault: Fault) -> bool
-    ensures { result ≡ wants_memory fault }
-{
-    matches!(fault, Fault::Memory)
-}
-
-use crate::attempt::fail;
-use crate::sending::send_on;
-use step_actions::nothing;
-
-/// A reply is accepted that answers: all that wait for it are answered, and what it carries is kept.
+/// Accepts a reply that answers: all that wait for it are answered, and its pieces are kept.
 fn accept<'a, 's, H: BuildHasher + Drop, A: Allocator + Copy>(
     turn: &TurnRef<'a, H, A>,
     path: Path,
@@ -84,7 +68,7 @@ fn accept<'a, 's, H: BuildHasher + Drop, A: Allocator + Copy>(
     })
 }
 
-/// A message that matches the ask.
+/// Decides a message that matches the ask. A lame server is a failed attempt.
 fn on_message<'a, 's, H: BuildHasher + Drop, A: Allocator + Copy>(
     turn: &TurnRef<'a, H, A>,
     path: Path,
@@ -97,23 +81,40 @@ fn on_message<'a, 's, H: BuildHasher + Drop, A: Allocator + Copy>(
         (walk_of turn.now.config message.now ask.now.question ask.now.route))) }
 {
     let asked = ask.ask();
-    let walk = pieces(
+    let Walk {
+        pieces,
+        authority,
+        end,
+    } = pieces(
         turn.alloc,
         message,
         &asked.question,
         asked.route,
         turn.config,
     )?;
-    if is_lame(&walk.end) {
-        return fail(turn, path, ask, Failure::Lame);
+    match end {
+        End::Lame => fail(turn, path, ask, Failure::Lame),
+        End::Elsewhere(name) => send_on(turn, ask, pieces, authority, name),
+        End::Found | End::NoData | End::Denied => {
+            let walk = Walk {
+                pieces,
+                authority,
+                end,
+            };
+            accept(turn, path, ask, walk)
+        }
     }
-    if leads_on(&walk.end) {
-        return send_on(turn, ask, walk);
-    }
-    accept(turn, path, ask, walk)
 }
 
-/// A whole message that matches the ask.
+/// Whether the fault is not in the octets: memory ran out.
+fn wants_memory(fault: Fault) -> bool
+    ensures { result ≡ wants_memory fault }
+{
+    matches!(fault, Fault::Memory)
+}
+
+/// Reads a whole message that matches the ask, and decides it. One that can't be read is a failed
+/// attempt; `Err` where memory ran out.
 fn on_whole<'a, 's, H: BuildHasher + Drop, A: Allocator + Copy>(
     turn: &TurnRef<'a, H, A>,
     path: Path,
@@ -132,7 +133,7 @@ fn on_whole<'a, 's, H: BuildHasher + Drop, A: Allocator + Copy>(
     }
 }
 
-/// A delivery that was judged.
+/// Decides a delivery that was judged. Nothing for a stranger's octets.
 fn on_verdict<'a, 's, H: BuildHasher + Drop, A: Allocator + Copy>(
     turn: &TurnRef<'a, H, A>,
     path: Path,
@@ -155,8 +156,9 @@ fn on_verdict<'a, 's, H: BuildHasher + Drop, A: Allocator + Copy>(
     }
 }
 
-/// A delivery on a path to a server. It stands by itself, so that a client's question does without the room on
-/// the stack that reading a reply takes.
+/// Decides a delivery on a path to a server. Nothing where no ask on the path is live, or the
+/// octets are not its reply. `Err` where memory ran out. Out of line: inlined, its tables for
+/// reading a reply would be on the stack of each client's question.
 #[inline(never)]
 pub fn on_delivery<'a, 's, H: BuildHasher + Drop, A: Allocator + Copy>(
     turn: &TurnRef<'a, H, A>,

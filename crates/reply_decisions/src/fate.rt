@@ -1,4 +1,4 @@
-//! What becomes of one question.
+//! The fate of one question that waited for a reply.
 
 ghost use Rattle.std.specs.Prelude.{◌≡◌, ◌++◌, ◌+◌, ◌≤◌, ℕ, List, [], length, IfOk};
 ghost use Rattle.std.specs.List.{AllByRecursion};
@@ -7,12 +7,12 @@ ghost use Rattle.plain_list.specs.Borrowed.{lent};
 ghost use Rattle.answer_builder.specs.Transports.{answer_of};
 ghost use Rattle.record_cache.specs.Values.{Held as HeldValue};
 ghost use Rattle.dns_message.specs.Questions.{asked_at};
-ghost use Rattle.suffix_routes.specs.Serving.{route_of};
+ghost use Rattle.suffix_routes.specs.Serving.{serving_route_of};
 ghost use Rattle.alias_chains.specs.LookingUp.{look_up, missed};
 ghost use Rattle.step_values.specs.declared.action.Why.TheVariants.{Answered};
-ghost use Rattle.step_table.specs.Steps.{gets, gives_up, sends, transport_of};
+ghost use Rattle.step_table.specs.Steps.{denied_locally, gets, gives_up, sends, transport_of, waits};
 ghost use Rattle.step_table.specs.Replies.{without_port};
-ghost use Rattle.step_table.specs.Clients.{fate_missed, without_server};
+ghost use Rattle.step_table.specs.Clients.{fate_missed};
 ghost use Rattle.alias_chains.specs.Seen.{seen_of};
 ghost use Rattle.alias_chains.specs.declared.looked.LookUpEnd.{LookUpEnd};
 ghost use Rattle.reply_decisions.specs.Fates.{becomes, fate_in, fate_behind, name_behind};
@@ -22,21 +22,21 @@ use dns_message::Question;
 use dns_name::Name;
 use record_cache::Held;
 use std::alloc::{AllocError, Allocator, Global};
-use step_actions::{answer, failure, without_server};
+use step_actions::{answer, failure, local_answer};
 use step_values::{Action, Why};
-use suffix_routes::Config;
+use suffix_routes::{Config, Routing};
 use waiting_questions::{SentOn, Waiting};
 
-/// What a reply leads on to.
+/// The aliases of a reply that leads on, and the name that they lead to.
 #[derive(Drop)]
 pub struct AliasLead<'a, A: Allocator = Global> {
-    /// Its aliases, as they are held from the moment on at which it came.
+    /// Its aliases, as held from the moment at which it came.
     pub aliases: &'a [Held<A>],
     /// The name that they lead to.
     pub name: &'a Name<A>,
 }
 
-/// What becomes of a question: it gets its reply, or waits on with more aliases for another name.
+/// The fate of a question: it gets its reply, or waits on with more aliases for another name.
 #[derive(Drop)]
 pub(crate) enum Fate<A: Allocator = Global> {
     Reply(Action<A>),
@@ -70,7 +70,7 @@ pub(crate) fn unless_sent<A: Allocator + Copy>(
     }
 }
 
-/// The question is answered from a chain of pieces, none accepted after the moment, in milliseconds.
+/// Answers the question from a chain of pieces, none accepted after the moment, in milliseconds.
 fn answers<A: Allocator + Copy>(
     alloc: A,
     waiting: &Waiting<A>,
@@ -86,27 +86,46 @@ fn answers<A: Allocator + Copy>(
     Ok(Fate::Reply(action))
 }
 
-/// No route serves the name that the aliases of this chain lead the question to: it is denied, or has no route.
-fn ends_without_server<A: Allocator + Copy>(
+/// Gives the question the denial of the name that the aliases of this chain lead it to, none
+/// accepted after the moment, in milliseconds.
+fn denies<A: Allocator + Copy>(
     alloc: A,
-    config: &Config<A>,
-    moment: u64,
     waiting: &Waiting<A>,
     chain: &[&Held<A>],
-    name: &Name<A>,
+    moment: u64,
 ) -> Result<Fate<A>, AllocError>
     requires { AllByRecursion (IsEarlier moment) (lent chain.now) }
     ensures { IfOk result (λ fate. fate_in waiting.now (becomes fate)
-        ≡ gets (without_server config.now moment waiting.now (lent chain.now) name.now)) }
+        ≡ gets (denied_locally moment waiting.now (lent chain.now))) }
 {
-    let is_denied = config.denies(name);
-    let action = without_server(alloc, &waiting.request(), chain, is_denied, moment)?;
+    let action = local_answer(alloc, &waiting.request(), chain, moment)?;
     Ok(Fate::Reply(action))
 }
 
-/// The question waits on with the aliases of this chain, of which there are at most eight, for this name, or gets its
-/// reply where no route serves the name.
+/// Lets the question wait on for this name, with the aliases of this chain, at most 8.
 fn waits_on<A: Allocator + Copy>(
+    alloc: A,
+    waiting: &Waiting<A>,
+    chain: &[&Held<A>],
+    name: Name<A>,
+) -> Result<Fate<A>, AllocError>
+    requires { length (lent chain.now) ≤ 8 }
+    ensures { IfOk result (λ fate. fate_in waiting.now (becomes fate)
+        ≡ waits (record waiting.now { held = lent chain.now; wanted = asked_at waiting.now.wanted name })) }
+{
+    let own = waiting.wanted();
+    let wanted = Question {
+        name,
+        kind: own.kind,
+        class: own.class,
+    };
+    let aliases = copies(alloc, chain)?;
+    Ok(Fate::SentOn(SentOn { aliases, wanted }))
+}
+
+/// The fate of a question whose look-up missed at this name, to which the aliases of this chain
+/// lead, at most 8. It waits on for the name, or gets its reply where no route serves the name.
+fn misses<A: Allocator + Copy>(
     alloc: A,
     config: &Config<A>,
     moment: u64,
@@ -122,19 +141,13 @@ fn waits_on<A: Allocator + Copy>(
           wanted = asked_at waiting.now.wanted name;
           met = missed;
           used = [];
-        }) (route_of config.now name)) }
+        }) (serving_route_of config.now name)) }
 {
-    if config.serving_route_of(&name).is_none() {
-        return ends_without_server(alloc, config, moment, waiting, chain, &name);
+    match config.routing(&name) {
+        Routing::Served(_) => waits_on(alloc, waiting, chain, name),
+        Routing::Denied => denies(alloc, waiting, chain, moment),
+        Routing::None => fails(alloc, waiting, Why::NoRoute),
     }
-    let own = waiting.wanted();
-    let wanted = Question {
-        name,
-        kind: own.kind,
-        class: own.class,
-    };
-    let aliases = copies(alloc, chain)?;
-    Ok(Fate::SentOn(SentOn { aliases, wanted }))
 }
 
 /// The name at which a look-up missed that began at this one.
@@ -151,7 +164,8 @@ fn missed_name<A: Allocator + Copy>(
     }
 }
 
-/// What becomes of a question whose look-up went on behind its own aliases and those of the reply, and came to this.
+/// The fate of a question by this look-up, which went on after its own aliases and those of the
+/// reply. `Err` where memory ran out.
 pub(crate) fn fate_of<A: Allocator + Copy>(
     alloc: A,
     config: &Config<A>,
@@ -177,7 +191,7 @@ pub(crate) fn fate_of<A: Allocator + Copy>(
         LookUpEnd::TooLong => fails(alloc, waiting, Why::ChainLong),
         LookUpEnd::Missed => {
             let name = missed_name(alloc, looked, lead.name)?;
-            waits_on(alloc, config, moment, waiting, &chain, name)
+            misses(alloc, config, moment, waiting, &chain, name)
         }
     }
 }

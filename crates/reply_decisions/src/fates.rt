@@ -1,4 +1,4 @@
-//! What becomes of all questions that waited for one reply.
+//! The fates of all questions that waited for one reply.
 
 ghost use Rattle.std.specs.Prelude.{◌≡◌, ◌++◌, ◌+◌, ◌≤◌, ◌∷◌, ℕ, List, [], length, map, IfOk, MatchOption, None, Some};
 ghost use Rattle.record_cache.specs.Values.{Held as HeldValue};
@@ -18,15 +18,16 @@ use crate::fate::{AliasLead, Fate, fails, fate_of, unless_sent};
 use crate::looking_on::look_on;
 use alias_chains::{LookUp, SlotsRef, slot_for_look_ups};
 use dns_message::Question;
-use record_cache::{Cache, Held};
+use record_cache::Held;
 use std::alloc::{AllocError, Allocator, Global};
 use std::hash::BuildHasher;
 use std::marker::Model;
+use step_actions::TurnRef;
 use step_values::{Action, Actions, Why};
-use suffix_routes::Config;
 use waiting_questions::{SentOn, Waiting, WaitingFor};
 
-/// What becomes of questions, in the order in which they were taken, and the entries that their look-ups used.
+/// The fates of questions, in the order in which they were taken, and the entries that their
+/// look-ups used.
 #[derive(Drop)]
 pub struct Fates<'a, A: Allocator = Global> {
     each: Vec<Fate<A>, A>,
@@ -43,97 +44,90 @@ impl<'a, A: Allocator> Model for Fates<'a, A> {
     ghost view = { λ f. record { each = map becomes f.each.items; used = lent f.used.items } };
 }
 
-/// What becomes of the questions that waited for a reply which leads on: each looks on at the name that it leads to, in
-/// the cache as it is, question by question, at this moment in milliseconds. `Err` where memory ran out.
+/// The fates of the questions that waited for a reply which leads on: each is looked up at the name
+/// that it leads to, in the cache as the step finds it, one after another. `Err` where memory ran
+/// out.
 pub fn fates_behind<'a, H: BuildHasher + Drop, A: Allocator + Copy>(
-    alloc: A,
-    cache: &'a Cache<H, A>,
-    config: &Config<A>,
-    moment: u64,
+    turn: &TurnRef<'a, H, A>,
     lead: &AliasLead<'_, A>,
     those: &WaitingFor<'_, A>,
 ) -> Result<Fates<'a, A>, AllocError>
-    requires entries { AllByRecursion (IsEarlier moment) cache.now.entries }
-    requires aliases { AllByRecursion (IsEarlier moment) lead.now.aliases.now }
-    requires own { AllByRecursion (λ x. AllByRecursion (IsEarlier moment) x.held) those.now }
+    requires aliases { AllByRecursion (IsEarlier turn.now.moment) lead.now.aliases.now }
+    requires own { AllByRecursion (λ x. AllByRecursion (IsEarlier turn.now.moment) x.held) those.now }
     ensures fates { IfOk result (λ f. fates_in those.now f.each
-        ≡ map (fate_behind config.now moment cache.now.entries lead.now.aliases.now lead.now.name.now) those.now) }
+        ≡ map (fate_behind turn.now.config turn.now.moment turn.now.state.cache.entries lead.now.aliases.now
+        lead.now.name.now) those.now) }
     ensures count { IfOk result (λ f. length f.each ≡ length those.now) }
     ensures used { IfOk result (λ f. map (λ h. h.piece.slot) f.used
-        ≡ flat_map (λ x. (looked_behind config.now moment cache.now.entries lead.now.aliases.now lead.now.name.now
-        x).used) those.now) }
+        ≡ flat_map (λ x. (looked_behind turn.now.config turn.now.moment turn.now.state.cache.entries
+        lead.now.aliases.now lead.now.name.now x).used) those.now) }
 {
     let mut fates = Fates {
-        each: Vec::with_capacity(alloc, those.len())?,
-        used: Vec::new(alloc),
+        each: Vec::with_capacity(turn.alloc, those.len())?,
+        used: Vec::new(turn.alloc),
     };
     for place in 0..those.len() {
-        fates.add(alloc, cache, config, moment, lead, those.get(place))?;
+        fates.add(turn, lead, those.get(place))?;
     }
     Ok(fates)
 }
 
 impl<'a, A: Allocator + Copy> Fates<'a, A> {
-    /// Puts last what becomes of one question more by its look-up, and the entries that this used.
-    fn put_looked(
+    /// Puts the fate of one more question last, by its look-up, and the entries that this used.
+    fn put_looked<H: BuildHasher + Drop>(
         &mut self,
-        alloc: A,
-        config: &Config<A>,
-        moment: u64,
+        turn: &TurnRef<'a, H, A>,
         lead: &AliasLead<'_, A>,
         waiting: &Waiting<A>,
         looked: &LookUp<'a, '_, A>,
     ) -> Result<(), AllocError>
-        requires own { AllByRecursion (IsEarlier moment) waiting.now.held }
-        requires aliases { AllByRecursion (IsEarlier moment) lead.now.aliases.now }
-        requires used { AllByRecursion (IsEarlier moment) looked.now.used }
+        requires own { AllByRecursion (IsEarlier turn.now.moment) waiting.now.held }
+        requires aliases { AllByRecursion (IsEarlier turn.now.moment) lead.now.aliases.now }
+        requires used { AllByRecursion (IsEarlier turn.now.moment) looked.now.used }
         requires few { looked.now.met ≡ LookUpEnd.Missed
             → length ((waiting.now.held ++ lead.now.aliases.now) ++ looked.now.used) ≤ 8 }
         ensures fate { (entries : List HeldValue) → (more : ℕ)
             → more + length (waiting.now.held ++ lead.now.aliases.now) ≡ 8
-            → looked.now ≡ seen_of (look_up config.now.routes moment entries more []
+            → looked.now ≡ seen_of (look_up turn.now.config.routes turn.now.moment entries more []
             (asked_at waiting.now.wanted lead.now.name.now))
-            → IfOk result (λ _. OneMore (fate_behind config.now moment entries lead.now.aliases.now lead.now.name.now)
-            waiting.now self.old.each self.new.each) }
+            → IfOk result (λ _. OneMore (fate_behind turn.now.config turn.now.moment entries lead.now.aliases.now
+            lead.now.name.now) waiting.now self.old.each self.new.each) }
         ensures used { IfOk result (λ _. self.new.used ≡ self.old.used ++ looked.now.used) }
     {
         self.used.extend_from_slice(looked.used())?;
-        let fate = fate_of(alloc, config, moment, lead, waiting, looked)?;
+        let fate = fate_of(turn.alloc, turn.config, turn.moment, lead, waiting, looked)?;
         self.put(fate)
     }
 
-    /// Looks on for one question more, and puts last what becomes of it.
+    /// Looks one more question up, and puts its fate last.
     fn add<H: BuildHasher + Drop>(
         &mut self,
-        alloc: A,
-        cache: &'a Cache<H, A>,
-        config: &Config<A>,
-        moment: u64,
+        turn: &TurnRef<'a, H, A>,
         lead: &AliasLead<'_, A>,
         waiting: &Waiting<A>,
     ) -> Result<(), AllocError>
-        requires entries { AllByRecursion (IsEarlier moment) cache.now.entries }
-        requires aliases { AllByRecursion (IsEarlier moment) lead.now.aliases.now }
-        requires own { AllByRecursion (IsEarlier moment) waiting.now.held }
-        ensures fate { IfOk result (λ _. OneMore
-            (fate_behind config.now moment cache.now.entries lead.now.aliases.now lead.now.name.now) waiting.now
-            self.old.each self.new.each) }
+        requires aliases { AllByRecursion (IsEarlier turn.now.moment) lead.now.aliases.now }
+        requires own { AllByRecursion (IsEarlier turn.now.moment) waiting.now.held }
+        ensures fate { IfOk result (λ _. OneMore (fate_behind turn.now.config turn.now.moment
+            turn.now.state.cache.entries lead.now.aliases.now lead.now.name.now) waiting.now self.old.each
+            self.new.each) }
         ensures used { IfOk result (λ _. map (λ h. h.piece.slot) self.new.used
             ≡ map (λ h. h.piece.slot) self.old.used
-            ++ (looked_behind config.now moment cache.now.entries lead.now.aliases.now lead.now.name.now
-            waiting.now).used) }
+            ++ (looked_behind turn.now.config turn.now.moment turn.now.state.cache.entries lead.now.aliases.now
+            lead.now.name.now waiting.now).used) }
     {
+        let alloc = turn.alloc;
         let mut slot = slot_for_look_ups();
-        match look_on(alloc, cache, &mut slot, config, moment, lead, waiting)? {
+        match look_on(turn, &mut slot, lead, waiting)? {
             None => {
                 let fate = fails(alloc, waiting, Why::ChainLong)?;
                 self.put(fate)
             }
-            Some(looked) => self.put_looked(alloc, config, moment, lead, waiting, &looked),
+            Some(looked) => self.put_looked(turn, lead, waiting, &looked),
         }
     }
 
-    /// Puts last what becomes of one question more.
+    /// Puts the fate of one more question last.
     fn put(&mut self, fate: Fate<A>) -> Result<(), AllocError>
         ensures each { IfOk result (λ _. self.new.each ≡ self.old.each ++ becomes fate ∷ []) }
         ensures used { self.new.used ≡ self.old.used }
@@ -142,8 +136,8 @@ impl<'a, A: Allocator + Copy> Fates<'a, A> {
         Ok(())
     }
 
-    /// What the first of those that are sent on wants to know, which all of them want; `None` exactly where none is
-    /// sent on. It takes no memory.
+    /// The question that the first of those that are sent on wants, and so all of them; `None`
+    /// exactly where none is sent on. It does not allocate.
     pub fn wanted(&self) -> Option<&Question<A>>
         ensures { MatchOption result (first_wanted self.now.each ≡ None) (λ q. first_wanted self.now.each
             ≡ Some q.now) }
@@ -156,7 +150,8 @@ impl<'a, A: Allocator + Copy> Fates<'a, A> {
         None
     }
 
-    /// The same, where those that would be sent on fail, since no port is free for an ask. `Err` where memory ran out.
+    /// The same, where those that would be sent on fail, since no port is free for an ask. `Err`
+    /// where memory ran out.
     pub fn without_port(
         self,
         alloc: A,
@@ -177,8 +172,8 @@ impl<'a, A: Allocator + Copy> Fates<'a, A> {
         Ok(Fates { each: told, used })
     }
 
-    /// Puts the replies last, and gives what each question is sent on with, if it is, and the slots that look-ups used,
-    /// in order. `Err` where memory ran out.
+    /// Puts the replies last. Returns, in order, the aliases and the wanted question of each that
+    /// is sent on, and the slots that look-ups used. `Err` where memory ran out.
     pub fn into_parts<'s>(
         self,
         alloc: A,

@@ -1,5 +1,5 @@
-//! What a message of a server, the failure of a path and the passing of time call for: answers, another ask, or an end.
-//! Nothing is changed.
+//! The decisions on a message of a server, on the failure of a path and on the passing of time:
+//! answers, another ask, or an end. Nothing is changed.
 #![tactic(auto)]
 
 mod attempt;

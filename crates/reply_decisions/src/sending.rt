@@ -1,6 +1,14 @@
-//! What a reply calls for whose aliases lead on to a name that it does not answer, or that is on another route.
+//! The decision on a reply whose aliases lead on to a name that it does not answer, or that is of
+//! another route. `send_on`, the last in this file, is called by `delivery::on_message`:
+//!
+//! 1. `send_on` makes the pieces ready for the cache, and `fates::fates_behind` looks each waiting
+//!    question up at that name: each gets its reply, or waits on.
+//! 2. `ask_for_those`: no ask where nobody waits on or `is_asked_beside` finds one; otherwise
+//!    `first_ask_then`, to the server of `preferred_then`. Without a port those fail.
+//! 3. `close_and_send_on` closes the answered ask, puts the replies, and calls `put_next` for the
+//!    next ask.
 
-ghost use Rattle.std.specs.Prelude.{◌≡◌, ◌^◌, ◌<◌, ◌≤◌, ◌++◌, List, Bool, true, filter, is_some, length, map, IfOk};
+ghost use Rattle.std.specs.Prelude.{◌≡◌, ◌^◌, ◌<◌, ◌≤◌, ◌++◌, List, Bool, filter, is_some, length, map, IfOk};
 ghost use Rattle.std.specs.List.{AllByRecursion};
 ghost use Rattle.outstanding.specs.Lists.{on_path as ask_on, of_question, without_path};
 ghost use Rattle.waiting_questions.specs.Values.{Waiting, waits_for};
@@ -13,14 +21,16 @@ ghost use Rattle.step_actions.specs.Decision.{MeetsRow, IfFollows, IsRouted, IsS
 ghost use Rattle.alias_chains.specs.Offering.{pieces_of};
 ghost use Rattle.reply_decisions.specs.Fates.{fates_in, onward_in, Become};
 ghost use Rattle.reply_decisions.specs.Sending.{ask_for, asked_for, closing_state, fates_then};
-ghost use Rattle.reply_decisions.specs.Walked.{leads_on, IsWalkFor};
+ghost use Rattle.reply_decisions.specs.Walked.{walk_on, IsWalkFor};
 ghost use Rattle.step_table.specs.State.{turn, from_state};
 
 use crate::fate::AliasLead;
 use crate::fates::{Fates, fates_behind};
 use alias_chains::held_from;
 use dns_message::Question;
+use dns_name::Name;
 use outstanding::{Ask, KeyedAsk, Path, QuestionKey, draw};
+use plain_list::PlainList;
 use record_cache::Held;
 use std::alloc::{AllocError, Allocator};
 use std::hash::BuildHasher;
@@ -29,11 +39,11 @@ use step_actions::{
     freed_port, new_ask,
 };
 use step_values::Actions;
-use suffix_routes::RouteId;
-use trust_rank::{End, Walk};
+use suffix_routes::{RouteId, Routing};
+use trust_rank::Piece;
 use waiting_questions::WaitingFor;
 
-/// The ask goes out last, where there is one.
+/// Puts the ask last, if any.
 fn put_next<A: Allocator + Copy>(
     alloc: A,
     actions: &mut Actions<A>,
@@ -67,8 +77,8 @@ fn preferred_then<'a, H: BuildHasher + Drop, A: Allocator + Copy>(
     }
 }
 
-/// The first ask for a question once this ask is answered, whose port counts as free; `None` where its name has
-/// no route, or no port is free.
+/// The first ask for a question once this ask is answered, whose port counts as free. `None` where
+/// no route serves its name, or no port is free. `Err` where memory ran out.
 fn first_ask_then<'a, H: BuildHasher + Drop, A: Allocator + Copy>(
     turn: &TurnRef<'a, H, A>,
     answered: &KeyedAsk<A>,
@@ -78,7 +88,7 @@ fn first_ask_then<'a, H: BuildHasher + Drop, A: Allocator + Copy>(
     ensures { IfOk result (λ ask. ask ≡ first_ask_for (from_state
         (closing_state answered.now turn.now.state) turn.now) question.now) }
 {
-    let Some(route) = turn.config.serving_route_of(&question.name) else {
+    let Routing::Served(route) = turn.config.routing(&question.name) else {
         return Ok(None);
     };
     let attempt = Attempt {
@@ -98,7 +108,7 @@ fn first_ask_then<'a, H: BuildHasher + Drop, A: Allocator + Copy>(
     )
 }
 
-/// An ask of the question is listed beside the one that is answered.
+/// Whether another ask of the question is listed than the one that is answered.
 fn is_asked_beside<'a, H: BuildHasher + Drop, A: Allocator + Copy>(
     turn: &TurnRef<'a, H, A>,
     question: &Question<A>,
@@ -115,8 +125,8 @@ fn is_asked_beside<'a, H: BuildHasher + Drop, A: Allocator + Copy>(
     }
 }
 
-/// The ask for what those that are sent on want to know, where none is listed. Where no port is free for it, they
-/// fail.
+/// The ask for the question of those that are sent on, if none is listed. Where no port is free for
+/// it, they fail.
 fn ask_for_those<'a, H: BuildHasher + Drop, A: Allocator + Copy>(
     turn: &TurnRef<'a, H, A>,
     answered: &KeyedAsk<A>,
@@ -146,7 +156,7 @@ fn ask_for_those<'a, H: BuildHasher + Drop, A: Allocator + Copy>(
     }
 }
 
-/// The ask is closed, replies are given, and the next ask goes out.
+/// Closes the ask, gives the replies, and sends the next ask.
 fn close_and_send_on<'a, 's, H: BuildHasher + Drop, A: Allocator + Copy>(
     turn: &TurnRef<'a, H, A>,
     answered: &KeyedAsk<A>,
@@ -192,26 +202,21 @@ fn close_and_send_on<'a, 's, H: BuildHasher + Drop, A: Allocator + Copy>(
     })
 }
 
-/// A reply is accepted that leads on to a name: each question that waits for it looks on there, and gets its
-/// reply or waits on; what the reply carries is kept.
+/// Accepts a reply with these pieces that leads on to a name. Each question that waits for it is
+/// looked up there, and gets its reply or waits on. The pieces are kept. `Err` where memory ran
+/// out.
 pub(crate) fn send_on<'a, 's, H: BuildHasher + Drop, A: Allocator + Copy>(
     turn: &TurnRef<'a, H, A>,
     answered: &KeyedAsk<A>,
-    walk: Walk<A>,
+    pieces: PlainList<Piece<A>, A>,
+    authority: PlainList<Piece<A>, A>,
+    name: Name<A>,
 ) -> Result<Decision<'a, 's, A>, AllocError>
     requires on { ask_on answered.now.path turn.now.state.asks ≡ Some answered.now }
-    requires leads { leads_on walk.end ≡ true }
-    requires carried { IsWalkFor turn.now.config answered.now walk }
-    ensures decides { IfOk result (MeetsRow turn.now (λ rooms. row_of_acceptance turn.now rooms answered.now walk)) }
+    requires carried { IsWalkFor turn.now.config answered.now (walk_on pieces authority name) }
+    ensures decides { IfOk result (MeetsRow turn.now (λ rooms. row_of_acceptance turn.now rooms answered.now
+        (walk_on pieces authority name))) }
 {
-    let Walk {
-        pieces,
-        authority,
-        end,
-    } = walk;
-    let End::Elsewhere(name) = end else {
-        unreachable!();
-    };
     let walked = pieces.as_slice().len();
     let held = held_from(turn.alloc, pieces, authority, turn.moment)?;
     let those = turn.waiting.for_ask(answered);
@@ -219,14 +224,7 @@ pub(crate) fn send_on<'a, 's, H: BuildHasher + Drop, A: Allocator + Copy>(
         aliases: &held[..walked],
         name: &name,
     };
-    let fates = fates_behind(
-        turn.alloc,
-        turn.cache,
-        turn.config,
-        turn.moment,
-        &lead,
-        &those,
-    )?;
+    let fates = fates_behind(turn, &lead, &those)?;
     let (fates, next) = ask_for_those(turn, answered, fates, &those)?;
     close_and_send_on(turn, answered, fates, next, held)
 }

@@ -1,9 +1,9 @@
-//! What the passing of time calls for: the oldest question or the oldest ask is served, where it is due.
+//! The decision on the passing of time: the oldest question or the oldest ask, if it is due.
 
 ghost use Rattle.std.specs.Prelude.{◌≡◌, Bool, List, ◌^◌, ◌≤◌, false, IfOk, Some, drop, slice_get};
 ghost use Rattle.step_table.specs.Row.{is_due_at};
 ghost use Rattle.step_table.specs.Ticks.{attempt, question, expiry_step, left_alone, row_of_item, row_of_tick};
-ghost use Rattle.step_actions.specs.Decision.{closed_path, IsQuiet, MeetsRow};
+ghost use Rattle.step_actions.specs.Decision.{closed_path, IsQuiet, MeetsStep};
 ghost use Rattle.step_table.specs.State.{turn};
 
 use crate::attempt::fail;
@@ -35,13 +35,14 @@ fn left_alone<'a, H: BuildHasher + Drop, A: Allocator + Copy>(
     }
 }
 
-/// The oldest question has waited as long as it may. With the last one that waits for it, an ask is closed.
+/// Decides that the oldest question has waited as long as it may. Its ask is closed if no other
+/// question waits for it.
 fn expire<'a, 's, H: BuildHasher + Drop, A: Allocator + Copy>(
     turn: &TurnRef<'a, H, A>,
     oldest: &Waiting<A>,
 ) -> Result<Decision<'a, 's, A>, AllocError>
     requires { slice_get turn.now.state.waiting 0 ≡ Some oldest.now }
-    ensures decides { IfOk result (MeetsRow turn.now (λ _. expiry_step turn.now.moment oldest.now
+    ensures decides { IfOk result (MeetsStep turn.now (expiry_step turn.now.moment oldest.now
         (drop 1 turn.now.state.waiting) (left_alone oldest.now.wanted
         (drop 1 turn.now.state.waiting) turn.now.state.asks) turn.now.state)) }
 {
@@ -52,13 +53,13 @@ fn expire<'a, 's, H: BuildHasher + Drop, A: Allocator + Copy>(
     Ok(Decision::without_cache(turn.alloc, actions, Change::Expire(closed)))
 }
 
-/// The oldest question comes first.
+/// Decides on the oldest question: `expire` where it is overdue, otherwise nothing.
 fn on_question<'a, 's, H: BuildHasher + Drop, A: Allocator + Copy>(
     turn: &TurnRef<'a, H, A>,
     oldest: &Waiting<A>,
 ) -> Result<Decision<'a, 's, A>, AllocError>
     requires { slice_get turn.now.state.waiting 0 ≡ Some oldest.now }
-    ensures decides { IfOk result (MeetsRow turn.now (λ _. row_of_item turn.now
+    ensures decides { IfOk result (MeetsStep turn.now (row_of_item turn.now
         (question oldest.now (drop 1 turn.now.state.waiting)))) }
     ensures early { is_due_at turn.now.config turn.now.moment turn.now.state ≡ false → IsQuiet result }
 {
@@ -68,13 +69,13 @@ fn on_question<'a, 's, H: BuildHasher + Drop, A: Allocator + Copy>(
     expire(turn, oldest)
 }
 
-/// The oldest ask comes first.
+/// Decides on the oldest ask: it fails where its reply is late, otherwise nothing.
 fn on_attempt<'a, 's, H: BuildHasher + Drop, A: Allocator + Copy>(
     turn: &TurnRef<'a, H, A>,
     oldest: &KeyedAsk<A>,
 ) -> Result<Decision<'a, 's, A>, AllocError>
     requires first { slice_get turn.now.state.asks 0 ≡ Some oldest.now }
-    ensures decides { IfOk result (MeetsRow turn.now (λ _. row_of_item turn.now (attempt oldest.now))) }
+    ensures decides { IfOk result (MeetsStep turn.now (row_of_item turn.now (attempt oldest.now))) }
     ensures early { is_due_at turn.now.config turn.now.moment turn.now.state ≡ false → IsQuiet result }
 {
     let ask = oldest.ask();
@@ -84,11 +85,12 @@ fn on_attempt<'a, 's, H: BuildHasher + Drop, A: Allocator + Copy>(
     fail(turn, ask.path, oldest, Failure::TimedOut)
 }
 
-/// Time has passed.
+/// Decides that time has passed, on the oldest question or the oldest ask, whichever is due first.
+/// `Err` where memory ran out.
 pub fn on_tick<'a, 's, H: BuildHasher + Drop, A: Allocator + Copy>(
     turn: &TurnRef<'a, H, A>,
 ) -> Result<Decision<'a, 's, A>, AllocError>
-    ensures decides { IfOk result (MeetsRow turn.now (λ _. row_of_tick turn.now)) }
+    ensures decides { IfOk result (MeetsStep turn.now (row_of_tick turn.now)) }
     ensures early { is_due_at turn.now.config turn.now.moment turn.now.state ≡ false → IsQuiet result }
 {
     match (turn.waiting.first(), turn.inquiries.oldest()) {

@@ -1,4 +1,4 @@
--- What the proofs of crates above cite of verdicts.
+-- Lemmas about verdicts that the proofs of crates above cite.
 use Rattle.std.proofs.Common.{◌≡◌, ℕ, List}
 use Rattle.std.specs.Prelude.{Err}
 use Rattle.dns_message.specs.Fault.{Fault}

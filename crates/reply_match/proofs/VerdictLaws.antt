@@ -1,4 +1,4 @@
--- What a look at the octets tells of a verdict.
+-- The verdict by the parts of the octets.
 use Rattle.std.proofs.Common.{◌≡◌, ℕ, List, Bool, true, false, cond, refl, sym, ap, ◌∙◌, subst, Option, None}
 use Rattle.std.specs.Prelude.{◌==◌, ◌||◌, IsOk, Result, Ok, Err, slice_index}
 use Rattle.std.proofs.lemmas.Bool.{and_right, cond-true, cond-false, eq-eqb}
@@ -63,7 +63,7 @@ malformed_told octets none = by (message_of octets) refl
     by (Ok m) e = absurd (none (m, message_read_is_spelled octets m e))
     by (Err fault) e = refl
 
--- ---- which verdict tells what
+-- ---- the meaning of each verdict
 
 judged_whole-stranger : (r : Result Message Fault) → judged_whole r ≡ Stranger → ⊥
 judged_whole-stranger (Ok m) e = absurd (cc)

@@ -1,4 +1,4 @@
--- What the verdicts are good for, as statements.
+-- Statements about the verdicts.
 use Rattle.std.specs.Prelude.{◌≡◌, ◌↔◌, ℕ, false, List, IsOk}
 use Rattle.dns_message.specs.Messages.{first_question, message_of}
 use Rattle.suffix_routes.specs.declared.peer.Peer.{Peer}

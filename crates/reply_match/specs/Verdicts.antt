@@ -1,4 +1,4 @@
--- What a delivery is to an ask.
+-- The verdict on a delivery as the reply to an ask.
 use Rattle.std.specs.Prelude.{ℕ, Bool, if◌then◌else◌, ◌==◌, ◌&&◌, ◌||◌, nat_le, List, length, Result, Ok, Err}
 use Rattle.dns_message.specs.Fault.{Fault}
 use Rattle.dns_message.specs.Values.{Message}
@@ -23,11 +23,13 @@ is_reply ask from octets =
 abbrev pub matches : Ask → Peer → List ℕ → Bool
 matches ask from octets = is_reply ask from octets && asks_this ask.question (one_question octets)
 
+-- the verdict on octets that match, by whether they can be read whole
 abbrev pub judged_whole : Result Message Fault → Verdict
 judged_whole (Ok message) = Whole
 judged_whole (Err fault) = Malformed
 
--- the first that holds: no match, TC set, an RCODE that is neither NOERROR nor NXDOMAIN, not to be read whole
+-- the first that holds: no match, TC set, an RCODE that is neither NOERROR nor NXDOMAIN, not to be
+-- read whole
 abbrev pub judge : Ask → Peer → List ℕ → Verdict
 judge ask from octets =
     if matches ask from octets

@@ -1,4 +1,4 @@
-//! What octets are to an ask. They are judged where they lie, and nothing here takes memory.
+//! Judges octets as the reply to an ask, where they lie. Nothing here allocates.
 
 ghost use Rattle.std.specs.Prelude.{◌≡◌, true, false, MatchOption};
 ghost use Rattle.dns_message.specs.Header.{header_in};
@@ -15,9 +15,9 @@ use outstanding::Ask;
 use std::alloc::Allocator;
 use suffix_routes::Peer;
 
-/// What octets that came from a peer are to an ask, the first that holds of the verdicts in their order; an RCODE of
-/// neither 0 nor 3 is told before a message that cannot be read whole. A whole one comes with its view. It takes no
-/// memory. Whether the ask is still under way is not looked at.
+/// Judges octets from a peer as the reply to an ask: the first verdict that holds, in their order.
+/// An RCODE other than 0 and 3 comes before a message that can't be read whole. A whole message
+/// comes with its view. It does not allocate, and does not look whether the ask is still open.
 pub fn judge<'a, A: Allocator>(ask: &Ask<A>, from: Peer, bytes: &'a [u8]) -> Judged<'a>
     ensures verdict { verdict_of result ≡ judge ask.now from bytes.now }
     ensures view { IsViewOf bytes.now result }
@@ -40,8 +40,8 @@ pub fn judge<'a, A: Allocator>(ask: &Ask<A>, from: Peer, bytes: &'a [u8]) -> Jud
     whole_verdict(message)
 }
 
-/// The header of a reply to a standard query that has the ask's identifier and comes from its server. What is none is
-/// told before its question is read.
+/// The header of a reply to a standard query that has the ask's identifier and comes from its
+/// server. Anything else is a stranger's before its question is read.
 #[tactic(auto, unfolding(dns_message::specs::Header::header_of))]
 fn reply_header<A: Allocator>(ask: &Ask<A>, from: Peer, bytes: &[u8]) -> Option<Header>
     ensures { MatchOption result (is_reply ask.now from bytes.now ≡ false)
@@ -77,7 +77,7 @@ fn asks_only<A: Allocator>(
     header.counts[0] == 1 && message.question_is(question)
 }
 
-/// What a message is that is neither truncated nor a failure.
+/// The verdict on a message that is neither truncated nor a failure.
 fn whole_verdict(message: MessageRef<'_>) -> Judged<'_>
     ensures verdict { verdict_of result ≡ judged_whole (message_of message.entry) }
     ensures view { IsViewOf message.entry result }

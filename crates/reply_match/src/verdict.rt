@@ -1,16 +1,17 @@
-//! What octets are to an ask.
+//! Verdicts on octets as the reply to an ask.
 
 ghost use Rattle.std.specs.Prelude.{◌≡◌};
 ghost use Rattle.reply_match.specs.Judged.{verdict_of};
 
 use dns_message::MessageRef;
 
-/// What octets are to an ask, the first that holds.
+/// The verdict on octets as the reply to an ask: the first that holds.
 #[derive(Clone, Copy, Debug, PartialEq, Eq)]
 pub enum Verdict {
-    /// No reply to the ask (RFC 5452 9.1): under 12 or over 65,535 octets, QR clear, an opcode other than 0, another
-    /// identifier, another source address or port than those of the asked server, a QDCOUNT other than 1, or a question
-    /// that cannot be read or is not equal to that of the ask.
+    /// No reply to the ask (RFC 5452 9.1): under 12 or over 65,535 octets, QR clear, an opcode
+    /// other than 0, another identifier, another source address or port than those of the asked
+    /// server, a QDCOUNT other than 1, or a question that cannot be read or is not equal to that of
+    /// the ask.
     Stranger,
     /// TC is set: the server had more to say (RFC 1035 4.1.1).
     Truncated,
@@ -38,7 +39,7 @@ pub enum Judged<'a> {
 }
 
 impl Judged<'_> {
-    /// The verdict alone. It takes no memory.
+    /// The verdict alone. It does not allocate.
     pub fn verdict(&self) -> Verdict
         ensures { result ≡ verdict_of self.now }
     {

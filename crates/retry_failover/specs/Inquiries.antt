@@ -22,11 +22,12 @@ made plan (AskUdp server) = Some (record plan { used = plan.used + 1; server = s
 made plan (AskTcp server) = Some (record plan { used = plan.used + 1; server = server; tcp = true })
 made plan GiveUp = None
 
+-- the ask of a plan: its server, and whether it goes over TCP
 abbrev pub ask_of : Plan → Ask
 ask_of plan = record { server = plan.server; tcp = plan.tcp }
 
--- this ask and those that follow it where the asks fail so, one after the other; failures after the last ask are none
--- of its
+-- this ask and those that follow it where the asks fail so, one after the other; failures after the
+-- last ask are none of its
 abbrev pub asks_from : Plan → List Failure → List Ask
 asks_from plan [] = ask_of plan ∷ []
 asks_from plan (failure ∷ failures) =

@@ -1,4 +1,4 @@
--- What the table is for, as statements.
+-- Statements about the table.
 use Rattle.std.specs.Prelude.{◌≡◌, ℕ, ◌+◌, ◌%◌, ◌<◌, ◌≤◌, Bool, true, false, List, [], ◌∷◌, length, min, ◌⊎◌}
 use Rattle.std.specs.Prelude.{if◌then◌else◌}
 use Rattle.retry_failover.specs.declared.Failure.{Failure}
@@ -10,7 +10,8 @@ AsksAreCounted =
     (servers tries preferred : ℕ) (failures : List Failure) → 1 ≤ tries
     → length (asks_from (begun servers tries preferred) failures) ≡ min tries (length failures + 1)
 
--- What follows an ask that failed: after a truncated reply over UDP the same server over TCP, else the next by UDP.
+-- The ask after a failed one: after a truncated reply over UDP the same server over TCP, otherwise
+-- the next server by UDP.
 abbrev pub Turns : ℕ → Bool → Ask → Ask → Type 0
 Turns servers true ask later = (later.tcp ≡ true) × (later.server ≡ ask.server)
 Turns servers false ask later = (later.tcp ≡ false) × (later.server ≡ (ask.server + 1) % servers)
@@ -21,6 +22,7 @@ AllTurn servers (ask ∷ later ∷ asks) (failure ∷ failures) =
     Turns servers (is_cut ask.tcp failure) ask later × AllTurn servers (later ∷ asks) failures
 AllTurn servers asks failures = Unit {0}
 
+-- each failed ask is followed by the next server, or by TCP to the same one after a truncated reply
 abbrev pub AsksTakeTurns : Type 0
 AsksTakeTurns =
     (servers tries preferred : ℕ) (failures : List Failure)
@@ -31,11 +33,13 @@ abbrev pub others_met : List Ask → List Failure → ℕ
 others_met (ask ∷ asks) (failure ∷ failures) = (if is_cut ask.tcp failure then 0 else 1) + others_met asks failures
 others_met asks failures = 0
 
+-- the server is asked by one of these asks
 abbrev pub IsAsked : ℕ → List Ask → Type 0
 IsAsked server [] = ⊥
 IsAsked server (ask ∷ asks) = (ask.server ≡ server) ⊎ IsAsked server asks
 
--- Where tries are left for all failures, n servers have all been asked after n - 1 failures of other kinds.
+-- Where tries are left for all failures, n servers have all been asked after n - 1 failures of
+-- other kinds.
 abbrev pub EveryServerIsAsked : Type 0
 EveryServerIsAsked =
     (servers tries preferred : ℕ) (failures : List Failure) → preferred < servers → length failures < tries

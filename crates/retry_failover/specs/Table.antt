@@ -1,4 +1,4 @@
--- What follows a failure, as a table.
+-- The next step after a failure, as a table.
 use Rattle.std.specs.Prelude.{ℕ, ◌+◌, ◌%◌, Bool, true, false, ◌==◌}
 use Rattle.retry_failover.specs.declared.Plan.{Plan}
 use Rattle.retry_failover.specs.declared.Failure.{Failure}
@@ -16,5 +16,6 @@ row true tcp failure plan = GiveUp
 row false false Truncated plan = AskTcp plan.server
 row false tcp failure plan = AskUdp (next_server plan)
 
+-- what follows a failed ask
 abbrev pub after_failure : Plan → Failure → Next
 after_failure plan failure = row (plan.used == plan.tries) plan.tcp failure plan

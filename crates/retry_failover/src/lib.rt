@@ -1,8 +1,9 @@
-//! What follows an ask that failed: another ask of the same group of servers, or none.
+//! The next step after an ask that failed: another ask of the same group of servers, or none.
 //!
-//! A question goes to one server at a time. The first ask goes by UDP to the server that the group prefers. A reply
-//! with TC set is asked for again over TCP, at the same server (RFC 2181 9, RFC 7766 5); after any other failure the
-//! next server of the group is asked by UDP, round from the last to the first. Each ask uses up one try.
+//! A question goes to one server at a time. The first ask goes by UDP to the server that the group
+//! prefers. A reply with TC set is asked for again over TCP, at the same server (RFC 2181 9, RFC
+//! 7766 5); after any other failure the next server of the group is asked by UDP, round from the
+//! last to the first. Each ask uses up one try.
 #![tactic(auto)]
 
 ghost use Rattle.std.specs.Prelude.{◌≡◌, ◌<◌};
@@ -44,7 +45,7 @@ pub enum Failure {
     Lame,
 }
 
-/// What follows a failure. A server is its place in the group, from 0.
+/// The next step after a failure. A server is its place in the group, counted from 0.
 #[derive(Clone, Copy, Debug, PartialEq, Eq)]
 pub enum Next {
     /// Ask this server by UDP.
@@ -55,9 +56,10 @@ pub enum Next {
     GiveUp,
 }
 
-/// What follows the failure of an ask: nothing where all tries are used; else, after a truncated reply over UDP, the
-/// same server over TCP; else the next server of the group by UDP, the first after the last. It takes no memory. The
-/// caller sees to it that the asked server is one of the group.
+/// The next step after the failure of an ask. Nothing where all tries are used; otherwise, after a
+/// truncated reply over UDP, the same server over TCP; otherwise the next server of the group by
+/// UDP, the first after the last. It does not allocate. The caller makes sure that the asked server
+/// is one of the group.
 pub fn after(plan: &Plan, failure: Failure) -> Next
     requires { plan.now.server < plan.now.servers }
     ensures { result ≡ after_failure plan.now failure }

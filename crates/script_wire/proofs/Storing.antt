@@ -1,4 +1,4 @@
--- A wire in memory stores one thing more of what it tells.
+-- A wire in memory stores one more item of its report.
 use Rattle.std.proofs.Common.{◌≡◌, ◌∙◌, refl, sym, subst, ap, ℕ, ◌+◌, ◌-◌, ◌^◌, ◌<◌, ◌≤◌, inl, inr, arith, List, ◌++◌, Option, Some, None, Bool, true, false}
 use Rattle.std.specs.Prelude.{IfSome, [], ◌∷◌, map, slice_get, nat_lt, cond}
 use Rattle.std.proofs.lemmas.Bool.{ltb-false}
@@ -13,7 +13,7 @@ told_before (Some before) more now is = (before, refl, some_is _ _ is)
     some_is : (s t : Told) → Some s ≡ Some t → t ≡ s
     some_is s t e = cc
 
--- A call that stores what it tells tells just this, whether it counts a fault or not.
+-- A call that stores its report reports just this, whether it counts a fault or not.
 pub tells_stored : (o new : Option Told) (more : Told) (f f' : ℕ) → f ≤ f' → new ≡ told_more o more → TellsMore (telling o f) more (telling new f')
 tells_stored o new more f f' counts is = record {
   tells = λ now now_is. told_before o more now (sym is ∙ now_is);
@@ -37,7 +37,7 @@ never_same : (b : Bool) (f : ℕ) → cond b (f + 1) f ≡ f → nat_lt f (2 ^ 6
 never_same true f same is below = omega (arith, same)
 never_same false f same is below = let least = ltb-false f (2 ^ 64 - 1) is in omega (arith, least, below)
 
--- A call that stores what it tells, or counts a want of memory, tells just this.
+-- A call that stores its report, or counts that memory ran out, reports just this.
 pub tells_if_stores : (old new : Script) (more : Told) → Stores old more new → TellsMore (telling old.told old.faults) more (telling new.told new.faults)
 tells_if_stores old new more (inl is) =
     let same = ap (λ (s : Script). s.faults) is in
@@ -47,12 +47,12 @@ tells_if_stores old new more (inr is) =
     tells_by_none old.told new.told more old.faults new.faults (subst (λ (f : ℕ). old.faults ≤ f) (sym rises) (never_falls (nat_lt old.faults (2 ^ 64 - 1)) old.faults))
     (λ same below. never_same (nat_lt old.faults (2 ^ 64 - 1)) old.faults (sym rises ∙ same) refl below) (ap (λ (s : Script). s.told) is)
 
--- what is stored of the puts is what is told of them
+-- the stored puts are those of the report
 pub shows : (tells : Bool) (a : List (Option Arrival)) (p : List Put) (m : List ℕ) (w : List (List ℕ)) (xs : List Put) (o : Option Told) → stored tells a p m w ≡ o → xs ≡ p → IfSome o (λ (told : Told). xs ≡ told.puts)
 shows true a p m w xs o is same = subst (λ (v : Option Told). IfSome v (λ (told : Told). xs ≡ told.puts)) is same
 shows false a p m w xs o is same = subst (λ (v : Option Told). IfSome v (λ (told : Told). xs ≡ told.puts)) is tt
 
--- where a wire stands before its first turn
+-- the turn of a wire before its first one begins
 pub standing_some : {A : Type 0} (turns : List (ScriptTurn A)) (turn : ScriptTurn A) → slice_get turns 0 ≡ Some turn → standing (map turn_of turns) ≡ turn_of turn
 standing_some [] turn is = absurd (cc)
 standing_some (first ∷ later) turn is = ap turn_of (some_is first turn is)
@@ -64,7 +64,7 @@ pub standing_none : {A : Type 0} (turns : List (ScriptTurn A)) → slice_get tur
 standing_none [] none = refl
 standing_none (first ∷ later) none = absurd (cc)
 
--- a call that is refused changes nothing but the counts and what is told
+-- a call that is refused changes nothing but the counts and the report
 pub counted_so : (value begun_one script : Script) (told : Option Told) → value ≡ calls_once begun_one → begun_one ≡ begun script
     → record { told = told; faults = value.faults + 1; to_come = value.to_come; moment = value.moment; words = value.words; refuse = value.refuse; calls = value.calls } ≡ record (faults_once (calls_once (begun script))) { told = told }
 counted_so value begun_one script told counts begins = rw (counts, begins) refl

@@ -1,4 +1,4 @@
--- A wire in memory: what it stores, and its script.
+-- A wire in memory: the values that it stores, and its script.
 use Rattle.std.specs.Prelude.{◌≡◌, ◌⊎◌, ℕ, ◌+◌, ◌-◌, ◌^◌, ◌==◌, min, Bool, List, [], ◌∷◌, Option, Some, None}
 use Rattle.std.specs.Prelude.{nat_lt, if◌then◌else◌}
 use Rattle.std.specs.Prelude.{drop}
@@ -9,28 +9,30 @@ use Rattle.script_wire.specs.declared.script_wire.ScriptTurn.{ScriptTurn}
 use Rattle.wires.specs.Wire.{Arrival, Put, Told, told_more, arrival_of}
 use Rattle.wires.specs.Wire.Arrival.{nothing}
 
+-- a put of the code as a plain value
 abbrev pub put_of : {A : Type 0} → OwnedAction A × Bool → Put
 put_of p = record { action = action_of p.0; sent = p.1 }
 
--- what is told, unless memory ran out before
+-- the report, unless memory ran out before
 abbrev pub stored : Bool → List (Option Arrival) → List Put → List ℕ → List (List ℕ) → Option Told
 stored tells arrivals puts moments words =
     if tells then Some (record { arrivals = arrivals; puts = puts; moments = moments; words = words }) else None
 
 -- ---- its script
 
--- a turn: what arrives in it, and the moment and the words of each of its steps
+-- a turn: its arrival, and the moment and the words of each of its steps
 pub record Turn : Type 0 where
   pub arrival : Arrival
   pub moment : ℕ
   pub words : List ℕ
 
+-- a turn of the script as a plain value
 abbrev pub turn_of : {A : Type 0} → ScriptTurn A → Turn
 turn_of turn = record { arrival = arrival_of turn.arrival; moment = turn.moment; words = turn.words }
 
--- A wire in memory: what it tells, and how many faults it counted; the turns that have not begun; the moment and the
--- words of the turn that began last, before the first one of that one; the numbers of the calls of `arrival` and `put`
--- that it refuses, and how many such calls there were.
+-- A wire in memory: its report, and how many faults it counted; the turns that have not begun; the
+-- moment and the words of the turn that began last, before the first one of that one; the numbers
+-- of the calls of `arrival` and `put` that it refuses, and how many such calls there were.
 pub record Script : Type 0 where
   pub told : Option Told
   pub faults : ℕ
@@ -44,16 +46,17 @@ pub record Script : Type 0 where
 abbrev pub no_turn : Turn
 no_turn = record { arrival = nothing; moment = 0; words = 0 ∷ 0 ∷ 0 ∷ 0 ∷ 0 ∷ 0 ∷ 0 ∷ 0 ∷ [] }
 
--- the turn in which a wire stands before the first of its turns begins
+-- the turn of a wire before the first of its turns begins
 abbrev pub standing : List Turn → Turn
 standing [] = no_turn
 standing (turn ∷ later) = turn
 
--- the turn that begins next; behind the last one nothing arrives, and the moment and the words stay
+-- the turn that begins next; after the last one nothing arrives, and the moment and the words stay
 abbrev pub next_of : Script → List Turn → Turn
 next_of script [] = record { arrival = nothing; moment = script.moment; words = script.words }
 next_of script (turn ∷ later) = turn
 
+-- the turn that comes next
 abbrev pub next_turn : Script → Turn
 next_turn script = next_of script script.to_come
 
@@ -69,10 +72,11 @@ begun script = record script {
 abbrev pub refuses : Script → Bool
 refuses script = list_any (λ number. number == script.calls) script.refuse
 
--- the script behind one such call more, and behind one fault more
+-- the script after one more call of `arrival` or `put`
 abbrev pub calls_once : Script → Script
 calls_once script = record script { calls = min (script.calls + 1) (2 ^ 64 - 1) }
 
+-- the wire after one more fault
 abbrev pub faults_once : Script → Script
 faults_once script = record script { faults = script.faults + 1 }
 
@@ -82,11 +86,11 @@ counts_want script = record script {
   faults = if nat_lt script.faults (2 ^ 64 - 1) then script.faults + 1 else script.faults;
 }
 
--- A script as it is to be, in all but what it tells.
+-- A script as it is to be, in all but its report.
 abbrev pub AllButTold : Script → Script → Type 0
 AllButTold wanted script = script ≡ record wanted { told = script.told }
 
--- A script as it is to be, that tells this more than the one before told.
+-- A script as it is to be, whose report is the one before and this after it.
 abbrev pub Tells : Script → Option Told → Told → Script → Type 0
 Tells wanted told more script = script ≡ record wanted { told = told_more told more }
 
@@ -94,7 +98,7 @@ Tells wanted told more script = script ≡ record wanted { told = told_more told
 abbrev pub IsSilent : Script → Script → Type 0
 IsSilent wanted script = script ≡ record wanted { told = None }
 
--- What the call of a script tells is stored, and nothing else changes; or memory ran out, which counts as a fault, and
--- nothing is told from now on.
+-- The report of the call is stored, and nothing else changes; or memory ran out, which counts as a
+-- fault, and nothing is reported from now on.
 abbrev pub Stores : Script → Told → Script → Type 0
 Stores old more new = Tells old old.told more new ⊎ IsSilent (counts_want old) new

@@ -1,6 +1,7 @@
 //! A wire in memory, whose arrivals and refusals the caller chooses.
 
-ghost use Rattle.std.specs.Prelude.{◌≡◌, ◌⊎◌, ◌+◌, ◌-◌, ◌<◌, ◌^◌, None, Some, false, true, OnOk, OnErr, IfSome, is_ok, map};
+ghost use Rattle.std.specs.Prelude.{◌≡◌, ◌⊎◌, ◌+◌, ◌-◌, ◌<◌, ◌^◌, None, Some, false, true, OnOk};
+ghost use Rattle.std.specs.Prelude.{OnErr, IfSome, is_ok, map};
 ghost use Rattle.step_values.specs.Values.{action_of};
 ghost use Rattle.wires.specs.Wire.{silence, told_more, telling, TellsMore, arrival_of, given, arrived, was_put};
 ghost use Rattle.wires.specs.Wire.{moment_was, words_were};
@@ -15,7 +16,7 @@ use std::marker::Model;
 use step_values::Action;
 use wires::{Arrival, Wire, WireFault};
 
-/// What a turn of a `ScriptWire` gives.
+/// A turn of a `ScriptWire`: its arrival, moment and words.
 #[derive(Drop)]
 pub struct ScriptTurn<A: Allocator = Global> {
     pub arrival: Arrival<A>,
@@ -25,7 +26,7 @@ pub struct ScriptTurn<A: Allocator = Global> {
     pub words: [u32; 8],
 }
 
-/// What a wire tells, stored. Once memory ran out it tells nothing more.
+/// The report of a wire, stored. Once memory ran out it reports nothing more.
 #[derive(Drop)]
 struct Stored<A: Allocator> {
     alloc: A,
@@ -61,7 +62,7 @@ impl<A: Allocator + Copy> Stored<A> {
         }
     }
 
-    /// Tells nothing more.
+    /// Reports nothing more.
     fn fall_silent(&mut self)
         ensures { self.new ≡ None }
     {
@@ -110,7 +111,7 @@ impl<A: Allocator + Copy> Stored<A> {
         self.push_put(copy, sent)
     }
 
-    /// Stores an arrival. `Err` where memory ran out, and then nothing more is told.
+    /// Stores an arrival. `Err` where memory ran out: nothing more is reported then.
     fn keep_arrival(&mut self, arrival: &Arrival<A>) -> Result<(), AllocError>
         ensures kept { OnOk result (self.new ≡ told_more self.old (arrived (Some (arrival_of arrival.now)))) }
         ensures lost { OnErr result (self.new ≡ None) }
@@ -124,7 +125,7 @@ impl<A: Allocator + Copy> Stored<A> {
         }
     }
 
-    /// Stores that an arrival was refused. Where memory ran out nothing more is told.
+    /// Stores that an arrival was refused. Where memory ran out nothing more is reported.
     fn keep_refusal(&mut self)
         ensures { (self.new ≡ told_more self.old (arrived None)) ⊎ (self.new ≡ None) }
     {
@@ -134,7 +135,8 @@ impl<A: Allocator + Copy> Stored<A> {
         }
     }
 
-    /// Stores an action and whether it was sent. `Err` where memory ran out, and then nothing more is told.
+    /// Stores an action and whether it was sent. `Err` where memory ran out: nothing more is
+    /// reported then.
     fn keep_put(&mut self, action: &Action<A>, sent: bool) -> Result<(), AllocError>
         ensures kept { OnOk result (self.new ≡ told_more self.old (was_put (action_of action.now) sent)) }
         ensures lost { OnErr result (self.new ≡ None) }
@@ -148,7 +150,7 @@ impl<A: Allocator + Copy> Stored<A> {
         }
     }
 
-    /// Stores a moment. `Err` where memory ran out, and then nothing more is told.
+    /// Stores a moment in milliseconds. `Err` where memory ran out: nothing more is reported then.
     fn keep_moment(&mut self, moment: u64) -> Result<(), AllocError>
         ensures kept { OnOk result (self.new ≡ told_more self.old (moment_was moment)) }
         ensures lost { OnErr result (self.new ≡ None) }
@@ -162,7 +164,7 @@ impl<A: Allocator + Copy> Stored<A> {
         }
     }
 
-    /// Stores words. `Err` where memory ran out, and then nothing more is told.
+    /// Stores words. `Err` where memory ran out: nothing more is reported then.
     fn keep_words(&mut self, words: [u32; 8]) -> Result<(), AllocError>
         ensures kept { OnOk result (self.new ≡ told_more self.old (words_were words)) }
         ensures lost { OnErr result (self.new ≡ None) }
@@ -196,9 +198,10 @@ fn stands_at<A: Allocator>(turns: &[ScriptTurn<A>]) -> (u64, [u32; 8])
     }
 }
 
-/// A wire in memory. Its turns are given beforehand: the arrival of a turn comes at its call of `arrival`, and the
-/// moment and the words of the turn are those of all steps in it; after the last turn nothing arrives, and its moment
-/// and words go on. The caller chooses which calls it refuses. It stores what it gave and took.
+/// A wire in memory. Its turns are given beforehand: the arrival of a turn comes at its call of
+/// `arrival`, and the moment and the words of the turn are those of all steps in it; after the last
+/// turn nothing arrives, and its moment and words go on. The caller chooses which calls it refuses.
+/// It stores all that it gave and took.
 #[derive(Drop)]
 pub struct ScriptWire<A: Allocator = Global> {
     /// The turns that have not begun.
@@ -233,8 +236,8 @@ impl<A: Allocator> Model for ScriptWire<A> {
 }
 
 impl<A: Allocator + Copy> ScriptWire<A> {
-    /// A wire that gives these turns, and refuses the calls of `arrival` and `put` with these numbers, counted together
-    /// from 0. It takes no memory.
+    /// A wire that gives these turns, and refuses the calls of `arrival` and `put` with these
+    /// numbers, counted together from 0. It does not allocate.
     pub fn new(alloc: A, turns: Vec<ScriptTurn<A>, A>, refuse: Vec<u64, A>) -> ScriptWire<A>
         ensures told { result.told ≡ Some silence }
         ensures faults { result.faults ≡ 0 }
@@ -255,14 +258,15 @@ impl<A: Allocator + Copy> ScriptWire<A> {
         }
     }
 
-    /// The actions that were put, in order, each with true where its put was not refused. It takes no memory.
+    /// The actions that were put, in order, each with true where its put was not refused. It does
+    /// not allocate.
     pub fn puts(&self) -> &[(Action<A>, bool)]
         ensures { IfSome self.now.told (λ told. map put_of result.now ≡ told.puts) }
     {
         self.stored.puts()
     }
 
-    /// Begins the next turn, and gives what arrives in it.
+    /// Begins the next turn, and gives its arrival.
     fn begin(&mut self) -> Arrival<A>
         ensures arrival { arrival_of result ≡ (next_turn self.old).arrival }
         ensures begun { self.new ≡ begun self.old }
@@ -277,7 +281,7 @@ impl<A: Allocator + Copy> ScriptWire<A> {
         }
     }
 
-    /// Counts a call of `arrival` or `put`, and tells whether it is to be refused.
+    /// Counts a call of `arrival` or `put`, and says whether it is to be refused.
     fn is_refused(&mut self) -> bool
         ensures refused { result ≡ refuses self.old }
         ensures counts { self.new ≡ calls_once self.old }
@@ -296,7 +300,8 @@ impl<A: Allocator + Copy> ScriptWire<A> {
         }
     }
 
-    /// The moment of the turn, which is stored. A want of memory counts as a fault, and then nothing more is told.
+    /// Stores and returns the moment of the turn. Where memory ran out, that counts as a fault and
+    /// nothing more is reported.
     fn tell_moment(&mut self) -> u64
         ensures of_the_turn { result ≡ self.old.moment }
         ensures stores { Stores self.old (moment_was result) self.new }
@@ -308,7 +313,8 @@ impl<A: Allocator + Copy> ScriptWire<A> {
         moment
     }
 
-    /// The words of the turn, which are stored. A want of memory counts as a fault, and then nothing more is told.
+    /// Stores and returns the words of the turn. Where memory ran out, that counts as a fault and
+    /// nothing more is reported.
     fn tell_words(&mut self) -> [u32; 8]
         ensures of_the_turn { result ≡ self.old.words }
         ensures stores { Stores self.old (words_were result) self.new }

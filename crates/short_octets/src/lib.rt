@@ -1,4 +1,4 @@
-//! Octets that lie in place where they are few, and on the heap where they are more.
+//! Octets that are kept in place where they are few, and on the heap where they are more.
 #![tactic(auto)]
 
 ghost use Rattle.std.specs.Prelude.{◌≡◌, ◌≤◌, [], length, IfOk, IsOk};
@@ -6,8 +6,8 @@ ghost use Rattle.std.specs.Prelude.{◌≡◌, ◌≤◌, [], length, IfOk, IsOk
 use std::alloc::{AllocError, Allocator, Global};
 use std::marker::Model;
 
-/// So many octets lie in place: with their number and the mark of the place they take as much as a vector on the heap,
-/// in whole words.
+/// The number of octets that are kept in place: with their count and the mark of the variant they
+/// take as much as a vector on the heap, in whole words.
 const FEW: usize = 30;
 
 /// Octets in place, as many as `len` says.
@@ -49,14 +49,14 @@ impl Few {
     }
 }
 
-/// Where octets lie.
+/// The storage of the octets.
 #[derive(Drop)]
 enum Place<A: Allocator> {
     Here(Few),
     Heap(Vec<u8, A>),
 }
 
-/// Octets in order, which no one changes. Contracts see the list of them.
+/// Immutable octets, in order. Contracts see the list of them.
 #[derive(Drop)]
 pub struct ShortOctets<A: Allocator = Global> {
     place: Place<A>,
@@ -72,7 +72,7 @@ impl<A: Allocator> Model for ShortOctets<A> {
 }
 
 impl<A: Allocator> ShortOctets<A> {
-    /// No octets; it takes no memory.
+    /// No octets; it does not allocate.
     pub fn new() -> ShortOctets<A>
         ensures { result ≡ [] }
     {
@@ -81,7 +81,7 @@ impl<A: Allocator> ShortOctets<A> {
         }
     }
 
-    /// A copy of the octets. Up to 30 take no memory; of more, `Err` where memory ran out.
+    /// A copy of the octets. Up to 30 do not allocate; for more, `Err` where memory ran out.
     pub fn from_slice(alloc: A, octets: &[u8]) -> Result<ShortOctets<A>, AllocError>
         ensures octets { IfOk result (λ copy. copy ≡ octets.now) }
         ensures few { length octets.now ≤ 30 → IsOk result }
@@ -96,7 +96,8 @@ impl<A: Allocator> ShortOctets<A> {
         })
     }
 
-    /// The octets of the vector, which go on to lie in it where they are more than 30. It takes no memory.
+    /// The octets of the vector, which keeps them where they are more than 30. It does not
+    /// allocate.
     pub fn from_vec(octets: Vec<u8, A>) -> ShortOctets<A>
         ensures { result ≡ octets.items }
     {

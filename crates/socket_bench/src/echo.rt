@@ -7,7 +7,7 @@ use std::io;
 use std::net::{Net, SocketAddr};
 use std::time::Duration;
 
-/// What a question gets.
+/// The reply to a question.
 #[derive(Clone, Copy, Drop)]
 pub(crate) enum Reply {
     /// Its own octets, as a reply that refuses (RFC 1035 4.1.1).
@@ -19,8 +19,8 @@ pub(crate) enum Reply {
 /// 198.51.100.5 for 300 seconds, under the name at offset 12.
 const RECORD: [u8; 16] = *b"\xc0\x0c\x00\x01\x00\x01\x00\x00\x01\x2c\x00\x04\xc6\x33\x64\x05";
 
-/// Makes a reply of a question of so many octets, and tells how many the reply has; `None` where it is too short or too
-/// long.
+/// Makes a reply of a question of `count` octets; returns the number of octets of the reply, `None`
+/// where it is too short or too long.
 fn reply_of(buffer: &mut [u8], count: usize, reply: Reply) -> Option<usize> {
     if count < 12 || buffer.len() < 12 {
         return None;

@@ -1,4 +1,4 @@
-//! Measures what sockets alone cost: `tools/socket_costs` runs it beside the forwarder.
+//! Measures the cost of sockets alone: `tools/socket_costs` runs it next to the forwarder.
 #![tactic(auto)]
 
 mod echo;

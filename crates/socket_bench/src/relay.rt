@@ -65,7 +65,7 @@ impl<R: Net, A: Allocator + Copy> Relay<'_, R, A> {
         true
     }
 
-    /// Waits for so many milliseconds at most.
+    /// Waits for `pause` milliseconds at most.
     fn wait(&mut self, pause: u64) {
         let pause = Some(Duration::from_millis(pause));
         if self.poll.poll(&mut self.events, pause).is_err() {

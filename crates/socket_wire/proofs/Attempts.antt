@@ -1,46 +1,65 @@
--- Sockets that may be ready, tried one behind the other, as a loop tries them.
-use Rattle.std.proofs.Common.{◌≡◌, refl, ap, ℕ, suc, ◌+◌, ◌-◌, ◌<◌, subst, Option, Some, None, arith}
+-- Sockets that may be ready, tried one after the other, as a loop tries them.
+use Rattle.std.proofs.Common.{◌≡◌, refl, ap, ℕ, suc, ◌+◌, ◌-◌, ◌<◌, subst, Option, Some, None}
+use Rattle.std.proofs.Common.{arith}
 use Rattle.std.specs.Prelude.{Result, Ok}
 use Rattle.std.specs.declared.alloc.AllocError.{AllocError}
 use Rattle.wires.specs.declared.wire.Arrival.{Arrival}
-use Rattle.socket_wire.specs.declared.origin.Origin.{Origin}
-use Rattle.socket_wire.specs.declared.readiness.Readiness.{Readiness}
+use Rattle.ready_sockets.specs.declared.origin.Origin.{Origin}
+use Rattle.ready_sockets.specs.Seen.{SeenReadiness}
 use Rattle.socket_wire.specs.declared.sockets.Sockets.{Sockets}
 use Rattle.socket_wire.specs.declared.sockets.taking.Tried.{Tried}
 use Rattle.socket_wire.specs.declared.sockets.taking.Tried.TheVariants.{Nothing}
 use Rattle.socket_wire.specs.Attempting.{Attempts, ComesOf, Drops, GivesNext, TriesNext, TriesReady}
-use Rattle.socket_wire.specs.Rounds.{Dropped, Finds}
+use Rattle.ready_sockets.specs.Rounds.{Dropped, Finds}
 
 module _ {R A Streams Listeners : Type 0} where
   -- Only what may be ready changes where the next of it is given, or one is noted no longer.
-  pub gives_next : (given : Option Origin) (before : Sockets R A Streams Listeners) (readiness : Readiness A)
+  pub gives_next : (given : Option Origin) (before : Sockets R A Streams Listeners)
+      (readiness : SeenReadiness A)
       → Finds 4 given before.readiness.turn readiness.turn before.readiness.ready readiness.ready
       → readiness ≡ record before.readiness { turn = readiness.turn; ready = readiness.ready }
       → GivesNext given before (record before { readiness = readiness })
   gives_next given before readiness finds rest =
-      record { finds = finds; rest = ap (λ (r : Readiness A). record before { readiness = r }) rest }
+      record {
+        finds = finds;
+        rest = ap (λ (r : SeenReadiness A). record before { readiness = r })
+            rest;
+      }
 
-  pub drops_one : (origin : Origin) (before : Sockets R A Streams Listeners) (readiness : Readiness A)
+  pub drops_one : (origin : Origin) (before : Sockets R A Streams Listeners)
+      (readiness : SeenReadiness A)
       → Dropped origin before.readiness.ready readiness.ready
       → readiness ≡ record before.readiness { ready = readiness.ready }
       → Drops origin before (record before { readiness = readiness })
   drops_one origin before readiness dropped rest =
-      record { dropped = dropped; rest = ap (λ (r : Readiness A). record before { readiness = r }) rest }
+      record {
+        dropped = dropped;
+        rest = ap
+            (λ (r : SeenReadiness A). record before { readiness = r }) rest;
+      }
 
-  -- What the attempts that are left behind so many come to is what all of them come to.
-  pub record ReadyAll (most tried now : ℕ) (begun ready : Sockets R A Streams Listeners) : Type 0 where
-    pub all : (result : Result (Option (Arrival A)) AllocError) (after : Sockets R A Streams Listeners)
-        → TriesReady (most - tried) now result ready after → TriesReady most now result begun after
+  -- The attempts that are left after `tried` of them yield what all of them yield.
+  pub record ReadyAll (most tried now : ℕ) (begun ready : Sockets R A Streams Listeners) : Type 0
+    where
+      pub all : (result : Result (Option (Arrival A)) AllocError)
+          (after : Sockets R A Streams Listeners)
+          → TriesReady (most - tried) now result ready after → TriesReady most now result begun after
 
-  pub ready_begun : (most now : ℕ) (begun : Sockets R A Streams Listeners) → ReadyAll most 0 now begun begun
+  pub ready_begun : (most now : ℕ) (begun : Sockets R A Streams Listeners)
+      → ReadyAll most 0 now begun begun
   ready_begun most now begun =
       let all : most - 0 ≡ most = omega arith in
-      record { all = λ result after tries. subst (λ n. TriesReady n now result begun after) all tries }
+      record {
+        all = λ result after tries. subst (λ n. TriesReady n now result begun after) all
+            tries;
+      }
 
   -- The next one, tried.
   pub ready_next : (most tried now : ℕ) (result : Result (Option (Arrival A)) AllocError)
-      (begun ready after : Sockets R A Streams Listeners) → tried < most → ReadyAll most tried now begun ready
-      → TriesNext now result (λ left. TriesReady (most - (tried + 1)) now result left after) ready after
+      (begun ready after : Sockets R A Streams Listeners) → tried < most
+      → ReadyAll most tried now begun ready
+      → TriesNext now result (λ left. TriesReady (most - (tried + 1)) now result left after) ready
+      after
       → TriesReady most now result begun after
   unfolding TriesReady
   ready_next most tried now result begun ready after h so_far next =
@@ -48,8 +67,10 @@ module _ {R A Streams Listeners : Type 0} where
       let with_next : TriesReady (suc (most - (tried + 1))) now result ready after = next in
       so_far.all result after (subst (λ n. TriesReady n now result ready after) left with_next)
 
-  pub ready_none : (most tried now : ℕ) (begun ready after : Sockets R A Streams Listeners) → tried < most
-      → ReadyAll most tried now begun ready → GivesNext None ready after → TriesReady most now (Ok None) begun after
+  pub ready_none : (most tried now : ℕ) (begun ready after : Sockets R A Streams Listeners)
+      → tried < most
+      → ReadyAll most tried now begun ready → GivesNext None ready after
+      → TriesReady most now (Ok None) begun after
   ready_none most tried now begun ready after h so_far gives =
       ready_next most tried now (Ok None) begun ready after h so_far
       (record { given = None; between = after; gives = gives; tries = (refl, refl) })
@@ -59,9 +80,11 @@ module _ {R A Streams Listeners : Type 0} where
       (begun ready between behind after : Sockets R A Streams Listeners)
       → tried < most → ReadyAll most tried now begun ready → GivesNext (Some origin) ready between
       → Attempts origin now came between behind
-      → ComesOf came origin result (λ left. TriesReady (most - (tried + 1)) now result left after) behind after
+      → ComesOf came origin result (λ left. TriesReady (most - (tried + 1)) now result left after)
+      behind after
       → TriesReady most now result begun after
-  ready_given most tried now origin came result begun ready between behind after h so_far gives attempts comes =
+  ready_given most tried now origin came result begun ready between behind after h so_far gives
+      attempts comes =
       ready_next most tried now result begun ready after h so_far (record {
         given = Some origin;
         between = between;
@@ -75,13 +98,16 @@ module _ {R A Streams Listeners : Type 0} where
       → tried < most → ReadyAll most tried now begun ready → GivesNext (Some origin) ready between
       → Attempts origin now (Ok Nothing) between behind → Drops origin behind left
       → ReadyAll most (tried + 1) now begun left
-  ready_more most tried now origin begun ready between behind left h so_far gives attempts drops = record {
-    all = λ result after tries.
-        ready_given most tried now origin (Ok Nothing) result begun ready between behind after h so_far gives attempts
-        (record { left = left; drops = drops; later = tries });
-  }
+  ready_more most tried now origin begun ready between behind left h so_far gives attempts drops =
+      record {
+        all = λ result after tries.
+            ready_given most tried now origin (Ok Nothing) result begun ready between behind after h
+            so_far gives attempts
+            (record { left = left; drops = drops; later = tries });
+      }
 
-  pub ready_over : (most now : ℕ) (begun after : Sockets R A Streams Listeners) → ReadyAll most most now begun after
+  pub ready_over : (most now : ℕ) (begun after : Sockets R A Streams Listeners)
+      → ReadyAll most most now begun after
       → TriesReady most now (Ok None) begun after
   unfolding TriesReady
   ready_over most now begun after so_far =

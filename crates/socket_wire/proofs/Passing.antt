@@ -1,14 +1,16 @@
--- What is left of a walk that goes in turn, and how it falls.
-use Rattle.std.proofs.Common.{◌≡◌, refl, ℕ, ◌+◌, ◌<◌, ◌≤◌, inl, inr, ◌⊎◌, List, [], ◌∷◌, length, arith, sym, subst}
+-- The rest of a walk that goes in turn, and how it falls.
+use Rattle.std.proofs.Common.{◌≡◌, refl, ℕ, ◌+◌, ◌<◌, ◌≤◌, inl, inr, ◌⊎◌, List, [], ◌∷◌, length}
+use Rattle.std.proofs.Common.{arith, sym, subst}
 use Rattle.std.proofs.lemmas.Bool.Decides.{nat_tests, leb_tells}
 use Rattle.std.proofs.lemmas.Grind.{common_steps}
 use Rattle.std.specs.Prelude.{nat_le, if◌then◌else◌, ◌&&◌, ◌||◌}
-use Rattle.socket_wire.specs.Rounds.{IsAmong}
+use Rattle.ready_sockets.specs.Rounds.{IsAmong}
 
 pub is_from_or_below : (from number : ℕ) → (from ≤ number) ⊎ (number < from)
 is_from_or_below from number = elim (leb_tells from number) [ inl w ↦ inl w.1 | inr w ↦ inr w.1 ]
 
--- 1 where the other one is yet to be passed, from this number on up to the number that is sought, round behind the last
+-- 1 where the other one is yet to be passed on the way from `from` up to the number that is sought,
+-- with 0 after the last
 abbrev pub counted : (number from other : ℕ) → ℕ
 counted number from other =
     if nat_le from number then (if nat_le from other && nat_le other number then 1 else 0)
@@ -21,13 +23,15 @@ ahead number from (first ∷ later) = counted number from first + ahead number f
 
 pub ahead_most : (number from : ℕ) (numbers : List ℕ) → ahead number from numbers ≤ length numbers
 ahead_most number from [] = omega arith
-ahead_most number from (first ∷ later) = grind (arith, nat_tests, common_steps, ahead_most number from later)
+ahead_most number from (first ∷ later) = grind
+    (arith, nat_tests, common_steps, ahead_most number from later)
 
 -- The number that is sought is yet to be passed.
 pub counted_itself : (number from : ℕ) → counted number from number ≡ 1
 counted_itself number from = grind (arith, nat_tests, common_steps)
 
-pub ahead_some : (number from : ℕ) (numbers : List ℕ) → IsAmong number numbers → 0 < ahead number from numbers
+pub ahead_some : (number from : ℕ) (numbers : List ℕ) → IsAmong number numbers
+    → 0 < ahead number from numbers
 ahead_some number from [] among = absurd among
 ahead_some number from (first ∷ later) (inl is) =
     let here : counted number from first ≡ 1 =
@@ -72,7 +76,7 @@ ahead_falls number from next found (first ∷ later) less (inr among) passed =
     in
     omega arith
 
--- ---- the next begins behind one that was found, at 0 behind the last of all, or behind the first where none was left
+-- ---- the next begins after one that was found, at 0 after the last, or else after the first
 
 pub counted_behind : (number from found other : ℕ) → from ≤ found → (from ≤ number → found < number)
     → counted number (found + 1) other ≤ counted number from other
@@ -82,7 +86,8 @@ pub counted_round : (number from found other : ℕ) → from ≤ found → numbe
     → counted number 0 other ≤ counted number from other
 counted_round number from found other h r o = grind (arith, nat_tests, common_steps)
 
-pub counted_anew : (number from other : ℕ) → number < from → counted number 0 other ≤ counted number from other
+pub counted_anew : (number from other : ℕ) → number < from
+    → counted number 0 other ≤ counted number from other
 counted_anew number from other h = grind (arith, nat_tests, common_steps)
 
 pub counted_first : (number from first other : ℕ) → first < number → number < from
@@ -95,7 +100,8 @@ pub found_counted : (number from found : ℕ) → from ≤ found → (from ≤ n
     → counted number from found ≡ 1
 found_counted number from found h b = grind (arith, nat_tests, common_steps)
 
-pub first_counted : (number from first : ℕ) → first < number → number < from → counted number from first ≡ 1
+pub first_counted : (number from first : ℕ) → first < number → number < from
+    → counted number from first ≡ 1
 first_counted number from first h b = grind (arith, nat_tests, common_steps)
 
 pub found_passed : (number from found : ℕ) → from ≤ found → (from ≤ number → found < number)
@@ -107,7 +113,7 @@ found_passed_round number found h = grind (arith, nat_tests, common_steps)
 
 -- ---- what the try that finds none takes
 
--- so much, where the walk is yet to begin anew
+-- `most`, where the walk is yet to begin again
 abbrev pub wraps : (most number from : ℕ) → ℕ
 wraps most number from = if nat_le from number then 0 else most
 
@@ -131,18 +137,21 @@ pub record GoesOn (number from next : ℕ) (ever : List ℕ) : Type 0 where
   pub fewer : ahead number next ever < ahead number from ever
   pub wraps : (most : ℕ) → wraps most number next ≤ wraps most number from
 
-pub goes_behind : (number from found : ℕ) (ever : List ℕ) → from ≤ found → (from ≤ number → found < number)
+pub goes_behind : (number from found : ℕ) (ever : List ℕ) → from ≤ found
+    → (from ≤ number → found < number)
     → IsAmong found ever → GoesOn number from (found + 1) ever
 goes_behind number from found ever h b among =
     let one : counted number from found ≡ 1 = found_counted number from found h b in
     let none : counted number (found + 1) found ≡ 0 = found_passed number from found h b in
-    let more : NoMore number from (found + 1) ever = λ other is. counted_behind number from found other h b in
+    let more : NoMore number from (found + 1) ever = λ other is. counted_behind number from found
+    other h b in
     record {
       fewer = ahead_falls number from (found + 1) found ever more among (omega arith);
       wraps = λ most. wraps_behind most number from found h b;
     }
 
-pub goes_round : (number from found : ℕ) (ever : List ℕ) → from ≤ found → (from ≤ number → found < number)
+pub goes_round : (number from found : ℕ) (ever : List ℕ) → from ≤ found
+    → (from ≤ number → found < number)
     → number ≤ found → ((other : ℕ) → IsAmong other ever → other ≤ found) → IsAmong found ever
     → GoesOn number from 0 ever
 goes_round number from found ever h b r last among =
@@ -154,17 +163,21 @@ goes_round number from found ever h b r last among =
     in
     let one : counted number from found ≡ 1 = found_counted number from found h b in
     let none : counted number 0 found ≡ 0 = found_passed_round number found (omega arith) in
-    let more : NoMore number from 0 ever = λ other is. counted_round number from found other h round (last other is) in
+    let more : NoMore number from 0 ever = λ other is. counted_round number from found other h round
+    (last other is) in
     record {
       fewer = ahead_falls number from 0 found ever more among (omega arith);
       wraps = λ most. let at_0 : wraps most number 0 ≡ 0 = no_wrap most number in omega arith;
     }
 
--- Behind the last of them the first was found.
-pub goes_to_first : (number from first : ℕ) (ever : List ℕ) → first < number → number < from → IsAmong first ever
+-- After the last of them the first was found.
+pub goes_to_first : (number from first : ℕ) (ever : List ℕ) → first < number → number < from
+    → IsAmong first ever
     → ahead number (first + 1) ever < ahead number from ever
 goes_to_first number from first ever h b among =
     let one : counted number from first ≡ 1 = first_counted number from first h b in
-    let none : counted number (first + 1) first ≡ 0 = found_passed number first first (omega arith) (λ _. h) in
-    let more : NoMore number from (first + 1) ever = λ other is. counted_first number from first other h b in
+    let none : counted number (first + 1) first ≡ 0 = found_passed number first first (omega arith)
+    (λ _. h) in
+    let more : NoMore number from (first + 1) ever = λ other is. counted_first number from first
+    other h b in
     ahead_falls number from (first + 1) first ever more among (omega arith)

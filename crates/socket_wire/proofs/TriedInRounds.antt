@@ -1,5 +1,7 @@
--- The law of rounds, of states as rounds of tries change them: what stays listed is found in one of the rounds.
-use Rattle.std.proofs.Common.{◌≡◌, refl, sym, subst, ℕ, zero, suc, ◌+◌, ◌*◌, ◌<◌, ◌≤◌, ◌%◌, ◌⊎◌, inl, inr}
+-- The law of rounds, of states as rounds of tries change them: what stays listed is found in one of
+-- the rounds.
+use Rattle.std.proofs.Common.{◌≡◌, refl, sym, subst, ℕ, zero, suc, ◌+◌, ◌*◌, ◌<◌, ◌≤◌, ◌%◌, ◌⊎◌}
+use Rattle.std.proofs.Common.{inl, inr}
 use Rattle.std.proofs.Common.{List, length, Bool, true, false, is_some, Option, Some, None, arith}
 use Rattle.std.proofs.lemmas.Bool.{cases_order}
 use Rattle.std.specs.Map.{keys_of}
@@ -8,10 +10,12 @@ use Rattle.stream_connections.specs.Open.{first_number}
 use Rattle.socket_wire.specs.Trying.{TriesUpTo, next_from}
 use Rattle.socket_wire.proofs.Firsts.{IsFound, first_number_is_found}
 use Rattle.socket_wire.proofs.InTurn.{Fits, begins_anew, differ, goes_on}
-use Rattle.socket_wire.proofs.Passing.{GoesOn, ahead, ahead_most, ahead_some, no_wrap, wraps, wraps_most, wraps_some}
+use Rattle.socket_wire.proofs.Passing.{GoesOn, ahead, ahead_most, ahead_some, no_wrap, wraps}
+use Rattle.socket_wire.proofs.Passing.{wraps_most, wraps_some}
 
--- So many tries, each of which found one, lead from one state to another.
-unfoldable pub TriesTo : {S : Type 0} → (Tries : Bool → S → S → Type 0) → (done : ℕ) → (before after : S) → Type 0
+-- `done` tries, each of which found one, lead from one state to another.
+unfoldable pub TriesTo : {S : Type 0} → (Tries : Bool → S → S → Type 0) → (done : ℕ)
+    → (before after : S) → Type 0
 TriesTo Tries zero before after = after ≡ before
 TriesTo {S} Tries (suc done) before after =
     (between : S) × (Tries true before between × TriesTo Tries done between after)
@@ -26,7 +30,7 @@ pub record GoInTurn {S X : Type 0} (Tries : Bool → S → S → Type 0) (size :
 
 module _ {S X : Type 0} (Tries : Bool → S → S → Type 0) (size number : ℕ) (from : S → ℕ)
     (entries : S → List (ℕ × X)) (ever : List ℕ) where
-  -- The number is found at one of so many tries of a round.
+  -- The number is found at one of at most `most` tries of a round.
   pub record FindsIn (most : ℕ) (before : S) : Type 0 where
     pub done : ℕ
     pub at : S
@@ -37,20 +41,25 @@ module _ {S X : Type 0} (Tries : Bool → S → S → Type 0) (size number : ℕ
   -- The number is listed wherever the round comes.
   abbrev pub IsListedFrom : S → Type 0
   IsListedFrom before =
-      (done : ℕ) (at : S) → TriesTo Tries done before at → StaysListed size number ever (keys_of (entries at))
+      (done : ℕ) (at : S) → TriesTo Tries done before at
+      → StaysListed size number ever (keys_of (entries at))
 
-  listed_now : (before : S) → IsListedFrom before → StaysListed size number ever (keys_of (entries before))
+  listed_now : (before : S) → IsListedFrom before
+      → StaysListed size number ever (keys_of (entries before))
   unfolding TriesTo
   listed_now before all = all 0 before refl
 
-  listed_later : (before between : S) → Tries true before between → IsListedFrom before → IsListedFrom between
+  listed_later : (before between : S) → Tries true before between → IsListedFrom before
+      → IsListedFrom between
   unfolding TriesTo
-  listed_later before between one all = λ done at reached. all (suc done) at (between, (one, reached))
+  listed_later before between one all = λ done at reached. all (suc done) at
+      (between, (one, reached))
 
   finds_now : (most : ℕ) (before : S) → first_number (from before) (entries before) ≡ Some number
       → FindsIn (suc most) before
   unfolding TriesTo
-  finds_now most before found = record { done = 0; at = before; few = omega arith; reached = refl; found = found }
+  finds_now most before found = record
+      { done = 0; at = before; few = omega arith; reached = refl; found = found }
 
   finds_later : (most : ℕ) (before between : S) → Tries true before between → FindsIn most between
       → FindsIn (suc most) before
@@ -63,9 +72,11 @@ module _ {S X : Type 0} (Tries : Bool → S → S → Type 0) (size number : ℕ
     found = later.found;
   }
 
-  -- The try that found none begins anew.
-  ends_round : (most rounds tries begin next : ℕ) (found : Option ℕ) (now : List ℕ) → StaysListed size number ever now
-      → IsFound begin found now → false ≡ is_some found → next ≡ next_from size found → suc tries ≤ most
+  -- The try that found none begins again.
+  ends_round : (most rounds tries begin next : ℕ) (found : Option ℕ) (now : List ℕ)
+      → StaysListed size number ever now
+      → IsFound begin found now → false ≡ is_some found → next ≡ next_from size found
+      → suc tries ≤ most
       → Fits most rounds (suc tries) number begin ever → Fits most rounds 0 number next ever
   ends_round most rounds tries begin next (Some one) now listed first told goes few left = cc
   ends_round most rounds tries begin next None now listed none told goes few left =
@@ -77,8 +88,10 @@ module _ {S X : Type 0} (Tries : Bool → S → S → Type 0) (size number : ℕ
 
   -- A try that found one found the number, or less is left.
   goes_in_round : (most rounds tries begin next : ℕ) (found : Option ℕ) (now : List ℕ)
-      → StaysListed size number ever now → IsFound begin found now → true ≡ is_some found → next ≡ next_from size found
-      → Fits most rounds (suc tries) number begin ever → (found ≡ Some number) ⊎ Fits most rounds tries number next ever
+      → StaysListed size number ever now → IsFound begin found now → true ≡ is_some found
+      → next ≡ next_from size found
+      → Fits most rounds (suc tries) number begin ever
+      → (found ≡ Some number) ⊎ Fits most rounds tries number next ever
   goes_in_round most rounds tries begin next None now listed none told goes left = inl (cc)
   goes_in_round most rounds tries begin next (Some one) now listed first told goes left =
       elim (cases_order one number) [
@@ -87,12 +100,13 @@ module _ {S X : Type 0} (Tries : Bool → S → S → Type 0) (size number : ℕ
             let more : GoesOn number begin ((one + 1) % size) ever =
             goes_on size number begin one ever now listed first (differ one number order)
             in
-            let no_more : wraps most number ((one + 1) % size) ≤ wraps most number begin = more.wraps most in
+            let no_more : wraps most number ((one + 1) % size) ≤ wraps most number begin =
+            more.wraps most in
             let fits : Fits most rounds tries number ((one + 1) % size) ever = omega arith in
             inr (subst (λ n. Fits most rounds tries number n ever) (sym goes) fits)
       ]
 
-  -- A round finds the number, or so much less is left as it has tries.
+  -- A round finds the number, or `tries` less is left of the walk.
   pub one_round : (most rounds tries : ℕ) (before after : S) → GoInTurn Tries size from entries
       → TriesUpTo Tries tries before after → IsListedFrom before → tries ≤ most
       → Fits most rounds tries number (from before) ever
@@ -102,18 +116,23 @@ module _ {S X : Type 0} (Tries : Bool → S → S → Type 0) (size number : ℕ
       inr (subst (λ (s : S). Fits most rounds 0 number (from s) ever) (sym same) left)
   one_round most rounds (suc tries) before after turn (inl none) all few left =
       let listed = listed_now before all in
-      inr (ends_round most rounds tries (from before) (from after) (first_number (from before) (entries before))
-      (keys_of (entries before)) listed (first_number_is_found (from before) (entries before) listed.rise)
+      inr (ends_round most rounds tries (from before) (from after)
+      (first_number (from before) (entries before))
+      (keys_of (entries before)) listed
+      (first_number_is_found (from before) (entries before) listed.rise)
       (turn.told false before after none) (turn.next false before after none) few left)
   one_round most rounds (suc tries) before after turn (inr later) all few left =
       let listed = listed_now before all in
       let one = later.1.0 in
-      elim (goes_in_round most rounds tries (from before) (from later.0) (first_number (from before) (entries before))
-      (keys_of (entries before)) listed (first_number_is_found (from before) (entries before) listed.rise)
+      elim (goes_in_round most rounds tries (from before) (from later.0)
+      (first_number (from before) (entries before))
+      (keys_of (entries before)) listed
+      (first_number_is_found (from before) (entries before) listed.rise)
       (turn.told true before later.0 one) (turn.next true before later.0 one) left) [
         | inl found ↦ inl (finds_now tries before found)
         | inr less ↦
-            elim (one_round most rounds tries later.0 after turn later.1.1 (listed_later before later.0 one all)
+            elim (one_round most rounds tries later.0 after turn later.1.1
+            (listed_later before later.0 one all)
             (omega arith) less) [
               | inl found ↦ inl (finds_later tries before later.0 one found)
               | inr rest ↦ inr rest
@@ -123,11 +142,13 @@ module _ {S X : Type 0} (Tries : Bool → S → S → Type 0) (size number : ℕ
   pub some_round : (rounds most : ℕ) (before after : ℕ → S) → GoInTurn Tries size from entries
       → ((round : ℕ) → TriesUpTo Tries most (before round) (after round))
       → ((round : ℕ) → from (before (round + 1)) ≡ from (after round))
-      → ((round : ℕ) → IsListedFrom (before round)) → Fits most rounds 0 number (from (before 0)) ever
+      → ((round : ℕ) → IsListedFrom (before round))
+      → Fits most rounds 0 number (from (before 0)) ever
       → (round : ℕ) × ((round < rounds) × FindsIn most (before round))
   some_round zero most before after turn one between all left =
       let none : most * 0 ≡ 0 = omega arith in
-      let listed : StaysListed size number ever (keys_of (entries (before 0))) = listed_now (before 0) (all 0) in
+      let listed : StaysListed size number ever (keys_of (entries (before 0))) = listed_now
+      (before 0) (all 0) in
       let some : 0 < ahead number (from (before 0)) ever =
       ahead_some number (from (before 0)) ever (listed.known number listed.stays)
       in
@@ -141,20 +162,24 @@ module _ {S X : Type 0} (Tries : Bool → S → S → Type 0) (size number : ℕ
             let rest : Fits most rounds 0 number (from (before 1)) ever =
             subst (λ n. Fits most rounds 0 number n ever) (sym (between 0)) less
             in
-            let later = some_round rounds most (λ round. before (round + 1)) (λ round. after (round + 1)) turn
-            (λ round. one (round + 1)) (λ round. between (round + 1)) (λ round. all (round + 1)) rest
+            let later = some_round rounds most (λ round. before (round + 1))
+            (λ round. after (round + 1)) turn
+            (λ round. one (round + 1)) (λ round. between (round + 1)) (λ round. all (round + 1))
+            rest
             in
             (later.0 + 1, (omega arith, later.1.1))
       ]
 
-  -- Wherever the first round begins, the number is found in one of so many rounds as give a try to each number that is
-  -- ever listed meanwhile, and one round more.
+  -- Wherever the first round begins, the number is found within the rounds that give a try to each
+  -- number that is ever listed meanwhile, and one round more.
   pub found_in_rounds : (rounds most : ℕ) (before after : ℕ → S) → GoInTurn Tries size from entries
       → ((round : ℕ) → TriesUpTo Tries most (before round) (after round))
       → ((round : ℕ) → from (before (round + 1)) ≡ from (after round))
       → ((round : ℕ) → IsListedFrom (before round)) → length ever + most ≤ most * rounds
       → (round : ℕ) × ((round < rounds) × FindsIn most (before round))
   found_in_rounds rounds most before after turn one between all enough =
-      let all_ever : ahead number (from (before 0)) ever ≤ length ever = ahead_most number (from (before 0)) ever in
-      let wrap : wraps most number (from (before 0)) ≤ most = wraps_most most number (from (before 0)) in
+      let all_ever : ahead number (from (before 0)) ever ≤ length ever = ahead_most number
+      (from (before 0)) ever in
+      let wrap : wraps most number (from (before 0)) ≤ most = wraps_most most number
+      (from (before 0)) in
       some_round rounds most before after turn one between all (omega arith)

@@ -1,22 +1,25 @@
--- The laws of walks, of sockets as tries change them: what stays listed is tried, and what stays noted is given.
-use Rattle.std.proofs.Common.{◌≡◌, refl, ap, sym, ◌∙◌, subst, ℕ, zero, suc, ◌+◌, ◌-◌, ◌^◌, ◌<◌, ◌≤◌, inl, inr}
+-- The laws of walks, for sockets as tries change them: a socket that stays listed is tried, and one
+-- that stays noted is given.
+use Rattle.std.proofs.Common.{◌≡◌, refl, ap, sym, ◌∙◌, subst, ℕ, zero, suc, ◌+◌, ◌-◌, ◌^◌, ◌<◌, ◌≤◌}
+use Rattle.std.proofs.Common.{inl, inr}
 use Rattle.std.proofs.Common.{List, length, Bool, Option, Some, None, arith, is_some, ◌*◌}
 use Rattle.std.specs.Map.{keys_of}
 use Rattle.std.specs.Option.{option_map}
 use Rattle.std.specs.Prelude.{unwrap_or}
-use Rattle.socket_wire.specs.declared.origin.Origin.{Origin}
-use Rattle.socket_wire.specs.declared.readiness.Round.{Round}
+use Rattle.ready_sockets.specs.declared.origin.Origin.{Origin}
+use Rattle.ready_sockets.specs.declared.readiness.Round.{Round}
 use Rattle.socket_wire.specs.declared.sockets.Sockets.{Sockets}
 use Rattle.socket_wire.specs.InTurn.{IsGivenWithin, IsTriedWithin, StaysListed}
 use Rattle.stream_connections.specs.Open.{first_number}
-use Rattle.socket_wire.specs.Rounds.{Gives, next_token}
-use Rattle.socket_wire.specs.Tokens.{HasToken, token_of}
-use Rattle.socket_wire.specs.Trying.{TriesAsk, TriesClient, TriesServer, TriesUpTo, ask_in_turn, client_in_turn}
+use Rattle.ready_sockets.specs.Rounds.{Gives, next_token}
+use Rattle.ready_sockets.specs.Tokens.{HasToken, token_of}
+use Rattle.socket_wire.specs.Trying.{TriesAsk, TriesClient, TriesServer, TriesUpTo, ask_in_turn}
+use Rattle.socket_wire.specs.Trying.{client_in_turn}
 use Rattle.socket_wire.specs.Trying.{next_from, number_of, server_in_turn}
 use Rattle.socket_wire.proofs.InTurn.{given_within, tried_within}
 use Rattle.socket_wire.proofs.TriedInRounds.{FindsIn, IsListedFrom, TriesTo, found_in_rounds}
 
--- What is found within so many tries is found at one of them.
+-- A number that is found within `tries` tries is found at one of them.
 pub tried_at : {X : Type 0} (tries size number : ℕ) (listed : ℕ → List (ℕ × X)) (from : ℕ → ℕ)
     → ((try : ℕ) → from (try + 1) ≡ next_from size (first_number (from try) (listed try)))
     → IsTriedWithin tries size number (from 0) listed
@@ -28,7 +31,8 @@ tried_at {X} (suc tries) size number listed from goes (inr later) =
     let behind : IsTriedWithin tries size number (from 1) rest =
     subst (λ begin. IsTriedWithin {X = X} tries size number begin rest) (sym (goes 0)) later
     in
-    let found = tried_at tries size number rest (λ try. from (try + 1)) (λ try. goes (try + 1)) behind in
+    let found = tried_at tries size number rest (λ try. from (try + 1)) (λ try. goes (try + 1))
+    behind in
     (found.0 + 1, (omega arith, found.1.1))
 
 pub given_at : (turns token : ℕ) (tokens : ℕ → List ℕ) (last : ℕ → ℕ)
@@ -42,12 +46,14 @@ given_at (suc turns) token tokens last goes (inr later) =
     let behind : IsGivenWithin turns token (last 1) rest =
     subst (λ begin. IsGivenWithin turns token begin rest) (sym (goes 0)) later
     in
-    let found = given_at turns token rest (λ turn. last (turn + 1)) (λ turn. goes (turn + 1)) behind in
+    let found = given_at turns token rest (λ turn. last (turn + 1)) (λ turn. goes (turn + 1)) behind
+    in
     (found.0 + 1, (omega arith, found.1.1))
 
--- Whether a client has been silent for too long doesn't matter for which is found.
+-- The client that is found does not depend on whether it has been silent for too long.
 number_first : {X : Type 0} (late : ℕ × X → Bool) (found : Option (ℕ × X))
-    → number_of (option_map (λ entry. (entry.0, late entry)) found) ≡ option_map (λ entry. entry.0) found
+    → number_of (option_map (λ entry. (entry.0, late entry)) found)
+    ≡ option_map (λ entry. entry.0) found
 number_first late (Some entry) = refl
 number_first late None = refl
 
@@ -58,17 +64,20 @@ some_first late (Some entry) = refl
 some_first late None = refl
 
 module _ {R A Streams Listeners : Type 0} where
-  -- The port of an ask that stays listed is tried within one try more than ports are ever listed meanwhile.
+  -- The port of an ask that stays listed is tried within one try more than ports are ever listed
+  -- meanwhile.
   pub ask_is_tried : (tries port : ℕ) (ever : List ℕ) (found : ℕ → Bool)
       (before after : ℕ → Sockets R A Streams Listeners)
       → ((try : ℕ) → TriesAsk (found try) (before try) (after try))
       → ((try : ℕ) → (before (try + 1)).next_ask ≡ (after try).next_ask)
-      → ((try : ℕ) → StaysListed (2 ^ 16) port ever (keys_of (before try).asks.entries)) → length ever + 1 ≤ tries
+      → ((try : ℕ) → StaysListed (2 ^ 16) port ever (keys_of (before try).asks.entries))
+      → length ever + 1 ≤ tries
       → (try : ℕ) × ((try < tries) × (ask_in_turn (before try) ≡ Some port))
   ask_is_tried tries port ever found before after one next listed enough =
       tried_at tries (2 ^ 16) port (λ try. (before try).asks.entries) (λ try. (before try).next_ask)
       (λ try. next try ∙ (one try).next)
-      (tried_within tries (2 ^ 16) port (before 0).next_ask ever (λ try. (before try).asks.entries) listed enough)
+      (tried_within tries (2 ^ 16) port (before 0).next_ask ever (λ try. (before try).asks.entries)
+      listed enough)
 
   -- The same of a connection of an ask.
   pub server_is_tried : (tries conn : ℕ) (ever : List ℕ) (found : ℕ → Bool)
@@ -76,15 +85,19 @@ module _ {R A Streams Listeners : Type 0} where
       → ((try : ℕ) → TriesServer (found try) (before try) (after try))
       → ((try : ℕ) → (before (try + 1)).next_server ≡ (after try).next_server)
       → ((try : ℕ) → StaysListed (2 ^ 64) conn ever (keys_of (before try).connections.servers))
-      → length ever + 1 ≤ tries → (try : ℕ) × ((try < tries) × (server_in_turn (before try) ≡ Some conn))
+      → length ever + 1 ≤ tries
+      → (try : ℕ) × ((try < tries) × (server_in_turn (before try) ≡ Some conn))
   server_is_tried tries conn ever found before after one next listed enough =
-      tried_at tries (2 ^ 64) conn (λ try. (before try).connections.servers) (λ try. (before try).next_server)
+      tried_at tries (2 ^ 64) conn (λ try. (before try).connections.servers)
+      (λ try. (before try).next_server)
       (λ try. next try ∙ (one try).next)
-      (tried_within tries (2 ^ 64) conn (before 0).next_server ever (λ try. (before try).connections.servers) listed
+      (tried_within tries (2 ^ 64) conn (before 0).next_server ever
+      (λ try. (before try).connections.servers) listed
       enough)
 
   client_found : (now : ℕ) (sockets : Sockets R A Streams Listeners)
-      → number_of (client_in_turn now sockets) ≡ first_number sockets.next_client sockets.connections.clients
+      → number_of (client_in_turn now sockets)
+      ≡ first_number sockets.next_client sockets.connections.clients
   client_found now sockets = number_first _ _
 
   -- The same of a client.
@@ -94,69 +107,86 @@ module _ {R A Streams Listeners : Type 0} where
       → ((try : ℕ) → (before (try + 1)).next_client ≡ (after try).next_client)
       → ((try : ℕ) → StaysListed (2 ^ 64) conn ever (keys_of (before try).connections.clients))
       → length ever + 1 ≤ tries
-      → (try : ℕ) × ((try < tries) × (number_of (client_in_turn (now try) (before try)) ≡ Some conn))
+      → (try : ℕ) × ((try < tries)
+      × (number_of (client_in_turn (now try) (before try)) ≡ Some conn))
   client_is_tried tries conn ever found now before after one next listed enough =
       let walk =
-      tried_at tries (2 ^ 64) conn (λ try. (before try).connections.clients) (λ try. (before try).next_client)
-      (λ try. next try ∙ ((one try).next ∙ ap (next_from (2 ^ 64)) (client_found (now try) (before try))))
-      (tried_within tries (2 ^ 64) conn (before 0).next_client ever (λ try. (before try).connections.clients) listed
+      tried_at tries (2 ^ 64) conn (λ try. (before try).connections.clients)
+      (λ try. (before try).next_client)
+      (λ try. next try ∙ ((one try).next ∙ ap (next_from (2 ^ 64))
+      (client_found (now try) (before try))))
+      (tried_within tries (2 ^ 64) conn (before 0).next_client ever
+      (λ try. (before try).connections.clients) listed
       enough)
       in
       (walk.0, (walk.1.0, client_found (now walk.0) (before walk.0) ∙ walk.1.1))
 
   -- ---- in rounds of twenty tries
 
-  asks_stay : (done : ℕ) (before at : Sockets R A Streams Listeners) → TriesTo TriesAsk done before at
+  asks_stay : (done : ℕ) (before at : Sockets R A Streams Listeners)
+      → TriesTo TriesAsk done before at
       → keys_of at.asks.entries ≡ keys_of before.asks.entries
   unfolding TriesTo
-  asks_stay zero before at same = ap (λ (s : Sockets R A Streams Listeners). keys_of s.asks.entries) same
+  asks_stay zero before at same = ap (λ (s : Sockets R A Streams Listeners). keys_of s.asks.entries)
+      same
   asks_stay (suc done) before at later =
       asks_stay done later.0 at later.1.1
       ∙ ap (λ (s : Sockets R A Streams Listeners). keys_of s.asks.entries) later.1.0.rest
 
-  servers_stay : (done : ℕ) (before at : Sockets R A Streams Listeners) → TriesTo TriesServer done before at
+  servers_stay : (done : ℕ) (before at : Sockets R A Streams Listeners)
+      → TriesTo TriesServer done before at
       → keys_of at.connections.servers ≡ keys_of before.connections.servers
   unfolding TriesTo
-  servers_stay zero before at same = ap (λ (s : Sockets R A Streams Listeners). keys_of s.connections.servers) same
+  servers_stay zero before at same = ap
+      (λ (s : Sockets R A Streams Listeners). keys_of s.connections.servers) same
   servers_stay (suc done) before at later =
       servers_stay done later.0 at later.1.1
       ∙ ap (λ (s : Sockets R A Streams Listeners). keys_of s.connections.servers) later.1.0.rest
 
-  -- What is found in a round of twenty tries.
+  -- The port is found in a round of twenty tries.
   abbrev pub FindsAsk : (port : ℕ) → (ever : List ℕ) → Sockets R A Streams Listeners → Type 0
-  FindsAsk port ever before = FindsIn TriesAsk (2 ^ 16) port (λ s. s.next_ask) (λ s. s.asks.entries) ever 20 before
+  FindsAsk port ever before = FindsIn TriesAsk (2 ^ 16) port (λ s. s.next_ask) (λ s. s.asks.entries)
+      ever 20 before
 
   abbrev pub FindsServer : (conn : ℕ) → (ever : List ℕ) → Sockets R A Streams Listeners → Type 0
   FindsServer conn ever before =
-      FindsIn TriesServer (2 ^ 64) conn (λ s. s.next_server) (λ s. s.connections.servers) ever 20 before
+      FindsIn TriesServer (2 ^ 64) conn (λ s. s.next_server) (λ s. s.connections.servers) ever 20
+      before
 
-  -- The port of an ask that stays listed is tried in one of so many rounds as give a try to each port that is ever
-  -- listed meanwhile, and one round more.
-  pub ask_is_tried_in_rounds : (rounds port : ℕ) (ever : List ℕ) (before after : ℕ → Sockets R A Streams Listeners)
+  -- The port of an ask that stays listed is tried within the rounds that give a try to each port
+  -- that is ever listed meanwhile, and one round more.
+  pub ask_is_tried_in_rounds : (rounds port : ℕ) (ever : List ℕ)
+      (before after : ℕ → Sockets R A Streams Listeners)
       → ((round : ℕ) → TriesUpTo TriesAsk 20 (before round) (after round))
       → ((round : ℕ) → (before (round + 1)).next_ask ≡ (after round).next_ask)
       → ((round : ℕ) → StaysListed (2 ^ 16) port ever (keys_of (before round).asks.entries))
       → length ever + 20 ≤ 20 * rounds
       → (round : ℕ) × ((round < rounds) × FindsAsk port ever (before round))
   ask_is_tried_in_rounds rounds port ever before after one between listed enough =
-      found_in_rounds TriesAsk (2 ^ 16) port (λ s. s.next_ask) (λ s. s.asks.entries) ever rounds 20 before after
+      found_in_rounds TriesAsk (2 ^ 16) port (λ s. s.next_ask) (λ s. s.asks.entries) ever rounds 20
+      before after
       (record { told = λ found s s' try. try.one; next = λ found s s' try. try.next }) one between
       (λ round done at reached.
-      subst (StaysListed (2 ^ 16) port ever) (sym (asks_stay done (before round) at reached)) (listed round))
+      subst (StaysListed (2 ^ 16) port ever) (sym (asks_stay done (before round) at reached))
+      (listed round))
       enough
 
   -- The same of a connection of an ask.
-  pub server_is_tried_in_rounds : (rounds conn : ℕ) (ever : List ℕ) (before after : ℕ → Sockets R A Streams Listeners)
+  pub server_is_tried_in_rounds : (rounds conn : ℕ) (ever : List ℕ)
+      (before after : ℕ → Sockets R A Streams Listeners)
       → ((round : ℕ) → TriesUpTo TriesServer 20 (before round) (after round))
       → ((round : ℕ) → (before (round + 1)).next_server ≡ (after round).next_server)
       → ((round : ℕ) → StaysListed (2 ^ 64) conn ever (keys_of (before round).connections.servers))
       → length ever + 20 ≤ 20 * rounds
       → (round : ℕ) × ((round < rounds) × FindsServer conn ever (before round))
   server_is_tried_in_rounds rounds conn ever before after one between listed enough =
-      found_in_rounds TriesServer (2 ^ 64) conn (λ s. s.next_server) (λ s. s.connections.servers) ever rounds 20 before
-      after (record { told = λ found s s' try. try.one; next = λ found s s' try. try.next }) one between
+      found_in_rounds TriesServer (2 ^ 64) conn (λ s. s.next_server) (λ s. s.connections.servers)
+      ever rounds 20 before
+      after (record { told = λ found s s' try. try.one; next = λ found s s' try. try.next }) one
+      between
       (λ round done at reached.
-      subst (StaysListed (2 ^ 64) conn ever) (sym (servers_stay done (before round) at reached)) (listed round))
+      subst (StaysListed (2 ^ 64) conn ever) (sym (servers_stay done (before round) at reached))
+      (listed round))
       enough
 
   -- Trying the next client, at whichever moment.
@@ -165,7 +195,8 @@ module _ {R A Streams Listeners : Type 0} where
 
   abbrev pub FindsClient : (conn : ℕ) → (ever : List ℕ) → Sockets R A Streams Listeners → Type 0
   FindsClient conn ever before =
-      FindsIn TriesSomeClient (2 ^ 64) conn (λ s. s.next_client) (λ s. s.connections.clients) ever 20 before
+      FindsIn TriesSomeClient (2 ^ 64) conn (λ s. s.next_client) (λ s. s.connections.clients) ever
+      20 before
 
   at_some_moment : (most now : ℕ) (before after : Sockets R A Streams Listeners)
       → TriesUpTo (TriesClient now) most before after → TriesUpTo TriesSomeClient most before after
@@ -185,29 +216,37 @@ module _ {R A Streams Listeners : Type 0} where
       (before after : ℕ → Sockets R A Streams Listeners)
       → ((round : ℕ) → TriesUpTo (TriesClient (now round)) 20 (before round) (after round))
       → ((round : ℕ) → (before (round + 1)).next_client ≡ (after round).next_client)
-      → ((round : ℕ) → IsListedFrom TriesSomeClient (2 ^ 64) conn (λ s. s.next_client) (λ s. s.connections.clients) ever
+      → ((round : ℕ) → IsListedFrom TriesSomeClient (2 ^ 64) conn (λ s. s.next_client)
+      (λ s. s.connections.clients) ever
       (before round))
       → length ever + 20 ≤ 20 * rounds
       → (round : ℕ) × ((round < rounds) × FindsClient conn ever (before round))
   client_is_tried_in_rounds rounds conn ever now before after one between listed enough =
-      found_in_rounds TriesSomeClient (2 ^ 64) conn (λ s. s.next_client) (λ s. s.connections.clients) ever rounds 20
+      found_in_rounds TriesSomeClient (2 ^ 64) conn (λ s. s.next_client)
+      (λ s. s.connections.clients) ever rounds 20
       before after
       (record {
         told = λ found s s' try. one_told try.0 found s s' try.1;
         next = λ found s s' try. try.1.next ∙ ap (next_from (2 ^ 64)) (client_found try.0 s);
       })
-      (λ round. at_some_moment 20 (now round) (before round) (after round) (one round)) between listed enough
+      (λ round. at_some_moment 20 (now round) (before round) (after round) (one round)) between
+      listed enough
 
--- A socket that stays noted is given within as many turns of its round as sockets are ever noted meanwhile.
-pub socket_is_given : {A : Type 0} (turns : ℕ) (origin : Origin) (ever : List ℕ) (given : ℕ → Option Origin)
+-- A socket that stays noted is given within as many turns of its round as sockets are ever noted
+-- meanwhile.
+pub socket_is_given : {A : Type 0} (turns : ℕ) (origin : Origin) (ever : List ℕ)
+    (given : ℕ → Option Origin)
     (before after : ℕ → Round A) → HasToken origin
     → ((turn : ℕ) → Gives (given turn) (before turn) (after turn))
     → ((turn : ℕ) → (before (turn + 1)).last ≡ (after turn).last)
-    → ((turn : ℕ) → StaysListed (2 ^ 64 - 1) (token_of origin) ever (before turn).tokens.keys) → length ever ≤ turns
+    → ((turn : ℕ) → StaysListed (2 ^ 64 - 1) (token_of origin) ever (before turn).tokens.keys)
+    → length ever ≤ turns
     → (turn : ℕ) × ((turn < turns) × (given turn ≡ Some origin))
 socket_is_given {A} turns origin ever given before after has one next listed enough =
-    let found = given_at turns (token_of origin) (λ turn. (before turn).tokens.keys) (λ turn. (before turn).last)
+    let found = given_at turns (token_of origin) (λ turn. (before turn).tokens.keys)
+    (λ turn. (before turn).last)
     (λ turn. next turn ∙ ap (λ (round : Round A). round.last) (one turn).tried)
-    (given_within turns (token_of origin) (before 0).last ever (λ turn. (before turn).tokens.keys) listed enough)
+    (given_within turns (token_of origin) (before 0).last ever (λ turn. (before turn).tokens.keys)
+    listed enough)
     in
     (found.0, (found.1.0, (one found.0).next origin has found.1.1))

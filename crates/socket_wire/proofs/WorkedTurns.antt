@@ -1,4 +1,5 @@
--- Walks over what is listed, worked by hand: how soon a number is found, and that it isn't found sooner.
+-- Walks over what is listed, worked by hand: how soon a number is found, and that it isn't found
+-- sooner.
 use Rattle.std.proofs.Common.{◌≡◌, refl, ℕ, ◌<◌, ◌⊎◌, List, [], ◌∷◌, Some, inl, inr, arith}
 use Rattle.socket_wire.specs.InTurn.{IsGivenWithin, IsTriedInRounds, IsTriedWithin}
 use Rattle.socket_wire.specs.Trying.{next_from}
@@ -22,7 +23,7 @@ three_in_three (inr (inl is)) = differ 9 3 (inr (omega arith)) is
 three_in_three (inr (inr (inl is))) = cc
 three_in_three (inr (inr (inr none))) = none
 
--- In rounds of two tries, of which the first begins behind the last port: none; 3 and 5; 9.
+-- In rounds of two tries, of which the first begins after the last port: none; 3 and 5; 9.
 pub nine_in_three_rounds : IsTriedInRounds 3 2 65536 9 10 three
 nine_in_three_rounds = inr (inr (inl refl))
 
@@ -31,7 +32,7 @@ nine_in_two_rounds (inl is) = omega arith
 nine_in_two_rounds (inr (inl is)) = omega arith
 nine_in_two_rounds (inr (inr none)) = none
 
--- Behind the last port of all the walk begins anew at once.
+-- After the last port of all the walk begins again at once.
 abbrev pub first_and_last : ℕ → List (ℕ × ℕ)
 first_and_last try = (1024, 0) ∷ (65535, 0) ∷ []
 
@@ -42,7 +43,7 @@ pub first_not_at_last : IsTriedWithin 1 65536 1024 65535 first_and_last → ⊥
 first_not_at_last (inl is) = differ 65535 1024 (inr (omega arith)) is
 first_not_at_last (inr none) = none
 
--- Three tokens that stay noted: behind 10 come 18, 26 and then 10 again.
+-- Three tokens that stay noted: after 10 come 18, 26 and then 10 again.
 abbrev pub tokens : ℕ → List ℕ
 tokens turn = 10 ∷ 18 ∷ 26 ∷ []
 
@@ -54,7 +55,7 @@ same_in_two (inl is) = differ 18 10 (inr (omega arith)) is
 same_in_two (inr (inl is)) = differ 26 10 (inr (omega arith)) is
 same_in_two (inr (inr none)) = none
 
--- Behind the last port of all the first comes, behind the one before it the last.
+-- After the last port of all comes the first; after the one before it comes the last.
 pub behind_the_last : next_from 65536 (Some 65535) ≡ 0
 behind_the_last = refl
 

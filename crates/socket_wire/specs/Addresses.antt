@@ -8,7 +8,8 @@ use Rattle.suffix_routes.specs.declared.peer.Peer.{Peer}
 
 -- The address is of IPv4, with the peer's octets and port.
 abbrev pub IsAddressOf : Peer → SocketAddr → Type 0
-IsAddressOf peer (V4 address) = (ipv4_octets (v4_ip address) ≡ peer.ip) × (v4_port address ≡ peer.port)
+IsAddressOf peer (V4 address) = (ipv4_octets (v4_ip address) ≡ peer.ip)
+    × (v4_port address ≡ peer.port)
 IsAddressOf peer (V6 address) = ⊥
 
 -- this port on every address of this machine

@@ -1,5 +1,6 @@
--- What arrives first, and which connection of a client is taken in.
-use Rattle.std.specs.Prelude.{◌≡◌, ℕ, ◌+◌, ◌<◌, ◌≤◌, ◌⊎◌, [], length, drop, slice_get, if◌then◌else◌, nat_lt}
+-- The first arrival of a turn, and the connections of clients that are accepted.
+use Rattle.std.specs.Prelude.{◌≡◌, ℕ, ◌+◌, ◌<◌, ◌≤◌, ◌⊎◌, [], length, drop, slice_get}
+use Rattle.std.specs.Prelude.{if◌then◌else◌, nat_lt}
 use Rattle.std.specs.Prelude.{Bool, true, false, Some, None, is_some, Result, Ok, Err}
 use Rattle.std.specs.declared.alloc.AllocError.{AllocError}
 use Rattle.step_values.specs.declared.Path.TheVariants as path
@@ -8,7 +9,8 @@ use Rattle.wires.specs.declared.wire.Arrival.TheVariants.{ClientClosed, PathGone
 use Rattle.std.specs.declared.io.Error.{Error}
 use Rattle.stream_connections.specs.Answers.{refusal_of}
 use Rattle.stream_connections.specs.declared.answers.Refusal.{Refusal}
-use Rattle.stream_connections.specs.declared.answers.Refusal.TheVariants.{WouldBlock, Interrupted, NoDescriptor, Failed}
+use Rattle.stream_connections.specs.declared.answers.Refusal.TheVariants.{WouldBlock, Interrupted}
+use Rattle.stream_connections.specs.declared.answers.Refusal.TheVariants.{NoDescriptor, Failed}
 use Rattle.stream_connections.specs.declared.connections.Closed.{Closed}
 use Rattle.stream_connections.specs.declared.connections.Closed.TheVariants.{Client, Server}
 use Rattle.socket_wire.specs.declared.sockets.Sockets.{Sockets}
@@ -16,7 +18,7 @@ use Rattle.socket_wire.specs.declared.sockets.taking.Tried.{Tried}
 use Rattle.socket_wire.specs.declared.sockets.taking.Tried.TheVariants.{Arrived, Served, Nothing}
 use Rattle.stream_connections.specs.Listed.{Admits, first_idle, first_resting}
 use Rattle.stream_connections.specs.Open.{AreNone, Connections, without_first}
-use Rattle.socket_wire.specs.Rounds.{IsBegun}
+use Rattle.ready_sockets.specs.Rounds.{IsBegun}
 
 -- with a place for one client more: where there are 1,024, the oldest that waits for nothing goes
 abbrev pub with_place : {A : Type 0} → Connections A → Connections A
@@ -37,34 +39,40 @@ pub record IsLeftOut {A : Type 0} (number : ℕ) (before : Connections A) (next 
   pub below : next ≤ number + 1
   pub rest : after ≡ record before { has_room = after.has_room }
 
--- A client's connection comes: it is taken in, or goes.
-abbrev pub Comes : {A : Type 0} → (number now : ℕ) → Connections A → (next : ℕ) → Connections A → Type 0
-Comes number now before next after = IsTakenIn number now before next after ⊎ IsLeftOut number before next after
+-- A client's connection is accepted: it is listed, or left out.
+abbrev pub Comes : {A : Type 0} → (number now : ℕ) → Connections A → (next : ℕ) → Connections A
+    → Type 0
+Comes number now before next after = IsTakenIn number now before next after
+    ⊎ IsLeftOut number before next after
 
--- A client's connection comes to the sockets. Where there are 1,024 and each waits for something, nothing changes.
+-- A client's connection joins the sockets. Where there are 1,024 and each waits for something,
+-- nothing changes.
 pub record TakesIn {R A Streams Listeners : Type 0} (now : ℕ)
     (before after : Sockets R A Streams Listeners) : Type 0 where
-  pub full : 1024 ≤ length before.connections.clients → first_idle before.connections.clients ≡ None → after ≡ before
-  pub comes : Comes before.numbers.next now (with_place before.connections) after.numbers.next after.connections
+  pub full : 1024 ≤ length before.connections.clients → first_idle before.connections.clients ≡ None
+      → after ≡ before
+  pub comes : Comes before.numbers.next now (with_place before.connections) after.numbers.next
+      after.connections
   pub rest : after ≡ record before { connections = after.connections; numbers = after.numbers }
 
 -- The oldest client that has waited for nothing for a while is closed; nothing else changes.
-pub record ClosesResting {R A Streams Listeners : Type 0} (now : ℕ) (before after : Sockets R A Streams Listeners)
+pub record ClosesResting {R A Streams Listeners : Type 0} (now : ℕ)
+    (before after : Sockets R A Streams Listeners)
     : Type 0 where
   pub one : is_some (first_resting now before.connections.clients) ≡ true
   pub closed : after ≡ record before {
     connections = without_first (first_resting now before.connections.clients) before.connections;
   }
 
--- It may be, where no descriptor is left; else nothing changes.
+-- It may be closed where no descriptor is left; otherwise nothing changes.
 abbrev pub MayCloseResting : {R A Streams Listeners : Type 0} → (now : ℕ) → (is_closed : Bool)
     → (before after : Sockets R A Streams Listeners) → Type 0
 MayCloseResting now true before after = ClosesResting now before after
 MayCloseResting now false before after = after ≡ before
 
--- What follows from a refused call: where no descriptor is left, the oldest client that has waited
--- for nothing for a while is closed, if any; for any other reason nothing changes, as a taken port
--- or a network that can't be reached.
+-- The consequence of a refused call. Where no descriptor is left, the oldest client that has waited
+-- for nothing for a while is closed, if any. For any other reason, such as a taken port or a
+-- network that can't be reached, nothing changes.
 abbrev pub FreesFor : {R A Streams Listeners : Type 0} → Refusal → (now : ℕ) → (is_closed : Bool)
     → (before after : Sockets R A Streams Listeners) → Type 0
 FreesFor NoDescriptor now is_closed before after =
@@ -75,50 +83,55 @@ FreesFor WouldBlock now is_closed before after = (is_closed ≡ false) × (after
 FreesFor Interrupted now is_closed before after = (is_closed ≡ false) × (after ≡ before)
 FreesFor Failed now is_closed before after = (is_closed ≡ false) × (after ≡ before)
 
--- What follows from a call, by its answer: from one that was not refused nothing.
-abbrev pub FreesBy : {R A Streams Listeners T : Type 0} → Result T Error → (now : ℕ) → (is_closed : Bool)
+-- The consequence of a call, by its answer: none, unless it was refused.
+abbrev pub FreesBy : {R A Streams Listeners T : Type 0} → Result T Error → (now : ℕ)
+    → (is_closed : Bool)
     → (before after : Sockets R A Streams Listeners) → Type 0
 FreesBy (Ok value) now is_closed before after = (is_closed ≡ false) × (after ≡ before)
-FreesBy (Err error) now is_closed before after = FreesFor (refusal_of error) now is_closed before after
+FreesBy (Err error) now is_closed before after = FreesFor (refusal_of error) now is_closed before
+    after
 
--- what came of a listener that refused: where a descriptor was freed, the next turn may have a
+-- the result of a listener that refused: where a descriptor was freed, the next turn may have a
 -- connection
 abbrev pub tried_if : {A : Type 0} → (is_closed : Bool) → Tried A
 tried_if true = Served
 tried_if false = Nothing
 
--- What trying the listener does, by its answer: a connection comes; or it refuses, and only for
--- want of a descriptor one is freed.
+-- Trying the listener, by its answer: a connection is accepted. Or it refuses, and a descriptor is
+-- freed only where none is left.
 abbrev pub AcceptsBy : {R A Streams Listeners T : Type 0} → Result T Error → (now : ℕ) → Tried A
     → (before after : Sockets R A Streams Listeners) → Type 0
 AcceptsBy (Ok accepted) now tried before after = (tried ≡ Served) × TakesIn now before after
 AcceptsBy (Err error) now tried before after =
-    (is_closed : Bool) × (tried ≡ tried_if is_closed) × FreesFor (refusal_of error) now is_closed before after
+    (is_closed : Bool) × (tried ≡ tried_if is_closed)
+    × FreesFor (refusal_of error) now is_closed before after
 
--- What trying the listener does: a connection comes, or the descriptor of another is freed for it; else nothing
--- changes.
+-- Trying the listener: a connection is accepted, or the descriptor of another is freed for it;
+-- otherwise nothing changes.
 abbrev pub TakesConnection : {R A Streams Listeners : Type 0} → (now : ℕ) → Tried A
     → (before after : Sockets R A Streams Listeners) → Type 0
 TakesConnection now (Arrived arrival) before after = ⊥
 TakesConnection now Served before after = TakesIn now before after ⊎ ClosesResting now before after
 TakesConnection now Nothing before after = after ≡ before
 
--- As they begin no socket but those that clients send to is there, and no number was given.
-pub record AreNew {R A Streams Listeners : Type 0} (sockets : Sockets R A Streams Listeners) : Type 0 where
+-- New sockets: those that clients send to and no others, and no number was given.
+pub record AreNew {R A Streams Listeners : Type 0} (sockets : Sockets R A Streams Listeners) : Type
+    0 where
   pub ready : IsBegun sockets.readiness.ready
   pub connections : AreNone sockets.connections
   pub asks : sockets.asks.entries ≡ []
   pub numbers : sockets.numbers.next ≡ 0
 
--- how the end of a connection is told
+-- the arrival that reports the end of a connection
 abbrev pub told : {A : Type 0} → Closed → Arrival A
 told (Client conn) = ClientClosed conn
 told (Server conn) = PathGone (path.Tcp conn)
 
--- The end that is to be told next arrives, if there is one; nothing else changes then.
+-- The next end to report arrives, if any; nothing else changes then.
 pub record TellsEnd {R A Streams Listeners : Type 0} (result : Result (Arrival A) AllocError)
     (before after : Sockets R A Streams Listeners) : Type 0 where
-  pub tells : (ended : Closed) → slice_get before.connections.closed 0 ≡ Some ended → result ≡ Ok (told ended)
+  pub tells : (ended : Closed) → slice_get before.connections.closed 0 ≡ Some ended
+      → result ≡ Ok (told ended)
   pub once : 0 < length before.connections.closed
       → after ≡ record before {
         connections = record before.connections {

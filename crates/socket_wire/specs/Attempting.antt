@@ -1,25 +1,28 @@
--- Which of what may be ready is tried, and what comes of it.
+-- Sockets that may be ready are tried, with the result of each.
 use Rattle.std.specs.Prelude.{◌≡◌, ℕ, zero, suc, Option, Some, None, Result, Ok, Err}
 use Rattle.std.specs.declared.alloc.AllocError.{AllocError}
 use Rattle.wires.specs.declared.wire.Arrival.{Arrival}
 use Rattle.wires.specs.declared.wire.Arrival.TheVariants as arrival
-use Rattle.socket_wire.specs.declared.origin.Origin.{Origin}
-use Rattle.socket_wire.specs.declared.origin.Origin.TheVariants.{Datagrams, Connections, Client, Ask, Server}
+use Rattle.ready_sockets.specs.declared.origin.Origin.{Origin}
+use Rattle.ready_sockets.specs.declared.origin.Origin.TheVariants.{Datagrams, Connections, Client}
+use Rattle.ready_sockets.specs.declared.origin.Origin.TheVariants.{Ask, Server}
 use Rattle.socket_wire.specs.declared.sockets.Sockets.{Sockets}
 use Rattle.socket_wire.specs.declared.sockets.taking.Tried.{Tried}
 use Rattle.socket_wire.specs.declared.sockets.taking.Tried.TheVariants.{Arrived, Served, Nothing}
 use Rattle.socket_wire.specs.Arriving.{TakesConnection}
-use Rattle.socket_wire.specs.Rounds.{Dropped, Finds}
+use Rattle.ready_sockets.specs.Rounds.{Dropped, Finds}
 use Rattle.socket_wire.specs.Taking.{TakesAsk, TakesClient, TakesDatagram, TakesServer}
 
--- Trying the listener; it takes no memory for what arrives.
-abbrev pub TakesOfListener : {R A Streams Listeners : Type 0} → (now : ℕ) → Result (Tried A) AllocError
+-- Trying the listener. It does not allocate.
+abbrev pub TakesOfListener : {R A Streams Listeners : Type 0} → (now : ℕ)
+    → Result (Tried A) AllocError
     → (before after : Sockets R A Streams Listeners) → Type 0
 TakesOfListener now (Ok tried) before after = TakesConnection now tried before after
 TakesOfListener now (Err refusal) before after = ⊥
 
--- Trying a socket: what comes of it is of this one.
-abbrev pub Attempts : {R A Streams Listeners : Type 0} → Origin → (now : ℕ) → Result (Tried A) AllocError
+-- Trying this socket, with its result.
+abbrev pub Attempts : {R A Streams Listeners : Type 0} → Origin → (now : ℕ)
+    → Result (Tried A) AllocError
     → (before after : Sockets R A Streams Listeners) → Type 0
 Attempts Datagrams now result before after = TakesDatagram result before after
 Attempts Connections now result before after = TakesOfListener now result before after
@@ -30,60 +33,77 @@ Attempts (Server conn) now result before after = TakesServer conn result before 
 -- The next of what may be ready is given.
 pub record GivesNext {R A Streams Listeners : Type 0} (given : Option Origin)
     (before after : Sockets R A Streams Listeners) : Type 0 where
-  pub finds : Finds 4 given before.readiness.turn after.readiness.turn before.readiness.ready after.readiness.ready
+  pub finds : Finds 4 given before.readiness.turn after.readiness.turn before.readiness.ready
+      after.readiness.ready
   pub rest : after ≡ record before {
-    readiness = record before.readiness { turn = after.readiness.turn; ready = after.readiness.ready };
+    readiness = record before.readiness
+        { turn = after.readiness.turn; ready = after.readiness.ready };
   }
 
 -- A socket is noted as ready no longer, and nothing else changes.
-pub record Drops {R A Streams Listeners : Type 0} (origin : Origin) (before after : Sockets R A Streams Listeners)
+pub record Drops {R A Streams Listeners : Type 0} (origin : Origin)
+    (before after : Sockets R A Streams Listeners)
     : Type 0 where
   pub dropped : Dropped origin before.readiness.ready after.readiness.ready
-  pub rest : after ≡ record before { readiness = record before.readiness { ready = after.readiness.ready } }
+  pub rest : after ≡ record before
+      { readiness = record before.readiness { ready = after.readiness.ready } }
 
 -- A socket in which nothing was is noted no longer, and the next is tried.
-pub record GoesOn {R A Streams Listeners : Type 0} (origin : Origin) (Later : Sockets R A Streams Listeners → Type 0)
+pub record GoesOn {R A Streams Listeners : Type 0} (origin : Origin)
+    (Later : Sockets R A Streams Listeners → Type 0)
     (before : Sockets R A Streams Listeners) : Type 0 where
   pub left : Sockets R A Streams Listeners
   pub drops : Drops origin before left
   pub later : Later left
 
--- What comes of trying this socket: what arrived of it, or nothing yet where it was served, and it stays noted; where
--- nothing was there it goes on.
-abbrev pub ComesOf : {R A Streams Listeners : Type 0} → (tried : Result (Tried A) AllocError) → Origin
-    → (result : Result (Option (Arrival A)) AllocError) → (Later : Sockets R A Streams Listeners → Type 0)
+-- The result of trying this socket: its arrival; or nothing yet, where it was served. It stays
+-- noted in both cases. Where nothing was there, the next one is tried.
+abbrev pub ComesOf : {R A Streams Listeners : Type 0} → (tried : Result (Tried A) AllocError)
+    → Origin
+    → (result : Result (Option (Arrival A)) AllocError)
+    → (Later : Sockets R A Streams Listeners → Type 0)
     → (before after : Sockets R A Streams Listeners) → Type 0
-ComesOf (Ok (Arrived arrived)) origin result Later before after = (result ≡ Ok (Some arrived)) × (after ≡ before)
-ComesOf (Ok Served) origin result Later before after = (result ≡ Ok (Some arrival.Nothing)) × (after ≡ before)
+ComesOf (Ok (Arrived arrived)) origin result Later before after = (result ≡ Ok (Some arrived))
+    × (after ≡ before)
+ComesOf (Ok Served) origin result Later before after = (result ≡ Ok (Some arrival.Nothing))
+    × (after ≡ before)
 ComesOf (Ok Nothing) origin result Later before after = GoesOn origin Later before
 ComesOf (Err refusal) origin result Later before after = (result ≡ Err refusal) × (after ≡ before)
 
--- The socket that was given is tried; where none was, none is ready any more.
+-- The socket that was given is tried, with its result.
 pub record TriesGiven {R A Streams Listeners : Type 0} (origin : Origin) (now : ℕ)
-    (result : Result (Option (Arrival A)) AllocError) (Later : Sockets R A Streams Listeners → Type 0)
+    (result : Result (Option (Arrival A)) AllocError) (Later : Sockets R A Streams Listeners
+    → Type 0)
     (before after : Sockets R A Streams Listeners) : Type 0 where
   pub tried : Result (Tried A) AllocError
   pub behind : Sockets R A Streams Listeners
   pub attempts : Attempts origin now tried before behind
   pub comes : ComesOf tried origin result Later behind after
 
+-- The socket that was given is tried; where none was, none is ready any more.
 abbrev pub TriesIfGiven : {R A Streams Listeners : Type 0} → Option Origin → (now : ℕ)
-    → (result : Result (Option (Arrival A)) AllocError) → (Later : Sockets R A Streams Listeners → Type 0)
+    → (result : Result (Option (Arrival A)) AllocError)
+    → (Later : Sockets R A Streams Listeners → Type 0)
     → (before after : Sockets R A Streams Listeners) → Type 0
 TriesIfGiven None now result Later before after = (result ≡ Ok None) × (after ≡ before)
-TriesIfGiven (Some origin) now result Later before after = TriesGiven origin now result Later before after
+TriesIfGiven (Some origin) now result Later before after = TriesGiven origin now result Later before
+    after
 
 -- The next is given, and tried.
-pub record TriesNext {R A Streams Listeners : Type 0} (now : ℕ) (result : Result (Option (Arrival A)) AllocError)
-    (Later : Sockets R A Streams Listeners → Type 0) (before after : Sockets R A Streams Listeners) : Type 0 where
+pub record TriesNext {R A Streams Listeners : Type 0} (now : ℕ)
+    (result : Result (Option (Arrival A)) AllocError)
+    (Later : Sockets R A Streams Listeners → Type 0)
+    (before after : Sockets R A Streams Listeners) : Type 0 where
   pub given : Option Origin
   pub between : Sockets R A Streams Listeners
   pub gives : GivesNext given before between
   pub tries : TriesIfGiven given now result Later between after
 
--- Sockets that may be ready are tried one behind the other, so many at most, up to the first that gives something.
+-- At most `most` sockets that may be ready are tried one after the other, up to the first that
+-- gives something.
 unfoldable pub TriesReady : {R A Streams Listeners : Type 0} → (most now : ℕ)
-    → (result : Result (Option (Arrival A)) AllocError) → (before after : Sockets R A Streams Listeners) → Type 0
+    → (result : Result (Option (Arrival A)) AllocError)
+    → (before after : Sockets R A Streams Listeners) → Type 0
 TriesReady zero now result before after = (result ≡ Ok None) × (after ≡ before)
 TriesReady (suc more) now result before after =
     TriesNext now result (λ left. TriesReady more now result left after) before after

@@ -1,41 +1,50 @@
--- What an action does to the sockets of asks and to the connections.
-use Rattle.std.specs.Prelude.{◌≡◌, ℕ, ◌⊎◌, Bool, true, false, not, List, Option, Some, None, Result, Ok, Err}
+-- The effect of an action on the sockets of asks and on the connections.
+use Rattle.std.specs.Prelude.{◌≡◌, ℕ, ◌⊎◌, Bool, true, false, not, List, Option, Some, None, Result}
+use Rattle.std.specs.Prelude.{Ok, Err}
 use Rattle.std.specs.Prelude.{if◌then◌else◌}
 use Rattle.std.specs.Ordering.{nat_cmp}
 use Rattle.std.specs.Map.{remove_entry}
 use Rattle.std.specs.BTreeMap.{insert_entry, is_at}
 use Rattle.suffix_routes.specs.declared.peer.Peer.{Peer}
 use Rattle.step_values.specs.declared.action.Action.{Action}
-use Rattle.step_values.specs.declared.action.Action.TheVariants.{AskUdp, AskTcp, CloseUdp, CloseTcp, Reply}
+use Rattle.step_values.specs.declared.action.Action.TheVariants.{AskUdp, AskTcp, CloseUdp, CloseTcp}
+use Rattle.step_values.specs.declared.action.Action.TheVariants.{Reply}
 use Rattle.step_values.specs.declared.event.Client.TheVariants.{Udp, Tcp}
 use Rattle.stream_connections.specs.declared.client_stream.ClientStream.{ClientStream}
 use Rattle.stream_connections.specs.declared.servers.ServerStream.{ServerStream}
 use Rattle.socket_wire.specs.declared.sockets.Sockets.{Sockets}
 use Rattle.stream_connections.specs.declared.lost.Lost.{Lost}
 use Rattle.stream_connections.specs.Listed.{RepliesOn, first_resting}
-use Rattle.stream_connections.specs.Open.{Connections, without_client, without_first, without_server}
+use Rattle.stream_connections.specs.Open.{Connections, without_client, without_first}
+use Rattle.stream_connections.specs.Open.{without_server}
 use Rattle.stream_connections.specs.Queries.{IsBegunWith}
 use Rattle.stream_connections.specs.Serving.{is_over}
 
--- Nothing that is listed has changed, unless the oldest client that has waited for nothing for a while was closed for
--- its descriptor.
+-- Nothing that is listed has changed, unless the oldest client that has waited for nothing for a
+-- while was closed for its descriptor.
 abbrev pub MayMakeRoom : {A : Type 0} → (now : ℕ) → Connections A → Connections A → Type 0
 MayMakeRoom now before after =
     (after ≡ record before { has_room = after.has_room })
-    ⊎ (after ≡ record (without_first (first_resting now before.clients) before) { has_room = after.has_room })
+    ⊎ (after ≡ record (without_first (first_resting now before.clients) before)
+    { has_room = after.has_room })
 
--- A query by UDP: its port is listed, and no other socket has changed; where it isn't sent none has.
-abbrev pub ListsPort : {X : Type 0} → (port : ℕ) → (is_done : Bool) → List (ℕ × X) → List (ℕ × X) → Type 0
-ListsPort {X} port true before after = (socket : X) × (after ≡ insert_entry nat_cmp before port socket)
+-- A query by UDP: its port is listed, and no other socket has changed; where it isn't sent none
+-- has.
+abbrev pub ListsPort : {X : Type 0} → (port : ℕ) → (is_done : Bool) → List (ℕ × X) → List (ℕ × X)
+    → Type 0
+ListsPort {X} port true before after = (socket : X)
+    × (after ≡ insert_entry nat_cmp before port socket)
 ListsPort port false before after = after ≡ before
 
 -- A query by UDP that was sent: its socket is listed at its port, unless memory ran out.
-abbrev pub ListsThis : {X : Type 0} → (port : ℕ) → X → (is_done : Bool) → List (ℕ × X) → List (ℕ × X) → Type 0
+abbrev pub ListsThis : {X : Type 0} → (port : ℕ) → X → (is_done : Bool) → List (ℕ × X)
+    → List (ℕ × X) → Type 0
 ListsThis port socket true before after = after ≡ insert_entry nat_cmp before port socket
 ListsThis port socket false before after = after ≡ before
 
 -- A query over TCP that is begun: its connection is listed.
-pub record Begins {A : Type 0} (conn : ℕ) (server : Peer) (query : List ℕ) (now : ℕ) (before after : Connections A)
+pub record Begins {A : Type 0} (conn : ℕ) (server : Peer) (query : List ℕ) (now : ℕ)
+    (before after : Connections A)
     : Type 0 where
   pub between : Connections A
   pub stream : ServerStream A
@@ -47,7 +56,8 @@ pub record Begins {A : Type 0} (conn : ℕ) (server : Peer) (query : List ℕ) (
   }
 
 -- A query over TCP.
-abbrev pub ListsServer : {A : Type 0} → (conn : ℕ) (server : Peer) (query : List ℕ) (now : ℕ) → (is_done : Bool)
+abbrev pub ListsServer : {A : Type 0} → (conn : ℕ) (server : Peer) (query : List ℕ) (now : ℕ)
+    → (is_done : Bool)
     → Connections A → Connections A → Type 0
 ListsServer conn server query now true before after = Begins conn server query now before after
 ListsServer conn server query now false before after = MayMakeRoom now before after
@@ -58,13 +68,14 @@ is_answered (Some (Ok goes_on)) = true
 is_answered (Some (Err lost)) = false
 is_answered None = false
 
--- whether a connection is over behind a reply
+-- whether a connection is over after a reply
 abbrev pub is_closed_behind : Option (Result Bool Lost) → Bool
 is_closed_behind (Some (Ok goes_on)) = not goes_on
 is_closed_behind (Some (Err lost)) = is_over lost
 is_closed_behind None = false
 
--- A reply on the connection with this number, and where that is over then, its end. No other client changes.
+-- A reply on the connection with this number, and where that is over then, its end. No other client
+-- changes.
 pub record AnswersOn {A : Type 0} (conn : ℕ) (reply : List ℕ) (now : ℕ) (is_done : Bool)
     (before after : Connections A) : Type 0 where
   pub answer : Option (Result Bool Lost)
@@ -75,8 +86,9 @@ pub record AnswersOn {A : Type 0} (conn : ℕ) (reply : List ℕ) (now : ℕ) (i
       (if is_closed_behind answer then without_client conn (record before { clients = clients })
       else record before { clients = clients })
 
--- What an action does, whether the wire did it or refused it.
-abbrev pub Puts : {A X : Type 0} → Action A → (now : ℕ) → (is_done : Bool) → (asks asks' : List (ℕ × X))
+-- The effect of an action, whether the wire did it or refused it.
+abbrev pub Puts : {A X : Type 0} → Action A → (now : ℕ) → (is_done : Bool)
+    → (asks asks' : List (ℕ × X))
     → (before after : Connections A) → Type 0
 Puts (AskUdp port _ _) now is_done asks asks' before after =
     ListsPort port is_done asks asks' × MayMakeRoom now before after
@@ -91,9 +103,11 @@ Puts (Reply (Tcp conn) reply _) now is_done asks asks' before after =
     (asks' ≡ asks) × AnswersOn conn reply now is_done before after
 
 -- Putting an action.
-pub record PutsAction {R A Streams Listeners : Type 0} (action : Action A) (now : ℕ) (is_done : Bool)
+pub record PutsAction {R A Streams Listeners : Type 0} (action : Action A) (now : ℕ)
+    (is_done : Bool)
     (before after : Sockets R A Streams Listeners) : Type 0 where
-  pub puts : Puts action now is_done before.asks.entries after.asks.entries before.connections after.connections
+  pub puts : Puts action now is_done before.asks.entries after.asks.entries before.connections
+      after.connections
   pub rest : after ≡ record before {
     asks = after.asks;
     connections = after.connections;
@@ -101,7 +115,8 @@ pub record PutsAction {R A Streams Listeners : Type 0} (action : Action A) (now 
   }
 
 -- Putting a query over TCP.
-pub record PutsQuery {R A Streams Listeners : Type 0} (conn : ℕ) (server : Peer) (query : List ℕ) (now : ℕ)
+pub record PutsQuery {R A Streams Listeners : Type 0} (conn : ℕ) (server : Peer) (query : List ℕ)
+    (now : ℕ)
     (is_done : Bool) (before after : Sockets R A Streams Listeners) : Type 0 where
   pub lists : ListsServer conn server query now is_done before.connections after.connections
   pub rest : after ≡ record before {
@@ -112,6 +127,8 @@ pub record PutsQuery {R A Streams Listeners : Type 0} (conn : ℕ) (server : Pee
 -- the sockets once the random words in an action are spent: those of an ask
 abbrev pub with_spent : {R A Streams Listeners : Type 0} → Action A → Sockets R A Streams Listeners
     → Sockets R A Streams Listeners
-with_spent (AskUdp _ _ _) sockets = record sockets { words = record sockets.words { is_spent = true } }
-with_spent (AskTcp _ _ _) sockets = record sockets { words = record sockets.words { is_spent = true } }
+with_spent (AskUdp _ _ _) sockets = record sockets
+    { words = record sockets.words { is_spent = true } }
+with_spent (AskTcp _ _ _) sockets = record sockets
+    { words = record sockets.words { is_spent = true } }
 with_spent action sockets = sockets

@@ -1,5 +1,6 @@
--- What is taken of the sockets of clients and of asks.
-use Rattle.std.specs.Prelude.{◌≡◌, ℕ, ◌≤◌, length, Bool, true, false, not, if◌then◌else◌, is_ok, IfOk}
+-- Reading the sockets of clients and of asks.
+use Rattle.std.specs.Prelude.{◌≡◌, ℕ, ◌≤◌, length, Bool, true, false, not, if◌then◌else◌, is_ok}
+use Rattle.std.specs.Prelude.{IfOk}
 use Rattle.std.specs.Prelude.{List, take, Option, Some, None, Result, Ok, Err}
 use Rattle.std.specs.declared.alloc.AllocError.{AllocError}
 use Rattle.std.specs.Ordering.{nat_cmp}
@@ -10,14 +11,16 @@ use Rattle.socket_wire.specs.declared.sockets.Sockets.{Sockets}
 use Rattle.std.specs.declared.io.Error.{Error}
 use Rattle.suffix_routes.specs.declared.peer.Peer.{Peer}
 use Rattle.wires.specs.declared.wire.Arrival.{Arrival}
-use Rattle.wires.specs.declared.wire.Arrival.TheVariants.{ClientDatagram, ClientStream as ArrivesOfClient}
+use Rattle.wires.specs.declared.wire.Arrival.TheVariants.{ClientDatagram}
+use Rattle.wires.specs.declared.wire.Arrival.TheVariants.{ClientStream as ArrivesOfClient}
 use Rattle.wires.specs.declared.wire.Arrival.TheVariants.{ServerDatagram, ServerStream, PathGone}
 use Rattle.stream_connections.specs.declared.client_stream.ClientStream.{ClientStream}
 use Rattle.stream_connections.specs.Answers.{refusal_of}
 use Rattle.stream_connections.specs.declared.answers.Heard.{Heard}
 use Rattle.stream_connections.specs.declared.answers.Heard.TheVariants as heard
 use Rattle.stream_connections.specs.declared.answers.Refusal.{Refusal}
-use Rattle.stream_connections.specs.declared.answers.Refusal.TheVariants.{WouldBlock, Interrupted, NoDescriptor, Failed}
+use Rattle.stream_connections.specs.declared.answers.Refusal.TheVariants.{WouldBlock, Interrupted}
+use Rattle.stream_connections.specs.declared.answers.Refusal.TheVariants.{NoDescriptor, Failed}
 use Rattle.std.specs.declared.net.socket_addr.SocketAddr.{SocketAddr}
 use Rattle.socket_wire.specs.Addresses.{peer_at}
 use Rattle.socket_wire.specs.declared.sockets.taking.Tried.{Tried}
@@ -26,51 +29,60 @@ use Rattle.stream_connections.specs.declared.servers.ServerStream.{ServerStream 
 use Rattle.stream_connections.specs.Listed.{ServesOn}
 use Rattle.stream_connections.specs.Open.{Connections, ServesServer, without_client, without_server}
 
--- These are so many octets of the buffer, where it has as many.
+-- These are the first `count` octets of the buffer, where it has as many.
 abbrev pub IsPiece : (count : ℕ) (buffer octets : List ℕ) → Type 0
 IsPiece count buffer octets = count ≤ length buffer → octets ≡ take count buffer
 
--- It carries the octets of the buffer's front, as many as were received.
-abbrev pub CarriesFront : {A : Type 0} → (buffer : List ℕ) → (List ℕ → Arrival A) → Arrival A → Type 0
-CarriesFront buffer carrying arrival = (count : ℕ) × (count ≤ length buffer) × (arrival ≡ carrying (take count buffer))
+-- The arrival carries the front of the buffer, as many octets as were received.
+abbrev pub CarriesFront : {A : Type 0} → (buffer : List ℕ) → (List ℕ → Arrival A) → Arrival A
+    → Type 0
+CarriesFront buffer carrying arrival = (count : ℕ) × (count ≤ length buffer)
+    × (arrival ≡ carrying (take count buffer))
 
--- A client's datagram, if there is one.
+-- A client's datagram, if any.
 abbrev pub IsDatagram : {A : Type 0} → (buffer : List ℕ) → Tried A → Type 0
-IsDatagram buffer (Arrived arrival) = (from : Peer) × CarriesFront buffer (ClientDatagram from) arrival
+IsDatagram buffer (Arrived arrival) = (from : Peer)
+    × CarriesFront buffer (ClientDatagram from) arrival
 IsDatagram buffer Served = Unit {0}
 IsDatagram buffer Nothing = Unit {0}
 
 -- A datagram arrives from this peer with the octets of the buffer's front, as many as were
 -- received, unless memory ran out. One of no peer, which came by IPv6, does not.
-abbrev pub IsReceived : {A : Type 0} → (count : ℕ) → Option Peer → (buffer : List ℕ) → (Peer → List ℕ → Arrival A)
+abbrev pub IsReceived : {A : Type 0} → (count : ℕ) → Option Peer → (buffer : List ℕ)
+    → (Peer → List ℕ → Arrival A)
     → Result (Tried A) AllocError → Type 0
-IsReceived count (Some from) buffer carrying (Ok tried) = tried ≡ Arrived (carrying from (take count buffer))
+IsReceived count (Some from) buffer carrying (Ok tried) = tried
+    ≡ Arrived (carrying from (take count buffer))
 IsReceived count (Some from) buffer carrying (Err _) = Unit {0}
 IsReceived count None buffer carrying result = result ≡ Ok Served
 
--- What comes of the socket for clients' datagrams, by its answer: a datagram; or where it refuses,
--- nothing, whatever the reason.
+-- The result of reading the socket for clients' datagrams, by its answer: a datagram; or nothing
+-- where it refuses, whatever the reason.
 abbrev pub HearsDatagram : {A : Type 0} → Result (ℕ × SocketAddr) Error → (buffer : List ℕ)
     → Result (Tried A) AllocError → Type 0
-HearsDatagram (Ok (count, from)) buffer result = IsReceived count (peer_at from) buffer ClientDatagram result
+HearsDatagram (Ok (count, from)) buffer result = IsReceived count (peer_at from) buffer
+    ClientDatagram result
 HearsDatagram (Err error) buffer result = result ≡ Ok Nothing
 
--- Taking of the socket for datagrams. No connection, no ask and no number changes.
+-- Reading the socket for datagrams. No connection, no ask and no number changes.
 pub record TakesDatagram {R A Streams Listeners : Type 0} (result : Result (Tried A) AllocError)
     (before after : Sockets R A Streams Listeners) : Type 0 where
   pub arrives : IfOk result (IsDatagram after.buffer.value)
   pub rest : after ≡ record before { buffer = after.buffer }
 
--- What arrives of the client with this number: the octets that were heard, unless memory ran out.
-abbrev pub Arrives : {A : Type 0} → (conn : ℕ) (buffer : List ℕ) → Option Heard → Result (Tried A) AllocError → Type 0
-Arrives conn buffer (Some (heard.Octets count)) (Ok tried) = tried ≡ Arrived (ArrivesOfClient conn (take count buffer))
+-- The arrival of the client with this number: the octets that were heard, unless memory ran out.
+abbrev pub Arrives : {A : Type 0} → (conn : ℕ) (buffer : List ℕ) → Option Heard
+    → Result (Tried A) AllocError → Type 0
+Arrives conn buffer (Some (heard.Octets count)) (Ok tried) = tried
+    ≡ Arrived (ArrivesOfClient conn (take count buffer))
 Arrives conn buffer (Some (heard.Octets count)) (Err _) = Unit {0}
 Arrives conn buffer (Some heard.Nothing) result = result ≡ Ok Nothing
 Arrives conn buffer (Some heard.Done) result = result ≡ Ok Served
 Arrives conn buffer (Some heard.Failed) result = result ≡ Ok Served
 Arrives conn buffer None result = result ≡ Ok Nothing
 
--- whether a client of which this was heard is closed: one whose octets found no memory can't go on
+-- whether a client is closed after a read with this result: one whose octets found no memory can't
+-- go on
 abbrev pub is_closed_then : Option Heard → Bool → Bool
 is_closed_then (Some (heard.Octets _)) found_memory = not found_memory
 is_closed_then (Some heard.Nothing) found_memory = false
@@ -79,22 +91,25 @@ is_closed_then (Some heard.Failed) found_memory = true
 is_closed_then None found_memory = false
 
 -- closed, where it is to be
-abbrev pub closed_if : {A : Type 0} → Bool → (Connections A → Connections A) → Connections A → Connections A
+abbrev pub closed_if : {A : Type 0} → Bool → (Connections A → Connections A) → Connections A
+    → Connections A
 closed_if is_to_be close connections = if is_to_be then close connections else connections
 
--- Taking of the client with this number. No other changes.
-pub record TakesClient {R A Streams Listeners : Type 0} (conn now : ℕ) (result : Result (Tried A) AllocError)
+-- Reading the client with this number. No other changes.
+pub record TakesClient {R A Streams Listeners : Type 0} (conn now : ℕ)
+    (result : Result (Tried A) AllocError)
     (before after : Sockets R A Streams Listeners) : Type 0 where
   pub heard : Option Heard
   pub clients : List (ℕ × ClientStream A)
   pub serves : ServesOn conn heard now after.buffer.value before.connections.clients clients
   pub arrives : Arrives conn after.buffer.value heard result
-  pub closes : after.connections ≡ closed_if (is_closed_then heard (is_ok result)) (without_client conn)
+  pub closes : after.connections ≡ closed_if (is_closed_then heard (is_ok result))
+      (without_client conn)
       (record before.connections { clients = clients })
   pub rest : after ≡ record before { connections = after.connections; buffer = after.buffer }
 
--- What arrives of the server on the connection with this number: the octets that were read, unless memory ran out.
--- Where it sends nothing more, nothing does; nor where the stream failed, or would wait.
+-- The arrival of the server on the connection with this number: the octets that were read, unless
+-- memory ran out. Nothing arrives where it sends nothing more, the stream failed, or it would wait.
 abbrev pub ArrivesOf : {A : Type 0} → (conn : ℕ) (buffer : List ℕ) → Option (Peer × Heard)
     → Result (Tried A) AllocError → Type 0
 ArrivesOf conn buffer (Some (from, heard.Octets count)) (Ok tried) =
@@ -105,15 +120,16 @@ ArrivesOf conn buffer (Some (from, heard.Done)) result = result ≡ Ok Served
 ArrivesOf conn buffer (Some (from, heard.Failed)) result = result ≡ Ok Served
 ArrivesOf conn buffer None result = result ≡ Ok Nothing
 
--- whether a connection to a server is closed where this came of it
+-- whether a connection to a server is closed after this result
 abbrev pub is_closed_by : {A : Type 0} → Result (Tried A) AllocError → Bool
 is_closed_by (Ok (Arrived _)) = false
 is_closed_by (Ok Served) = true
 is_closed_by (Ok Nothing) = false
 is_closed_by (Err _) = true
 
--- Taking of the server on the connection with this number. No other changes.
-pub record TakesServer {R A Streams Listeners : Type 0} (conn : ℕ) (result : Result (Tried A) AllocError)
+-- Reading the server on the connection with this number. No other changes.
+pub record TakesServer {R A Streams Listeners : Type 0} (conn : ℕ)
+    (result : Result (Tried A) AllocError)
     (before after : Sockets R A Streams Listeners) : Type 0 where
   pub served : Option (Peer × Heard)
   pub servers : List (ℕ × ServerConnection A)
@@ -123,42 +139,49 @@ pub record TakesServer {R A Streams Listeners : Type 0} (conn : ℕ) (result : R
       (record before.connections { servers = servers })
   pub rest : after ≡ record before { connections = after.connections; buffer = after.buffer }
 
--- the sockets of asks, without that at this port where its end is told
-abbrev pub left_by : {A X : Type 0} → (port : ℕ) → Result (Tried A) AllocError → List (ℕ × X) → List (ℕ × X)
+-- the sockets of asks, without the one at this port where its end is reported
+abbrev pub left_by : {A X : Type 0} → (port : ℕ) → Result (Tried A) AllocError → List (ℕ × X)
+    → List (ℕ × X)
 left_by port (Ok (Arrived (PathGone _))) asks = remove_entry (is_at (nat_cmp port)) asks
 left_by port _ asks = asks
 
--- A datagram at this port, or the end of its path, if there is one.
+-- A datagram at this port, or the end of its path, if any.
 abbrev pub IsOfAsk : {A : Type 0} → (port : ℕ) (buffer : List ℕ) → Tried A → Type 0
 IsOfAsk port buffer (Arrived (PathGone gone)) = gone ≡ path.Udp port
-IsOfAsk port buffer (Arrived arrival) = (from : Peer) × CarriesFront buffer (ServerDatagram port from) arrival
+IsOfAsk port buffer (Arrived arrival) = (from : Peer)
+    × CarriesFront buffer (ServerDatagram port from) arrival
 IsOfAsk port buffer Served = Unit {0}
 IsOfAsk port buffer Nothing = Unit {0}
 
 -- The path of the ask at this port is gone, and its socket with it.
 abbrev pub IsLost : {A X : Type 0} → (port : ℕ) → Tried A → (before after : List (ℕ × X)) → Type 0
 IsLost port tried before after =
-    (tried ≡ Arrived (PathGone (path.Udp port))) × (after ≡ remove_entry (is_at (nat_cmp port)) before)
+    (tried ≡ Arrived (PathGone (path.Udp port)))
+    × (after ≡ remove_entry (is_at (nat_cmp port)) before)
 
 -- The path of an ask whose socket refused to be read: where it would block nothing is there, and
 -- nothing changes; for any other reason the path is gone, and its socket with it.
-abbrev pub LosesAsk : {A X : Type 0} → (port : ℕ) → Refusal → Tried A → (before after : List (ℕ × X)) → Type 0
+abbrev pub LosesAsk : {A X : Type 0} → (port : ℕ) → Refusal → Tried A
+    → (before after : List (ℕ × X)) → Type 0
 LosesAsk port WouldBlock tried before after = (tried ≡ Nothing) × (after ≡ before)
 LosesAsk port Interrupted tried before after = IsLost port tried before after
 LosesAsk port NoDescriptor tried before after = IsLost port tried before after
 LosesAsk port Failed tried before after = IsLost port tried before after
 
--- What comes at the port of an ask, by the answer of its socket: a datagram; or where it refuses,
--- nothing or the end of its path.
-abbrev pub HearsAsk : {A X : Type 0} → (port : ℕ) → Result (ℕ × SocketAddr) Error → (buffer : List ℕ)
+-- The result of reading the port of an ask, by the answer of its socket: a datagram; or where it
+-- refuses, nothing or the end of its path.
+abbrev pub HearsAsk : {A X : Type 0} → (port : ℕ) → Result (ℕ × SocketAddr) Error
+    → (buffer : List ℕ)
     → Result (Tried A) AllocError → (before after : List (ℕ × X)) → Type 0
 HearsAsk port (Ok (count, from)) buffer result before after =
     IsReceived count (peer_at from) buffer (ServerDatagram port) result × (after ≡ before)
-HearsAsk port (Err error) buffer (Ok tried) before after = LosesAsk port (refusal_of error) tried before after
+HearsAsk port (Err error) buffer (Ok tried) before after = LosesAsk port (refusal_of error) tried
+    before after
 HearsAsk port (Err error) buffer (Err _) before after = ⊥
 
--- Taking of the socket of the ask at this port.
-pub record TakesAsk {R A Streams Listeners : Type 0} (port : ℕ) (result : Result (Tried A) AllocError)
+-- Reading the socket of the ask at this port.
+pub record TakesAsk {R A Streams Listeners : Type 0} (port : ℕ)
+    (result : Result (Tried A) AllocError)
     (before after : Sockets R A Streams Listeners) : Type 0 where
   pub asks : after.asks.entries ≡ left_by port result before.asks.entries
   pub arrives : IfOk result (IsOfAsk port after.buffer.value)

@@ -1,16 +1,18 @@
--- Which sockets are tried in turn, whatever events told.
-use Rattle.std.specs.Prelude.{◌≡◌, ◌≢◌, ℕ, zero, suc, ◌+◌, ◌%◌, ◌^◌, ◌⊎◌, is_some, Bool, true, false, Option}
+-- The sockets that are tried in turn, whatever the events reported.
+use Rattle.std.specs.Prelude.{◌≡◌, ◌≢◌, ℕ, zero, suc, ◌+◌, ◌%◌, ◌^◌, ◌⊎◌, is_some, Bool, true}
+use Rattle.std.specs.Prelude.{false, Option}
 use Rattle.std.specs.Prelude.{Some, None}
-use Rattle.socket_wire.specs.declared.origin.Origin.{Origin}
-use Rattle.socket_wire.specs.declared.origin.Origin.TheVariants.{Datagrams, Client, Ask, Server}
-use Rattle.socket_wire.specs.declared.origin.Origin.TheVariants.{Connections as Listener}
-use Rattle.socket_wire.specs.declared.readiness.Ready.{Ready}
+use Rattle.ready_sockets.specs.declared.origin.Origin.{Origin}
+use Rattle.ready_sockets.specs.declared.origin.Origin.TheVariants.{Datagrams, Client, Ask, Server}
+use Rattle.ready_sockets.specs.declared.origin.Origin.TheVariants.{Connections as Listener}
+use Rattle.ready_sockets.specs.declared.readiness.Ready.{Ready}
 use Rattle.socket_wire.specs.declared.sockets.Sockets.{Sockets}
 use Rattle.stream_connections.specs.Listed.{first_from}
 use Rattle.stream_connections.specs.Open.{Connections, first_number, without_client}
-use Rattle.socket_wire.specs.Rounds.{Noted}
+use Rattle.ready_sockets.specs.Rounds.{Noted}
 
--- where the next turn begins: behind the one that was found; behind the last of them, and of so many numbers, at 0
+-- where the next turn begins: one after the number that was found; at 0 after the last one and
+-- where `size` is reached
 abbrev pub next_from : (size : ℕ) → Option ℕ → ℕ
 next_from size (Some number) = (number + 1) % size
 next_from size None = 0
@@ -20,11 +22,15 @@ abbrev pub number_of : Option (ℕ × Bool) → Option ℕ
 number_of (Some found) = Some found.0
 number_of None = None
 
--- The client that was found is closed where it has been silent for too long; else it is noted as ready.
-abbrev pub ClosesOrNotes : {A : Type 0} → Option (ℕ × Bool) → (ready ready' : Ready A) → (before after : Connections A)
+-- The client that was found is closed where it has been silent for too long; otherwise it is noted
+-- as ready.
+abbrev pub ClosesOrNotes : {A : Type 0} → Option (ℕ × Bool) → (ready ready' : Ready A)
+    → (before after : Connections A)
     → Type 0
-ClosesOrNotes (Some (conn, true)) ready ready' before after = (ready' ≡ ready) × (after ≡ without_client conn before)
-ClosesOrNotes (Some (conn, false)) ready ready' before after = Noted (Client conn) ready ready' × (after ≡ before)
+ClosesOrNotes (Some (conn, true)) ready ready' before after = (ready' ≡ ready)
+    × (after ≡ without_client conn before)
+ClosesOrNotes (Some (conn, false)) ready ready' before after = Noted (Client conn) ready ready'
+    × (after ≡ before)
 ClosesOrNotes None ready ready' before after = (ready' ≡ ready) × (after ≡ before)
 
 -- The socket that was found is noted as ready.
@@ -33,16 +39,19 @@ NotesFirst origin (Some number) before after = Noted (origin number) before afte
 NotesFirst origin None before after = after ≡ before
 
 -- the client whose turn it is, and whether it has been silent for too long
-abbrev pub client_in_turn : {R A Streams Listeners : Type 0} → (now : ℕ) → Sockets R A Streams Listeners
+abbrev pub client_in_turn : {R A Streams Listeners : Type 0} → (now : ℕ)
+    → Sockets R A Streams Listeners
     → Option (ℕ × Bool)
-client_in_turn now sockets = first_from sockets.next_client now sockets.deadline sockets.connections.clients
+client_in_turn now sockets = first_from sockets.next_client now sockets.deadline
+    sockets.connections.clients
 
 -- the port of the ask whose turn it is
 abbrev pub ask_in_turn : {R A Streams Listeners : Type 0} → Sockets R A Streams Listeners → Option ℕ
 ask_in_turn sockets = first_number sockets.next_ask sockets.asks.entries
 
 -- the connection to a server whose turn it is
-abbrev pub server_in_turn : {R A Streams Listeners : Type 0} → Sockets R A Streams Listeners → Option ℕ
+abbrev pub server_in_turn : {R A Streams Listeners : Type 0} → Sockets R A Streams Listeners
+    → Option ℕ
 server_in_turn sockets = first_number sockets.next_server sockets.connections.servers
 
 -- Trying the next client.
@@ -50,7 +59,8 @@ pub record TriesClient {R A Streams Listeners : Type 0} (now : ℕ) (tried : Boo
     (before after : Sockets R A Streams Listeners) : Type 0 where
   pub one : tried ≡ is_some (client_in_turn now before)
   pub next : after.next_client ≡ next_from (2 ^ 64) (number_of (client_in_turn now before))
-  pub tries : ClosesOrNotes (client_in_turn now before) before.readiness.ready after.readiness.ready before.connections
+  pub tries : ClosesOrNotes (client_in_turn now before) before.readiness.ready after.readiness.ready
+      before.connections
       after.connections
   pub rest : after ≡ record before {
     next_client = after.next_client;
@@ -80,14 +90,18 @@ pub record TriesServer {R A Streams Listeners : Type 0} (tried : Bool)
     readiness = record before.readiness { ready = after.readiness.ready };
   }
 
--- Tries that follow each other, so many at most; none behind the one that found none.
-unfoldable pub TriesUpTo : {S : Type 0} → (Tries : Bool → S → S → Type 0) → (most : ℕ) → (before after : S) → Type 0
+-- At most `most` tries, one after the other; none after the one that found none.
+unfoldable pub TriesUpTo : {S : Type 0} → (Tries : Bool → S → S → Type 0) → (most : ℕ)
+    → (before after : S) → Type 0
 TriesUpTo Tries zero before after = after ≡ before
 TriesUpTo {S} Tries (suc more) before after =
-    Tries false before after ⊎ ((between : S) × (Tries true before between × TriesUpTo Tries more between after))
+    Tries false before after
+    ⊎ ((between : S) × (Tries true before between × TriesUpTo Tries more between after))
 
--- A round counts itself, and has the socket for datagrams tried, and where it is an eighth one the listener.
-pub record BeginsRound {R A Streams Listeners : Type 0} (before after : Sockets R A Streams Listeners) : Type 0 where
+-- A round counts itself, and has the socket for datagrams tried, and where it is an eighth one the
+-- listener.
+pub record BeginsRound {R A Streams Listeners : Type 0}
+    (before after : Sockets R A Streams Listeners) : Type 0 where
   pub between : Ready A
   pub datagrams : Noted Datagrams before.readiness.ready between
   pub eighth : after.rounds % 8 ≡ 0 → Noted Listener between after.readiness.ready
@@ -97,7 +111,8 @@ pub record BeginsRound {R A Streams Listeners : Type 0} (before after : Sockets 
     readiness = record before.readiness { ready = after.readiness.ready };
   }
 
--- A round: then up to twenty clients, twenty sockets of asks and twenty connections of asks are tried.
+-- A round: then up to twenty clients, twenty sockets of asks and twenty connections of asks are
+-- tried.
 pub record TriesOthers {R A Streams Listeners : Type 0} (now : ℕ)
     (before after : Sockets R A Streams Listeners) : Type 0 where
   pub begun : Sockets R A Streams Listeners

@@ -1,19 +1,19 @@
--- Which random words a wire gives.
+-- The random words that a wire gives.
 use Rattle.std.specs.Prelude.{◌≡◌, ℕ, zero, suc, List, [], ◌∷◌, true, false}
 use Rattle.rand_chacha.specs.ChaCha.{ChaCha, next_word}
 use Rattle.socket_wire.specs.declared.words.Words.{Words}
 
--- so many words that follow each other, of ChaCha with 12 rounds
+-- the next words of ChaCha with 12 rounds, as many as this number
 abbrev pub next_words : ℕ → ChaCha → List ℕ
 next_words zero random = []
 next_words (suc more) random = (next_word 6 random).0 ∷ next_words more (next_word 6 random).1
 
--- the generator behind so many words
+-- the generator after this number of words
 abbrev pub behind_words : ℕ → ChaCha → ChaCha
 behind_words zero random = random
 behind_words (suc more) random = behind_words more (next_word 6 random).1
 
--- Words that are not spent are given again; behind those that are the next eight of the generator.
+-- Words that are not spent are given again; after those come the next eight of the generator.
 pub record GivesWords (result : List ℕ) (before after : Words) : Type 0 where
   pub given : result ≡ after.drawn
   pub unspent : after.is_spent ≡ false

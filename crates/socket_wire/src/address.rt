@@ -38,13 +38,13 @@ pub(crate) fn any_address(port: u16) -> SocketAddr
 /// The addresses of the socket of an ask.
 #[derive(Clone, Copy)]
 pub(crate) struct Ends {
-    /// Its own.
+    /// The ask's own address.
     pub own: SocketAddr,
-    /// That of the server which is asked.
+    /// The address of the asked server.
     pub server: SocketAddr,
 }
 
-/// The addresses of the socket of an ask from this port of this server.
+/// Returns the addresses of the socket of an ask from this port to this server.
 pub(crate) fn ends_of(port: u16, server: Peer) -> Ends
     ensures own { IsAddressOf (at_any_address port) result.own }
     ensures server { IsAddressOf server result.server }

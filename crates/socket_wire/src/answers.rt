@@ -1,10 +1,10 @@
-//! What follows from the system's answers.
+//! The consequences of the system's answers.
 
 ghost use Rattle.std.specs.Prelude.{◌≡◌, Ok, Err, IfErr, OnOk};
 
 use std::io;
 
-/// The value, where the system did what was asked for it.
+/// Returns the value where the system did what it was asked, otherwise its error.
 pub(crate) fn kept_if<T: Drop>(value: T, answer: io::Result<()>) -> io::Result<T>
     ensures ok { OnOk answer (result ≡ Ok value) }
     ensures err { IfErr answer (λ error. result ≡ Err error) }
@@ -15,7 +15,7 @@ pub(crate) fn kept_if<T: Drop>(value: T, answer: io::Result<()>) -> io::Result<T
     }
 }
 
-/// What came of sending a datagram: all of it was sent, or nothing.
+/// The result of sending a datagram: all of it was sent, or nothing.
 pub(crate) fn sent(answer: io::Result<usize>) -> io::Result<()>
     ensures ok { OnOk answer (result ≡ Ok tt) }
     ensures err { IfErr answer (λ error. result ≡ Err error) }

@@ -2,15 +2,15 @@
 
 use crate::address::ends_of;
 use crate::answers::kept_if;
-use crate::origin::Origin;
-use crate::readiness::Readiness;
 use mio::net::UdpSocket;
+use ready_sockets::{Origin, Readiness};
 use std::alloc::Allocator;
 use std::io;
 use std::net::Net;
 use suffix_routes::Peer;
 
-/// A socket at this port, connected to the server, so that no stranger's datagram comes, and a closed port is told.
+/// Binds a socket at this port and connects it to the server, so that no stranger's datagram
+/// arrives and a closed port is reported. `Err` where the system refuses.
 pub(crate) fn ask_socket<R: Net, A: Allocator + Copy>(
     rt: &R,
     readiness: &Readiness<A>,

@@ -7,8 +7,6 @@ mod asks;
 mod listeners;
 mod moments;
 mod numbers;
-mod origin;
-mod readiness;
 mod receive_buffer;
 mod sockets;
 mod spare;

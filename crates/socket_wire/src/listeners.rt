@@ -1,15 +1,14 @@
 //! The sockets that clients send to.
 
 use crate::answers::kept_if;
-use crate::origin::Origin;
-use crate::readiness::Readiness;
 use crate::receive_buffer::widen;
 use mio::net::{TcpListener, UdpSocket};
+use ready_sockets::{Origin, Readiness};
 use std::alloc::Allocator;
 use std::io;
 use std::net::{Net, SocketAddr};
 
-/// A socket that takes datagrams at this address.
+/// Binds a socket that takes datagrams at this address. `Err` where the system refuses.
 pub(crate) fn datagrams_at<A: Allocator + Copy>(
     net: &impl Net,
     readiness: &Readiness<A>,
@@ -21,7 +20,7 @@ pub(crate) fn datagrams_at<A: Allocator + Copy>(
     kept_if(socket, watched)
 }
 
-/// A listener for connections at this address.
+/// Binds a listener for connections at this address. `Err` where the system refuses.
 pub(crate) fn connections_at<A: Allocator + Copy>(
     net: &impl Net,
     readiness: &Readiness<A>,

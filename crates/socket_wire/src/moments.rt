@@ -7,18 +7,19 @@ use std::io;
 use std::rt::Clock;
 use std::time::{Duration, Instant};
 
-/// Milliseconds since it was made, by the system's monotonic clock. One reading serves all steps of a turn.
+/// A clock: ms since it was made, by the system's monotonic clock. One reading serves all steps of
+/// a turn.
 #[derive(Drop)]
 pub(crate) struct Moments<'a, R: Clock> {
     rt: &'a R,
     started: Instant,
-    /// The last moment that was told.
+    /// The last moment that was returned.
     pub last: u64,
-    /// The clock was read in this turn.
+    /// Whether the clock was read in this turn.
     is_read: bool,
 }
 
-/// The whole milliseconds of a time, 2^64 - 1 at most.
+/// Returns the whole ms of a time, at most 2^64 - 1.
 fn moment_of(spent: Duration) -> u64
     ensures { result ≡ moment_of spent }
 {
@@ -26,7 +27,7 @@ fn moment_of(spent: Duration) -> u64
 }
 
 impl<'a, R: Clock> Moments<'a, R> {
-    /// None was told yet. `Err` where the clock fails.
+    /// Starts with no moment returned yet. `Err` where the clock fails.
     pub fn new(rt: &'a R) -> io::Result<Moments<'a, R>>
         ensures { IfOk result (λ moments. moments.last ≡ 0) }
     {
@@ -38,14 +39,15 @@ impl<'a, R: Clock> Moments<'a, R> {
         })
     }
 
-    /// Another turn begins.
+    /// Begins another turn.
     pub fn begin_turn(&mut self)
         ensures { self.new ≡ record self.old { is_read = false } }
     {
         self.is_read = false;
     }
 
-    /// The moment; the last one again where it was told in this turn, or the clock fails or goes back.
+    /// Returns the moment, in ms. The last one again, where it was returned in this turn already,
+    /// or the clock fails or goes back.
     pub fn now(&mut self) -> u64
         ensures told { result ≡ self.new.last }
         ensures rises { self.old.last ≤ self.new.last }
@@ -64,7 +66,8 @@ impl<'a, R: Clock> Moments<'a, R> {
     /// Notes the moment at which this time was spent, by the clock's answer, unless it is an
     /// earlier one or the clock failed.
     fn note(&mut self, spent: io::Result<Duration>)
-        ensures ok { IfOk spent (λ spent. self.new ≡ record self.old { last = max self.old.last (moment_of spent) }) }
+        ensures ok { IfOk spent (λ spent. self.new
+            ≡ record self.old { last = max self.old.last (moment_of spent) }) }
         ensures err { OnErr spent (self.new ≡ self.old) }
         ensures rises { self.old.last ≤ self.new.last }
         ensures rest { self.new ≡ record self.old { last = self.new.last } }

@@ -5,22 +5,25 @@ ghost use Rattle.std.specs.Prelude.{◌≡◌, ◌+◌, ◌^◌, IfSome, IfNone}
 /// Gives each number once, in order.
 #[derive(Drop)]
 pub(crate) struct Numbers {
-    /// The next one; the last number of 64 bits is never given.
+    /// The next number. 2^64 - 1 is never given.
     next: u64,
 }
 
 impl Numbers {
-    /// All numbers from 0 on.
+    /// Starts with all numbers from 0 on.
     pub fn new() -> Numbers
         ensures { result.next ≡ 0 }
     {
         Numbers { next: 0 }
     }
 
-    /// A number that was never given before, since each is the one behind the last; `None` where none is left.
+    /// Returns a number that was never given before: each is one more than the last. `None` where
+    /// none is left.
     pub fn give(&mut self) -> Option<u64>
-        ensures next { IfSome result (λ number. (number ≡ self.old.next) × (self.new.next ≡ number + 1)) }
-        ensures none { IfNone result ((self.old.next + 1 ≡ 2 ^ 64) × (self.new.next ≡ self.old.next)) }
+        ensures next { IfSome result (λ number. (number ≡ self.old.next)
+            × (self.new.next ≡ number + 1)) }
+        ensures none { IfNone result ((self.old.next + 1 ≡ 2 ^ 64)
+            × (self.new.next ≡ self.old.next)) }
     {
         let number = self.next;
         self.next = number.checked_add(1)?;

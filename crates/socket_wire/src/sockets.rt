@@ -13,11 +13,11 @@ mod trying;
 use crate::address::address_of;
 use crate::listeners::{connections_at, datagrams_at};
 use crate::numbers::Numbers;
-use crate::readiness::Readiness;
 use crate::spare::Spare;
 use crate::words::Words;
 use mio::net::{TcpListener, UdpSocket};
 use plain_list::Octets;
+use ready_sockets::Readiness;
 use std::alloc::{AllocError, Allocator};
 use std::collections::BTreeMap;
 use std::io;
@@ -28,13 +28,14 @@ use suffix_routes::{Limits, Peer};
 use taking::Tried;
 use wires::Arrival;
 
-/// How many octets are read at once: a datagram has no more.
+/// The largest read, in octets: a datagram has no more.
 const LARGEST: usize = 65_535;
 
-/// For how many milliseconds a wire waits at most, and after how many it tries sockets that no event told of.
+/// The longest wait of a wire, in ms, and the time after which it tries sockets that no event
+/// reported.
 const PAUSE: u64 = 5;
 
-/// How many sockets a turn tries at most.
+/// The most sockets that a turn tries.
 const TRIES: u8 = 64;
 
 /// The sockets of a wire.
@@ -52,9 +53,10 @@ pub(crate) struct Sockets<'a, R: Net, A: Allocator> {
     buffer: Box<[u8; LARGEST], A>,
     spare: Spare<A>,
     words: Words,
-    /// How long a question may wait for its reply, in milliseconds.
+    /// The time, in ms, for which a question may wait for its reply.
     deadline: u64,
-    /// When sockets were tried that no event told of, and in how many rounds.
+    /// The moment, in ms, of the last round of sockets that no event reported, and the number of
+    /// these rounds modulo 256.
     tried: u64,
     rounds: u8,
     next_client: u64,
@@ -63,7 +65,8 @@ pub(crate) struct Sockets<'a, R: Net, A: Allocator> {
 }
 
 impl<'a, R: Net, A: Allocator + Copy> Sockets<'a, R, A> {
-    /// Listens at the peer's address by UDP and TCP. `Err` where the system refuses, or memory ran out.
+    /// Listens at the peer's address by UDP and TCP. `Err` where the system refuses, or memory ran
+    /// out.
     pub fn new(
         rt: &'a R,
         alloc: A,
@@ -101,7 +104,7 @@ impl<'a, R: Net, A: Allocator + Copy> Sockets<'a, R, A> {
         })
     }
 
-    /// The random words for the next step.
+    /// Returns the random words for the next step.
     pub fn words(&mut self) -> [u32; 8]
         ensures gives { GivesWords result self.old.words self.new.words }
         ensures rest { self.new ≡ record self.old { words = self.new.words } }
@@ -109,17 +112,18 @@ impl<'a, R: Net, A: Allocator + Copy> Sockets<'a, R, A> {
         self.words.next()
     }
 
-    /// Takes the memory of octets back that were served, for those that arrive next.
+    /// Takes back the memory of octets that were served, for those that arrive next.
     pub fn take_back(&mut self, octets: &mut Octets<A>)
         ensures { self.new ≡ self.old }
     {
         self.spare.keep(self.alloc, octets);
     }
 
-    /// What arrives next: first the end of a connection that the wire closed.
+    /// Returns the next arrival. The end of a connection that the wire closed comes first.
     pub fn arrival(&mut self, now: u64) -> Result<Arrival<A>, AllocError>
         ensures end { TellsEnd result self.old self.new }
-        ensures turn { self.old.connections.closed ≡ [] → TakesTurnAtOnce now result self.old self.new }
+        ensures turn { self.old.connections.closed ≡ []
+            → TakesTurnAtOnce now result self.old self.new }
     {
         match self.connections.next_end() {
             Some(Closed::Client(conn)) => Ok(Arrival::ClientClosed { conn }),
@@ -131,7 +135,7 @@ impl<'a, R: Net, A: Allocator + Copy> Sockets<'a, R, A> {
         }
     }
 
-    /// What arrives where no end is to be told.
+    /// Returns the next arrival where no end is to be reported.
     fn take_turn(&mut self, now: u64) -> Result<Arrival<A>, AllocError>
         ensures { TakesTurn now result self.old self.new }
     {
@@ -142,7 +146,8 @@ impl<'a, R: Net, A: Allocator + Copy> Sockets<'a, R, A> {
         }
     }
 
-    /// Nothing came of what may be ready. Waits where it hasn't waited yet, and nothing may be ready any more.
+    /// Ends a turn in which nothing arrived. Waits where it hasn't waited yet, and nothing may be
+    /// ready any more.
     fn end_turn(&mut self, has_waited: bool, now: u64) -> Result<Arrival<A>, AllocError>
         ensures { EndsTurn has_waited now result self.old self.new }
     {
@@ -153,8 +158,9 @@ impl<'a, R: Net, A: Allocator + Copy> Sockets<'a, R, A> {
         Ok(self.try_ready(now)?.unwrap_or(Arrival::Nothing))
     }
 
-    /// Looks what is ready; waits where nothing is. True where it waited. Before sockets are tried that no event told
-    /// of, events are taken only where something may be ready: else the turn waits for them once these turn out empty.
+    /// Looks what is ready, and waits where nothing is. True where it waited. Before sockets are
+    /// tried that no event reported, events are taken only where something may be ready. Otherwise
+    /// the turn waits for them once these turn out empty.
     fn look(&mut self, now: u64) -> bool
         ensures { Looks now result self.old self.new }
     {
@@ -176,7 +182,8 @@ impl<'a, R: Net, A: Allocator + Copy> Sockets<'a, R, A> {
         false
     }
 
-    /// What arrives of a socket that may be ready. `None` where none is ready any more, or many were tried.
+    /// Returns the arrival of a socket that may be ready. `None` where none is ready any more, or
+    /// many were tried.
     fn try_ready(&mut self, now: u64) -> Result<Option<Arrival<A>>, AllocError>
         ensures { TriesReady 64 now result self.old self.new }
     {
@@ -193,7 +200,7 @@ impl<'a, R: Net, A: Allocator + Copy> Sockets<'a, R, A> {
         Ok(None)
     }
 
-    /// A socket or a connection of an ask is open.
+    /// Whether a socket or a connection of an ask is open.
     fn has_asks(&self) -> bool
         ensures { result ≡ has_asks self.now }
     {

@@ -20,14 +20,14 @@ impl<A: Allocator> Model for Spare<A> {
 }
 
 impl<A: Allocator + Copy> Spare<A> {
-    /// None yet. It takes no memory.
+    /// Starts with no memory. It does not allocate.
     pub fn new(alloc: A) -> Spare<A> {
         Spare {
             memory: Vec::new(alloc),
         }
     }
 
-    /// The same octets, in what was kept, where that has room. `Err` where memory ran out.
+    /// Copies octets into the kept memory, where it has room. `Err` where memory ran out.
     pub fn copied(&mut self, alloc: A, octets: &[u8]) -> Result<Octets<A>, AllocError>
         ensures { IfOk result (λ copied. copied ≡ octets.now) }
     {

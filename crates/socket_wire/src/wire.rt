@@ -18,8 +18,9 @@ use step_values::Action;
 use suffix_routes::{Limits, Peer};
 use wires::{Arrival, Wire, WireFault};
 
-/// A wire over sockets. It listens at one address by UDP and TCP, asks from a socket of its own for each ask, and waits
-/// for none of them. Contracts see how many faults it counted, and how long a question on a connection may wait.
+/// A wire over sockets. It listens at one address by UDP and TCP, asks from a socket of its own for
+/// each ask, and waits for none of them. Contracts see the number of faults it counted, and how
+/// long a question on a connection may wait.
 #[derive(Drop)]
 pub struct MioWire<'a, R: Net + Clock, A: Allocator = Global> {
     sockets: Sockets<'a, R, A>,
@@ -36,9 +37,9 @@ impl<'a, R: Net + Clock, A: Allocator> Model for MioWire<'a, R, A> {
 }
 
 impl<'a, R: Net + Clock + RandomSource, A: Allocator + Copy> MioWire<'a, R, A> {
-    /// A wire that listens at this address, and counted no fault. A question on a connection waits for
-    /// its reply for as long as the limits let it. `Err` where the system refuses, gives no random
-    /// octets or no time, or memory ran out.
+    /// Makes a wire that listens at this address, and has counted no fault. A question on a
+    /// connection waits for its reply for as long as the limits let it. `Err` where the system
+    /// refuses, gives no random octets or no time, or memory ran out.
     pub fn new(rt: &'a R, alloc: A, listen: Peer, limits: &Limits) -> io::Result<MioWire<'a, R, A>>
         ensures faults { IfOk result (λ wire. wire.faults ≡ 0) }
         ensures deadline { IfOk result (λ wire. wire.deadline ≡ limits.now.deadline_ms) }

@@ -8,7 +8,8 @@ use rand_chacha::ChaCha12Rng;
 use rand_core::SeedableRng;
 use rand_core::utils::NextWord;
 
-/// Random words. The same are given again until they are spent: words that were sent to nobody tell nobody anything.
+/// Random words. The same words are given again until they are spent: words that were sent to
+/// nobody reveal nothing.
 #[derive(Drop)]
 pub(crate) struct Words {
     random: ChaCha12Rng,
@@ -17,7 +18,7 @@ pub(crate) struct Words {
 }
 
 impl Words {
-    /// Words by this seed; none were given.
+    /// Starts from this seed; no words were given.
     pub fn new(seed: [u8; 32]) -> Words
         ensures { (result.random ≡ of_seed seed) × (result.is_spent ≡ true) }
     {
@@ -28,7 +29,7 @@ impl Words {
         }
     }
 
-    /// The words that were given last, or where they are spent new ones.
+    /// Returns the words that were given last, or new ones where those are spent.
     pub fn next(&mut self) -> [u32; 8]
         ensures { GivesWords result self.old self.new }
     {
@@ -49,7 +50,7 @@ impl Words {
         self.drawn
     }
 
-    /// New words are given from now on.
+    /// Marks the words as spent: the next ones are new.
     pub fn spend(&mut self)
         ensures { self.new ≡ record self.old { is_spent = true } }
     {

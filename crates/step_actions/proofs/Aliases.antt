@@ -1,4 +1,4 @@
--- Aliases, and a chain behind them.
+-- Aliases, and a chain after them.
 use Rattle.std.proofs.Common.{◌≡◌, ℕ, ◌+◌, ◌<◌, List, [], ◌∷◌, ◌++◌, length, take, get_or, sym, ap, ◌∙◌, Bor}
 use Rattle.std.specs.Prelude.{Result, Ok, Err}
 use Rattle.std.proofs.lemmas.List.{take_more, map-append}
@@ -35,7 +35,7 @@ pub sent_alike : (x y : Waiting) (chain other : List Held) (n : ℕ) → x.clien
 sent_alike x y chain other n client asked same =
     sends_alike Answered x y (answer_of x.asked chain n (transport_of x.client)) client asked ∙ (λ i. sends Answered y (answer_of (asked i) (same i) n (transport_of (client i))))
 
--- so do they of what was found past its end, and behind aliases to a denied name
+-- so do they from stale entries, and after aliases to a denied name
 pub stale_alike : (x y : Waiting) (chain other : List Held) (past n : ℕ) → x.client ≡ y.client → x.asked ≡ y.asked → chain ≡ other
     → sends Stale x (stale_answer_of x.asked chain past n (transport_of x.client)) ≡ sends Stale y (stale_answer_of y.asked other past n (transport_of y.client))
 stale_alike x y chain other past n client asked same =

@@ -1,4 +1,5 @@
--- What the proofs of crates above cite of replies: questions of one client that ask the same get the same.
+-- Lemmas on replies for the proofs of crates above: questions of one client that ask the same get
+-- the same.
 pub use Rattle.step_actions.proofs.Aliases.{lent_one_more, lent_then, sent_alike, stale_alike, local_alike}
 pub use Rattle.step_actions.proofs.Carried.{carries_nothing, fits_plain, next_is, plain_next}
 pub use Rattle.step_actions.proofs.Made.{decides_as, decides_by}

@@ -1,4 +1,4 @@
--- Replies put one behind another, to those alone that get one.
+-- Replies put one after another, to those alone that get one.
 use Rattle.std.proofs.Common.{◌≡◌, ℕ, zero, suc, ◌+◌, List, [], ◌∷◌, ◌++◌, drop, slice_get, Bool, true, false, cond, true≢false, Option, None, Some, refl, sym, ap, ◌∙◌, subst, inl, inr, arith}
 use Rattle.std.specs.Prelude.{filter}
 use Rattle.std.specs.List.{AllByRecursion}
@@ -54,7 +54,7 @@ one_of_those P q xs those i x all are there = all_at P (filter (waits_for q) xs)
 
 -- ---- one reply more
 
--- the one at a place, in front of those behind it
+-- the one at a place, in front of those after it
 drop_at : (xs : List Waiting) (i : ℕ) (x : Waiting) → slice_get xs i ≡ Some x → drop i xs ≡ x ∷ drop (suc i) xs
 drop_at [] i x there = absurd (cc)
 drop_at (y ∷ xs) zero x there = let same : y ≡ x = cc in ap (λ (z : Waiting). z ∷ xs) same

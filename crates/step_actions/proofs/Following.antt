@@ -13,7 +13,7 @@ use Rattle.outstanding.specs.Draws.{udp_draw, drawn_by_tcp}
 use Rattle.outstanding.specs.Lists.{on_path as ask_on, of_question, same_path, without_path, AreListed}
 use Rattle.outstanding.specs.Values.{Ask, Inquiries}
 use Rattle.outstanding.proofs.CallerLemmas.{next_may_begin as next_begins}
-use Rattle.suffix_routes.specs.Serving.{route_of}
+use Rattle.suffix_routes.specs.Serving.{serving_route_of}
 use Rattle.record_cache.specs.Values.{Cache}
 use Rattle.step_table.specs.State.{State, turn}
 use Rattle.waiting_questions.specs.Values.{Waiting}
@@ -37,7 +37,7 @@ below c m k asks all = All-weaker (IsKeptAsk c m k) (λ a. IsBelow k a.path) (λ
 -- ---- the first ask
 
 pub first_follows : (c : Config) (n : ℕ) (words : List ℕ) (q : Question) (route : ℕ) (s : State) (i : Inquiries) (preferred : List ℕ) (a : Ask) → IsKeptForwarder c s.cache i s.waiting preferred s.moment s.tcp_asks → i.asks ≡ s.asks
-    → route_of c q.name ≡ Some route → s.moment ≤ n → n ≤ 2 ^ 62 → of_question q s.asks ≡ None → length s.asks < c.limits.inquiries → Some a ≡ first_ask (turn c n words s) q route → CanFollow c n s s.asks a
+    → serving_route_of c q.name ≡ Some route → s.moment ≤ n → n ≤ 2 ^ 62 → of_question q s.asks ≡ None → length s.asks < c.limits.inquiries → Some a ≡ first_ask (turn c n words s) q route → CanFollow c n s s.asks a
 first_follows c n words q route s i preferred a kept asks_are on later small new room is = record {
   begins = record {
     path = ap (λ (p : Path). ask_on p s.asks) draw.1 ∙ free_now draw.0 s.asks fresh.free;
@@ -48,7 +48,7 @@ first_follows c n words q route s i preferred a kept asks_are on later small new
   room = room;
   kept = record {
     earlier = let at : a.asked ≡ n = facts.asked in omega (arith, at);
-    on_route = ap (λ (z : Question). route_of c z.name) facts.question ∙ on ∙ sym (ap (λ (r : ℕ). Some r) facts.route_is);
+    on_route = ap (λ (z : Question). serving_route_of c z.name) facts.question ∙ on ∙ sym (ap (λ (r : ℕ). Some r) facts.route_is);
     server = (λ j. peer_at c (facts.route_is j) (facts.server_is j)) ∙ facts.peer_is;
     tries = let used : a.used ≡ 1 = facts.used_is in let least = kept.config.limits.tries.0 in (omega (arith, used), omega (arith, used, least));
     path = subst (IsBelow (s.tcp_asks + tcp_count_of a.path)) (sym draw.1) tt;
@@ -87,7 +87,7 @@ module _ (c : Config) (n : ℕ) (words : List ℕ) (path : Path) (a : Ask) (s : 
     room = let fewer = without_shorter path s.asks a on in let few = are.few in omega (arith, fewer, few);
     kept = record {
       earlier = let at : next.asked ≡ n = facts.asked in omega (arith, at);
-      on_route = ap (λ (z : Question). route_of c z.name) facts.question ∙ own.on_route ∙ sym (ap (λ (r : ℕ). Some r) facts.route_is);
+      on_route = ap (λ (z : Question). serving_route_of c z.name) facts.question ∙ own.on_route ∙ sym (ap (λ (r : ℕ). Some r) facts.route_is);
       server = (λ j. peer_at c (facts.route_is j) (facts.server_is j)) ∙ facts.peer_is;
       tries = let used : next.used ≡ a.used + 1 = facts.used_is in (omega (arith, used), omega (arith, used, more));
       path = new_below;

@@ -1,4 +1,4 @@
--- What a forwarder keeps, later and with an ask fewer.
+-- The invariant of a forwarder, later and with an ask fewer.
 use Rattle.std.proofs.Common.{◌≡◌, ℕ, ◌≤◌, List, sym, subst, arith, Option, Some, None}
 use Rattle.std.specs.Prelude.{not}
 use Rattle.std.specs.List.{AllByRecursion}

@@ -1,4 +1,4 @@
--- What was decided comes to a row also where that row is written otherwise.
+-- A decision yields a row also where that row is written otherwise.
 use Rattle.std.proofs.Common.{◌≡◌, ◌∙◌, List, Bool}
 use Rattle.std.specs.Prelude.{Result, IfOk}
 use Rattle.std.specs.declared.alloc.AllocError.{AllocError}

@@ -1,4 +1,4 @@
--- What is told of a chain, one piece after another.
+-- A chain as the answer has it, one piece after another.
 use Rattle.std.proofs.Common.{◌≡◌, ℕ, zero, suc, ◌+◌, ◌<◌, ◌≤◌, List, [], ◌∷◌, ◌++◌, length, map, take, drop, get_or, Bor, refl, sym, ap, subst, ◌∙◌, drop-cons, arith}
 use Rattle.std.proofs.lemmas.List.{take_more, map-append, length-map}
 use Rattle.std.specs.List.{AllByRecursion}
@@ -13,7 +13,7 @@ use Rattle.record_cache.specs.Values.{Held}
 use Rattle.answer_builder.specs.Values.{Told}
 use Rattle.answer_builder.specs.Answers.{told_at, told_past, told_stale}
 
--- with none before the others all are told past their end
+-- with none before the others all are answered as stale
 all_past : (t : ℕ) (xs : List Held) → told_stale zero t xs ≡ map (told_past t) xs
 all_past t xs = refl
 
@@ -28,7 +28,7 @@ nothing_told : (k t : ℕ) → told_stale k t [] ≡ []
 nothing_told zero t = refl
 nothing_told (suc k) t = refl
 
--- one more of those that are told by what is left of them
+-- one more of those that are answered with the lifetime that is left
 pub left_more : (past t : ℕ) (xs : List Held) (i : ℕ) (h : Held) → i < length xs → h ≡ get_or xs i h → i < past → told_stale past t (take (i + 1) xs) ≡ told_stale past t (take i xs) ++ told_at t h ∷ []
 left_more zero t xs i h lt is below = absurd (omega (arith, below))
 left_more (suc k) t [] i h lt is below = absurd (omega (arith, lt))
@@ -37,7 +37,7 @@ left_more (suc k) t (x ∷ xs) (suc i) h lt is below =
     ap (λ (n : ℕ). told_stale (suc k) t (take n (x ∷ xs))) (next_is i)
     ∙ ap (λ (told : List Told). told_at t x ∷ told) (left_more k t xs i h (omega (arith, lt)) is (omega (arith, below)))
 
--- and of those behind them
+-- and of those after them
 pub past_more : (past t : ℕ) (xs : List Held) (i : ℕ) (h : Held) → i < length xs → h ≡ get_or xs i h → past ≤ i → told_stale past t (take (i + 1) xs) ≡ told_stale past t (take i xs) ++ told_past t h ∷ []
 past_more zero t xs i h lt is above = past_one t xs i h lt is
 past_more (suc k) t [] i h lt is above = absurd (omega (arith, lt))
@@ -46,7 +46,7 @@ past_more (suc k) t (x ∷ xs) (suc i) h lt is above =
     ap (λ (n : ℕ). told_stale (suc k) t (take n (x ∷ xs))) (next_is i)
     ∙ ap (λ (told : List Told). told_at t x ∷ told) (past_more k t xs i h (omega (arith, lt)) is (omega (arith, above)))
 
--- where none is behind them, all are told by what is left of them
+-- where none is after them, all are answered with the lifetime that is left
 pub none_past : (t : ℕ) (chain : List Held) → told_stale (length chain) t chain ≡ map (told_at t) chain
 none_past t [] = refl
 none_past t (h ∷ chain) = ap (λ (told : List Told). told_at t h ∷ told) (none_past t chain)
@@ -61,7 +61,7 @@ lent_at (x ∷ refs) (suc i) r is = lent_at refs i r is
 pub lent_length : {X : Type 0} (refs : List (Bor X)) → length (lent refs) ≡ length refs
 lent_length {X = X} refs = length-map refs (λ (y : Bor X). y.now)
 
--- what holds of all from a place on holds of the one there, and of all behind it
+-- a property of all from a place on is one of the element there, and of all after it
 pub all_from_next : {X : Type 0} (P : X → Type 0) (xs : List X) (i : ℕ) (x : X) → i < length xs → x ≡ get_or xs i x → AllByRecursion P (drop i xs) → P x × AllByRecursion P (drop (i + 1) xs)
 all_from_next P xs i x lt is all =
     let rest = subst (AllByRecursion P) (drop-cons xs i x lt) all in

@@ -1,4 +1,4 @@
--- What a step is about to do, before it is put in place.
+-- The decision of a step, before it is put in place.
 use Rattle.std.specs.Prelude.{◌≡◌, ℕ, suc, ◌+◌, ◌^◌, ◌<◌, ◌≤◌, Bool, if◌then◌else◌, not, nat_le, List, [], ◌∷◌, ◌++◌}
 use Rattle.std.specs.Prelude.{length, drop, filter, slice_set, Option, Some, None, Result, Ok, Err}
 use Rattle.std.specs.declared.alloc.AllocError.{AllocError}
@@ -39,28 +39,33 @@ abbrev pub left_waiting : Option Ask → List Waiting → List Waiting
 left_waiting None xs = xs
 left_waiting (Some a) xs = filter (λ x. not (waits_for a.question x)) xs
 
--- those that waited for the ask, as their fates have it: each waits no more, or waits on with what it is sent on with
+-- the questions that waited for the ask, by their fates: each waits no more, or waits on with the
+-- aliases and the question that it is sent on with
 abbrev pub left_or_sent : Option Ask → List (Option Onward) → List Waiting → List Waiting
 left_or_sent None onward xs = xs
 left_or_sent (Some a) onward xs = settled a.question onward xs
 
+-- the preferred servers, with one changed if a reply was accepted
 abbrev pub with_preferred : Option Preferred → List ℕ → List ℕ
 with_preferred None places = places
 with_preferred (Some p) places = slice_set places p.route p.server
 
+-- the listed asks without that on a closed path, if any
 abbrev pub without_closed : Option Path → List Ask → List Ask
 without_closed None listed = listed
 without_closed (Some path) listed = without_path path listed
 
+-- the path of an ask, if any
 abbrev pub closed_path : Option Ask → Option Path
 closed_path None = None
 closed_path (Some a) = Some a.path
 
--- a path that is given up, where there is one
+-- a path that is given up, if any
 abbrev pub closing_path : Option Path → List Action
 closing_path None = []
 closing_path (Some path) = closes path ∷ []
 
+-- the state after a change, at a moment in milliseconds
 abbrev pub changed : {A : Type 0} → ℕ → State → Change A → State
 changed n s Nothing = record s { moment = n }
 changed n s (Join b) = record s { waiting = s.waiting ++ b.value ∷ []; moment = n }
@@ -91,7 +96,7 @@ changed n s (AskAgain path b) = record s {
 }
 changed n s (Expire closed) = record s { asks = without_closed closed s.asks; waiting = drop 1 s.waiting; moment = n }
 
--- an ask that may be listed behind these
+-- an ask that may be listed after these
 pub record CanFollow (c : Config) (n : ℕ) (s : State) (listed : List Ask) (a : Ask) : Type 0 where
   pub begins : MayBegin a listed
   pub room : length listed < c.limits.inquiries
@@ -104,6 +109,7 @@ pub record CanWait (c : Config) (n : ℕ) (s : State) (x : Waiting) : Type 0 whe
   pub taken : x.taken ≡ n
   pub aliases : HoldsEarlier n x
 
+-- the preferred server is one of its route's
 abbrev pub IsServed : Config → Option Preferred → Type 0
 IsServed c None = Unit {0}
 IsServed c (Some p) = p.server < length (Rattle.step_table.specs.Attempts.servers_in
@@ -119,6 +125,7 @@ abbrev pub AreForThose : Option Ask → List (Option Onward) → List Waiting �
 AreForThose None onward xs = ⊥
 AreForThose (Some a) onward xs = length onward ≡ length (filter (waits_for a.question) xs)
 
+-- the ask, if any, can follow in this state
 abbrev pub IfFollows : Config → ℕ → State → List Ask → Option Ask → Type 0
 IfFollows c n s listed None = Unit {0}
 IfFollows c n s listed (Some a) = CanFollow c n s listed a
@@ -131,6 +138,7 @@ pub record CanSendOn (c : Config) (n : ℕ) (s : State) (path : Path) (preferred
   pub served : IsServed c (Some preferred)
   pub follows : IfFollows c n s (without_path path s.asks) next
 
+-- the change can be put in place in this state
 abbrev pub FitsChange : {A : Type 0} → Config → ℕ → State → Change A → Type 0
 FitsChange c n s Nothing = Unit {0}
 FitsChange c n s (Join b) = CanWait c n s b.value
@@ -141,9 +149,9 @@ FitsChange c n s (AskAgain path b) = Rattle.std.specs.Prelude.IsSome (ask_on pat
     × CanFollow c n s (without_path path s.asks) b.value
 FitsChange c n s (Expire closed) = Unit {0}
 
--- a piece that the cache may keep: its name is on the route of the ask that brought it
+-- a piece that the cache may keep: the route of the ask that brought it serves its name
 abbrev pub IsRouted : Config → Piece → Type 0
-IsRouted c p = Rattle.suffix_routes.specs.Serving.route_of c p.slot.key ≡ Some p.route
+IsRouted c p = Rattle.suffix_routes.specs.Serving.serving_route_of c p.slot.key ≡ Some p.route
 
 -- what may be done now
 pub record CanChange {A : Type 0} (c : Config) (n : ℕ) (s : State) (d : Decision A) : Type 0 where
@@ -151,27 +159,32 @@ pub record CanChange {A : Type 0} (c : Config) (n : ℕ) (s : State) (d : Decisi
   pub few : length (pieces_of d.carried.items) < 2 ^ 32
   pub routed : Rattle.std.specs.List.AllByRecursion (IsRouted c) (pieces_of d.carried.items)
 
--- what is done, where rooms tells which of the new slots found memory
+-- the done step; rooms says which of the new slots found memory
 abbrev pub next_of : {A : Type 0} → ℕ → List Bool → State → Decision A → Done
 next_of n rooms s d =
     offering_step n rooms (pieces_of d.carried.items)
     (record { actions = actions_of d.actions; unkept = 0; state = changed n (with_promoted d.used s) d.change })
 
--- what was decided comes to this row, whichever of the new slots find memory, and may be put in place
+-- the decision yields this row, whichever of the new slots find memory, and may be put in place
 pub record MeetsRow {A : Type 0} (t : Turn) (made : List Bool → Done) (d : Decision A) : Type 0 where
   pub row : (rooms : List Bool) → next_of t.moment rooms t.state d ≡ made rooms
   pub fits : CanChange t.config t.moment t.state d
 
--- the step takes no memory
+-- the decision yields this step, in which nothing is offered, and may be put in place
+abbrev pub MeetsStep : {A : Type 0} → Turn → Done → Decision A → Type 0
+MeetsStep t step = MeetsRow t (λ rooms. step)
+
+-- the decision promotes nothing and changes no list, and did not run out of memory
 abbrev pub IsQuiet : {A : Type 0} → Result (Decision A) AllocError → Type 0
 IsQuiet (Ok next) = (next.used ≡ []) × (next.change ≡ Nothing)
 IsQuiet (Err refused) = ⊥
 
--- what is decided of an event: a restart is told, all else happens as the row has it
+-- the decision on an event: none for a restart, and any other happens as the row has it
 abbrev pub IsDecided : {A : Type 0} → Turn → Event → Option (Decision A) → Type 0
 IsDecided t e None = e ≡ restart
 IsDecided t e (Some next) = (rooms : List Bool) → Happens t e (next_of t.moment rooms t.state next)
 
+-- the decision, if any, promotes nothing and changes no list, and did not run out of memory
 abbrev pub IsDecidedQuietly : {A : Type 0} → Result (Option (Decision A)) AllocError → Type 0
 IsDecidedQuietly (Ok None) = Unit {0}
 IsDecidedQuietly (Ok (Some next)) = (next.used ≡ []) × (next.change ≡ Nothing)
@@ -182,7 +195,8 @@ pub record IsOutcome (c : Config) (d : Done) (o : Outcome) (s' : State) : Type 0
   pub done : record { actions = o.actions; unkept = o.unkept; state = s' } ≡ d
   pub more : o.more ≡ is_due_at c s'.moment s'
 
--- the answer from the aliases that a question holds and this chain, unless these are more aliases than it may hold
+-- the answer from the aliases that a question holds and this chain, unless these are more aliases
+-- than it may hold
 abbrev pub told_from : Source → Waiting → Action
 told_from d x =
     if nat_le (length x.held + length d.chain) (suc most_aliases)
@@ -193,11 +207,12 @@ told_from d x =
 abbrev pub gives_from : Source → Question → Waiting → Fate
 gives_from d q x = if waits_for q x then gets (told_from d x) else waits x
 
--- replies put one behind another
+-- replies put one after another
 abbrev pub with_reply : List Action → Option Action → List Action
 with_reply actions None = actions
 with_reply actions (Some a) = actions ++ a ∷ []
 
+-- the actions with the replies of the questions that waited
 abbrev pub with_replies : (Waiting → Fate) → List Action → List Waiting → List Action
 with_replies fate actions [] = actions
 with_replies fate actions (x ∷ xs) = with_replies fate (with_reply actions (reply_in (fate x))) xs

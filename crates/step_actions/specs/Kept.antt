@@ -1,21 +1,21 @@
--- What holds of a forwarder without any history.
+-- The invariant of a forwarder without any history.
 use Rattle.std.specs.Prelude.{◌≡◌, ℕ, ◌^◌, ◌<◌, ◌≤◌, List, length, Some}
 use Rattle.std.specs.List.{AllByRecursion}
 use Rattle.suffix_routes.specs.Values.{Config, IsConfig}
 use Rattle.outstanding.specs.Lists.{AreListed}
 use Rattle.outstanding.specs.Values.{Ask, Inquiries}
-use Rattle.suffix_routes.specs.Serving.{route_of}
+use Rattle.suffix_routes.specs.Serving.{serving_route_of}
 use Rattle.waiting_questions.specs.Values.{Waiting}
 use Rattle.step_table.specs.Attempts.{peer_at}
 use Rattle.record_cache.specs.Values.{Cache}
 use Rattle.answer_builder.specs.Answers.{IsEarlier}
 use Rattle.step_table.specs.Progress.{AreTakenInTurn, IsTry, IsCacheOf, IsBelow, ArePreferred}
 
--- a listed ask is for a name on its route; it went to the server at its place, as one of the tries that an inquiry has,
--- over a path that was given
+-- a listed ask is for a name of its route; it went to the server at its place, as one of the tries
+-- of an inquiry, over a path that was given
 pub record IsKeptAsk (c : Config) (moment count : ℕ) (a : Ask) : Type 0 where
   pub earlier : a.asked ≤ moment
-  pub on_route : route_of c a.question.name ≡ Some a.route
+  pub on_route : serving_route_of c a.question.name ≡ Some a.route
   pub server : peer_at c a.route a.server ≡ Some a.peer
   pub tries : IsTry c a
   pub path : IsBelow count a.path
@@ -24,9 +24,9 @@ pub record IsKeptAsk (c : Config) (moment count : ℕ) (a : Ask) : Type 0 where
 abbrev pub HoldsEarlier : ℕ → Waiting → Type 0
 HoldsEarlier moment x = AllByRecursion (IsEarlier moment) x.held
 
--- the cache has the configured capacity and what it holds is on its routes, both lists are within their limits and in
--- the order of time, no moment is past the effective one, that of an alias that is held neither, and each preferred
--- server is one of its group
+-- the cache has the configured capacity, and each entry is within its name's route; both lists are
+-- within their limits and in the order of time; no moment, of a held alias neither, is past the
+-- effective one; and each preferred server is one of its group
 pub record IsKeptForwarder (c : Config) (store : Cache) (inquiries : Inquiries) (waiting : List Waiting)
     (preferred : List ℕ) (moment count : ℕ)
     : Type 0 where

@@ -1,3 +1,4 @@
 pub mod Spelling
 pub mod Kept
 pub mod Decision
+pub mod LookUps

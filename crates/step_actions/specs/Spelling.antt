@@ -1,5 +1,5 @@
--- Texts of answers to questions that are spelled alike: they differ in identifier, opcode and RD alone (RFC 1035
--- 4.1.1).
+-- Texts of answers to questions that are spelled alike: they differ in identifier, opcode and RD
+-- alone (RFC 1035 4.1.1).
 use Rattle.std.specs.Prelude.{◌≡◌, ℕ, ◌+◌, ◌*◌, ◌/◌, ◌%◌, ◌<◌, ◌==◌, ◌&&◌, Bool, true, false, List, [], ◌∷◌, ◌++◌, drop}
 use Rattle.std.specs.Prelude.{slice_index, option_map, Option, Some, None, Result, Ok, Err}
 use Rattle.std.specs.List.{AllByRecursion}
@@ -21,12 +21,12 @@ use Rattle.waiting_questions.specs.Values.{Waiting}
 use Rattle.step_table.specs.Steps.{gives_up}
 use Rattle.step_actions.specs.declared.answers.Spelled.{Spelled}
 
--- what answers are made of: a chain of pieces, as it is at a moment
+-- the source of answers: a chain of pieces, as it is at a moment
 pub record Source : Type 0 where
   pub chain : List Held
   pub moment : ℕ
 
--- a text, where there is one
+-- a text, if any
 abbrev pub ok_text : Result (List ℕ) Fault → Option (List ℕ)
 ok_text (Ok text) = Some text
 ok_text (Err fault) = None
@@ -48,9 +48,11 @@ with_front a text = front_of a (slice_index text 2) ++ drop 3 text
 abbrev pub same_spelling : List (List ℕ) → List (List ℕ) → Bool
 same_spelling a b = bytes_eq (octets_of a) (octets_of b)
 
+-- two questions are spelled alike, letter case included
 abbrev pub are_alike : Question → Question → Bool
 are_alike a b = (same_spelling a.name b.name && (a.kind == b.kind)) && (a.class == b.class)
 
+-- both go by UDP, or both over TCP
 abbrev pub same_transport : Transport → Transport → Bool
 same_transport Udp Udp = true
 same_transport Udp Tcp = false
@@ -61,12 +63,13 @@ same_transport Tcp Tcp = true
 abbrev pub is_for : {A : Type 0} → Transport → Question → Spelled A → Bool
 is_for t q s = same_transport s.transport t && are_alike s.question.now q
 
--- under the front of each request with its question, and an opcode of 4 bits, it is what that request gets over its
--- transport
+-- under the front of each request with its question, and an opcode of 4 bits, it is what that
+-- request gets over its transport
 abbrev pub IsSpelled : {A : Type 0} → List Held → ℕ → Spelled A → Type 0
 IsSpelled chain n s = (a : Asked) → a.opcode < 16 → a.question ≡ Some s.question.now
     → option_map (with_front a) s.text ≡ ok_text (answer_of a chain n s.transport)
 
+-- texts of one chain, each for a spelling of the question
 pub record AreSpelled {A : Type 0} (chain : List Held) (n : ℕ) (spelled : List (Spelled A)) : Type 0 where
   pub earlier : AllByRecursion (IsEarlier n) chain
   pub texts : AllByRecursion (IsSpelled chain n) spelled

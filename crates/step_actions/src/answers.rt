@@ -1,5 +1,6 @@
-//! Answers from borrowed pieces. From the second reply on a text is written once for questions that are spelled alike
-//! and came over one transport, since the answers to them differ in identifier, opcode and RD alone (RFC 1035 4.1.1).
+//! Answers from borrowed pieces. From the second reply on a text is written once for questions that
+//! are spelled alike and came over one transport, since the answers to them differ in identifier,
+//! opcode and RD alone (RFC 1035 4.1.1).
 
 ghost use Rattle.std.specs.Prelude.{◌≡◌, ◌<◌, ◌≤◌, ◌++◌, ℕ, List, Result, IfOk, MatchOption, Some, None, length};
 ghost use Rattle.std.specs.Prelude.{option_map};
@@ -17,7 +18,7 @@ ghost use Rattle.step_actions.specs.Spelling.{are_alike, front_of, is_for, IsSpe
 ghost use Rattle.step_actions.specs.Spelling.{sends_text, with_front};
 
 use crate::refusals::failure;
-use answer_builder::{AskedRef, Fault, Transport, put_answer};
+use answer_builder::{AskedRef, Fault, Transport, UDP_LIMIT, put_answer};
 use byteorder::{BigEndian, ByteOrder};
 use dns_message::Question;
 use dns_name::Name;
@@ -28,10 +29,7 @@ use std::marker::Model;
 use step_values::{Action, Client, Why};
 use waiting_questions::{Request, Waiting};
 
-/// Room for what UDP carries (RFC 1035 4.2.1).
-pub(crate) const ROOM: usize = 512;
-
-/// What carries the answer to a client.
+/// The transport of the answer to a client.
 pub(crate) fn transport_of(client: Client) -> Transport
     ensures { result ≡ transport_of client }
 {
@@ -52,7 +50,7 @@ fn text_from<A: Allocator + Copy>(
     requires earlier { AllByRecursion (IsEarlier moment) (lent chain.now) }
     ensures { IfOk result (λ text. text ≡ ok_text (answer_of request.now.asked (lent chain.now) moment transport)) }
 {
-    let mut octets = Vec::with_capacity(alloc, ROOM)?;
+    let mut octets = Vec::with_capacity(alloc, UDP_LIMIT)?;
     let put = put_answer(
         alloc,
         &mut octets,
@@ -64,7 +62,8 @@ fn text_from<A: Allocator + Copy>(
     text_put(octets, put)
 }
 
-/// The text that was written as these octets; `None` where it is too large. `Err` where memory ran out.
+/// The text that was written as these octets; `None` where it is too large. `Err` where memory ran
+/// out.
 pub(crate) fn text_put<A: Allocator>(
     octets: Vec<u8, A>,
     put: Result<(), Fault>,
@@ -98,8 +97,8 @@ pub(crate) fn reply<A: Allocator + Copy>(
     }
 }
 
-/// The reply to a question from a chain of pieces, none accepted after the moment, in milliseconds: aliases in order,
-/// then a set or a denial. `Err` where memory ran out.
+/// The reply to a question from a chain of pieces, none accepted after the moment, in milliseconds:
+/// aliases in order, then a set or a denial. `Err` where memory ran out.
 pub fn answer<A: Allocator + Copy>(
     alloc: A,
     request: &Request<'_>,
@@ -123,14 +122,14 @@ pub(crate) struct Spelled<'a, A: Allocator = Global> {
     text: Option<Octets<A>>,
 }
 
-/// The names are equal, letter case included.
+/// Whether the names are equal, letter case included.
 fn is_same_spelling<A: Allocator>(a: &Name<A>, b: &Name<A>) -> bool
     ensures { result ≡ same_spelling a.now b.now }
 {
     a.octets() == b.octets()
 }
 
-/// The questions are equal, letter case included.
+/// Whether the questions are equal, letter case included.
 fn is_alike<A: Allocator>(a: &Question<A>, b: &Question<A>) -> bool
     ensures { result ≡ are_alike a.now b.now }
 {
@@ -154,8 +153,8 @@ fn find_spelled<'a, 'b, A: Allocator>(
     None
 }
 
-/// The first three octets of the answer to a request: identifier, QR, opcode and RD, and the TC of these flags; AA is
-/// clear.
+/// The first three octets of the answer to a request: identifier, QR, opcode and RD, and the TC of
+/// these flags; AA is clear.
 fn front_of(asked: &AskedRef<'_>, flags: u8) -> [u8; 3]
     requires { asked.now.opcode < 16 }
     ensures { result ≡ front_of asked.now flags }
@@ -190,7 +189,7 @@ pub struct Answers<'a, A: Allocator = Global> {
     chain: &'a [&'a Held<A>],
     /// In milliseconds.
     moment: u64,
-    /// A reply was given. Mostly it is the only one, so its text is not kept.
+    /// Whether a reply was given. Mostly it is the only one, so its text is not kept.
     has_replied: bool,
     /// The texts of further replies.
     spelled: PlainList<Spelled<'a, A>, A>,
@@ -210,7 +209,8 @@ impl<'a, A: Allocator> Model for Answers<'a, A> {
 }
 
 impl<'a, A: Allocator + Copy> Answers<'a, A> {
-    /// Those from this chain, none of it accepted after the moment, in milliseconds. It takes no memory.
+    /// Answers from this chain, none of it accepted after the moment, in milliseconds. It does not
+    /// allocate.
     pub fn new(alloc: A, chain: &'a [&'a Held<A>], moment: u64) -> Answers<'a, A>
         requires { AllByRecursion (IsEarlier moment) (lent chain.now) }
         ensures { result ≡ record { chain = lent chain.now; moment = moment } }
@@ -222,6 +222,13 @@ impl<'a, A: Allocator + Copy> Answers<'a, A> {
             has_replied: false,
             spelled: PlainList::new(alloc),
         }
+    }
+
+    /// How many pieces the chain has.
+    pub(crate) fn pieces(&self) -> usize
+        ensures { result ≡ length self.now.chain }
+    {
+        self.chain.len()
     }
 
     /// The text for a question that is spelled like one before, or that is written now and kept.
@@ -265,8 +272,8 @@ impl<'a, A: Allocator + Copy> Answers<'a, A> {
         reply(self.alloc, &request, text, Why::Answered)
     }
 
-    /// The reply to a question, from the aliases that it holds and then the chain. The caller sees to it that none of
-    /// the aliases was accepted after the moment. `Err` where memory ran out.
+    /// The reply to a question, from the aliases that it holds and then the chain. The caller makes
+    /// sure that none of the aliases was accepted after the moment. `Err` where memory ran out.
     pub fn reply(&mut self, waiting: &'a Waiting<A>) -> Result<Action<A>, AllocError>
         requires earlier { AllByRecursion (IsEarlier self.old.moment) waiting.now.held }
         ensures same { self.new ≡ self.old }
@@ -283,7 +290,7 @@ impl<'a, A: Allocator + Copy> Answers<'a, A> {
     }
 }
 
-/// Aliases and the chain behind them, borrowed. `Err` where memory ran out.
+/// The aliases and then the chain, borrowed. `Err` where memory ran out.
 pub(crate) fn behind<'a, A: Allocator + Copy>(
     alloc: A,
     aliases: &'a [Held<A>],

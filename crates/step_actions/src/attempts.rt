@@ -1,4 +1,4 @@
-//! Which server is asked, over which path, and what the ask is.
+//! The server of an ask, its path, and the ask itself.
 
 ghost use Rattle.std.specs.Prelude.{◌≡◌, ◌≤◌, ◌+◌, ◌<◌, length, IfOk};
 ghost use Rattle.suffix_routes.specs.Values.{IsConfig};
@@ -29,8 +29,8 @@ fn server_at<A: Allocator>(config: &Config<A>, route: RouteId, place: usize) -> 
     group(config, route).get(place).copied()
 }
 
-/// The identifier of the first word, and the number of the next connection: how many asks went by TCP before. The last
-/// number is never given.
+/// The identifier of the first word, and the number of the next connection: the count of asks by
+/// TCP before. `None` for the last number, which is never given.
 pub fn draw_connection(words: [u32; 8], count: u64) -> Option<(u16, u64)>
     ensures { result ≡ drawn_by_tcp words count }
 {
@@ -78,8 +78,8 @@ pub struct Attempt {
     pub used: u8,
 }
 
-/// The ask of a server with what was drawn, where there is such a server and something was drawn, at a moment in
-/// milliseconds. `Err` where memory ran out.
+/// The ask of a server over the drawn path, at a moment in milliseconds. `None` where there is no
+/// such server, or no path was drawn. `Err` where memory ran out.
 pub fn new_ask<A: Allocator + Copy>(
     alloc: A,
     config: &Config<A>,
@@ -110,7 +110,7 @@ pub fn new_ask<A: Allocator + Copy>(
     }))
 }
 
-/// What the table of attempts is asked with: the group's servers, at most 8 of them, and the tries.
+/// The input of the table of attempts: the number of the group's servers, at most 8, and the tries.
 pub fn plan<A: Allocator>(config: &Config<A>, ask: &Ask<A>) -> Plan
     requires accepted { IsConfig config.now }
     requires server { ask.now.server < length (servers_in (group_of config.now ask.now.route)) }

@@ -1,4 +1,4 @@
-//! What a step is about to do, with all the memory that it takes.
+//! The decision of a step, with all the memory that it needs.
 
 ghost use Rattle.std.specs.Prelude.{◌≡◌, []};
 ghost use Rattle.step_values.specs.Values.{actions_of};
@@ -26,9 +26,9 @@ pub struct Opening<A: Allocator = Global> {
     pub ask: KeyedAsk<A>,
 }
 
-/// Those that waited for the ask on a path wait no more, or wait on: each, in the order of taking, with the aliases and
-/// the question that it is sent on with, if it is. The ask is closed, and the first ask for that question is listed,
-/// where none is.
+/// The questions that waited for the ask on a path: each waits no more, or waits on with these
+/// aliases and this question, in the order of taking. The ask is closed, and the first ask for that
+/// question is listed, if none is yet.
 #[derive(Drop)]
 pub struct Sending<A: Allocator = Global> {
     pub path: Path,
@@ -37,8 +37,8 @@ pub struct Sending<A: Allocator = Global> {
     pub ask: Option<Ask<A>>,
 }
 
-/// What changes beside the moment and the cache. What it lists stands in a box: most steps list nothing, and hand a
-/// change on that is small.
+/// The change besides the moment and the cache. New questions and asks are in a box: most steps
+/// list none, so their change is small.
 #[derive(Drop)]
 pub enum Change<A: Allocator = Global> {
     Nothing,
@@ -52,12 +52,12 @@ pub enum Change<A: Allocator = Global> {
     SendOn(Box<Sending<A>, A>),
     /// The ask on this path is closed, and another one for its question is listed.
     AskAgain(Path, Box<Ask<A>, A>),
-    /// The oldest question waits no more, and the ask on this path, where there is one, is closed.
+    /// The oldest question waits no more, and the ask on this path, if any, is closed.
     Expire(Option<Path>),
 }
 
-/// The actions of a step, and what it changes: the entries of the slots that a look-up used are promoted, and the
-/// pieces that an accepted reply carries are offered to the cache, last.
+/// The actions of a step, and what it changes: the entries of the slots that a look-up used are
+/// promoted, and the pieces that an accepted reply carries are offered to the cache, last.
 #[derive(Drop)]
 pub struct Decision<'a, 's, A: Allocator = Global> {
     pub actions: Actions<A>,
@@ -68,7 +68,7 @@ pub struct Decision<'a, 's, A: Allocator = Global> {
 }
 
 impl<'a, 's, A: Allocator + Copy> Decision<'a, 's, A> {
-    /// These actions and this change, with no look-up and no accepted reply. It takes no memory.
+    /// These actions and this change, with no look-up and no accepted reply. It does not allocate.
     pub fn without_cache(alloc: A, actions: Actions<A>, change: Change<A>) -> Decision<'a, 's, A>
         ensures actions { actions_of result.actions ≡ actions_of actions }
         ensures used { result.used ≡ [] }

@@ -1,5 +1,5 @@
-//! What a step is about to do: its queries and replies, as actions with their octets, and the change of the forwarder
-//! that comes with them, with all the memory that it takes.
+//! The decision of a step: its queries and replies, as actions with their octets, and the change of
+//! the forwarder that comes with them, with all the memory that it needs.
 #![tactic(auto)]
 
 mod answers;
@@ -17,7 +17,7 @@ pub use answers::{Answers, answer};
 pub use attempts::{Attempt, by_tcp, by_udp, draw_connection, freed_port, new_ask, plan};
 pub use decision::{Change, Decision, Opening, Preferred, Sending};
 pub use lasts::last_replies;
-pub use past_ends::{stale_answer, without_server};
+pub use past_ends::{local_answer, stale_answer};
 pub use queries::ask;
 pub use refusals::{failure, refusal};
 pub use replies::{answers_to, close_path, close_paths, failures};

@@ -34,7 +34,7 @@ fn query_header(id: u16) -> Header
     }
 }
 
-/// The text of a ask.
+/// The text of an ask.
 fn query_text<A: Allocator + Copy>(alloc: A, ask: &Ask<A>) -> Result<Octets<A>, AllocError>
     ensures { IfOk result (λ text. text ≡ written (ask_message ask.now.id ask.now.question)) }
 {
@@ -54,7 +54,7 @@ fn query_text<A: Allocator + Copy>(alloc: A, ask: &Ask<A>) -> Result<Octets<A>, 
     }
 }
 
-/// The action that sends a ask. `Err` where memory ran out.
+/// The action that sends an ask. `Err` where memory ran out.
 pub fn ask<A: Allocator + Copy>(alloc: A, ask: &Ask<A>) -> Result<Action<A>, AllocError>
     ensures { IfOk result (λ action. action_of action ≡ asks ask.now) }
 {

@@ -1,4 +1,4 @@
-//! Replies that tell why there is no answer.
+//! Replies without an answer, with the reason.
 
 ghost use Rattle.std.specs.Prelude.{◌≡◌, ◌<◌, IfOk, None};
 ghost use Rattle.step_values.specs.Values.{action_of};
@@ -7,7 +7,7 @@ ghost use Rattle.answer_builder.specs.Values.{asked_in};
 ghost use Rattle.step_table.specs.Steps.{failed, gives_up};
 
 use answer_builder::{AskedRef, put_failure};
-use dns_message::Header;
+use dns_message::{Header, codes};
 use plain_list::Octets;
 use std::alloc::{AllocError, Allocator};
 use step_values::{Action, Client, Why};
@@ -22,22 +22,22 @@ fn rcode_of(why: Why) -> u8
     ensures small { result < 16 }
 {
     match why {
-        Why::Answered | Why::Stale => 0,
-        Why::BadFormat => 1,
-        Why::BadOpcode | Why::NotServed => 4,
-        Why::LocalDenied => 3,
-        Why::NoRoute => 5,
+        Why::Answered | Why::Stale => codes::NOERROR,
+        Why::BadFormat => codes::FORMERR,
+        Why::BadOpcode | Why::NotServed => codes::NOTIMP,
+        Why::LocalDenied => codes::NXDOMAIN,
+        Why::NoRoute => codes::REFUSED,
         Why::QuestionsFull
         | Why::InquiriesFull
         | Why::NoPort
         | Why::Exhausted
         | Why::Deadline
         | Why::ChainLong
-        | Why::TooLarge => 2,
+        | Why::TooLarge => codes::SERVFAIL,
     }
 }
 
-/// The reply that tells a client why what it asked fails.
+/// The reply to a client whose question fails, with the reason.
 fn failed<A: Allocator + Copy>(
     alloc: A,
     client: Client,
@@ -67,7 +67,8 @@ pub fn failure<A: Allocator + Copy>(
     failed(alloc, request.client, request.asked(), why)
 }
 
-/// The reply to a message whose question was not taken, without a question. `Err` where memory ran out.
+/// The reply to a message whose question was not taken, without a question. `Err` where memory ran
+/// out.
 pub fn refusal<A: Allocator + Copy>(
     alloc: A,
     client: Client,

@@ -1,4 +1,5 @@
-//! The actions that end a query: its path is closed, and those that wait for it get their replies.
+//! The actions at the end of a query: its path is closed, and those that wait for it get their
+//! replies.
 
 ghost use Rattle.std.specs.Prelude.{◌≡◌, ◌∷◌, ◌++◌, [], length, IfOk};
 ghost use Rattle.std.specs.List.{AllByRecursion};
@@ -30,7 +31,7 @@ pub fn close_path<A: Allocator>(path: Path) -> Action<A>
     }
 }
 
-/// The actions that give a path up, where there is one. `Err` where memory ran out.
+/// The actions that give a path up, if any. `Err` where memory ran out.
 pub fn close_paths<A: Allocator + Copy>(
     alloc: A,
     closed: Option<Path>,
@@ -57,7 +58,7 @@ fn put_failure<A: Allocator + Copy>(
     actions.push(action)
 }
 
-/// The ask is closed, and each question that waits for it fails. `Err` where memory ran out.
+/// Closes the ask; each question that waits for it fails. `Err` where memory ran out.
 pub fn failures<A: Allocator + Copy>(
     alloc: A,
     ask: &KeyedAsk<A>,
@@ -76,8 +77,8 @@ pub fn failures<A: Allocator + Copy>(
     Ok(actions)
 }
 
-/// The answer of a question from the aliases that it holds and the chain of these answers, which has so many pieces, or
-/// that it would hold too many aliases.
+/// The answer of a question from the aliases that it holds and the chain of these answers, which
+/// has `pieces` pieces, or the failure that it would hold too many aliases.
 fn answer_or_fail<'a, A: Allocator + Copy>(
     alloc: A,
     answers: &mut Answers<'a, A>,
@@ -119,14 +120,13 @@ fn put_answers<'a, A: Allocator + Copy>(
     actions: &mut Actions<A>,
     ask: &KeyedAsk<A>,
     answers: &mut Answers<'a, A>,
-    pieces: usize,
     waiting: &'a WaitingQuestions<A>,
 ) -> Result<(), AllocError>
-    requires pieces { pieces ≡ length answers.old.chain }
-    requires earlier { AllByRecursion (HoldsEarlier answers.old.moment) waiting.now.items }
+    requires { AllByRecursion (HoldsEarlier answers.old.moment) waiting.now.items }
     ensures { IfOk result (λ _. actions_of actions.new ≡ with_replies (gives_from answers.old ask.now.question)
         (actions_of actions.old) waiting.now.items) }
 {
+    let pieces = answers.pieces();
     let those = waiting.for_ask(ask);
     for place in 0..those.len() {
         put_answer(alloc, actions, answers, pieces, those.get(place))?;
@@ -134,7 +134,8 @@ fn put_answers<'a, A: Allocator + Copy>(
     Ok(())
 }
 
-/// Entries, borrowed. `Err` where memory ran out: `collect` would make do with less room where all of it is refused.
+/// Entries, borrowed. `Err` where memory ran out: `collect` would go on with less room where the
+/// whole is refused.
 fn borrowed<A: Allocator + Copy>(alloc: A, held: &[Held<A>]) -> Result<Vec<&Held<A>, A>, AllocError>
     ensures { IfOk result (λ refs. lent refs.items ≡ held.now) }
 {
@@ -145,9 +146,9 @@ fn borrowed<A: Allocator + Copy>(alloc: A, held: &[Held<A>]) -> Result<Vec<&Held
     Ok(refs)
 }
 
-/// The ask is closed, and each question that waits for it is answered from the aliases that it holds and these
-/// pieces, none accepted after the moment, in milliseconds, or fails where these are too many aliases. `Err` where
-/// memory ran out.
+/// Closes the ask, and answers each question that waits for it, from the aliases that it holds and
+/// these pieces. A question fails where these are too many aliases. None was accepted after the
+/// moment, in milliseconds. `Err` where memory ran out.
 pub fn answers_to<A: Allocator + Copy>(
     alloc: A,
     ask: &KeyedAsk<A>,
@@ -165,6 +166,6 @@ pub fn answers_to<A: Allocator + Copy>(
     let mut answers = Answers::new(alloc, &chain, moment);
     let mut actions = Actions::new(alloc);
     actions.push(close_path(ask.ask().path))?;
-    put_answers(alloc, &mut actions, ask, &mut answers, held.len(), waiting)?;
+    put_answers(alloc, &mut actions, ask, &mut answers, waiting)?;
     Ok(actions)
 }

@@ -2,9 +2,11 @@
 
 ghost use Rattle.std.specs.Prelude.{◌≡◌, List, Bool, []};
 ghost use Rattle.step_table.specs.Steps.{idle_step};
-ghost use Rattle.step_actions.specs.Decision.{next_of, MeetsRow, CanChange};
+ghost use Rattle.step_actions.specs.Decision.{next_of, CanChange, MeetsStep};
+ghost use Rattle.step_actions.specs.LookUps.{cache_at};
 
 use crate::decision::{Change, Decision};
+use negative_cache::CacheAt;
 use outstanding::Inquiries;
 use record_cache::Cache;
 use std::alloc::{Allocator, Global};
@@ -14,8 +16,8 @@ use step_values::Actions;
 use suffix_routes::Config;
 use waiting_questions::WaitingQuestions;
 
-/// A forwarder as a step finds it, lent, with the moment and the random words that the step is handed: what is
-/// decided rests on nothing else.
+/// A forwarder as a step finds it, borrowed, with the moment and the random words of the step. The
+/// decision depends on nothing else.
 #[derive(Drop)]
 pub struct TurnRef<'a, H: BuildHasher, A: Allocator = Global> {
     pub alloc: A,
@@ -25,7 +27,7 @@ pub struct TurnRef<'a, H: BuildHasher, A: Allocator = Global> {
     pub waiting: &'a WaitingQuestions<A>,
     /// For each route the place of the server that is asked first.
     pub preferred: &'a [usize],
-    /// How many asks went by TCP.
+    /// The number of asks that went by TCP.
     pub tcp_asks: u64,
     /// The effective moment of the step before, in milliseconds.
     pub before: u64,
@@ -60,11 +62,24 @@ impl<'a, H: BuildHasher, A: Allocator> Model for TurnRef<'a, H, A> {
         f.preferred.now f.before f.tcp_asks × (f.before ≤ f.moment) × (f.moment ≤ 2 ^ 62) };
 }
 
-/// Nothing is done.
+impl<'a, H: BuildHasher + Drop, A: Allocator + Copy> TurnRef<'a, H, A> {
+    /// The cache at the moment of the step, for look-ups. It does not allocate.
+    pub fn cache_at(&self) -> CacheAt<'a, H, A>
+        ensures { result ≡ cache_at self.now }
+    {
+        CacheAt {
+            cache: self.cache,
+            config: self.config,
+            moment: self.moment,
+        }
+    }
+}
+
+/// The decision to do nothing.
 pub fn nothing<'a, 's, H: BuildHasher + Drop, A: Allocator + Copy>(
     turn: &TurnRef<'a, H, A>,
 ) -> Decision<'a, 's, A>
-    ensures decides { MeetsRow turn.now (λ _. idle_step turn.now.moment turn.now.state) result }
+    ensures decides { MeetsStep turn.now (idle_step turn.now.moment turn.now.state) result }
     ensures quiet { (result.used ≡ []) × (result.change ≡ Change.Nothing) }
 {
     Decision::without_cache(turn.alloc, Actions::new(turn.alloc), Change::Nothing)

@@ -1,4 +1,5 @@
-//! Measures what steps cost where many questions wait. `tools/bench` makes the messages and runs it.
+//! Measures what steps cost where many questions wait. `tools/bench` makes the messages and runs
+//! it.
 #![tactic(auto)]
 
 mod many_wait;

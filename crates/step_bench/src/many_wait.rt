@@ -1,4 +1,4 @@
-//! What it costs where one reply answers many clients that asked the same question.
+//! The cost of one reply that answers many clients with the same question.
 
 use anyhow::Result;
 use forwarder_core::Forwarder;
@@ -33,7 +33,7 @@ const WORDS: [u32; 8] = [
 /// The path that the first of the words draws.
 const PATH: Path = Path::Udp(1032);
 
-/// So often the least time is taken of.
+/// The number of rounds of which the least time is taken.
 const ROUNDS: u32 = 3;
 
 /// A client over this transport.
@@ -47,7 +47,7 @@ fn client(number: u16, over_tcp: bool) -> Client {
     })
 }
 
-/// A forwarder that so many clients have asked the question.
+/// A forwarder that `waiting` clients have asked the question.
 fn asked(
     alloc: Global,
     question: &[u8],
@@ -64,7 +64,7 @@ fn asked(
     Ok(forwarder)
 }
 
-/// How many octets the actions send to clients.
+/// The number of octets that the actions send to clients.
 fn octets_sent(actions: &Actions) -> usize {
     let mut sent = 0usize;
     for place in 0..actions.len() {
@@ -75,7 +75,7 @@ fn octets_sent(actions: &Actions) -> usize {
     sent
 }
 
-/// How long a step takes in nanoseconds, and how many octets it sends to clients.
+/// The time of a step in nanoseconds, and the number of octets that it sends to clients.
 fn time_of_step(
     rt: &HostRuntime,
     forwarder: &mut Forwarder<DefaultHasher>,
@@ -87,7 +87,8 @@ fn time_of_step(
     Ok((took, octets_sent(&outcome.actions)))
 }
 
-/// How long the step with the reply takes in nanoseconds where so many wait for it, and how many octets it sends.
+/// The time in nanoseconds of the step with the reply that `waiting` clients wait for, and the
+/// number of octets that it sends.
 fn time_of_reply(
     rt: &HostRuntime,
     question: &[u8],
@@ -105,8 +106,9 @@ fn time_of_reply(
     time_of_step(rt, &mut forwarder, event)
 }
 
-/// Prints how long the step with the reply takes where one and where 1,000 wait for it, over UDP and over TCP. The
-/// files have the octets of a client's message and of the server's, whose identifier is 8.
+/// Prints the time of the step with the reply where one and where 1,000 wait for it, over UDP and
+/// over TCP. The files have the octets of a client's message and of the server's, whose identifier
+/// is 8.
 pub fn measure(rt: &HostRuntime, question: &str, reply: &str) -> Result<()> {
     let question = fs::read(rt, question)?;
     let reply = fs::read(rt, reply)?;

@@ -1,4 +1,5 @@
-//! What a question and its reply cost while other queries are under way, and what it costs to answer all that wait.
+//! The cost of a question and its reply while other queries are open, and of answering all that
+//! wait.
 
 use anyhow::Result;
 use forwarder_core::Forwarder;
@@ -25,13 +26,13 @@ const SERVER: Peer = Peer {
     port: 53,
 };
 
-/// So often the least time is taken of.
+/// The number of rounds of which the least time is taken.
 const ROUNDS: u32 = 5;
 
-/// So many questions are asked, each with its reply.
+/// The number of questions that are asked, each with its reply.
 const PAIRS: u16 = 20_000;
 
-/// So many clients ask each question that all wait for.
+/// The number of clients that ask each question that all wait for.
 const CLIENTS: u16 = 4;
 
 /// Four letters, other ones for each number.
@@ -61,7 +62,7 @@ fn words_of(number: u16) -> [u32; 8] {
     [u32::from(number) * 65_537; 8]
 }
 
-/// When the question with this number comes, in milliseconds: 1,024 of them in each.
+/// The moment at which the question with this number comes, in milliseconds: 1,024 of them in each.
 fn moment_of(number: u16) -> u64 {
     1000 + u64::from(number / 1024)
 }
@@ -90,7 +91,7 @@ fn ask(
     Ok(())
 }
 
-/// The reply to the query with this number comes; how many clients it answers.
+/// The reply to the query with this number comes; returns the number of clients that it answers.
 fn answer(
     forwarder: &mut Forwarder<DefaultHasher>,
     alloc: Global,
@@ -106,7 +107,7 @@ fn answer(
     Ok(outcome.actions.len().saturating_sub(1))
 }
 
-/// A forwarder with so many queries under way, for each of which so many clients wait.
+/// A forwarder with `open` open queries, for each of which `clients` clients wait.
 fn waited_for(alloc: Global, open: u16, clients: u16) -> Result<Forwarder<DefaultHasher>> {
     let mut forwarder = forwarder(alloc)?;
     for number in 0..open {
@@ -117,8 +118,8 @@ fn waited_for(alloc: Global, open: u16, clients: u16) -> Result<Forwarder<Defaul
     Ok(forwarder)
 }
 
-/// Asks one question after another, each with the reply to the oldest of so many queries and the new one; how many were
-/// answered.
+/// Asks one question after another, each with the reply to the oldest of `open` queries and the new
+/// one; returns the number answered.
 fn answer_pairs(
     forwarder: &mut Forwarder<DefaultHasher>,
     alloc: Global,
@@ -134,7 +135,7 @@ fn answer_pairs(
     Ok(answers)
 }
 
-/// Replies to so many queries one after another; how many clients that answers.
+/// Replies to `open` queries one after another; returns the number of clients answered.
 fn answer_all(forwarder: &mut Forwarder<DefaultHasher>, alloc: Global, open: u16) -> Result<usize> {
     let mut answers = 0usize;
     for number in 0..open {
@@ -144,8 +145,8 @@ fn answer_all(forwarder: &mut Forwarder<DefaultHasher>, alloc: Global, open: u16
     Ok(answers)
 }
 
-/// Nanoseconds for a question and the reply to the oldest query, while so many are under way, and how many were
-/// answered.
+/// Nanoseconds for a question and the reply to the oldest query, while `open` are open, and the
+/// number answered.
 fn time_of_pair(rt: &HostRuntime, open: u16) -> Result<(u128, usize)> {
     let mut forwarder = waited_for(rt.alloc(), open, 1)?;
     let started = Instant::now(rt)?;
@@ -153,8 +154,8 @@ fn time_of_pair(rt: &HostRuntime, open: u16) -> Result<(u128, usize)> {
     Ok((started.elapsed(rt)?.as_nanos() / u128::from(PAIRS), answers))
 }
 
-/// Nanoseconds for each question, where so many queries are replied to one after another, for each of which four
-/// clients wait, and how many were answered.
+/// Nanoseconds for each question, where `open` queries are replied to one after another, for each
+/// of which four clients wait, and the number answered.
 fn time_of_all(rt: &HostRuntime, open: u16) -> Result<(u128, usize)> {
     let mut forwarder = waited_for(rt.alloc(), open, CLIENTS)?;
     let started = Instant::now(rt)?;
@@ -163,8 +164,8 @@ fn time_of_all(rt: &HostRuntime, open: u16) -> Result<(u128, usize)> {
     Ok((took / (answers as u128).max(1), answers))
 }
 
-/// Prints what a question with its reply costs with few and with many queries under way, and what it costs to answer
-/// all that wait.
+/// Prints the cost of a question with its reply with few and with many open queries, and of
+/// answering all that wait.
 pub fn measure(rt: &HostRuntime) -> Result<()> {
     for open in [10u16, 100, 1000] {
         let (mut least, mut answers) = (u128::MAX, 0usize);

@@ -1,4 +1,4 @@
--- What the second version of a configuration adds to the claims.
+-- The claims without a window and without a route that denies: version 2 adds nothing.
 use Rattle.std.proofs.Common.{◌≡◌, ℕ, ◌≤◌, List, true, sym, ◌∙◌, inl, inr, arith}
 use Rattle.std.proofs.lemmas.Bool.{true≢false}
 use Rattle.suffix_routes.proofs.CallerLemmas.{nothing_is_denied}

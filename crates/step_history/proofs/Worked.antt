@@ -1,4 +1,5 @@
--- Worked histories, computed: which questions are served, which moments count, until when an ask is open, when more is due, whose server an ask goes to, and when all tries have failed.
+-- Worked histories, computed: which questions are served, which moments count, until when an ask is
+-- open, when more is due, whose server an ask goes to, and when all tries have failed.
 use Rattle.std.proofs.Common.{◌≡◌, ℕ, ◌<◌, List, [], ◌∷◌, zero, suc, Some, true, false, refl, sym, ap, ◌∙◌, subst, arith}
 use Rattle.std.specs.Prelude.{slice_get}
 use Rattle.std.proofs.lemmas.Bool.{true≢false}
@@ -29,7 +30,8 @@ of_type kind = record { name = []; kind = kind; class = 1 }
 abbrev of_class : ℕ → Question
 of_class class = record { name = []; kind = 1; class = class }
 
--- no type, OPT, the first and the last of the types that only a question has, and every class at once
+-- no type, OPT, the first and the last of the types that only a question has, and every class at
+-- once
 unserved : (is_unserved (of_type 0) ≡ true) × (is_unserved (of_type 41) ≡ true) × (is_unserved (of_type 128) ≡ true) × (is_unserved (of_type 255) ≡ true) × (is_unserved (of_class 255) ≡ true)
 unserved = (refl, refl, refl, refl, refl)
 
@@ -112,13 +114,13 @@ of_another_route h =
     none zero is = let same : other_server ≡ server = cc in let port : 5353 ≡ 53 = ap (λ (p : Peer). p.port) same in omega (arith, port)
     none (suc k) is = absurd cc
 
--- ---- what is due
+-- ---- when more is due
 
 -- at this moment time passes, and nothing is done
 abbrev passes : ℕ → Step
 passes now = record { handed = record { now = now; words = words; event = tick }; outcome = record { actions = []; unkept = 0; more = false } }
 
--- a question may wait for so many milliseconds
+-- a question may wait for this many milliseconds
 abbrev patient_for : ℕ → Config
 patient_for deadline = record config { limits = record default_limits { deadline_ms = deadline } }
 
@@ -136,7 +138,7 @@ question_is_due = (refl, refl, refl)
 abbrev asked_again : Step
 asked_again = record { handed = record { now = 2500; words = words; event = tick }; outcome = record { actions = close_udp 1032 ∷ ask_udp 1040 other_server (with_identifier 16) ∷ []; unkept = 0; more = false } }
 
--- an ask whose path is given up behind it is none
+-- an ask whose path is given up after it is none
 given_up_at_once : IsRightAsk config asked_again (asked ∷ []) (Some (record { path = Udp 1040; server = other_server; octets = with_identifier 16 })) (close_udp 1040 ∷ []) → ⊥
 given_up_at_once h = true≢false h.1
 
@@ -144,11 +146,11 @@ given_up_at_once h = true≢false h.1
 abbrev one_try : Config
 one_try = record config { limits = record default_limits { tries = 1 } }
 
--- seen from where the ask is sent once more
+-- the look from the step that sends the ask once more
 abbrev still : Look
 still = record { config = one_try; asked = asked; before = []; now = asked_again ∷ asked ∷ [] }
 
--- what a question holds no alias for, and is still asked, has not failed
+-- a question that holds no alias and is still asked has not failed
 still_asked : (h : AllTriesFailed still (with_identifier 7)) → h.aliases ≡ [] → ⊥
 unfolding first_question question_at octets_end name_within walk_in name_step
 still_asked h none =

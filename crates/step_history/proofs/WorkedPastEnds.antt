@@ -1,9 +1,9 @@
--- Answers past the ends of sets and denials by the configuration, computed: until when a set may be told, which pieces may,
--- what the texts are, and which names are denied.
+-- Answers with expired sets and denials by the configuration, computed: until when a set may be
+-- sent, which pieces may, the texts, and which names are denied.
 use Rattle.std.proofs.Common.{◌≡◌, ℕ, ◌+◌, ◌*◌, ◌<◌, List, [], ◌∷◌, Some, None, true, false, refl, sym, ◌∙◌, subst, arith}
 use Rattle.suffix_routes.specs.declared.peer.Peer.{Peer}
 use Rattle.suffix_routes.specs.Values.{Config, default_limits}
-use Rattle.suffix_routes.specs.Routes.{route_of as route_there}
+use Rattle.suffix_routes.specs.Routes.{route_of}
 use Rattle.dns_message.specs.Header.{Header}
 use Rattle.std.specs.Prelude.{map}
 use Rattle.dns_message.specs.Values.{Question, Record}
@@ -12,7 +12,7 @@ use Rattle.dns_message.specs.Shapes.{shape_of}
 use Rattle.trust_rank.specs.Values.{rows, no_data, denied, Body}
 use Rattle.record_cache.specs.Values.{Held}
 use Rattle.record_cache.specs.Ageing.{end_of}
-use Rattle.suffix_routes.specs.Serving.{route_of, is_local}
+use Rattle.suffix_routes.specs.Serving.{serving_route_of, is_local}
 use Rattle.step_history.specs.History.{moment_at, Look}
 use Rattle.step_history.specs.Stale.{JustifiedPastItsEnd, ChainPastEnds}
 use Rattle.step_history.specs.Replies.{full_text, stale_sections, denied_sections}
@@ -57,14 +57,14 @@ no_error : (l : Look) (name : List (List ℕ)) → JustifiedPastItsEnd l name (p
 no_error l name j = j.is_set
 
 -- on the name's route alone
-on_its_route : (l : Look) (name : List (List ℕ)) (o : Held) → JustifiedPastItsEnd l name o → (k : ℕ) → route_of l.config name ≡ Some k → k ≡ o.piece.route
+on_its_route : (l : Look) (name : List (List ℕ)) (o : Held) → JustifiedPastItsEnd l name o → (k : ℕ) → serving_route_of l.config name ≡ Some k → k ≡ o.piece.route
 on_its_route l name o j k is = let same : Some k ≡ Some o.piece.route = sym is ∙ j.on_route in cc
 
--- what came before is not told where the newest step's era has nothing that came before it
+-- no piece serves where the newest step's era has none that came before it
 never_new : (l : Look) (name : List (List ℕ)) (o : Held) (j : JustifiedPastItsEnd l name o) → j.old ≡ [] → ⊥
 never_new l name o j none = subst (λ (os : List Held). Rattle.record_cache.specs.Laws.Among o os) none j.came_before
 
--- behind eight aliases that were held there is room for a set, and for no alias
+-- after eight aliases that were held there is room for a set, and for no alias
 no_ninth : (l : Look) (q : Question) (held : List Held) (o end : Held) → Rattle.std.specs.Prelude.length held ≡ 8 → ChainPastEnds l held q (o ∷ []) end → ⊥
 no_ninth l q held o end eight chain = let few = chain.few in omega (arith, few, eight)
 
@@ -79,7 +79,7 @@ address letter = record { name = below letter; kind = 1; class = 1 }
 abbrev text : ℕ → ℕ → List ℕ
 text high low = 18 ∷ 53 ∷ 129 ∷ 128 ∷ 0 ∷ 1 ∷ 0 ∷ 1 ∷ 0 ∷ 0 ∷ 0 ∷ 0 ∷ 1 ∷ 97 ∷ 1 ∷ 101 ∷ 0 ∷ 0 ∷ 1 ∷ 0 ∷ 1 ∷ 192 ∷ 12 ∷ 0 ∷ 1 ∷ 0 ∷ 1 ∷ 0 ∷ 0 ∷ high ∷ low ∷ 0 ∷ 4 ∷ 198 ∷ 51 ∷ 100 ∷ 5 ∷ []
 
--- what has ended is told for 30 seconds, and what is alive still by what is left of it
+-- an expired set gets 30 seconds (RFC 8767 4), a living one the seconds that are left of it
 ended : full_text (asked_in request (Some (address 97))) (stale_sections 302520 [] [] (set 300)) ≡ text 0 30
 unfolding written ◌▹◌ each name_text data_text with_length shape_of
 ended = refl
@@ -88,7 +88,7 @@ alive : full_text (asked_in request (Some (address 97))) (stale_sections 11520 [
 unfolding written ◌▹◌ each name_text data_text with_length shape_of
 alive = refl
 
--- an alias that was held has no seconds left once it ended; one that was found past its end has 30
+-- an alias that was held has no seconds left once it expired; one that was found expired has 30
 abbrev seconds_of : List Record → List ℕ
 seconds_of records = map (λ r. r.ttl) records
 
@@ -113,6 +113,6 @@ server = record { ip = 192 ∷ 0 ∷ 2 ∷ 1 ∷ []; port = 53 }
 abbrev config : Config
 config = record { listen = server; limits = default_limits; routes = record { suffix = []; deny = false; servers = server ∷ [] } ∷ record { suffix = below 97; deny = true; servers = [] } ∷ [] }
 
-denied_names : (is_local config ((98 ∷ []) ∷ below 65) ≡ true) × (is_local config (below 98) ≡ false) × (route_of config ((98 ∷ []) ∷ below 65) ≡ None)
-unfolding route_there
+denied_names : (is_local config ((98 ∷ []) ∷ below 65) ≡ true) × (is_local config (below 98) ≡ false) × (serving_route_of config ((98 ∷ []) ∷ below 65) ≡ None)
+unfolding route_of
 denied_names = (refl, refl, refl)

@@ -1,4 +1,5 @@
--- What replies carried, computed: in what order, how long it counts, what takes its place, whom it may serve, and what it answers.
+-- The pieces that replies carried, computed: their order, how long each counts, which takes whose
+-- place, whom each may serve, and which question it answers.
 use Rattle.std.proofs.Common.{◌≡◌, ℕ, ◌<◌, List, [], ◌∷◌, Some, None, true, false, refl, sym, ◌∙◌, subst, ◌⊎◌, inl, inr, arith}
 use Rattle.std.proofs.lemmas.Bool.{true≢false}
 use Rattle.dns_message.specs.Values.{Question}
@@ -12,7 +13,7 @@ use Rattle.record_cache.specs.Values.{Held}
 use Rattle.record_cache.specs.Ageing.{end_of, seconds_left}
 use Rattle.record_cache.specs.Laws.{Among}
 use Rattle.step_values.specs.declared.action.Why.TheVariants.{ChainLong}
-use Rattle.suffix_routes.specs.Serving.{route_of}
+use Rattle.suffix_routes.specs.Serving.{serving_route_of}
 use Rattle.step_history.specs.History.{moment_at, Look}
 use Rattle.step_history.specs.Carried.{then_carried, NotReplaced, Justified}
 use Rattle.step_history.specs.Answers.{has_slot, EndsChain}
@@ -36,13 +37,13 @@ name_error name = record { owner = name; slot = record { key = name; class = 1; 
 abbrev at : ℕ → Piece → Held
 at moment p = record { piece = p; accepted = moment }
 
--- ---- what a reply carries
+-- ---- the pieces that a reply carries
 
 -- a reply that leads on to another name is not lame
 lame_ends : (is_lame lame ≡ true) × (is_lame (elsewhere a) ≡ false) × (is_lame found ≡ false) × (is_lame ends_no_data ≡ false) × (is_lame ends_denied ≡ false)
 lame_ends = (refl, refl, refl, refl, refl)
 
--- what comes last is the newest
+-- the piece that came last is the newest
 order : then_carried 1020 (set a 300 3 ∷ name_error (below 98) ∷ []) (at 1000 (set a 60 1) ∷ []) ≡ at 1020 (name_error (below 98)) ∷ at 1020 (set a 300 3) ∷ at 1000 (set a 60 1) ∷ []
 order = refl
 
@@ -55,7 +56,7 @@ ages = (omega arith, refl, refl, refl)
 ended : 301020 < end_of (at 1020 (set a 300 3)) → ⊥
 ended h = omega (arith, h)
 
--- ---- what takes its place
+-- ---- pieces that take its place
 
 -- a set that is believed less takes the place of none
 believed_less : NotReplaced (at 1020 (set a 300 3)) (at 2020 (set a 600 1) ∷ at 1020 (set a 300 3) ∷ [])
@@ -77,10 +78,10 @@ error_over (inr later) = true≢false later.0
 -- ---- whom it may serve
 
 -- it serves names on its own route alone
-on_its_route : (l : Look) (name : List (List ℕ)) (o : Held) → Justified l name o → (k : ℕ) → route_of l.config name ≡ Some k → k ≡ o.piece.route
+on_its_route : (l : Look) (name : List (List ℕ)) (o : Held) → Justified l name o → (k : ℕ) → serving_route_of l.config name ≡ Some k → k ≡ o.piece.route
 on_its_route l name o j k is = let same : Some k ≡ Some o.piece.route = sym is ∙ j.on_route in cc
 
--- what came before the client asked was alive then
+-- a piece that came before the client asked was alive then
 was_alive : (l : Look) (name : List (List ℕ)) (o : Held) (j : Justified l name o) → j.new ≡ [] → moment_at (l.asked ∷ l.before) < end_of o
 was_alive l name o j none = by j.counts
   where
@@ -88,7 +89,7 @@ was_alive l name o j none = by j.counts
     by (inl before) = before.1
     by (inr since) = absurd (subst (Among o) none since)
 
--- ---- what it answers
+-- ---- the questions that it answers
 
 abbrev address : List (List ℕ) → Question
 address name = record { name = name; kind = 1; class = 1 }

@@ -1,4 +1,4 @@
--- What is due after a step.
+-- The questions and asks that are due after a step.
 use Rattle.std.specs.Prelude.{◌≡◌, ℕ, ◌+◌, Bool, if◌then◌else◌, ◌==◌, ◌||◌, nat_le, List, [], ◌∷◌, length}
 use Rattle.std.specs.List.{list_any, concat}
 use Rattle.suffix_routes.specs.Values.{Config}
@@ -11,7 +11,8 @@ abbrev pub moment_of : List Step → ℕ → ℕ
 moment_of [] i = 0
 moment_of (s ∷ past) i = if i == length past then moment_at (s ∷ past) else moment_of past i
 
--- a question of the era that owns no reply has waited as long as it may, or a listed ask is past its time
+-- a question of the era that owns no reply has waited for `deadline_ms`, or a listed ask for
+-- `ask_ms`, or longer
 abbrev pub is_due : Config → List Step → List ℕ → Bool
 is_due c now owners =
     list_any (λ i. nat_le (moment_of now i + c.limits.deadline_ms) (moment_at now)) (unanswered now owners)

@@ -1,4 +1,4 @@
--- What a successful answer shows.
+-- Successful answers and the chains of pieces that justify them.
 use Rattle.std.specs.Prelude.{◌≡◌, ◌≢◌, ℕ, ◌≤◌, Bool, true, List, [], ◌∷◌, length, Option, Some}
 use Rattle.dns_name.specs.Labels.{is_under}
 use Rattle.dns_message.specs.Header.{Header}
@@ -15,19 +15,20 @@ use Rattle.step_history.specs.Replies.{answer_text, cut_text, sized_for, FitsTra
 use Rattle.answer_builder.specs.Values.{asked_in}
 use Rattle.dns_message.specs.Questions.{asked_at}
 
--- the piece tells of this name, class and type
+-- the piece is of this name, class and type
 abbrev pub has_slot : Piece → List (List ℕ) → ℕ → Option ℕ → Bool
 has_slot p name class kind = same_slot p.slot (record { key = name; class = class; kind = kind })
 
--- these justified aliases lead, one after another, from the first question to the last; a question for CNAME follows
--- none (RFC 1034 3.6.2)
+-- these justified aliases lead, one after another, from the first question to the last; a question
+-- for CNAME follows none (RFC 1034 3.6.2)
 abbrev pub FollowsAliases : Look → Question → List Held → Question → Type 0
 FollowsAliases l q [] last = last ≡ q
 FollowsAliases l q (o ∷ os) last =
     (q.kind ≢ 5) × Justified l q.name o × (has_slot o.piece q.name q.class (Some 5) ≡ true)
     × (name : List (List ℕ)) × (target_of o.piece.body ≡ Some name) × FollowsAliases l (asked_at q name) os last
 
--- the piece ends the look-up of a question: its set, its NODATA, or a name error at or above its name
+-- the piece ends the look-up of a question: its set, its NODATA (RFC 2308 2), or a name error at or
+-- above its name (RFC 8020 2)
 abbrev pub EndsChain : Question → Piece → Body → Type 0
 EndsChain q p (rows each) = has_slot p q.name q.class (Some q.kind) ≡ true
 EndsChain q p (no_data soa) = has_slot p q.name q.class (Some q.kind) ≡ true
@@ -38,7 +39,8 @@ pub record Leads (l : Look) (q : Question) (aliases : List Held) (last : Questio
   pub few : length aliases ≤ 8
   pub follows : FollowsAliases l q aliases last
 
--- a chain of justified pieces answers the question
+-- a chain of justified pieces answers the question: at most eight aliases, and the piece that ends
+-- them (RFC 1034 3.6.2)
 pub record Chain (l : Look) (q : Question) (aliases : List Held) (o : Held) : Type 0 where
   pub last : Question
   pub leads : Leads l q aliases last

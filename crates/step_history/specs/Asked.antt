@@ -1,4 +1,4 @@
--- What is claimed of the asks of a history.
+-- Claims about the asks of a history.
 use Rattle.std.specs.Prelude.{◌≡◌, ℕ, ◌≤◌, false, List, [], ◌∷◌, length, Some, None, Option, slice_get}
 use Rattle.std.specs.List.{AllByRecursion}
 use Rattle.dns_message.specs.Values.{Question}
@@ -6,7 +6,7 @@ use Rattle.dns_message.specs.Questions.{same_question}
 use Rattle.dns_message.specs.Writing.{written}
 use Rattle.suffix_routes.specs.declared.peer.Peer.{Peer}
 use Rattle.suffix_routes.specs.Values.{Config, Route}
-use Rattle.suffix_routes.specs.Serving.{route_of}
+use Rattle.suffix_routes.specs.Serving.{serving_route_of}
 use Rattle.outstanding.specs.declared.ask.Path.{Path}
 use Rattle.outstanding.specs.declared.ask.Path.TheVariants.{Udp, Tcp}
 use Rattle.outstanding.specs.Lists.{same_path}
@@ -30,7 +30,7 @@ pub record IsServerFor (c : Config) (q : Question) (p : Peer) : Type 0 where
   pub route : ℕ
   pub group : Route
   pub place : ℕ
-  pub route_is : route_of c q.name ≡ Some route
+  pub route_is : serving_route_of c q.name ≡ Some route
   pub there : slice_get c.routes route ≡ Some group
   pub server : slice_get group.servers place ≡ Some p
 
@@ -39,8 +39,8 @@ abbrev pub IsDrawn : Step → List Step → ℕ → Path → Type 0
 IsDrawn s past id (Udp port) = drawn s.handed.words (listed past) s.outcome.actions ≡ Some (id, port)
 IsDrawn s past id (Tcp conn) = drawn_by_tcp s.handed.words (tcp_asks past) ≡ Some (id, conn)
 
--- an ask of this step says one question and nothing else, goes to a server of its name's route, and has the identifier
--- and the path that are drawn for it (RFC 5452 9.2)
+-- an ask of this step says one question and nothing else, goes to a server of its name's route, and
+-- has the identifier and the path that are drawn for it (RFC 5452 9.2)
 pub record AsksRight (c : Config) (s : Step) (past : List Step) (a : SentAsk) : Type 0 where
   pub id : ℕ
   pub question : Question
@@ -54,11 +54,13 @@ abbrev pub IsRightAsk : Config → Step → List Step → Option SentAsk → Lis
 IsRightAsk c s past None more = Unit {0}
 IsRightAsk c s past (Some a) more = AsksRight c s past a × (closes_path a.path more ≡ false)
 
+-- each ask among the actions of a step is right, with those after it
 abbrev pub AreRightAsks : Config → Step → List Step → List Action → Type 0
 AreRightAsks c s past [] = Unit {0}
 AreRightAsks c s past (a ∷ more) = IsRightAsk c s past (ask_in a) more × AreRightAsks c s past more
 
--- after every step the listed asks are apart and no more than may be open, and those that it sends are right
+-- after every step the listed asks are apart and no more than may be open, and those that it sends
+-- are right
 abbrev pub AsksWell : Config → List Step → Type 0
 AsksWell c [] = Unit {0}
 AsksWell c (s ∷ past) =

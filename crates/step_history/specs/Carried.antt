@@ -1,4 +1,4 @@
--- What the replies of an era carried, and which of it still counts.
+-- The pieces that the replies of an era carried, and which of them still count.
 use Rattle.std.specs.Prelude.{◌≡◌, ℕ, ◌<◌, true, false, List, [], ◌∷◌, ◌++◌, Some, ◌⊎◌}
 use Rattle.suffix_routes.specs.Values.{Config}
 use Rattle.trust_rank.specs.Values.{Piece}
@@ -7,7 +7,7 @@ use Rattle.record_cache.specs.Values.{Held}
 use Rattle.record_cache.specs.Ageing.{end_of}
 use Rattle.record_cache.specs.Laws.{Among}
 use Rattle.step_values.specs.Values.{Step}
-use Rattle.suffix_routes.specs.Serving.{route_of}
+use Rattle.suffix_routes.specs.Serving.{serving_route_of}
 use Rattle.step_history.specs.History.{is_restart, moment_at, Look, Carries, NothingAccepted}
 
 -- pieces that came at the moment t, put before those that were there, the newest first
@@ -15,7 +15,7 @@ abbrev pub then_carried : ℕ → List Piece → List Held → List Held
 then_carried t [] os = os
 then_carried t (p ∷ ps) os = then_carried t ps (record { piece = p; accepted = t } ∷ os)
 
--- what was carried in the newest step's era, the newest first
+-- the pieces that were carried in the newest step's era, the newest first
 abbrev pub CarriedInEra : Config → List Step → List Held → Type 0
 CarriedInEra c [] os = os ≡ []
 CarriedInEra c (s ∷ past) os =
@@ -24,17 +24,19 @@ CarriedInEra c (s ∷ past) os =
     ⊎ ((is_restart s ≡ false) × (ps : List Piece) × (before : List Held)
     × Carries c s past ps × CarriedInEra c past before × (os ≡ then_carried (moment_at (s ∷ past)) ps before))
 
--- o was carried, and nothing that was carried since takes its place (RFC 2181 5.4, RFC 8020 2)
+-- o was carried, and nothing that was carried since takes its place, whatever lifetime that has
+-- (RFC 2181 5.4, RFC 8020 2)
 abbrev pub NotReplaced : Held → List Held → Type 0
 NotReplaced o [] = ⊥
 NotReplaced o (x ∷ os) = (x ≡ o) ⊎ ((takes_place_of x.piece o.piece ≡ false) × NotReplaced o os)
 
--- o may serve the question for this name: it was carried whole by one reply on the name's route, and was alive when the
--- client asked (RFC 1035 3.2.1) and not replaced, or came while the client waited
+-- o may serve the question for this name: it was carried whole by one reply on the name's route,
+-- and was alive when the client asked (RFC 1035 3.2.1) and not replaced, or came while the client
+-- waited
 pub record Justified (l : Look) (name : List (List ℕ)) (o : Held) : Type 0 where
   pub old : List Held
   pub new : List Held
   pub carried_before : CarriedInEra l.config (l.asked ∷ l.before) old
   pub carried_now : CarriedInEra l.config l.now (new ++ old)
-  pub on_route : route_of l.config name ≡ Some o.piece.route
+  pub on_route : serving_route_of l.config name ≡ Some o.piece.route
   pub counts : (NotReplaced o old × (moment_at (l.asked ∷ l.before) < end_of o)) ⊎ Among o new

@@ -11,7 +11,7 @@ use Rattle.step_values.specs.declared.action.Why.TheVariants.{Answered, BadForma
 use Rattle.step_values.specs.declared.action.Why.TheVariants.{QuestionsFull, InquiriesFull, NoPort, Exhausted, Deadline}
 use Rattle.step_values.specs.declared.action.Why.TheVariants.{ChainLong, TooLarge, Stale, LocalDenied}
 use Rattle.step_values.specs.Values.{tick, Action, Step}
-use Rattle.suffix_routes.specs.Serving.{route_of, is_local}
+use Rattle.suffix_routes.specs.Serving.{serving_route_of, is_local}
 use Rattle.dns_message.specs.Questions.{same_question, is_unserved}
 use Rattle.dns_message.specs.Header.{header_in}
 use Rattle.record_cache.specs.Values.{Held}
@@ -24,10 +24,12 @@ use Rattle.step_history.specs.Replies.{answer_text, full_text, stale_sections, d
 use Rattle.answer_builder.specs.Values.{asked_in}
 use Rattle.step_history.specs.Draws.{drawn}
 
+-- the actions of the newest step
 abbrev pub newest_actions : List Step → List Action
 newest_actions [] = []
 newest_actions (s ∷ past) = s.outcome.actions
 
+-- the random words of the newest step
 abbrev pub newest_words : List Step → List ℕ
 newest_words [] = []
 newest_words (s ∷ past) = s.handed.words
@@ -46,7 +48,7 @@ pub record ClosesAsk (q : Question) (s : Step) (past : List Step) : Type 0 where
   pub reads : Reads ask.octets asked
   pub same : same_question asked q ≡ true
 
--- the last asks of this question in the era, so many, were closed, none of them by an accepted reply
+-- the last n asks of this question in the era were closed, none of them by an accepted reply
 abbrev pub LastFailed : Config → Question → List Step → ℕ → Type 0
 LastFailed c q [] zero = Unit {0}
 LastFailed c q [] (suc k) = ⊥
@@ -65,10 +67,10 @@ ClosesNow q (s ∷ past) = ClosesAsk q s past
 abbrev pub NoneAsks : Question → List ShownAsk → Type 0
 NoneAsks q asks = AllByRecursion (λ a. (own : Question) → Reads a.octets own → same_question own q ≡ false) asks
 
--- ---- what the history shows for each way of failing
+-- ---- the facts of the history for each way of failing
 
--- the question has no route, which is told at once, or aliases lead from it to a name that has none; a name whose route
--- denies it has one
+-- the question has no route and fails at once, or aliases lead from it to a name without one; a
+-- name whose route denies it has a route
 pub record HasNoRoute (l : Look) (octets : List ℕ) : Type 0 where
   pub opcode : (header_in octets).opcode ≡ 0
   pub question : Question
@@ -77,7 +79,7 @@ pub record HasNoRoute (l : Look) (octets : List ℕ) : Type 0 where
   pub aliases : List Held
   pub last : Question
   pub leads : Leads l question aliases last
-  pub none : route_of l.config last.name ≡ None
+  pub none : serving_route_of l.config last.name ≡ None
   pub not_denied : is_local l.config last.name ≡ false
   pub at_once : aliases ≡ [] → l.now ≡ l.asked ∷ l.before
 
@@ -89,8 +91,8 @@ pub record AsksUnserved (l : Look) (octets : List ℕ) : Type 0 where
   pub reads : Reads octets question
   pub unserved : is_unserved question ≡ true
 
--- all tries failed for what the client asked or for what aliases lead to, the last one in the newest step, and none is
--- under way
+-- all tries failed for what the client asked or for what aliases lead to, the last one in the
+-- newest step, and none is under way
 pub record AllTriesFailed (l : Look) (octets : List ℕ) : Type 0 where
   pub question : Question
   pub reads : Reads octets question
@@ -120,8 +122,8 @@ pub record IsOverdue (l : Look) : Type 0 where
   pub passed : IsTick l.now
   pub late : moment_at (l.asked ∷ l.before) + l.config.limits.deadline_ms ≤ moment_at l.now
 
--- the full answer passes what TCP carries: from living pieces, from pieces past their end once all tries failed, or
--- from aliases that lead to a denied name
+-- the full answer is longer than TCP carries: from living pieces, from expired pieces once all
+-- tries failed, or from aliases that lead to a denied name
 pub record AnswerIsTooLarge (l : Look) (octets : List ℕ) : Type 0 where
   pub question : Question
   pub aliases : List Held
@@ -130,6 +132,7 @@ pub record AnswerIsTooLarge (l : Look) (octets : List ℕ) : Type 0 where
   pub chain : Chain l question aliases end
   pub large : 65535 < length (answer_text (asked_in (header_in octets) (Some question)) aliases end (moment_at l.now))
 
+-- an answer with expired sets passes 65,535 octets (RFC 1035 4.2.2, RFC 8767)
 pub record StaleAnswerIsTooLarge (l : Look) (octets : List ℕ) : Type 0 where
   pub tries : AllTriesFailed l octets
   pub window : 1 ≤ l.config.limits.stale_s
@@ -139,6 +142,7 @@ pub record StaleAnswerIsTooLarge (l : Look) (octets : List ℕ) : Type 0 where
   pub large : 65535 < length (full_text (asked_in (header_in octets) (Some tries.question))
       (stale_sections (moment_at l.now) tries.aliases past end))
 
+-- the aliases to a name that the configuration denies pass 65,535 octets (RFC 1035 4.2.2)
 pub record LocalAnswerIsTooLarge (l : Look) (octets : List ℕ) : Type 0 where
   pub question : Question
   pub reads : Reads octets question
@@ -147,7 +151,8 @@ pub record LocalAnswerIsTooLarge (l : Look) (octets : List ℕ) : Type 0 where
   pub large : 65535 < length (full_text (asked_in (header_in octets) (Some question))
       (denied_sections (moment_at l.now) aliases))
 
--- waiting is the number of questions without a reply before the step asked
+-- the history shows why the reply has this reason; `waiting` is the number of questions of the era
+-- without a reply before the question came
 abbrev pub Cause : Look → Client → List ℕ → ℕ → Why → Type 0
 Cause l client octets waiting BadOpcode = (l.now ≡ l.asked ∷ l.before) × ((header_in octets).opcode ≢ 0)
 Cause l client octets waiting BadFormat = (l.now ≡ l.asked ∷ l.before) × ((header_in octets).opcode ≡ 0)
@@ -164,7 +169,7 @@ Cause l (Udp peer) octets waiting TooLarge = ⊥
 Cause l (Tcp conn) octets waiting TooLarge = AnswerIsTooLarge l octets ⊎ StaleAnswerIsTooLarge l octets
     ⊎ LocalAnswerIsTooLarge l octets
 Cause l client octets waiting ChainLong = FollowsTooMany l octets
--- these tell no failure
+-- these are no failures
 Cause l client octets waiting Answered = ⊥
 Cause l client octets waiting Stale = ⊥
 Cause l client octets waiting LocalDenied = ⊥

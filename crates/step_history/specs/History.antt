@@ -1,4 +1,5 @@
--- A history is the list of its steps, the newest first: what is said of a step is said of the list that begins with it.
+-- A history is the list of its steps, the newest first; a claim about a step is one about the list
+-- that begins with it.
 use Rattle.std.specs.Prelude.{◌≡◌, ℕ, ◌+◌, ◌^◌, ◌<◌, ◌≤◌, Bool, true, false, if◌then◌else◌, not, min, max, List, []}
 use Rattle.std.specs.Prelude.{◌∷◌, ◌++◌, length, filter, Option, Some, None, ◌⊎◌}
 use Rattle.std.specs.List.{find, list_any}
@@ -11,13 +12,14 @@ use Rattle.outstanding.specs.declared.ask.Path.{Path}
 use Rattle.outstanding.specs.Lists.{same_path, is_tcp}
 use Rattle.step_values.specs.Values.{Event, from_client, delivery, path_failed, tick, restart, Action, Request}
 use Rattle.step_values.specs.Values.{request_in, delivery_in, SentAsk, ask_in, closed_path_in, Step}
-use Rattle.suffix_routes.specs.Serving.{route_of}
+use Rattle.suffix_routes.specs.Serving.{serving_route_of}
 use Rattle.dns_message.specs.Questions.{same_question, one_question}
 use Rattle.dns_message.specs.Header.{header_in}
 use Rattle.trust_rank.specs.Values.{Piece}
 use Rattle.trust_rank.specs.Walks.{walk_of, is_lame}
 use Rattle.step_values.specs.Requests.{is_taken}
 
+-- the event is a restart
 abbrev pub is_restart_event : Event → Bool
 is_restart_event restart = true
 is_restart_event (from_client client octets) = false
@@ -34,12 +36,13 @@ abbrev pub InEra : List Step → List Step → Type 0
 InEra upto [] = ⊥
 InEra upto (s ∷ past) = (upto ≡ s ∷ past) ⊎ ((is_restart s ≡ false) × InEra upto past)
 
--- the effective moment after the newest step: the greatest of the era, a restart's own left out, at most 2^62
--- milliseconds
+-- the effective moment after the newest step: the greatest of the era, a restart's own left out, at
+-- most 2^62 milliseconds
 abbrev pub moment_at : List Step → ℕ
 moment_at [] = 0
 moment_at (s ∷ past) = if is_restart s then 0 else max (min s.handed.now (2 ^ 62)) (moment_at past)
 
+-- the history before its newest step
 abbrev pub before_newest : List Step → List Step
 before_newest [] = []
 before_newest (s ∷ past) = past
@@ -60,13 +63,16 @@ pub record ShownAsk : Type 0 where
   pub octets : List ℕ
   pub moment : ℕ
 
+-- the asks without those on a path
 abbrev pub unlisted : Path → List ShownAsk → List ShownAsk
 unlisted path asks = filter (λ a. not (same_path a.path path)) asks
 
+-- the asks without those on a closed path, if any
 abbrev pub without_closed : Option Path → List ShownAsk → List ShownAsk
 without_closed None asks = asks
 without_closed (Some path) asks = unlisted path asks
 
+-- the asks with one more, sent at moment t, if any
 abbrev pub with_sent : ℕ → Option SentAsk → List ShownAsk → List ShownAsk
 with_sent t None asks = asks
 with_sent t (Some a) asks = asks ++ record { path = a.path; server = a.server; octets = a.octets; moment = t } ∷ []
@@ -76,18 +82,22 @@ abbrev pub asks_after : ℕ → List Action → List ShownAsk → List ShownAsk
 asks_after t [] asks = asks
 asks_after t (a ∷ more) asks = asks_after t more (with_sent t (ask_in a) (without_closed (closed_path_in a) asks))
 
--- the asks that are listed after the newest step, in the order in which they were asked
+-- the asks that are listed after the newest step, in the order in which they were asked: each until
+-- its path is given up
 abbrev pub listed : List Step → List ShownAsk
 listed [] = []
 listed (s ∷ past) = if is_restart s then [] else asks_after (moment_at (s ∷ past)) s.outcome.actions (listed past)
 
+-- the listed ask on a path; by `AreApart` there is at most one
 abbrev pub on_path : Path → List ShownAsk → Option ShownAsk
 on_path path asks = find (λ a. same_path a.path path) asks
 
+-- 1 for an ask over TCP, otherwise 0
 abbrev pub count_tcp : Option SentAsk → ℕ
 count_tcp None = 0
 count_tcp (Some a) = if is_tcp a.path then 1 else 0
 
+-- how many of the actions are asks over TCP
 abbrev pub tcp_asks_in : List Action → ℕ
 tcp_asks_in [] = 0
 tcp_asks_in (a ∷ more) = count_tcp (ask_in a) + tcp_asks_in more
@@ -106,7 +116,7 @@ is_closing path (Some closed) = same_path path closed
 abbrev pub closes_path : Path → List Action → Bool
 closes_path path actions = list_any (λ a. is_closing path (closed_path_in a)) actions
 
--- ---- what is heard
+-- ---- deliveries
 
 -- octets with one question, which is this
 abbrev pub Reads : List ℕ → Question → Type 0
@@ -116,8 +126,8 @@ Reads octets q = one_question octets ≡ Some q
 abbrev pub Delivers : Event → Path → Peer → List ℕ → Type 0
 Delivers e path from octets = delivery_in e ≡ Some (record { path = path; from = from; octets = octets })
 
--- the newest step delivers octets that match an ask which is open before it, in server, path, identifier and question
--- (RFC 5452 9.1)
+-- the newest step delivers octets that match an ask which is open before it, in server, path,
+-- identifier and question (RFC 5452 9.1)
 pub record Matches (c : Config) (s : Step) (past : List Step) (ask : ShownAsk) (octets : List ℕ)
     (asked : Question) : Type 0 where
   pub delivered : Delivers s.handed.event ask.path ask.server octets
@@ -134,7 +144,8 @@ pub record Matches (c : Config) (s : Step) (past : List Step) (ask : ShownAsk) (
   pub reads : Reads octets question
   pub same_question_as_ask : same_question question asked ≡ true
 
--- the newest step is accepted: whole, neither truncated nor a failure, and not lame
+-- the reply of the newest step is accepted: it matches, can be read whole, has response code 0 or 3
+-- and no TC, and is not lame
 pub record Accepts (c : Config) (s : Step) (past : List Step) (ask : ShownAsk) (asked : Question) (route : ℕ)
     (m : Message) : Type 0 where
   pub octets : List ℕ
@@ -142,11 +153,11 @@ pub record Accepts (c : Config) (s : Step) (past : List Step) (ask : ShownAsk) (
   pub spells : Spells octets m
   pub untruncated : m.header.tc ≡ false
   pub rcode : (m.header.rcode ≡ 0) ⊎ (m.header.rcode ≡ 3)
-  pub route_is : route_of c asked.name ≡ Some route
+  pub route_is : serving_route_of c asked.name ≡ Some route
   pub not_lame : is_lame (walk_of c m asked route).end ≡ false
 
--- the newest step is accepted and carried these pieces: those of the walk, then the name servers of the authority
--- section
+-- the newest step is accepted and carried these pieces: those of the walk, then the name servers of
+-- the authority section
 pub record Carries (c : Config) (s : Step) (past : List Step) (ps : List Piece) : Type 0 where
   pub ask : ShownAsk
   pub asked : Question
@@ -155,15 +166,18 @@ pub record Carries (c : Config) (s : Step) (past : List Step) (ps : List Piece) 
   pub accepts : Accepts c s past ask asked route message
   pub are : ps ≡ (walk_of c message asked route).pieces ++ (walk_of c message asked route).authority
 
+-- the step s, after past, accepted no reply
 abbrev pub NothingAccepted : Config → Step → List Step → Type 0
 NothingAccepted c s past = (ps : List Piece) → Carries c s past ps → ⊥
 
 -- ---- a client's message
 
+-- the message of a client is not dropped
 abbrev pub is_taken_request : Option Request → Bool
 is_taken_request None = false
 is_taken_request (Some r) = is_taken r.octets
 
+-- the event is a client's message that is not dropped
 abbrev pub takes_question : Event → Bool
 takes_question e = is_taken_request (request_in e)
 

@@ -1,12 +1,12 @@
--- What the definitions are good for, as statements.
+-- Statements that follow from the definitions.
 use Rattle.std.specs.Prelude.{◌≡◌, ℕ, ◌^◌, ◌≤◌, false, List, ◌∷◌, ◌++◌}
 use Rattle.suffix_routes.specs.Values.{Config, HasNeither}
-use Rattle.suffix_routes.specs.Routes as routes
+use Rattle.suffix_routes.specs.Routes.{route_of}
 use Rattle.step_values.specs.Values.{Step}
 use Rattle.record_cache.specs.Values.{Held}
 use Rattle.step_values.specs.declared.event.Client.{Client}
 use Rattle.step_values.specs.declared.action.Why.TheVariants.{TooLarge, Stale, LocalDenied}
-use Rattle.suffix_routes.specs.Serving.{route_of}
+use Rattle.suffix_routes.specs.Serving.{serving_route_of}
 use Rattle.step_history.specs.History.{is_restart, InEra, Look, moment_at}
 use Rattle.step_history.specs.Carried.{CarriedInEra}
 use Rattle.step_history.specs.Causes.{Cause, AnswerIsTooLarge}
@@ -20,20 +20,21 @@ MomentsNeverFall = (s : Step) (past : List Step) → is_restart s ≡ false → 
 abbrev pub MomentsAreInTime : Type 0
 MomentsAreInTime = (past : List Step) → moment_at past ≤ 2 ^ 62
 
--- What was carried up to a step of the era is the older part of what was carried in it.
+-- The pieces carried up to a step of the era are the older part of those carried in it.
 abbrev pub WhatWasCarriedStaysSo : Type 0
 WhatWasCarriedStaysSo = (c : Config) (upto now : List Step) (all : List Held) → InEra upto now → CarriedInEra c now all
     → (os : List Held) × (new : List Held) × CarriedInEra c upto os × (all ≡ new ++ os)
 
--- What the second version of a configuration adds to the claims is nothing where it has no window and no route that
--- denies: no reply is right that tells of either, only an answer from living pieces can be too large, and each name is
--- served by its route.
+-- Without a window and without a route that denies, version 2 of a configuration adds nothing to
+-- the claims: no reply of the two further kinds is right, only an answer from living pieces can be
+-- too large, and each name is served by its route.
 pub record AddsNothing (l : Look) (client : Client) (request octets : List ℕ) (waiting : ℕ) : Type 0 where
   pub stale : RightReply l client request waiting Stale octets → ⊥
   pub local : RightReply l client request waiting LocalDenied octets → ⊥
   pub large : Cause l client request waiting TooLarge → AnswerIsTooLarge l request
-  pub routed : (name : List (List ℕ)) → route_of l.config name ≡ routes.route_of l.config.routes name
+  pub routed : (name : List (List ℕ)) → serving_route_of l.config name ≡ route_of l.config.routes name
 
+-- without a window and without routes that deny, the second version adds no right reply
 abbrev pub FirstVersionStandsAlone : Type 0
 FirstVersionStandsAlone = (l : Look) (client : Client) (request octets : List ℕ) (waiting : ℕ) → HasNeither l.config
     → AddsNothing l client request octets waiting

@@ -1,4 +1,4 @@
--- What a denial by the configuration shows: RFC 6761 6.4, RFC 2308 2.1.
+-- Denials by the configuration: RFC 6761 6.4, RFC 2308 2.1.
 use Rattle.std.specs.Prelude.{◌≡◌, ℕ, true, List, [], ◌∷◌, Some}
 use Rattle.dns_message.specs.Header.{Header}
 use Rattle.dns_message.specs.Values.{Question, Message}
@@ -11,15 +11,15 @@ use Rattle.step_history.specs.Answers.{Leads}
 use Rattle.step_history.specs.Replies.{full_text, short_text, denied_sections, sized_for, FitsTransport}
 use Rattle.answer_builder.specs.Values.{asked_in}
 
--- justified aliases lead from the question to a name that the configuration denies; where there are none, its own name
--- is denied, which is told at once
+-- at most eight justified aliases lead from the question to a name that the configuration denies
+-- (RFC 6761 6.4); without aliases its own name is denied, and it is answered at once
 pub record ChainToLocal (l : Look) (q : Question) (aliases : List Held) : Type 0 where
   pub last : Question
   pub leads : Leads l q aliases last
   pub denied : is_local l.config last.name ≡ true
   pub at_once : aliases ≡ [] → l.now ≡ l.asked ∷ l.before
 
--- the octets answer the question so, and can be read
+-- the octets answer the question with this denial, and can be read
 pub record LocalAnswers (l : Look) (client : Client) (h : Header) (q : Question) (octets : List ℕ) : Type 0 where
   pub aliases : List Held
   pub chain : ChainToLocal l q aliases

@@ -11,7 +11,8 @@ use Rattle.step_values.specs.declared.event.Client.TheVariants.{Udp, Tcp}
 use Rattle.step_values.specs.declared.action.Why.{Why}
 use Rattle.step_values.specs.Requests.{rcode_of_why}
 
--- the answer from a chain of aliases and what ends it, with the seconds that are left at the moment t
+-- the answer from a chain of aliases and the piece that ends it, with the seconds that are left at
+-- the moment t
 abbrev pub answer_text : Asked → List Held → Held → ℕ → List ℕ
 answer_text a aliases end t = written (full_answer a (sections_of t (aliases ++ end ∷ [])))
 
@@ -23,19 +24,21 @@ cut_text a aliases end t = written (cut_answer a (sections_of t (aliases ++ end 
 abbrev pub full_text : Asked → Sections → List ℕ
 full_text a s = written (full_answer a s)
 
+-- the truncated answer: header with TC, and the question (RFC 1035 4.2.1)
 abbrev pub short_text : Asked → Sections → List ℕ
 short_text a s = written (cut_answer a s)
 
--- what is said of aliases that were held, and of aliases and a set behind them that may have ended: of these, what has
--- ended is told for 30 seconds (RFC 8767 4)
+-- the sections of an answer from aliases that were held, and from aliases and a set after them that
+-- may have expired: an expired one gets 30 seconds (RFC 8767 4)
 abbrev pub stale_sections : ℕ → List Held → List Held → Held → Sections
 stale_sections t held past end = sections_told (told_stale (length held) t (held ++ (past ++ end ∷ [])))
 
--- what is said of aliases that lead to a name whose route denies it
+-- the sections of a denial by the configuration: a name error, with the aliases that lead to the
+-- denied name
 abbrev pub denied_sections : ℕ → List Held → Sections
 denied_sections t aliases = local_sections (map (told_at t) aliases)
 
--- over UDP what passes 512 octets is cut (RFC 1035 4.2.1)
+-- over UDP an answer of more than 512 octets is cut (RFC 1035 4.2.1)
 abbrev pub sized_for : Client → List ℕ → List ℕ → List ℕ
 sized_for (Udp peer) full cut = over_udp full cut
 sized_for (Tcp conn) full cut = full
@@ -45,6 +48,6 @@ abbrev pub FitsTransport : Client → List ℕ → Type 0
 FitsTransport (Udp peer) octets = Unit {0}
 FitsTransport (Tcp conn) octets = length octets ≤ 65535
 
--- the failure that tells this reason
+-- the text of a failure for this reason
 abbrev pub failure_text : Asked → Why → List ℕ
 failure_text a why = written (error_response a (rcode_of_why why))

@@ -1,4 +1,4 @@
--- What is claimed of each reply, and of each history.
+-- Claims about each reply and about each history.
 use Rattle.std.specs.Prelude.{◌≡◌, ℕ, ◌≤◌, Bool, true, false, if◌then◌else◌, ◌==◌, ◌&&◌, not, List, [], ◌∷◌, ◌++◌}
 use Rattle.std.specs.Prelude.{length, Option, Some, None, ◌⊎◌}
 use Rattle.std.specs.List.{list_any, concat}
@@ -24,8 +24,8 @@ use Rattle.step_history.specs.Causes.{AllTriesFailed, Cause}
 abbrev pub among : ℕ → List ℕ → Bool
 among i js = list_any (λ j. j == i) js
 
--- the numbers of the questions of this era that own no reply, the oldest first; a step's number is how many came before
--- it
+-- the numbers of the questions of this era that own no reply, the oldest first; a step's number is
+-- how many came before it
 abbrev pub unanswered : List Step → List ℕ → List ℕ
 unanswered [] owners = []
 unanswered (s ∷ past) owners =
@@ -34,15 +34,15 @@ unanswered (s ∷ past) owners =
     else unanswered past owners ++ (if takes_question s.handed.event && not (among (length past) owners)
     then length past ∷ [] else [])
 
--- the text of a failure: without the question where it was not looked at or can't be read, else with the client's
--- question as it came
+-- the text of a failure: without the question where it was not looked at or can't be read,
+-- otherwise with the client's question as it came
 abbrev pub IsErrorResponse : List ℕ → Why → List ℕ → Type 0
 IsErrorResponse request BadFormat octets = octets ≡ failure_text (asked_in (header_in request) None) BadFormat
 IsErrorResponse request BadOpcode octets = octets ≡ failure_text (asked_in (header_in request) None) BadOpcode
 IsErrorResponse request why octets = (q : Question) × Reads request q
     × (octets ≡ failure_text (asked_in (header_in request) (Some q)) why)
 
--- the client asked what is served, and the octets answer it
+-- the client asked for a type and class that are served, and the octets answer it
 pub record RightAnswer (l : Look) (client : Client) (request octets : List ℕ) : Type 0 where
   pub opcode : (header_in request).opcode ≡ 0
   pub question : Question
@@ -50,8 +50,8 @@ pub record RightAnswer (l : Look) (client : Client) (request octets : List ℕ) 
   pub served : is_unserved question ≡ false
   pub answers : Answers l client (header_in request) question octets
 
--- all tries failed for what the client asked or for what aliases lead to, the configuration has a window, and the
--- octets answer it past the ends of sets
+-- all tries failed for what the client asked or for what aliases lead to, the configuration has a
+-- window, and the octets answer it with expired data
 pub record RightStaleAnswer (l : Look) (client : Client) (request octets : List ℕ) : Type 0 where
   pub opcode : (header_in request).opcode ≡ 0
   pub tries : AllTriesFailed l request
@@ -59,7 +59,8 @@ pub record RightStaleAnswer (l : Look) (client : Client) (request octets : List 
   pub window : 1 ≤ l.config.limits.stale_s
   pub answers : StaleAnswers l client (header_in request) tries.question tries.aliases tries.last octets
 
--- the client asked what is served, and the octets tell that the configuration denies it, or a name that aliases lead to
+-- the client asked for a type and class that are served, and the octets deny it: its own name, or
+-- one that aliases lead to, is denied by the configuration
 pub record RightLocalAnswer (l : Look) (client : Client) (request octets : List ℕ) : Type 0 where
   pub opcode : (header_in request).opcode ≡ 0
   pub question : Question
@@ -74,7 +75,8 @@ RightReply l client request waiting Stale octets = RightStaleAnswer l client req
 RightReply l client request waiting LocalDenied octets = RightLocalAnswer l client request octets
 RightReply l client request waiting why octets = IsErrorResponse request why octets × Cause l client request waiting why
 
--- the step number i of this era is a message of the client that isn't dropped, and the reply is right for it
+-- the step number i of this era is a message of the client that isn't dropped, and the reply is
+-- right for it
 pub record Owns (c : Config) (now : List Step) (owners : List ℕ) (i : ℕ) (r : SentReply) : Type 0 where
   pub asked : Step
   pub before : List Step
@@ -86,7 +88,7 @@ pub record Owns (c : Config) (now : List Step) (owners : List ℕ) (i : ℕ) (r 
   pub right : RightReply (record { config = c; asked = asked; before = before; now = now }) r.client request
       (length (unanswered before owners)) r.why r.octets
 
--- a reply takes the next owner, which owns no other; what is no reply takes none
+-- a reply takes the next owner, which owns no other; any other action takes none
 abbrev pub OwnedNext : Config → List Step → Option SentReply → (List ℕ → List ℕ → Type 0) → List ℕ → List ℕ → Type 0
 OwnedNext c now None rest owners is = rest owners is
 OwnedNext c now (Some r) rest owners [] = ⊥
@@ -107,6 +109,7 @@ abbrev pub Replies : List Action → List ℕ → Type 0
 Replies [] octets = ⊥
 Replies (a ∷ more) octets = IsAnswer (reply_in_action a) octets ⊎ Replies more octets
 
+-- the message of a client asks this question
 abbrev pub AsksIn : Option Request → Question → Type 0
 AsksIn None q = ⊥
 AsksIn (Some r) q = Reads r.octets q
@@ -120,8 +123,8 @@ abbrev pub SameSections : List ℕ → List ℕ → Type 0
 SameSections a b = (m m' : Message) → Spells a m → Spells b m' → m.header.tc ≡ false → m'.header.tc ≡ false
     → (m.header.rcode ≡ m'.header.rcode) × (m.answers ≡ m'.answers) × (m.authority ≡ m'.authority)
 
--- the answer has the sections of each one from cache to an equal question at the same moment, as far back as nothing
--- was accepted
+-- the answer has the sections of each one from cache to an equal question at the same moment, as
+-- far back as nothing was accepted
 abbrev pub SameAsEarlierFromCache : Config → ℕ → Question → List ℕ → List Step → Type 0
 SameAsEarlierFromCache c t q octets [] = Unit {0}
 SameAsEarlierFromCache c t q octets (s ∷ past) =

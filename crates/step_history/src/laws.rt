@@ -1,4 +1,4 @@
-//! What the definitions are good for, as statements about histories.
+//! Laws about histories that follow from the definitions.
 
 ghost use Rattle.step_history.specs.Laws.{FirstVersionStandsAlone, MomentsAreInTime, MomentsNeverFall};
 ghost use Rattle.step_history.specs.Laws.{WhatWasCarriedStaysSo};
@@ -9,13 +9,13 @@ pub fn moments_never_fall()
     ensures in_time { MomentsAreInTime }
 {}
 
-/// What was carried up to a step of the era is the older part of what was carried up to now.
+/// The pieces carried up to a step of the era are the older part of those carried up to now.
 pub fn what_was_carried_stays_so()
     ensures { WhatWasCarriedStaysSo }
 {}
 
-/// Where a configuration has no window for answers past their end and no route that denies, the claims are those of its
-/// first version: no reply is right that tells of either.
+/// Without a window for expired data and without a route that denies, the claims are those of
+/// version 1: no reply of the two further kinds is right.
 pub fn first_version_stands_alone()
     ensures { FirstVersionStandsAlone }
 {}

@@ -1,6 +1,6 @@
-//! What is claimed of a history of steps: which reply was accepted, what it carried, which answer is justified by it,
-//! why a question failed, which step owns a reply. It looks backward over the bare list of steps, and knows nothing of
-//! the state of a forwarder.
+//! Claims about a history of steps: which reply was accepted, which pieces it carried, which answer
+//! it justifies, why a question failed, which step owns a reply. They look backward over the bare
+//! list of steps, and know nothing of the state of a forwarder.
 #![tactic(auto)]
 
 mod laws;

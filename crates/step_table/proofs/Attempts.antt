@@ -1,4 +1,4 @@
--- What is known of an ask that comes next.
+-- Facts about the ask that comes next.
 use Rattle.std.proofs.Common.{◌≡◌, ℕ, false, zero, suc, ◌<◌, List, [], ◌∷◌, length, refl, sym, ap, subst, arith, Option, Some, None}
 use Rattle.std.specs.Prelude.{map, get_or, slice_get, slice_set}
 use Rattle.std.specs.List.{AllByRecursion}
@@ -6,12 +6,12 @@ use Rattle.std.proofs.lemmas.Option.{slice_get_within, slice_get-get_or}
 use Rattle.dns_message.specs.Values.{Question}
 use Rattle.suffix_routes.specs.declared.peer.Peer.{Peer}
 use Rattle.suffix_routes.specs.Values.{Config, Route, IsRoute}
-use Rattle.suffix_routes.specs.Routes.{IsRouteOf, route_of as route_among}
+use Rattle.suffix_routes.specs.Routes.{IsRouteOf, route_of}
 use Rattle.suffix_routes.proofs.CallerLemmas.{route_found_is_longest, serving_is, serving_denies_nothing}
 use Rattle.outstanding.specs.declared.ask.Path.{Path}
 use Rattle.outstanding.specs.declared.ask.Path.TheVariants.{Udp, Tcp}
 use Rattle.outstanding.specs.Values.{Ask}
-use Rattle.suffix_routes.specs.Serving.{route_of}
+use Rattle.suffix_routes.specs.Serving.{serving_route_of}
 use Rattle.step_table.specs.Attempts.{group_of, servers_in, peer_at, over_udp, over_tcp, ask_by}
 use Rattle.step_table.specs.Progress.{ArePreferred}
 
@@ -39,7 +39,7 @@ ask_by-some n q route server used (Some p) (Some d) a e =
       drawn_is = ap (λ (x : Ask). Some (x.id, x.path)) is;
     }
 
--- where there is a server, none comes for want of a path alone
+-- where there is a server, there is no ask only if nothing was drawn
 pub ask_by-none : (n : ℕ) (q : Question) (route server used : ℕ) (peer : Option Peer) (p : Peer) (drawn : Option (ℕ × Path)) → peer ≡ Some p → ask_by n q route server used peer drawn ≡ None → drawn ≡ None
 ask_by-none n q route server used None p drawn there e = absurd (cc)
 ask_by-none n q route server used (Some x) p None there e = refl
@@ -96,9 +96,9 @@ preferred_put (x ∷ routes) (p ∷ places) zero server are within = (λ serves.
 preferred_put (x ∷ routes) (p ∷ places) (suc route) server are within = (are.0, preferred_put routes places route server are.1 within)
 
 -- the preferred server of a question's route
-pub preferred_peer : (c : Config) (q : Question) (route : ℕ) (places : List ℕ) → route_of c q.name ≡ Some route → ArePreferred c.routes places → (p : Peer) × (peer_at c route (get_or places route 0) ≡ Some p)
+pub preferred_peer : (c : Config) (q : Question) (route : ℕ) (places : List ℕ) → serving_route_of c q.name ≡ Some route → ArePreferred c.routes places → (p : Peer) × (peer_at c route (get_or places route 0) ≡ Some p)
 preferred_peer c q route places on are =
-    let own = serving_is c.routes (route_among c.routes q.name) route on in
+    let own = serving_is c.routes (route_of c.routes q.name) route on in
     let at : IsRouteOf c.routes q.name route = route_found_is_longest c.routes q.name route own.0 in
     let within = preferred_there c.routes places route are at.route at.there (serving_denies_nothing c.routes route at.route own.1 at.there) in
     peer_there c route (get_or places route 0) (subst (λ (o : Option Route). get_or places route 0 < length (servers_in o)) (sym at.there) within)

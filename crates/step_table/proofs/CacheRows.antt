@@ -1,4 +1,5 @@
--- Worked runs with a cache, computed: hits and their ends, denials, trust, eviction, promotions, offers.
+-- Worked runs with a cache, computed: hits and their ends, denials, trust, eviction, promotions,
+-- offers.
 use Rattle.std.proofs.Common.{◌≡◌, ℕ, ◌^◌, List, [], ◌∷◌, Bool, true, false, refl, Option, Some, None}
 use Rattle.std.specs.Prelude.{map}
 use Rattle.suffix_routes.specs.Values.{Config}
@@ -26,14 +27,15 @@ first = (1000, asks_for 4660 (address a))
 abbrev query : List Action
 query = sends_query 1032 server 8 (address a) ∷ []
 
--- its reply, and what the client gets
+-- its reply, and the client's answer
 abbrev good : ℕ × Told
 good = (1020, hears 1032 (one_host a))
 
 abbrev given : List Action
 given = close_udp 1032 ∷ answers 4660 (address a) (host a 300 5 ∷ []) ∷ []
 
--- seconds are rounded down; a set is answered up to its last millisecond, and is asked for from its end on
+-- seconds are rounded down; a set is sent up to its last millisecond, and is asked for once it
+-- expired
 hits : played config (first ∷ good ∷ (11520, asks_for 1 (address a)) ∷ (301019, asks_for 2 (address a)) ∷ (301020, asks_for 3 (address a)) ∷ [])
     ≡ query ∷ given ∷ (answers 1 (address a) (host a 289 5 ∷ []) ∷ []) ∷ (answers 2 (address a) (host a 0 5 ∷ []) ∷ [])
     ∷ (sends_query 1064 server 40 (address a) ∷ []) ∷ []
@@ -46,8 +48,8 @@ letter_case : played config (first ∷ good ∷ (2020, asks_for 1 (address (belo
 unfolding walk_from servers_from route_of
 letter_case = refl
 
--- the lowest TTL counts for all, one with its top bit set is 0, and a duplicate is left out; what has no lifetime is given to
--- all that wait, and is not kept
+-- the lowest TTL counts for all, one with its top bit set is 0 (RFC 2181 8), and a duplicate is
+-- left out; a set without a lifetime is sent to all that wait, and is not kept
 no_lifetime : played config ((1000, asks_for 1 (address a)) ∷ (1001, asks_for 2 (address a))
     ∷ (1020, hears 1032 (reply true 0 (host a 60 5 ∷ host a 300 6 ∷ host a (2 ^ 31) 7 ∷ host a 300 5 ∷ []) []))
     ∷ (1020, asks_for 3 (address a)) ∷ [])
@@ -119,7 +121,7 @@ alias_of_b ttl = rr b 5 ttl (name_data 97)
 abbrev alias_reply : ℕ → Message
 alias_reply ttl = reply true 0 (alias_of_b 60 ∷ host a ttl 9 ∷ []) []
 
--- the set behind an alias takes the place of none that is believed more, before that has ended
+-- the set after an alias takes the place of none that is believed more, before that has expired
 trust : played config (first ∷ good ∷ (2000, asks_for 1 (address b)) ∷ (2020, hears 1048 (alias_reply 600)) ∷ (3020, asks_for 2 (address a))
     ∷ (301020, asks_for 3 (address b)) ∷ (301040, hears 1072 (alias_reply 600)) ∷ (302040, asks_for 4 (address a)) ∷ [])
     ≡ query ∷ given ∷ (sends_query 1048 server 24 (address b) ∷ [])
@@ -129,14 +131,16 @@ trust : played config (first ∷ good ∷ (2000, asks_for 1 (address b)) ∷ (20
 unfolding walk_from servers_from route_of name_of_rdata name_within walk_in name_step
 trust = refl
 
--- a chain that the cache holds whole, each piece with its own seconds; a question for CNAME is answered with the alias
+-- a chain that the cache holds whole, each piece with its own seconds; a question for CNAME is
+-- answered with the alias
 chain : played config ((1000, asks_for 1 (address b)) ∷ (1020, hears 1032 (alias_reply 600)) ∷ (2020, asks_for 2 (address b)) ∷ (2020, asks_for 3 (record { name = b; kind = 5; class = 1 })) ∷ [])
     ≡ (sends_query 1032 server 8 (address b) ∷ []) ∷ (close_udp 1032 ∷ answers 1 (address b) (alias_of_b 60 ∷ host a 600 9 ∷ []) ∷ [])
     ∷ (answers 2 (address b) (alias_of_b 59 ∷ host a 599 9 ∷ []) ∷ []) ∷ (answers 3 (record { name = b; kind = 5; class = 1 }) (alias_of_b 59 ∷ []) ∷ []) ∷ []
 unfolding walk_from servers_from route_of name_of_rdata name_within walk_in name_step
 chain = refl
 
--- where a look-up misses behind an alias, the name that it leads to is asked for, and the alias is held
+-- where a look-up misses after an alias, the name that it leads to is asked for, and the alias is
+-- held
 missed_behind_alias : played config ((1000, asks_for 1 (address b)) ∷ (1020, hears 1032 (alias_reply 1)) ∷ (2020, asks_for 2 (address b)) ∷ (3020, hears 1048 (one_host a)) ∷ [])
     ≡ (sends_query 1032 server 8 (address b) ∷ []) ∷ (close_udp 1032 ∷ answers 1 (address b) (alias_of_b 60 ∷ host a 1 9 ∷ []) ∷ [])
     ∷ (sends_query 1048 server 24 (address a) ∷ []) ∷ (close_udp 1048 ∷ answers 2 (address b) (alias_of_b 58 ∷ host a 300 5 ∷ []) ∷ []) ∷ []
@@ -185,7 +189,7 @@ used_for_a_miss : played (with_cache 2) ((1000, asks_for 1 (address b)) ∷ (100
 unfolding walk_from servers_from route_of name_of_rdata name_within walk_in name_step
 used_for_a_miss = refl
 
--- name servers are offered behind the walk, so that a cache of one entry has them
+-- name servers are offered after the walk, so that a cache of one entry has them
 authority_last : played (with_cache 1) (first ∷ (1000, hears 1032 (reply true 0 (host a 300 5 ∷ []) (rr example 2 3600 (name_data 110) ∷ [])))
     ∷ (1000, asks_for 1 (record { name = example; kind = 2; class = 1 })) ∷ (1000, asks_for 2 (address a)) ∷ [])
     ≡ query ∷ given ∷ (answers 1 (record { name = example; kind = 2; class = 1 }) (rr example 2 3600 (name_data 110) ∷ []) ∷ []) ∷ (sends_query 1056 server 32 (address a) ∷ []) ∷ []
@@ -207,7 +211,7 @@ slots_of s = map (λ h. h.piece.slot) s.cache.entries
 abbrev address_slot : Slot
 address_slot = record { key = a; class = 1; kind = Some 1 }
 
--- an alias of b.e that leads to a.e, which the reply doesn't tell of
+-- an alias of b.e that leads to a.e, of which the reply has no piece
 abbrev leading : Walk
 leading = record {
   pieces = record { owner = b; slot = record { key = b; class = 1; kind = Some 5 }; body = rows (name_data 97 ∷ []); lifetime = 60; rank = 3; route = 0 } ∷ [];
@@ -215,7 +219,7 @@ leading = record {
   end = elsewhere a;
 }
 
--- a.e and d.e are all that is held, d.e the newer, and b.e is asked for
+-- the cache has a.e and d.e alone, d.e the newer, and b.e is asked for
 abbrev full : State
 full = after (with_cache 2) ((1000, asks_for 1 (address a)) ∷ (1000, hears 1032 (one_host a)) ∷ (1000, asks_for 2 (address d)) ∷ (1000, hears 1048 (one_host d)) ∷ (1000, asks_for 3 (address b)) ∷ [])
 
@@ -223,7 +227,8 @@ abbrev led_by : Option Ask → Done
 led_by None = idle_step 1050 full
 led_by (Some ask) = row_of_acceptance (turn (with_cache 2) 1050 (words_of 6) full) [] ask leading
 
--- where an accepted reply leads on, the look-up finds what is held before its pieces are offered, and what it used is kept
+-- where an accepted reply leads on, the look-up finds the entries before its pieces are offered,
+-- and the entries that it used are kept
 looked_up_first : ((led_by (ask_on (Udp 1064) full.asks)).actions ≡ close_udp 1064 ∷ answers 3 (address b) (alias_of_b 60 ∷ host a 299 5 ∷ []) ∷ [])
     × (slots_of (led_by (ask_on (Udp 1064) full.asks)).state ≡ record { key = b; class = 1; kind = Some 5 } ∷ address_slot ∷ [])
 unfolding walk_from servers_from route_of name_of_rdata name_within walk_in name_step
@@ -247,14 +252,14 @@ unkept : ((accepted (false ∷ [])).unkept ≡ 1) × (slots_of (accepted (false 
 unfolding walk_from servers_from route_of
 unkept = (refl, refl, refl, refl, refl)
 
--- its set has ended, and is asked for again
+-- its set has expired, and is asked for again
 abbrev ended : State
 ended = after config (first ∷ good ∷ (301020, asks_for 1 (address a)) ∷ [])
 
 abbrev again : Done
 again = heard config 301040 (words_of 4) (false ∷ []) (one_host a) ended (ask_on (Udp 1048) ended.asks)
 
--- what takes the place of an entry wants no memory
+-- a piece that takes the place of an entry does not allocate
 in_its_place : (again.unkept ≡ 0) × (map (λ h. h.accepted) again.state.cache.entries ≡ 301040 ∷ [])
 unfolding walk_from servers_from route_of
 in_its_place = (refl, refl)

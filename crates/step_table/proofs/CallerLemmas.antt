@@ -1,8 +1,8 @@
--- What the proofs of crates above cite of the table.
+-- Lemmas about the table for the proofs of crates above.
 pub use Rattle.step_table.proofs.Progress.{first_due, first_late, less_is_left, left_is_bounded, more_is_served, sooner, next_due_by_lists, first_deadline}
--- What holds of each of a list
+-- Properties of each item of a list
 pub use Rattle.step_table.proofs.Lists.{All-weaker, All-append, All-filter, All-first}
--- listed asks, what is drawn beside them, and the asks that come of it
+-- listed asks, draws that avoid them, and the asks that are drawn
 pub use Rattle.step_table.proofs.Listed.{ask_on-is, of_question-is, without_shorter, none_same, IsFresh, drawn_fresh, none_there, free_now, free_then, none_above, IsNumbered, drawn_numbered, drawn_last, own_on, still_earlier}
 pub use Rattle.step_table.proofs.Draws.{draws_left}
 pub use Rattle.step_table.proofs.Attempts.{IsAskBy, ask_by-some, ask_by-none, udp-some, udp-none, tcp-some, tcp-none, peer_within, peer_there, preferred_first, preferred_there, preferred_put, preferred_peer}

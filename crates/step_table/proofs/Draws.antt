@@ -1,4 +1,4 @@
--- What is drawn once a path is closed.
+-- Draws after a path is closed.
 use Rattle.std.proofs.Common.{◌≡◌, ℕ, ◌-◌, List, [], ◌∷◌, Bool, true, false, cond, refl, sym, ap, ◌∙◌, Some, None}
 use Rattle.std.specs.Prelude.{◌==◌, ◌%◌, ◌&&◌, ◌||◌, not}
 use Rattle.std.specs.List.{list_any}

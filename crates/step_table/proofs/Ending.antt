@@ -1,4 +1,4 @@
--- What a reply that ends its walk comes to.
+-- The outcome of a reply that ends its walk.
 use Rattle.std.proofs.Common.{◌≡◌, ℕ, List, true, refl, None}
 use Rattle.std.proofs.lemmas.Bool.{false≢true}
 use Rattle.suffix_routes.specs.Values.{Config}

@@ -4,7 +4,7 @@ use Rattle.std.specs.Prelude.{nat_lt}
 use Rattle.std.proofs.lemmas.Bool.{cases_Bool, cond-true, cond-false, ltb-false}
 use Rattle.dns_message.specs.Header.{Header, header_of, header_in}
 
--- the header where there is one
+-- the header, if any
 pub header_there : (octets : List ℕ) (h : Header) → header_of octets ≡ Some h → (header_in octets ≡ h) × (12 ≤ length octets)
 unfolding header_of
 header_there octets h e = ⊎_elim

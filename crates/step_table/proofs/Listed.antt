@@ -1,4 +1,4 @@
--- Listed asks, and what is drawn beside them.
+-- Listed asks, and draws that avoid them.
 use Rattle.std.proofs.Common.{◌≡◌, ℕ, ◌+◌, ◌-◌, ◌%◌, ◌^◌, ◌<◌, ◌≤◌, List, [], ◌∷◌, length, Bool, true, false, refl, sym, ap, ◌∙◌, subst, ⊎_elim, arith, Option, Some, None}
 use Rattle.std.specs.Prelude.{get_or, not, ◌==◌, ◌||◌}
 use Rattle.std.specs.List.{AllByRecursion}
@@ -57,7 +57,7 @@ none_same q (b ∷ asks) e = ⊎_elim
     (λ (f : same_question b.question q ≡ false). (f, none_same q asks (sym (cond-false (same_question b.question q) _ _ f) ∙ e)))
     (cases_Bool (same_question b.question q))
 
--- what is drawn: an identifier of 16 bits, and a port that is free
+-- a draw is an identifier of 16 bits, and a port that is free
 pub record IsFresh (asks : List Ask) (freed : Option ℕ) (id port : ℕ) : Type 0 where
   pub small : id < 2 ^ 16
   pub free : is_free port asks freed ≡ true

@@ -1,5 +1,5 @@
--- Worked lines as data: messages as they were read, and what each line shows. Texts stand as what is written, so that only
--- what is said in them is compared.
+-- Worked lines as data: messages as they were read, and the actions of each line. Texts are
+-- compared as the messages that are written, not as octets.
 use Rattle.std.proofs.Common.{ℕ, ◌+◌, List, [], ◌∷◌, Bool, true, false, Option, Some, None}
 use Rattle.std.specs.Prelude.{◌*◌, map, if◌then◌else◌, nat_lt, Ok}
 use Rattle.suffix_routes.specs.declared.peer.Peer.{Peer}
@@ -28,8 +28,8 @@ use Rattle.step_table.specs.Replies.{row_of_message, timeout_of}
 use Rattle.step_table.specs.Failures.{row_of_failure, row_of_failed_path}
 use Rattle.step_table.specs.Clients.{row_of_service, taken_now}
 
--- a client's question with this identifier; a whole reply, or a failure, to the ask on a path; the end of a path; the
--- passing of time; a new beginning
+-- a client's question with this identifier; a whole reply, or a failure, to the ask on a path; the
+-- end of a path; the passing of time; a new beginning
 pub data Told : Type 0 where
   asking : Client → ℕ → Question → Told
   hearing : Path → Message → Told
@@ -55,7 +55,7 @@ next c n words s (breaking path) = row_of_failed_path (turn c n words s) (ask_on
 next c n words s ticking = row_of_tick (turn c n words s)
 next c n words s restarting = record { actions = []; unkept = 0; state = start c }
 
--- the words that a script hands to its line
+-- the words that a script passes with its line
 abbrev pub words_of : ℕ → List ℕ
 words_of line = map (λ i. (8 * line + i) * 65537) (0 ∷ 1 ∷ 2 ∷ 3 ∷ 4 ∷ 5 ∷ 6 ∷ 7 ∷ [])
 
@@ -113,7 +113,7 @@ other_server = record { ip = 192 ∷ 0 ∷ 2 ∷ 2 ∷ []; port = 53 }
 abbrev pub client : Client
 client = FromUdp (record { ip = 10 ∷ 0 ∷ 0 ∷ 7 ∷ []; port = 40000 })
 
--- two servers for every name, and a cache of so many entries
+-- two servers for every name, and a cache of this many entries
 abbrev pub with_cache : ℕ → Config
 with_cache capacity = record {
   listen = server;
@@ -127,7 +127,7 @@ config = with_cache 4096
 abbrev pub asks_for : ℕ → Question → Told
 asks_for id q = asking client id q
 
--- ---- what servers send
+-- ---- replies of servers
 
 abbrev pub rr : List (List ℕ) → ℕ → ℕ → List ℕ → Record
 rr owner kind ttl rdata = record { owner = owner; kind = kind; class = 1; ttl = ttl; rdata = rdata }
@@ -155,7 +155,7 @@ hears port m = hearing (Udp port) m
 abbrev pub one_host : List (List ℕ) → Message
 one_host name = reply true 0 (host name 300 5 ∷ []) []
 
--- ---- what is shown
+-- ---- actions
 
 abbrev pub asked : ℕ → Question → Asked
 asked id q = record { id = id; opcode = 0; rd = true; question = Some q }

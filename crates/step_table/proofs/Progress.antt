@@ -1,4 +1,5 @@
--- What is left to do falls with each step that serves something; the first of each list tells what is due.
+-- The work that is left falls with each step that serves something; the first of each list decides
+-- what is due.
 use Rattle.std.proofs.Common.{◌≡◌, ℕ, suc, ◌+◌, ◌*◌, ◌<◌, ◌≤◌, List, [], ◌∷◌, ◌++◌, length, Bool, true, false, cond, refl, sym, ap, ◌∙◌, subst, arith, ◌⊎◌, inl, inr, Option, Some, None}
 use Rattle.std.specs.Prelude.{nat_le, ◌||◌, ◌==◌, not, map, min, IsSome}
 use Rattle.std.specs.List.{list_any, cons_option, AllByRecursion}
@@ -110,7 +111,7 @@ none_due d n x (y ∷ xs) all f = by (nat_le (y.taken + d) n) refl (none_due d n
     by true t rest = absurd (let less = leb-true (y.taken + d) n t in let more = leb-false (x.taken + d) n f in let order : x.taken ≤ y.taken = all.0 in omega (arith, less, more, order))
     by false e rest = ap (λ v. v || list_any (λ (z : Waiting). nat_le (z.taken + d) n) xs) e ∙ rest
 
--- the oldest question tells whether one has waited as long as it may
+-- the oldest question decides whether one has waited as long as it may
 pub first_due : (d n : ℕ) (x : Waiting) (xs : List Waiting) → AreTakenInTurn (x ∷ xs) → nat_le (x.taken + d) n ≡ list_any (λ (y : Waiting). nat_le (y.taken + d) n) (x ∷ xs)
 first_due d n x xs turn = by (nat_le (x.taken + d) n) refl
   where
@@ -126,7 +127,7 @@ none_late d n a (y ∷ asks) all f = by (nat_le (y.asked + d) n) refl (none_late
     by true t rest = absurd (let less = leb-true (y.asked + d) n t in let more = leb-false (a.asked + d) n f in let order : a.asked ≤ y.asked = all.0.asked in omega (arith, less, more, order))
     by false e rest = ap (λ v. v || list_any (λ (z : Ask). nat_le (z.asked + d) n) asks) e ∙ rest
 
--- the oldest ask tells whether one is past its time
+-- the oldest ask decides whether one is past its time
 pub first_late : (d n : ℕ) (a : Ask) (asks : List Ask) → AreInTurn (a ∷ asks) → nat_le (a.asked + d) n ≡ list_any (λ (b : Ask). nat_le (b.asked + d) n) (a ∷ asks)
 first_late d n a asks turn = by (nat_le (a.asked + d) n) refl
   where
@@ -294,7 +295,7 @@ next_due_tells c s n =
     ∙ sym (list_any-append (λ m. nat_le m n) (map (deadline_of c) s.waiting) (map (timeout_of c) s.asks))
     ∙ least_tells n (due_moments c s)
 
--- the sooner of two moments, where there are any
+-- the sooner of two moments, if any
 abbrev pub sooner : Option ℕ → Option ℕ → Option ℕ
 sooner None o = o
 sooner (Some m) o = Some (lesser m o)
@@ -312,7 +313,7 @@ least_append (m ∷ ms) ks = ap (λ o. Some (lesser m o)) (least_append ms ks) �
 pub next_due_by_lists : (c : Config) (s : State) → next_due c s ≡ sooner (least (map (deadline_of c) s.waiting)) (least (map (timeout_of c) s.asks))
 next_due_by_lists c s = least_append (map (deadline_of c) s.waiting) (map (timeout_of c) s.asks)
 
--- what is not above any is the least
+-- a moment that is not above any is the least
 lowest : {X : Type 0} (at : X → ℕ) (v : ℕ) (xs : List X) → AllByRecursion (λ x. v ≤ at x) xs → lesser v (least (map at xs)) ≡ v
 lowest at v [] all = refl
 lowest at v (x ∷ xs) all =

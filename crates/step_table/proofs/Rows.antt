@@ -1,4 +1,5 @@
--- Worked steps, computed: one question and its reply, forged and late replies, letter case, a restart, what clients may send, and several questions.
+-- Worked steps, computed: one question and its reply, forged and late replies, letter case, a
+-- restart, messages of clients, and several questions.
 use Rattle.std.proofs.Common.{◌≡◌, ℕ, List, [], ◌∷◌, length, Some, false, true, refl}
 use Rattle.suffix_routes.specs.declared.peer.Peer.{Peer}
 use Rattle.suffix_routes.specs.Values.{Config, default_limits}
@@ -169,7 +170,8 @@ forged_question : row_of_delivery (turn config 1005 words after_question) [] ser
 unfolding written ◌▹◌ each name_text data_text with_length first_question question_at octets_end name_within walk_in name_step message_at header_of counted record_at data_at octets_within parts_at shape_of walk_from servers_from route_of
 forged_question = refl
 
--- the reply spells the name in its own way: the question comes back as the client spelled it, the set as the server did
+-- the reply spells the name in its own way: the question comes back as the client spelled it, the
+-- set as the server did
 letter_case : row_of_delivery (turn config 1020 words after_question) [] server upper_reply (ask_on (Udp 1032) after_question.asks)
     ≡ record { actions = close_udp 1032 ∷ send_reply client upper_answer Answered ∷ []; unkept = 0; state = after_reply (65 ∷ []) (69 ∷ 88 ∷ 65 ∷ 77 ∷ 80 ∷ 76 ∷ 69 ∷ []) }
 unfolding written ◌▹◌ each name_text data_text with_length first_question question_at octets_end name_within walk_in name_step message_at header_of counted record_at data_at octets_within parts_at shape_of walk_from servers_from route_of
@@ -179,7 +181,7 @@ letter_case = refl
 late : row_of_delivery (turn config 2500 words after_question) [] server reply_text (ask_on (Udp 1032) after_question.asks) ≡ idle_step 2500 after_question
 late = refl
 
--- after a restart the reply matches nothing, and the same question is asked anew
+-- after a restart the reply matches nothing, and the same question is asked again
 restarted : row_of_delivery (turn config 1020 words (start config)) [] server reply_text (ask_on (Udp 1032) (start config).asks) ≡ idle_step 1020 (start config)
 restarted = refl
 
@@ -187,7 +189,7 @@ asks_anew : (row_of_request (turn config 1030 (2097184 ∷ []) (start config)) c
 unfolding written ◌▹◌ each name_text first_question question_at octets_end name_within walk_in name_step route_of
 asks_anew = refl
 
--- what clients may send
+-- messages of clients
 too_short : row_of_request (turn config 1000 words (start config)) client short ≡ idle_step 1000 (start config)
 too_short = refl
 
@@ -225,7 +227,7 @@ other_query = 0 ∷ 16 ∷ 1 ∷ 0 ∷ 0 ∷ 1 ∷ 0 ∷ 0 ∷ 0 ∷ 0 ∷ 0 ∷
 abbrev other_failure : List ℕ
 other_failure = 18 ∷ 53 ∷ 129 ∷ 130 ∷ 0 ∷ 1 ∷ 0 ∷ 0 ∷ 0 ∷ 0 ∷ 0 ∷ 0 ∷ 1 ∷ 98 ∷ 7 ∷ 101 ∷ 120 ∷ 97 ∷ 109 ∷ 112 ∷ 108 ∷ 101 ∷ 0 ∷ 0 ∷ 1 ∷ 0 ∷ 1 ∷ []
 
--- so many questions may wait, for so many inquiries
+-- limits of waiting questions and of open inquiries
 abbrev limited : ℕ → ℕ → Config
 limited questions inquiries = record config { limits = record default_limits { questions = questions; inquiries = inquiries } }
 

@@ -11,7 +11,7 @@ use Rattle.record_cache.specs.Values.{Held}
 use Rattle.negative_cache.specs.Values.{Found, miss}
 use Rattle.negative_cache.specs.Values as find
 use Rattle.negative_cache.specs.Finding.{found as found_in}
-use Rattle.suffix_routes.specs.Serving.{route_of}
+use Rattle.suffix_routes.specs.Serving.{serving_route_of}
 use Rattle.dns_message.specs.Questions.{asked_at}
 use Rattle.waiting_questions.specs.Values.{Waiting, waits_for}
 use Rattle.step_table.specs.Steps.{waits}
@@ -55,7 +55,7 @@ goes_alike c n entries held other q =
     (λ _. miss_alike c.routes n entries (most_aliases - length held) (most_aliases - length other) held other q) (λ _ m k. absurd (cc)))
     (λ _ m k. absurd (cc))
 
--- what waits on missed, and wants that
+-- a question that waits on missed, and wants that name
 record HasMissed (l : LookUp) (x : Waiting) : Type 0 where
   pub missed : l.met ≡ missed
   pub wanted : x.wanted ≡ l.wanted
@@ -63,7 +63,7 @@ record HasMissed (l : LookUp) (x : Waiting) : Type 0 where
 missed_at : (c : Config) (n : ℕ) (x x' : Waiting) (l : LookUp) (m : LookUpEnd) → l.met ≡ m → fate_at c n x l m ≡ waits x' → HasMissed l x'
 missed_at c n x x' l (ends e) met is = absurd (cc)
 missed_at c n x x' l too_long met is = absurd (cc)
-missed_at c n x x' l missed met is = by (route_of c l.wanted.name) is
+missed_at c n x x' l missed met is = by (serving_route_of c l.wanted.name) is
   where
     by : (r : Option ℕ) → fate_missed c n x l r ≡ waits x' → HasMissed l x'
     by None is = absurd (cc)

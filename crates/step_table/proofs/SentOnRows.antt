@@ -1,4 +1,5 @@
--- Worked runs of questions that are sent on, computed: to the name that a reply's aliases lead to, and to one that a look-up missed.
+-- Worked runs of questions that are sent on, computed: to the name that a reply's aliases lead to,
+-- and to one that a look-up missed.
 use Rattle.std.proofs.Common.{◌≡◌, ℕ, ◌+◌, List, [], ◌∷◌, true, false, refl}
 use Rattle.suffix_routes.specs.Values.{Config}
 use Rattle.suffix_routes.specs.Routes.{route_of}
@@ -24,7 +25,8 @@ leads_to letter = reply true 0 (alias_of_b 60 letter ∷ []) []
 abbrev with_route : Config
 with_route = record config { routes = record { suffix = []; deny = false; servers = server ∷ [] } ∷ record { suffix = a; deny = false; servers = other_server ∷ [] } ∷ [] }
 
--- a name of another route is asked there, though the reply tells of it; the alias that is held ages until the answer
+-- a name of another route is asked there, though the reply has its set; the alias that is held ages
+-- until the answer
 other_route : played with_route ((1000, asks_for 1 (address b)) ∷ (1020, hears 1032 (reply true 0 (alias_of_b 60 97 ∷ host a 300 9 ∷ []) [])) ∷ (2020, hears 1040 (one_host a)) ∷ [])
     ≡ (sends_query 1032 server 8 (address b) ∷ []) ∷ (close_udp 1032 ∷ sends_query 1040 other_server 16 (address a) ∷ [])
     ∷ (close_udp 1040 ∷ answers 1 (address b) (alias_of_b 59 97 ∷ host a 300 5 ∷ []) ∷ []) ∷ []
@@ -52,7 +54,7 @@ one_ask : played config ((1000, asks_for 1 (address b)) ∷ (1001, asks_for 2 (a
 unfolding walk_from servers_from route_of name_of_rdata name_within walk_in name_step
 one_ask = refl
 
--- aliases that were held stand before those of the walk
+-- aliases that were held come before those of the walk
 in_order : played config ((1000, asks_for 1 (address b)) ∷ (1000, hears 1032 (leads_to 100)) ∷ (1000, hears 1040 (reply true 0 (rr d 5 60 (name_data 97) ∷ host a 300 5 ∷ []) [])) ∷ [])
     ≡ (sends_query 1032 server 8 (address b) ∷ []) ∷ (close_udp 1032 ∷ sends_query 1040 server 16 (address d) ∷ [])
     ∷ (close_udp 1040 ∷ answers 1 (address b) (alias_of_b 60 100 ∷ rr d 5 60 (name_data 97) ∷ host a 300 5 ∷ []) ∷ []) ∷ []
@@ -82,7 +84,7 @@ no_route = refl
 abbrev two_asks : State
 two_asks = after config ((1000, asks_for 1 (address a)) ∷ (1000, asks_for 2 (address b)) ∷ [])
 
--- what the reply to the second one does with these words
+-- the step of the reply to the second one, with these words
 abbrev sent_on : List ℕ → List Action
 sent_on words = (next config 1010 words two_asks (hears 1040 (leads_to 100))).actions
 
@@ -101,7 +103,7 @@ no_port = refl
 abbrev loop : Message
 loop = reply true 0 (rr a 5 60 (name_data 97) ∷ []) []
 
--- eight aliases lead on, sixteen are too many; so are nine by what is kept
+-- eight aliases lead on, sixteen are too many; so are nine by the kept pieces
 round_and_round : played config ((1000, asks_for 1 (address a)) ∷ (1020, hears 1032 loop) ∷ (1030, hears 1040 loop) ∷ (1040, asks_for 2 (address a)) ∷ [])
     ≡ (sends_query 1032 server 8 (address a) ∷ []) ∷ (close_udp 1032 ∷ sends_query 1040 server 16 (address a) ∷ [])
     ∷ (close_udp 1040 ∷ fails_with ChainLong 2 1 (address a) ∷ []) ∷ (fails_with ChainLong 2 2 (address a) ∷ []) ∷ []
@@ -122,7 +124,8 @@ eight = link 109 ∷ link 110 ∷ link 111 ∷ link 112 ∷ link 113 ∷ link 11
 abbrev eight_and : Record → List Record
 eight_and last = link 109 ∷ link 110 ∷ link 111 ∷ link 112 ∷ link 113 ∷ link 114 ∷ link 115 ∷ link 116 ∷ last ∷ []
 
--- eight are answered; one before them is one too many by the walk, though the set is kept, and by the look-up
+-- eight are answered; one before them is one too many by the walk, though the set is kept, and by
+-- the look-up
 eight_at_most : played config ((1000, asks_for 1 (address (name_of 109))) ∷ (1000, hears 1032 (reply true 0 eight [])) ∷ (1000, hears 1040 (one_host (name_of 117)))
     ∷ (1000, asks_for 2 (address (name_of 108))) ∷ (1000, hears 1056 (reply true 0 (link 108 ∷ []) [])) ∷ (1000, asks_for 3 (address (name_of 108))) ∷ [])
     ≡ (sends_query 1032 server 8 (address (name_of 109)) ∷ []) ∷ (close_udp 1032 ∷ sends_query 1040 server 16 (address (name_of 117)) ∷ [])
@@ -143,7 +146,7 @@ ninth_by_the_walk = refl
 
 -- ---- which entry a full cache drops
 
--- what a question that was sent on used counts as used before the pieces are offered
+-- the entries that a question used when it was sent on count as used before the pieces are offered
 used_first : played (with_cache 2) ((1000, asks_for 1 (address d)) ∷ (1000, hears 1032 (one_host d)) ∷ (1000, asks_for 2 (address a)) ∷ (1000, hears 1048 (one_host a))
     ∷ (1000, asks_for 3 (address b)) ∷ (1000, hears 1064 (leads_to 100)) ∷ (1000, asks_for 4 (address d)) ∷ (1000, asks_for 5 (address a)) ∷ [])
     ≡ (sends_query 1032 server 8 (address d) ∷ []) ∷ (close_udp 1032 ∷ answers 1 (address d) (host d 300 5 ∷ []) ∷ [])

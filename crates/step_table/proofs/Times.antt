@@ -1,5 +1,5 @@
--- Worked steps of time, computed: an ask at its time, the ask that follows it, deadlines, which moments count, what is due
--- and what is left to do, and which server is asked first.
+-- Worked steps of time, computed: an ask at its time, the ask that follows it, deadlines, which
+-- moments count, when something is due, the work that is left, and which server is asked first.
 use Rattle.std.proofs.Common.{◌≡◌, ℕ, ◌+◌, ◌^◌, List, [], ◌∷◌, Some, false, true, refl}
 use Rattle.suffix_routes.specs.declared.peer.Peer.{Peer}
 use Rattle.suffix_routes.specs.Values.{Config, default_limits}
@@ -106,7 +106,7 @@ one_of_two : row_of_tick (turn impatient 2500 words (state ask (question 1000 �
 unfolding written ◌▹◌ each name_text
 one_of_two = refl
 
--- ---- what is due
+-- ---- when more is due
 
 due : (is_due_at config 2499 (state ask (question 1000 ∷ [])) ≡ false) × (is_due_at config 2500 (state ask (question 1000 ∷ [])) ≡ true)
     × (is_due_at config 8999 (state (record ask { asked = 8000 }) (question 1000 ∷ [])) ≡ false) × (is_due_at config 9000 (state (record ask { asked = 8000 }) (question 1000 ∷ [])) ≡ true)
@@ -114,14 +114,15 @@ due = (refl, refl, refl, refl)
 
 -- ---- which moments count
 
--- one that is handed in earlier than the last doesn't, and none after 2^62 milliseconds
+-- one that is earlier than the last doesn't, and none after 2^62 milliseconds
 moments : (effective 999 (state ask []) ≡ 1000) × (effective 1001 (state ask []) ≡ 1001)
     × (effective (2 ^ 62 + 1) (state ask []) ≡ 2 ^ 62)
 moments = (refl, refl, refl)
 
--- ---- what is left to do
+-- ---- the work that is left
 
--- each question that waits, and each ask with the tries that its inquiry has left; so the last try counts too
+-- each question that waits, and each ask with the tries that its inquiry has left; so the last try
+-- counts too
 left : (left_to_do config (state ask (question 1000 ∷ question 1001 ∷ [])) ≡ 6)
     × (left_to_do config (state last_ask (question 1000 ∷ [])) ≡ 2) × (left_to_do config (state last_ask []) ≡ 1)
     × (left_to_do config (start config) ≡ 0)
@@ -141,6 +142,6 @@ kept_set = record {
   accepted = 1020;
 }
 
--- a restart forgets it, and what was kept
+-- a restart forgets it, and empties the cache
 forgotten : (d : Done) → Happens (turn config 9000 words (with_entries (kept_set ∷ []) (with_preferred_server (record ask { server = 1 }) (start config)))) restart d → d ≡ record { actions = []; unkept = 0; state = start config }
 forgotten d h = h

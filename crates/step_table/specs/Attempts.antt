@@ -10,7 +10,7 @@ use Rattle.outstanding.specs.Draws.{udp_draw, drawn_by_tcp}
 use Rattle.retry_failover.specs.declared.Plan.{Plan}
 use Rattle.retry_failover.specs.declared.Next.{Next}
 use Rattle.retry_failover.specs.declared.Next.TheVariants.{AskUdp, AskTcp, GiveUp}
-use Rattle.suffix_routes.specs.Serving.{route_of}
+use Rattle.suffix_routes.specs.Serving.{serving_route_of}
 use Rattle.outstanding.specs.Lists.{is_tcp}
 use Rattle.step_table.specs.State.{State, Turn}
 
@@ -18,6 +18,7 @@ use Rattle.step_table.specs.State.{State, Turn}
 abbrev pub group_of : Config → ℕ → Option Route
 group_of c route = slice_get c.routes route
 
+-- the servers of a route; none where there is no route
 abbrev pub servers_in : Option Route → List Peer
 servers_in None = []
 servers_in (Some r) = r.servers
@@ -30,10 +31,12 @@ peer_at c route server = slice_get (servers_in (group_of c route)) server
 abbrev pub over_udp : Option (ℕ × ℕ) → Option (ℕ × Path)
 over_udp draw = option_map (λ d. (d.0, Udp d.1)) draw
 
+-- a draw for TCP as an identifier and the path of its connection
 abbrev pub over_tcp : Option (ℕ × ℕ) → Option (ℕ × Path)
 over_tcp draw = option_map (λ d. (d.0, Tcp d.1)) draw
 
--- the ask of a server with what was drawn, where there is such a server and something was drawn
+-- the ask of a server by the identifier and the path that were drawn; none without a server or a
+-- draw
 abbrev pub ask_by : ℕ → Question → ℕ → ℕ → ℕ → Option Peer → Option (ℕ × Path) → Option Ask
 ask_by n q route server used None drawn = None
 ask_by n q route server used (Some peer) None = None
@@ -64,14 +67,17 @@ abbrev pub first_ask_on : Turn → Question → Option ℕ → Option Ask
 first_ask_on t q None = None
 first_ask_on t q (Some route) = first_ask t q route
 
+-- the first ask for a question: on its route, if it has one
 abbrev pub first_ask_for : Turn → Question → Option Ask
-first_ask_for t q = first_ask_on t q (route_of t.config q.name)
+first_ask_for t q = first_ask_on t q (serving_route_of t.config q.name)
 
 -- the port that is given up with a path
 abbrev pub freed_by : Path → Option ℕ
 freed_by (Udp port) = Some port
 freed_by (Tcp conn) = None
 
+-- the numbers that decide the attempt after this ask: servers, tries, those used, and whether it
+-- went over TCP
 abbrev pub plan_of : Config → Ask → Plan
 plan_of c a = record {
   servers = length (servers_in (group_of c a.route));

@@ -1,4 +1,4 @@
--- What comes of a client's message.
+-- The rows of a client's message.
 use Rattle.std.specs.Prelude.{ℕ, if◌then◌else◌, ◌==◌, nat_le, List, [], length, Option, Some, None}
 use Rattle.dns_message.specs.Header.{Header, header_in}
 use Rattle.dns_message.specs.Values.{Question}
@@ -12,7 +12,7 @@ use Rattle.step_values.specs.declared.event.Client.{Client}
 use Rattle.step_values.specs.declared.action.Why.TheVariants.{BadFormat, BadOpcode, NotServed, NoRoute, QuestionsFull}
 use Rattle.step_values.specs.declared.action.Why.TheVariants.{InquiriesFull, NoPort, ChainLong}
 use Rattle.step_values.specs.Values.{Action}
-use Rattle.suffix_routes.specs.Serving.{route_of, is_local}
+use Rattle.suffix_routes.specs.Serving.{serving_route_of, is_local}
 use Rattle.step_values.specs.Requests.{is_taken}
 use Rattle.answer_builder.specs.Values.{asked_in}
 use Rattle.step_table.specs.State.{State, Turn, from_state}
@@ -24,41 +24,45 @@ use Rattle.step_table.specs.Steps.{gives_up, answered, denied_locally}
 
 -- ---- a question after its look-up
 
--- it wants to know now what its look-up missed
+-- the question now wants the one that its look-up missed
 abbrev pub waits_with : Waiting → LookUp → Waiting
 waits_with x l = record x { held = l.held; wanted = l.wanted }
 
--- a name that no route serves is denied where the configuration denies it, behind the aliases that lead to it; else it
--- has no route
+-- a name that no route serves is denied where the configuration denies it, after the aliases that
+-- lead to it; otherwise it has no route
 abbrev pub without_server : Config → ℕ → Waiting → List Held → List (List ℕ) → Action
 without_server c n x aliases name = if is_local c name then denied_locally n x aliases else gives_up NoRoute x
 
--- what was missed is asked for where a route serves its name
+-- the missed question is asked where a route serves its name
 abbrev pub fate_missed : Config → ℕ → Waiting → LookUp → Option ℕ → Fate
 fate_missed c n x l None = gets (without_server c n x l.held l.wanted.name)
 fate_missed c n x l (Some route) = waits (waits_with x l)
 
+-- the fate of a question by how its look-up ended
 abbrev pub fate_at : Config → ℕ → Waiting → LookUp → LookUpEnd → Fate
 fate_at c n x l (ends e) = gets (answered n x l.held e)
 fate_at c n x l too_long = gets (gives_up ChainLong x)
-fate_at c n x l missed = fate_missed c n x l (route_of c l.wanted.name)
+fate_at c n x l missed = fate_missed c n x l (serving_route_of c l.wanted.name)
 
+-- the fate of a question by its look-up
 abbrev pub fate_of : Config → ℕ → Waiting → LookUp → Fate
 fate_of c n x l = fate_at c n x l l.met
 
 -- ---- a client's question
 
+-- the question waits for its new ask; without an ask no port was free, and it fails
 abbrev pub row_of_opening : ℕ → Waiting → State → Option Ask → Done
 row_of_opening n x s None = reply_step n (gives_up NoPort x) s
 row_of_opening n x s (Some a) = taking_step n x (Some a) s
 
--- no ask of what is wanted is listed
+-- no ask of the wanted question is listed
 abbrev pub row_of_new_inquiry : Turn → Waiting → Done
 row_of_new_inquiry t x =
     if nat_le t.config.limits.inquiries (length t.state.asks)
     then reply_step t.moment (gives_up InquiriesFull x) t.state
     else row_of_opening t.moment x t.state (first_ask_for t x.wanted)
 
+-- the question joins the ask of an equal question, or begins an inquiry
 abbrev pub row_of_inquiry : Turn → Waiting → Option Ask → Done
 row_of_inquiry t x None = row_of_new_inquiry t x
 row_of_inquiry t x (Some a) = taking_step t.moment x None t.state
@@ -70,33 +74,38 @@ row_of_waiting t x =
     then reply_step t.moment (gives_up QuestionsFull x) t.state
     else row_of_inquiry t x (of_question x.wanted t.state.asks)
 
+-- the reply goes out at once, or the question waits
 abbrev pub row_of_fate : Turn → Fate → Done
 row_of_fate t (gets reply) = reply_step t.moment reply t.state
 row_of_fate t (waits x) = row_of_waiting t x
 
--- what the look-up used is promoted, whatever becomes of the question
+-- the entries that the look-up used are promoted, whatever the fate of the question
 abbrev pub row_of_look_up : Turn → Waiting → LookUp → Done
 row_of_look_up t x l = row_of_fate (from_state (with_promoted l.used t.state) t) (fate_of t.config t.moment x l)
 
+-- a question by the route that serves its name: without one it is refused, otherwise looked up
 abbrev pub row_of_route : Turn → Waiting → Option ℕ → Done
 row_of_route t x None = reply_step t.moment (without_server t.config t.moment x [] x.wanted.name) t.state
 row_of_route t x (Some route) =
     row_of_look_up t x (look_up t.config.routes t.moment t.state.cache.entries most_aliases [] x.wanted)
 
+-- a question of a type or class that is not served is refused (RFC 1035 3.2.3), any other goes on
 abbrev pub row_of_service : Turn → Waiting → Done
 row_of_service t x =
     if is_unserved x.wanted
     then reply_step t.moment (gives_up NotServed x) t.state
-    else row_of_route t x (route_of t.config x.wanted.name)
+    else row_of_route t x (serving_route_of t.config x.wanted.name)
 
 -- a question as it comes
 abbrev pub taken_now : ℕ → Client → Header → Question → Waiting
 taken_now n client h q = record { client = client; asked = asked_in h (Some q); taken = n; held = []; wanted = q }
 
+-- a message by its question: without just one that can be read it is refused (RFC 1035 4.1.2)
 abbrev pub row_of_question : Turn → Client → Header → Option Question → Done
 row_of_question t client h None = reply_step t.moment (failed client (asked_in h None) BadFormat) t.state
 row_of_question t client h (Some q) = row_of_service t (taken_now t.moment client h q)
 
+-- a client's octets: dropped, refused for their opcode (RFC 1035 4.1.1), or a question
 abbrev pub row_of_request : Turn → Client → List ℕ → Done
 row_of_request t client octets =
     if is_taken octets

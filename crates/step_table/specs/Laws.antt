@@ -1,4 +1,4 @@
--- What the table is for, as statements.
+-- Statements about the table.
 use Rattle.std.specs.Prelude.{◌≡◌, ℕ, ◌+◌, ◌*◌, ◌<◌, ◌≤◌, Bool, true, false, nat_le, List, Option, Some, None}
 use Rattle.suffix_routes.specs.Values.{Config}
 use Rattle.outstanding.specs.Values.{Ask}
@@ -17,7 +17,7 @@ abbrev pub LessIsLeft : Type 0
 LessIsLeft = (c : Config) (s : State) (h : Handed) (o : Outcome) (s' : State) → IsInOrder c s → Row c s h o s'
     → ServesSomething c (effective h.now s) s h.event → left_to_do c s' < left_to_do c s
 
--- What is left is bounded by the limits.
+-- The work that is left is bounded by the limits.
 abbrev pub LeftIsBounded : Type 0
 LeftIsBounded = (c : Config) (s : State) → IsInOrder c s → left_to_do c s ≤ c.limits.questions
     + c.limits.inquiries * c.limits.tries
@@ -27,7 +27,7 @@ abbrev pub MoreIsServed : Type 0
 MoreIsServed = (c : Config) (s : State) (n : ℕ) → s.moment ≤ n → is_due_at c s.moment s ≡ true
     → ServesSomething c n s tick
 
--- the moment has come, where there is one
+-- there is a moment, and it is not in the future
 abbrev pub has_come : ℕ → Option ℕ → Bool
 has_come n None = false
 has_come n (Some m) = nat_le m n
@@ -36,7 +36,8 @@ has_come n (Some m) = nat_le m n
 abbrev pub NextDueTells : Type 0
 NextDueTells = (c : Config) (s : State) (n : ℕ) → is_due_at c n s ≡ has_come n (next_due c s)
 
--- Where a reply leads elsewhere, all that wait on behind it want one and the same question, which is what is asked.
+-- Where a reply leads elsewhere, all that wait on after it want one and the same question, which is
+-- asked.
 abbrev pub SentOnQuestionsWantOne : Type 0
 SentOnQuestionsWantOne = (c : Config) (n : ℕ) (entries : List Held) (a : Ask) (w : Walk) (name : List (List ℕ))
     (x y x' y' : Waiting) → w.end ≡ elsewhere name

@@ -1,4 +1,4 @@
--- What a state has left to do, and when something is due.
+-- The work that a state has left, and when something is due.
 use Rattle.std.specs.Prelude.{◌≡◌, ℕ, suc, ◌+◌, ◌-◌, ◌≤◌, true, List, [], ◌∷◌, ◌++◌, length, map, min, Option, Some}
 use Rattle.std.specs.Prelude.{None, IsSome, ◌<◌, false}
 use Rattle.std.specs.List.{AllByRecursion}
@@ -6,7 +6,7 @@ use Rattle.suffix_routes.specs.Values.{Config, Route}
 use Rattle.outstanding.specs.Lists.{on_path as ask_on, AreInTurn}
 use Rattle.outstanding.specs.Values.{Ask}
 use Rattle.record_cache.specs.Values.{Held, Cache}
-use Rattle.suffix_routes.specs.Serving.{route_of}
+use Rattle.suffix_routes.specs.Serving.{serving_route_of}
 use Rattle.step_values.specs.Values.{Event, from_client, delivery, path_failed, tick, restart}
 use Rattle.step_table.specs.State.{State}
 use Rattle.waiting_questions.specs.Values.{Waiting}
@@ -16,17 +16,19 @@ use Rattle.step_table.specs.Replies.{timeout_of}
 use Rattle.outstanding.specs.declared.ask.Path.{Path}
 use Rattle.outstanding.specs.declared.ask.Path.TheVariants.{Udp, Tcp}
 
--- ---- what is left to do
+-- ---- the work that is left
 
 -- the tries that the inquiry of a listed ask has left, and one for the ask itself
 abbrev pub tries_left : Config → Ask → ℕ
 tries_left c a = suc (c.limits.tries - a.used)
 
+-- the tries that are left to all listed asks
 abbrev pub all_tries_left : Config → List Ask → ℕ
 all_tries_left c [] = 0
 all_tries_left c (a ∷ asks) = tries_left c a + all_tries_left c asks
 
--- the questions that wait, and the tries of the inquiries
+-- the work that is left: one for each waiting question, and for each ask its tries left and one
+-- more
 abbrev pub left_to_do : Config → State → ℕ
 left_to_do c s = length s.waiting + all_tries_left c s.asks
 
@@ -44,10 +46,12 @@ ServesSomething c n s restart = ⊥
 abbrev pub due_moments : Config → State → List ℕ
 due_moments c s = map (deadline_of c) s.waiting ++ map (timeout_of c) s.asks
 
+-- the lesser of a moment and another one, if any
 abbrev pub lesser : ℕ → Option ℕ → ℕ
 lesser m None = m
 lesser m (Some k) = min m k
 
+-- the least moment of a list
 abbrev pub least : List ℕ → Option ℕ
 least [] = None
 least (m ∷ moments) = Some (lesser m (least moments))
@@ -56,7 +60,7 @@ least (m ∷ moments) = Some (lesser m (least moments))
 abbrev pub next_due : Config → State → Option ℕ
 next_due c s = least (due_moments c s)
 
--- ---- what a state keeps to, whatever happened before
+-- ---- facts about every state, whatever happened before
 
 -- the moments of taking don't fall along the list
 abbrev pub AreTakenInTurn : List Waiting → Type 0
@@ -67,9 +71,9 @@ AreTakenInTurn (x ∷ xs) = AllByRecursion (λ y. x.taken ≤ y.taken) xs × Are
 abbrev pub IsTry : Config → Ask → Type 0
 IsTry c a = (1 ≤ a.used) × (a.used ≤ c.limits.tries)
 
--- the name that an entry tells of is on the route of the ask that brought it
+-- the name of an entry is within the route of the ask that brought it
 abbrev pub IsOnRoute : Config → Held → Type 0
-IsOnRoute c h = route_of c h.piece.slot.key ≡ Some h.piece.route
+IsOnRoute c h = serving_route_of c h.piece.slot.key ≡ Some h.piece.route
 
 -- the cache has the configured capacity, and its entries are on their routes
 pub record IsCacheOf (c : Config) (cache : Cache) : Type 0 where

@@ -1,4 +1,4 @@
--- What comes of a delivery, and of a reply that is accepted.
+-- The rows of a delivery, and of a reply that is accepted.
 use Rattle.std.specs.Prelude.{ℕ, suc, ◌+◌, ◌-◌, Bool, if◌then◌else◌, nat_lt, nat_le, List, [], ◌∷◌, ◌++◌, length, map}
 use Rattle.std.specs.Prelude.{filter, take, Option, Some, None, Result, Ok, Err}
 use Rattle.std.specs.List.{flat_map}
@@ -36,6 +36,7 @@ abbrev pub last_of : Piece → List Piece → Piece
 last_of p [] = p
 last_of p (q ∷ ps) = last_of q ps
 
+-- the pieces before the last one: p, and then those of the list but its last
 abbrev pub before_last : Piece → List Piece → List Piece
 before_last p [] = []
 before_last p (q ∷ ps) = p ∷ before_last q ps
@@ -54,17 +55,19 @@ ends_at n held q (p ∷ ps) = record {
 abbrev pub too_many : List Held → Question → LookUp
 too_many held q = record { held = take (suc most_aliases) held; wanted = q; met = too_long; used = [] }
 
+-- the same look-up, or one that failed where it holds more than 8 aliases
 abbrev pub unless_many : LookUp → LookUp
 unless_many l = if nat_le (length l.held) most_aliases then l else too_many l.held l.wanted
 
--- with the aliases of the walk held, the look-up goes on at the name that they lead to, in the cache as it was
+-- with the aliases of the walk held, the look-up goes on at the name that they lead to, in the
+-- cache as it was
 abbrev pub goes_on : Config → ℕ → List Held → List Held → Question → LookUp
 goes_on c n entries held q =
     if nat_le (length held) most_aliases
     then look_up c.routes n entries (most_aliases - length held) held q
     else too_many held q
 
--- what the reply makes of a question that waits for it
+-- the fate of a question that waits for the reply
 abbrev pub looked_by : Config → ℕ → List Held → Walk → Waiting → End → LookUp
 looked_by c n entries w x (elsewhere name) =
     goes_on c n entries (x.held ++ map (held_at n) w.pieces) (asked_at x.wanted name)
@@ -81,11 +84,13 @@ fate_by c n entries a w x = if waits_for a.question x then fate_of c n x (looked
 abbrev pub used_by : Config → ℕ → List Held → Ask → Walk → List Waiting → List Slot
 used_by c n entries a w xs = flat_map (λ x. (looked_by c n entries w x w.end).used) (filter (waits_for a.question) xs)
 
--- of those that wait on, which all want one question now, what is to be asked; nothing where its inquiry is open
+-- the question to ask for those that wait on, which all want one and the same now; none where its
+-- inquiry is open
 abbrev pub unless_open : Question → Option Ask → Option Question
 unless_open q None = Some q
 unless_open q (Some a) = None
 
+-- the question of those that wait on, unless an ask for it is listed
 abbrev pub to_be_asked : List Ask → List Waiting → Option Question
 to_be_asked listed [] = None
 to_be_asked listed (y ∷ ys) = unless_open y.wanted (of_question y.wanted listed)
@@ -95,13 +100,16 @@ abbrev pub without_port : Fate → Fate
 without_port (gets reply) = gets reply
 without_port (waits y) = gets (gives_up NoPort y)
 
+-- the fate of a question for which no port was free: it fails if it waits for q
 abbrev pub unless_no_port : (Waiting → Fate) → Question → Waiting → Fate
 unless_no_port fate q x = if waits_for q x then without_port (fate x) else waits x
 
+-- those who wait on get the next ask; without a port they fail
 abbrev pub row_of_next_name : ℕ → Ask → (Waiting → Fate) → State → Option Ask → Done
 row_of_next_name n a fate s None = closing_step n a (unless_no_port fate a.question) None s
 row_of_next_name n a fate s (Some next) = closing_step n a fate (Some next) s
 
+-- an ask ends whose reply leads on: a new ask goes out where a question wants one
 abbrev pub row_of_sent_on : Turn → Ask → (Waiting → Fate) → Option Question → Done
 row_of_sent_on t a fate None = closing_step t.moment a fate None t.state
 row_of_sent_on t a fate (Some q) =
@@ -120,6 +128,7 @@ row_of_end t a w fate ends_no_data = closing_step t.moment a fate None t.state
 row_of_end t a w fate ends_denied = closing_step t.moment a fate None t.state
 row_of_end t a w fate lame = closing_step t.moment a fate None t.state
 
+-- an accepted reply: its pieces are offered, its server is preferred, and its walk decides
 abbrev pub row_of_acceptance : Turn → List Bool → Ask → Walk → Done
 row_of_acceptance t rooms a w =
     offering_step t.moment rooms (w.pieces ++ w.authority)
@@ -128,13 +137,16 @@ row_of_acceptance t rooms a w =
 
 -- ---- a delivery
 
+-- a reply by its walk: a lame one is a failed attempt, any other is accepted
 abbrev pub row_of_walk : Turn → List Bool → Ask → Walk → Done
 row_of_walk t rooms a w = if is_lame w.end then row_of_failure t a failure.Lame else row_of_acceptance t rooms a w
 
+-- a matching message: one that can't be read whole is a failed attempt
 abbrev pub row_of_message : Turn → List Bool → Ask → Result Message Fault → Done
 row_of_message t rooms a (Ok m) = row_of_walk t rooms a (walk_of t.config m a.question a.route)
 row_of_message t rooms a (Err fault) = row_of_failure t a failure.Malformed
 
+-- a delivery by its verdict: a stranger's changes nothing but the moment
 abbrev pub row_of_verdict : Turn → List Bool → Ask → List ℕ → Verdict → Done
 row_of_verdict t rooms a octets Stranger = idle_step t.moment t.state
 row_of_verdict t rooms a octets Truncated = row_of_failure t a failure.Truncated
@@ -142,6 +154,7 @@ row_of_verdict t rooms a octets (Failed rcode) = row_of_failure t a failure.Rcod
 row_of_verdict t rooms a octets Malformed = row_of_failure t a failure.Malformed
 row_of_verdict t rooms a octets Whole = row_of_message t rooms a (message_of octets)
 
+-- the moment at which an ask has failed
 abbrev pub timeout_of : Config → Ask → ℕ
 timeout_of c a = a.asked + c.limits.ask_ms
 
@@ -153,7 +166,7 @@ row_of_delivery t rooms from octets (Some a) =
     then row_of_verdict t rooms a octets (judge a from octets)
     else idle_step t.moment t.state
 
--- what a delivery is to the ask on its path
+-- the verdict on a delivery as the reply to the ask on its path
 abbrev pub verdict_on : Config → ℕ → Peer → List ℕ → Option Ask → Verdict
 verdict_on c n from octets None = Stranger
 verdict_on c n from octets (Some a) = if nat_lt n (timeout_of c a) then judge a from octets else Stranger

@@ -20,16 +20,17 @@ abbrev pub is_due_at : Config → ℕ → State → Bool
 is_due_at c n s = list_any (λ x. nat_le (deadline_of c x) n) s.waiting
     || list_any (λ a. nat_le (timeout_of c a) n) s.asks
 
+-- the event leads from this turn to these actions and the state after it
 abbrev pub Happens : Turn → Event → Done → Type 0
 Happens t (from_client client octets) d = d ≡ row_of_request t client octets
--- rooms tells which of the new slots found memory
+-- rooms says for each new slot whether it found memory
 Happens t (delivery path from octets) d = (rooms : List Bool)
     × (d ≡ row_of_delivery t rooms from octets (ask_on path t.state.asks))
 Happens t (path_failed path) d = d ≡ row_of_failed_path t (ask_on path t.state.asks)
 Happens t tick d = d ≡ row_of_tick t
 Happens t restart d = d ≡ record { actions = []; unkept = 0; state = start t.config }
 
--- what is handed in are octets
+-- the numbers of the event are octets
 abbrev pub HandsOctets : Event → Type 0
 HandsOctets (from_client client octets) = AreOctets octets
 HandsOctets (delivery path from octets) = AreOctets octets
@@ -37,12 +38,12 @@ HandsOctets (path_failed path) = Unit {0}
 HandsOctets tick = Unit {0}
 HandsOctets restart = Unit {0}
 
--- the effective moment: the greatest handed in so far, at most 2^62
+-- the effective moment: the greatest passed in so far, at most 2^62
 abbrev pub effective : ℕ → State → ℕ
 effective now s = max (min now (2 ^ 62)) s.moment
 
--- these events take no memory: a message that is dropped, a delivery that matches nothing, a path without an ask, a
--- tick with nothing due, and a restart
+-- these events do not allocate: a message that is dropped, a delivery that matches nothing, a path
+-- without an ask, a tick with nothing due, and a restart
 abbrev pub TakesNoMemory : Config → ℕ → State → Event → Type 0
 TakesNoMemory c n s (from_client client octets) = is_taken octets ≡ false
 TakesNoMemory c n s (delivery path from octets) = verdict_on c n from octets (ask_on path s.asks) ≡ Stranger

@@ -5,6 +5,7 @@ use Rattle.outstanding.specs.Values.{Ask}
 use Rattle.record_cache.specs.Values.{Cache}
 use Rattle.waiting_questions.specs.Values.{Waiting}
 
+-- all that a forwarder keeps from step to step
 pub record State : Type 0 where
   pub cache : Cache
   pub asks : List Ask  -- in the order in which they were asked
@@ -18,7 +19,7 @@ pub record Running : Type 0 where
   pub config : Config
   pub state : State
 
--- a step as its rows see it: the effective moment, in milliseconds, the random words that it is handed, and the state
+-- a step as its rows see it: the effective moment in milliseconds, its random words, and the state
 -- in which it begins
 pub record Turn : Type 0 where
   pub config : Config
@@ -26,6 +27,7 @@ pub record Turn : Type 0 where
   pub words : List ℕ
   pub state : State
 
+-- a state with the configuration, the moment and the random words of a step
 abbrev pub turn : Config → ℕ → List ℕ → State → Turn
 turn c n words s = record { config = c; moment = n; words = words; state = s }
 

@@ -1,4 +1,4 @@
--- What a step may do, and what it leaves.
+-- The actions of a step, and the state that it leaves.
 use Rattle.std.specs.Prelude.{ℕ, ◌+◌, if◌then◌else◌, Bool, List, [], ◌∷◌, ◌++◌, length, map, slice_set, Option, Some}
 use Rattle.std.specs.Prelude.{None, Result, Ok, Err}
 use Rattle.std.specs.List.{filter_map}
@@ -30,19 +30,21 @@ use Rattle.waiting_questions.specs.Values.{Waiting, waits_for}
 use Rattle.alias_chains.specs.LookingUp.{promoted_all}
 use Rattle.alias_chains.specs.Offering.{put_all, unkept_of}
 
--- what a step does, how many entries found no memory, and what it leaves
+-- the outcome of a step in the table: its actions, how many entries found no memory, and the state
+-- that it leaves
 pub record Done : Type 0 where
   pub actions : List Action
   pub unkept : ℕ
   pub state : State
 
--- what becomes of a question: it gets its reply, or waits on
+-- the fate of a question: it gets its reply, or waits on
 pub data Fate : Type 0 where
   gets : Action → Fate
   waits : Waiting → Fate
 
 -- ---- states
 
+-- the state of a new forwarder, and after a restart
 abbrev pub start : Config → State
 start c = record {
   cache = record { capacity = c.limits.cache; entries = [] };
@@ -53,6 +55,7 @@ start c = record {
   tcp_asks = 0;
 }
 
+-- the state at a moment
 abbrev pub at_moment : ℕ → State → State
 at_moment n s = record s { moment = n }
 
@@ -60,15 +63,17 @@ at_moment n s = record s { moment = n }
 abbrev pub with_preferred_server : Ask → State → State
 with_preferred_server a s = record s { preferred = slice_set s.preferred a.route a.server }
 
+-- the state with these cache entries
 abbrev pub with_entries : List Held → State → State
 with_entries entries s = record s { cache = record { capacity = s.cache.capacity; entries = entries } }
 
--- what a look-up used is the most recently used now
+-- the entries that a look-up used are the most recently used now
 abbrev pub with_promoted : List Slot → State → State
 with_promoted used s = with_entries (promoted_all used s.cache.entries) s
 
 -- ---- steps
 
+-- nothing is done, and the moment is noted
 abbrev pub idle_step : ℕ → State → Done
 idle_step n s = record { actions = []; unkept = 0; state = at_moment n s }
 
@@ -76,17 +81,21 @@ idle_step n s = record { actions = []; unkept = 0; state = at_moment n s }
 abbrev pub reply_step : ℕ → Action → State → Done
 reply_step n action s = record { actions = action ∷ []; unkept = 0; state = at_moment n s }
 
+-- the action that sends an ask by a path
 abbrev pub asks_by : Path → Ask → Action
 asks_by (Udp port) a = ask_udp port a.peer (written (ask_message a.id a.question))
 asks_by (Tcp conn) a = ask_tcp conn a.peer (written (ask_message a.id a.question))
 
+-- the action that sends an ask
 abbrev pub asks : Ask → Action
 asks a = asks_by a.path a
 
+-- an ask, if any, as a list
 abbrev pub ask_list : Option Ask → List Ask
 ask_list None = []
 ask_list (Some a) = a ∷ []
 
+-- how many of one ask, if any, go over TCP
 abbrev pub tcp_count : Option Ask → ℕ
 tcp_count None = 0
 tcp_count (Some a) = if is_tcp a.path then 1 else 0
@@ -104,28 +113,35 @@ taking_step n x next s = record {
   };
 }
 
+-- the reply of a fate, if it is one
 abbrev pub reply_in : Fate → Option Action
 reply_in (gets a) = Some a
 reply_in (waits y) = None
 
+-- the question that waits on by a fate, if one does
 abbrev pub waiting_in : Fate → Option Waiting
 waiting_in (gets a) = None
 waiting_in (waits y) = Some y
 
+-- the replies among fates, in order
 abbrev pub replies : List Fate → List Action
 replies fates = filter_map reply_in fates
 
+-- the questions that wait on, in order
 abbrev pub still_waiting : List Fate → List Waiting
 still_waiting fates = filter_map waiting_in fates
 
+-- the action that gives up a path
 abbrev pub closes : Path → Action
 closes (Udp port) = close_udp port
 closes (Tcp conn) = close_tcp conn
 
+-- the actions that give up an ask's path, if there is an ask
 abbrev pub closing : Option Ask → List Action
 closing None = []
 closing (Some a) = closes a.path ∷ []
 
+-- the listed asks without this one, if any
 abbrev pub without_ask : Option Ask → List Ask → List Ask
 without_ask None listed = listed
 without_ask (Some a) listed = without_path a.path listed
@@ -157,12 +173,15 @@ offering_step n rooms ps d = record {
 
 -- ---- replies
 
+-- the reply of a failure: header and question, with the code of its reason
 abbrev pub failed : Client → Asked → Why → Action
 failed client a why = send_reply client (written (error_response a (rcode_of_why why))) why
 
+-- the reply that gives a waiting question the reason of its failure
 abbrev pub gives_up : Why → Waiting → Action
 gives_up why x = failed x.client x.asked why
 
+-- how a client is reached
 abbrev pub transport_of : Client → Transport
 transport_of (FromUdp peer) = transport.Udp
 transport_of (FromTcp conn) = transport.Tcp
@@ -172,11 +191,11 @@ abbrev pub sends : Why → Waiting → Result (List ℕ) Fault → Action
 sends why x (Ok text) = send_reply x.client text why
 sends why x (Err fault) = gives_up TooLarge x
 
--- the answer from a chain of aliases and what ends it
+-- the answer from a chain of aliases and the piece that ends it
 abbrev pub answered : ℕ → Waiting → List Held → Held → Action
 answered n x aliases end = sends Answered x (answer_of x.asked (aliases ++ end ∷ []) n (transport_of x.client))
 
--- the answer from the aliases that it holds and, behind them, what was found past its end
+-- the answer from the aliases that it holds and, after them, the expired data that was found
 abbrev pub answered_past : ℕ → Waiting → List Held → Action
 answered_past n x found = sends Stale x (stale_answer_of x.asked (x.held ++ found) (length x.held) n
     (transport_of x.client))

@@ -1,19 +1,20 @@
-//! What holds of every row of the table.
+//! Laws about every row of the table.
 
 ghost use Rattle.std.specs.Prelude.{ℕ, ◌^◌, ◌≤◌};
 ghost use Rattle.step_table.specs.State.{State};
 ghost use Rattle.step_table.specs.Row.{effective};
 ghost use Rattle.step_table.specs.Laws.{LessIsLeft, LeftIsBounded, MoreIsServed, NextDueTells, SentOnQuestionsWantOne};
 
-/// The effective moment of a step is not below that of the state, and at most 2^62 milliseconds where that is.
+/// The effective moment of a step is not below that of the state, and at most 2^62 milliseconds
+/// where that is.
 pub fn moments_do_not_fall()
     ensures later { (now : ℕ) (s : State) → s.moment ≤ effective now s }
     ensures in_time { (now : ℕ) (s : State) → s.moment ≤ 2 ^ 62 → effective now s ≤ 2 ^ 62 }
 {}
 
-/// What is left to do is bounded by the limits, and falls with each tick that serves something and with each failed
-/// path of a listed ask; where something is due, a tick serves something. So ticks, one after another while more is
-/// due, come to an end.
+/// The work that is left is bounded by the limits. It falls with each tick that serves something
+/// and with each failed path of a listed ask; where something is due, a tick serves something. So a
+/// loop of ticks while more is due ends.
 pub fn what_is_left_falls()
     ensures less { LessIsLeft }
     ensures bounded { LeftIsBounded }
@@ -25,7 +26,7 @@ pub fn next_due_tells()
     ensures { NextDueTells }
 {}
 
-/// Where a reply leads elsewhere, all that wait on behind it want one and the same question.
+/// Where a reply leads elsewhere, all that wait on after it want one and the same question.
 pub fn sent_on_questions_want_one()
     ensures { SentOnQuestionsWantOne }
 {}

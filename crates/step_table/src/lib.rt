@@ -1,5 +1,5 @@
-//! The rules of a step as one table over plain values: from a state, what a step may do and what it leaves. The worked
-//! steps are computed by it.
+//! The rules of a step as one table over plain values: the outcomes that a step from a state may
+//! have, and the state that it leaves. The worked steps are computed by it.
 #![tactic(auto)]
 
 mod laws;

@@ -1,5 +1,5 @@
-//! How often a step allocates. Each allocation is refused in turn, alone and together with all after it, so no refusal
-//! is ignored.
+//! How often a step allocates. Each allocation is refused in turn, alone and together with all
+//! after it, so no refusal is ignored.
 
 use crate::lines::Happens::{Ask, Broken, Reply};
 use crate::lines::{Line, NO_REPLY, are_right, event, first_wrong, new};
@@ -10,10 +10,11 @@ use std::alloc::{AllocError, Allocator, Global};
 use std::test::Fail;
 use step_values::{Outcome, Why};
 
-/// Lines that a forwarder runs with ample memory, and the next one, in which allocations are refused.
+/// Lines that a forwarder runs with ample memory, and the next one, in which allocations are
+/// refused.
 type Case = (&'static [Line], Line);
 
-/// What a step did.
+/// The result of a step.
 #[derive(Clone, Copy, PartialEq, Eq)]
 enum Came {
     /// It returned `Err`.
@@ -26,7 +27,7 @@ enum Came {
     Wrong,
 }
 
-/// What the step of a line did.
+/// The result of the step of a line.
 fn came_of<A: Allocator + Copy>(outcome: &Result<Outcome<A>, AllocError>, line: &Line) -> Came {
     match outcome {
         Err(_) => Came::Refused,
@@ -36,7 +37,7 @@ fn came_of<A: Allocator + Copy>(outcome: &Result<Outcome<A>, AllocError>, line: 
     }
 }
 
-/// What the step of the last line does if an allocation is refused after `granted` ones.
+/// The result of the step of the last line if an allocation is refused after `granted` ones.
 fn came_with(
     heap: &Refusing<Global>,
     case: &Case,
@@ -55,8 +56,8 @@ fn came_with(
     Ok(came_of(&outcome, last))
 }
 
-/// How many allocations are refused with `Err`, and how many leave a piece uncached. `None` if the step does anything
-/// else.
+/// The number of allocations that are refused with `Err`, and the number that leave a piece
+/// uncached. `None` if the step does anything else.
 fn refusals(
     heap: &Refusing<Global>,
     case: &Case,
@@ -101,8 +102,9 @@ const SPELLED: [Case; 3] = [
     (&THREE, (1020, Reply(REPLY), 4, (3, Why::Answered, ANSWER))),
 ];
 
-/// For one client there are eight, and one more to cache the set. The second client adds the text that is kept, its
-/// place in a list, and its own copy; the third adds its own copy. The list of actions has room for four.
+/// For one client there are eight, and one more to cache the set. The second client adds the text
+/// that is kept, its place in a list, and its own copy; the third adds its own copy. The list of
+/// actions has room for four.
 #[test]
 fn texts_of_one_spelling(rt: HostRuntime) -> Result<(), Fail> {
     let counts = refusals_of(rt.alloc(), &SPELLED)?;
@@ -167,7 +169,8 @@ const PAST_ALIASES: &[u8] =
 \xc0\x27\x00\x05\x00\x01\x00\x00\x00\x1e\x00\x04\x01a\xc0\x0e\
 \xc0\x37\x00\x01\x00\x01\x00\x00\x00\x1e\x00\x04\xc6\x33\x64\x05";
 
-/// A reply of one, two and three sets answers a question, which is asked again once all of them have expired.
+/// A reply of one, two and three sets answers a question, which is asked again once all of them
+/// have expired.
 const OF_ONE: [Line; 3] = [
     (1000, Ask(1, &QUESTION), 1, NO_REPLY),
     (1020, Reply(ADDRESS), 2, (1, Why::Answered, FRESH_ADDRESS)),
@@ -196,8 +199,8 @@ const PAST: [Case; 3] = [
     ),
 ];
 
-/// One allocation each for the pieces found, the chain, the TTLs, the text and the list of actions. An answer with
-/// aliases has one more, for its list of sets.
+/// One allocation each for the pieces found, the chain, the TTLs, the text and the list of actions.
+/// An answer with aliases has one more, for its list of sets.
 #[test]
 fn expired_pieces(rt: HostRuntime) -> Result<(), Fail> {
     let counts = refusals_of(rt.alloc(), &PAST)?;

@@ -1,4 +1,4 @@
-//! What a cached answer and a refused question take.
+//! The allocations of a cached answer and of a refused question.
 
 use crate::worked::{ANSWER, QUESTION, WORDS, asked, is_reply, replies, sends};
 use forwarder_core::Forwarder;
@@ -8,18 +8,18 @@ use std::alloc::{AllocError, Global};
 use std::test::Fail;
 use step_values::{Outcome, Why};
 
-/// The octets of the reply: no piece and no name is copied, and its one action takes no memory.
+/// The octets of the reply: no piece and no name is copied, and its one action does not allocate.
 const GROWTHS: u64 = 1;
 
 /// A question for all types of a.example (RFC 1035 3.2.3), which is not served.
 const UNSERVED: [u8; 27] =
     *b"\x12\x34\x01\x00\x00\x01\x00\x00\x00\x00\x00\x00\x01a\x07example\x00\x00\xff\x00\x01";
 
-/// What the client gets.
+/// The reply to the client.
 const REFUSAL: &[u8] =
     b"\x12\x34\x81\x84\x00\x01\x00\x00\x00\x00\x00\x00\x01a\x07example\x00\x00\xff\x00\x01";
 
-/// A step with this question, which is granted so many growths.
+/// A step with this question, which is granted `count` allocations.
 fn granted<'a>(
     heap: &'a Refusing<Global>,
     forwarder: &mut Forwarder<DefaultHasher, &'a Refusing<Global>>,
@@ -33,7 +33,7 @@ fn granted<'a>(
     outcome
 }
 
-/// The question wants all of these growths, and then gets this reply alone.
+/// The question needs all of these allocations, and then gets this reply alone.
 fn wants_all<'a>(
     heap: &'a Refusing<Global>,
     forwarder: &mut Forwarder<DefaultHasher, &'a Refusing<Global>>,

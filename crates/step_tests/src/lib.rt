@@ -1,5 +1,5 @@
-//! Tests of the step and of its runs from outside, of what no contract says: that memory is there, how much of it a
-//! step takes, and what takes none.
+//! Tests of the step, of its values and of its runs from outside, for what no contract says: that
+//! memory is there, how much of it a step takes, and which calls do not allocate.
 #![tactic(auto)]
 
 #[cfg(test)]
@@ -14,5 +14,7 @@ mod many;
 mod quiet;
 #[cfg(test)]
 mod runs;
+#[cfg(test)]
+mod values;
 #[cfg(test)]
 mod worked;

@@ -1,4 +1,5 @@
-//! Runs of a forwarder by the lines of a table: each has an event, and what the forwarder has to do.
+//! Runs of a forwarder by the lines of a table: each has an event, and what the forwarder has to
+//! do.
 
 use crate::worked::{PATH, SECOND, SERVER, WORDS, delivers};
 use dns_name::Name;
@@ -9,7 +10,7 @@ use std::alloc::{AllocError, Allocator};
 use step_values::{Action, Actions, Client, Event, Why};
 use suffix_routes::{Config, Limits, Peer, Route};
 
-/// What happens.
+/// An event of a line.
 #[derive(Clone, Copy)]
 pub(crate) enum Happens {
     /// This many clients send these octets, one after another.
@@ -20,10 +21,12 @@ pub(crate) enum Happens {
     Broken,
 }
 
-/// How many clients get a reply, in the order in which they asked, its reason and its octets.
+/// The number of clients that get a reply, in the order in which they asked, its reason and its
+/// octets.
 pub(crate) type Replies = (u16, Why, &'static [u8]);
 
-/// A moment in milliseconds, what happens, and for its last event the number of actions and the replies among them.
+/// A moment in milliseconds, what happens, and for its last event the number of actions and the
+/// replies among them.
 pub(crate) type Line = (u64, Happens, usize, Replies);
 
 /// No client gets a reply.
@@ -88,7 +91,8 @@ pub(crate) fn event<A: Allocator + Copy>(
     }
 }
 
-/// Whether the action is a reply to the client with this number, for this reason and with these octets.
+/// Whether the action is a reply to the client with this number, for this reason and with these
+/// octets.
 fn is_reply_to<A: Allocator>(action: &Action<A>, number: u16, why: Why, text: &[u8]) -> bool {
     match action {
         Action::Reply {
@@ -116,7 +120,8 @@ pub(crate) fn are_right<A: Allocator + Copy>(actions: &Actions<A>, line: &Line) 
     replied == count && actions.len() == listed
 }
 
-/// Whether the forwarder does at the event with this number what it has to do at the last one. `Err` if out of memory.
+/// Whether the forwarder does at the event with this number what it has to do at the last one.
+/// `Err` if out of memory.
 fn is_right_at<A: Allocator + Copy>(
     alloc: A,
     forwarder: &mut Forwarder<DefaultHasher, A>,
@@ -142,8 +147,8 @@ pub(crate) fn is_right<A: Allocator + Copy>(
     Ok(is_right)
 }
 
-/// The first of the lines, from 0, in which the forwarder does anything else; `None` if there is none. `Err` if out of
-/// memory.
+/// The first of the lines, from 0, in which the forwarder does anything else; `None` if there is
+/// none. `Err` if out of memory.
 pub(crate) fn first_wrong<A: Allocator + Copy>(
     alloc: A,
     forwarder: &mut Forwarder<DefaultHasher, A>,

@@ -1,5 +1,5 @@
-//! With ample memory no step returns `Err`: not if it answers more than 255 questions, not if nothing is within the
-//! window, and not at a ninth alias.
+//! With ample memory no step returns `Err`: not if it answers more than 255 questions, not if
+//! nothing is within the window, and not at a ninth alias.
 
 use crate::lines::Happens::{Ask, Broken, Reply};
 use crate::lines::{Line, NO_REPLY, first_wrong, new};
@@ -54,7 +54,8 @@ const NINTH: &[u8] =
 const FAILED_B: &[u8] =
     b"\x12\x34\x81\x82\x00\x01\x00\x00\x00\x00\x00\x00\x01b\x07example\x00\x00\x01\x00\x01";
 
-/// The worked question and its reply: a query is sent, its path is closed, and the client is answered.
+/// The worked question and its reply: a query is sent, its path is closed, and the client is
+/// answered.
 const HELD: [Line; 2] = [
     (1000, Ask(1, &QUESTION), 1, NO_REPLY),
     (1020, Reply(REPLY), 2, (1, Why::Answered, ANSWER)),
@@ -72,7 +73,8 @@ const EXHAUSTED: [Line; 2] = [
     (1001, Broken, 301, (300, Why::Exhausted, FAILED)),
 ];
 
-/// All tries failed in the last millisecond of the window, which ends 360 seconds after the set was cached.
+/// All tries failed in the last millisecond of the window, which ends 360 seconds after the set was
+/// cached.
 const WITHIN: [Line; 2] = [
     (361_018, Ask(300, &QUESTION), 0, NO_REPLY),
     (361_019, Broken, 301, (300, Why::Stale, STALE)),
@@ -95,14 +97,16 @@ const LED_TO_A_SET: [Line; 2] = [
     ),
 ];
 
-/// A reply leads on to a name that is not cached: the path is closed, and a query is sent, whose reply answers all.
+/// A reply leads on to a name that is not cached: the path is closed, and a query is sent, whose
+/// reply answers all.
 const LED_TO_AN_ASK: [Line; 3] = [
     (1000, Ask(300, QUESTION_B), 0, NO_REPLY),
     (1020, Reply(LEADS_ON), 2, NO_REPLY),
     (1040, Reply(REPLY), 301, (300, Why::Answered, LED_TO_ASKED)),
 ];
 
-/// After eight aliases the next reply has a ninth one. Then all nine are cached, and the next client fails at once.
+/// After eight aliases the next reply has a ninth one. Then all nine are cached, and the next
+/// client fails at once.
 const NINE_ALIASES: [Line; 4] = [
     (1000, Ask(300, QUESTION_B), 0, NO_REPLY),
     (1020, Reply(EIGHT), 2, NO_REPLY),
@@ -110,8 +114,8 @@ const NINE_ALIASES: [Line; 4] = [
     (1060, Ask(1, QUESTION_B), 1, (1, Why::ChainLong, FAILED_B)),
 ];
 
-/// The first of these lines, from 0, in which a new forwarder does anything else, if any. The worked question and its
-/// reply come before them if `is_held`. `Err` if a step returns it.
+/// The first of these lines, from 0, in which a new forwarder does anything else, if any. The
+/// worked question and its reply come before them if `is_held`. `Err` if a step returns it.
 fn wrong_line(alloc: Global, is_held: bool, lines: &[Line]) -> Result<Option<usize>, AllocError> {
     let mut forwarder = new(alloc)?;
     if is_held && first_wrong(alloc, &mut forwarder, &HELD)?.is_some() {

@@ -1,5 +1,6 @@
-//! What calls for nothing takes no memory: of one growth that is allowed, one is left after the step. So a body that
-//! copies a stranger's octets is found even where it bears the refusal in silence.
+//! An event that calls for nothing does not allocate: of one allocation that is allowed, one is
+//! left after the step. So a body that copies a stranger's octets is found even where it ignores
+//! the refusal.
 
 use crate::worked::{PATH, REPLY, SECOND, SERVER, WORDS, asked, config, delivers, sends};
 use forwarder_core::Forwarder;
@@ -10,7 +11,7 @@ use std::test::Fail;
 use step_values::{Event, Path};
 use suffix_routes::Peer;
 
-/// The step of this event has no action and takes no memory.
+/// Whether the step of this event has no action and does not allocate.
 fn is_quiet<'a>(
     heap: &'a Refusing<Global>,
     forwarder: &mut Forwarder<DefaultHasher, &'a Refusing<Global>>,
@@ -24,7 +25,7 @@ fn is_quiet<'a>(
     Ok(is_left && outcome?.actions.is_empty())
 }
 
-/// An event whose octets stand in the table.
+/// An event whose octets are in the table.
 #[derive(Clone, Copy)]
 enum Row {
     Sends(&'static [u8]),
@@ -46,8 +47,8 @@ const OTHER_PORT: Peer = Peer {
     port: 5353,
 };
 
-/// What comes once the query was sent at 1000, with its moment. The query may be answered for 1,500 milliseconds, and
-/// an earlier moment counts as the latest one.
+/// The events after the query was sent at 1000, each with its moment. The query may be answered for
+/// 1,500 milliseconds, and an earlier moment counts as the latest one.
 const ROWS: [(u64, Row); 16] = [
     (1001, Row::Sends(REPLY)),
     (
@@ -81,7 +82,7 @@ fn event<A: Allocator + Copy>(alloc: A, row: Row) -> Result<Event<A>, AllocError
     }
 }
 
-/// The step of a row has no action and takes no memory.
+/// Whether the step of a row has no action and does not allocate.
 fn is_quiet_row<'a>(
     heap: &'a Refusing<Global>,
     forwarder: &mut Forwarder<DefaultHasher, &'a Refusing<Global>>,
@@ -125,7 +126,7 @@ fn a_restart_of_a_new_forwarder_takes_no_memory(rt: HostRuntime) -> Result<(), F
     Ok(())
 }
 
-/// When the query's time is up, 1,500 milliseconds after it was sent.
+/// The next moment that is due is 1,500 milliseconds after the query was sent.
 #[test]
 fn what_is_due_next_takes_no_memory(rt: HostRuntime) -> Result<(), Fail> {
     let heap = Refusing::new(rt.alloc());

@@ -1,4 +1,5 @@
-//! The worked question and its reply as a run over a list, and step by step beside the stored history.
+//! The worked question and its reply as a run over a list, and step by step next to the stored
+//! history.
 
 use crate::worked::{QUERY, QUESTION, WORDS, answer_whole, config, replies, send_alone, sends};
 use forwarder_core::Forwarder;
@@ -27,7 +28,8 @@ fn second<A: Allocator + Copy>(alloc: A) -> Result<Handed<A>, AllocError> {
     })
 }
 
-/// The two steps: the query goes out, and the answer comes back, with so many pieces that found no memory.
+/// Whether these are the two steps: the query goes out, and the answer comes back, with `unkept`
+/// pieces for which memory ran out.
 fn are_worked<A: Allocator + Copy>(steps: &[Step<A>], unkept: u32) -> bool {
     match steps {
         [asks, answers] => {
@@ -40,12 +42,12 @@ fn are_worked<A: Allocator + Copy>(steps: &[Step<A>], unkept: u32) -> bool {
     }
 }
 
-/// The step was handed this moment; so many pieces were not kept, and nothing more is due.
+/// Whether the step has this moment, `unkept` pieces were not kept, and nothing more is due.
 fn is_plain<A: Allocator>(step: &Step<A>, now: u64, unkept: u32) -> bool {
     step.handed.now == now && is_done(&step.outcome, unkept)
 }
 
-/// So many pieces were not kept, and nothing more is due.
+/// Whether `unkept` pieces were not kept, and nothing more is due.
 fn is_done<A: Allocator>(outcome: &Outcome<A>, unkept: u32) -> bool {
     outcome.unkept == unkept && !outcome.more
 }
@@ -69,7 +71,7 @@ fn the_steps_by_calls(rt: HostRuntime) -> Result<(), Fail> {
     Ok(())
 }
 
-/// Which growths are refused.
+/// The allocations that are refused.
 #[derive(Clone, Copy)]
 pub(crate) enum Refused {
     /// One alone.
@@ -79,7 +81,7 @@ pub(crate) enum Refused {
 }
 
 impl Refused {
-    /// From now on so many growths are granted before one is refused.
+    /// From now on `granted` allocations are granted before one is refused.
     pub(crate) fn begin(self, heap: &Refusing<Global>, granted: u64) {
         match self {
             Refused::One => heap.refuse_one(granted),
@@ -88,7 +90,7 @@ impl Refused {
     }
 }
 
-/// What is handed in, in its order.
+/// The inputs, in their order.
 fn handed_in<'a>(
     heap: &'a Refusing<Global>,
 ) -> Result<Vec<Handed<&'a Refusing<Global>>, &'a Refusing<Global>>, AllocError> {
@@ -98,8 +100,8 @@ fn handed_in<'a>(
     Ok(handed)
 }
 
-/// Each growth of a run over the list is refused in turn: with how many the run is refused, and with how many a piece
-/// is not kept. `None` where it does anything else.
+/// Each allocation of a run over the list is refused in turn: the number with which the run is
+/// refused, and the number with which a piece is not kept. `None` where it does anything else.
 fn refusals_of_list(
     heap: &Refusing<Global>,
     refused: Refused,
@@ -121,10 +123,10 @@ fn refusals_of_list(
     Ok(None)
 }
 
-/// The configuration takes 2 growths and a new forwarder 7, all but one for its cache; a step takes one more for the
-/// copy of what it is handed, and the first for the list. Of the 11 of the first step, whose one action takes none, 5
-/// are for the ask and 4 for the question that waits: a slab and lists of keys. With the last growth refused, the set
-/// is not kept.
+/// The configuration makes 2 allocations and a new forwarder 7, all but one for its cache; a step
+/// makes one more for the copy of its input, and the first for the list. Of the 11 of the first
+/// step, whose one action makes none, 5 are for the ask and 4 for the question that waits: a slab
+/// and lists of keys. With the last allocation refused, the set is not kept.
 #[test]
 fn a_run_over_a_list(rt: HostRuntime) -> Result<(), Fail> {
     let heap = Refusing::new(rt.alloc());
@@ -135,7 +137,8 @@ fn a_run_over_a_list(rt: HostRuntime) -> Result<(), Fail> {
     Ok(())
 }
 
-/// A new forwarder, with a growth refused after so many; whether it was made. Its configuration has ample memory.
+/// A new forwarder, with an allocation refused after `granted`; whether it was made. Its
+/// configuration has ample memory.
 fn is_forwarder_with(
     heap: &Refusing<Global>,
     refused: Refused,
@@ -161,8 +164,8 @@ fn is_recorded_with(
     Ok(recorded.is_ok())
 }
 
-/// With how few growths granted before one is refused both are made; `None` where one of them is made with fewer than
-/// the other.
+/// The fewest allocations granted before one is refused with which both are made; `None` where one
+/// of them is made with fewer than the other.
 fn growths_of_new(heap: &Refusing<Global>, refused: Refused) -> Result<Option<u64>, AllocError> {
     for granted in 0..64 {
         let is_forwarder = is_forwarder_with(heap, refused, granted)?;
@@ -196,7 +199,7 @@ fn begun<'a>(
     Ok(recorded)
 }
 
-/// The second step, with a growth refused after so many; whether it was made.
+/// The second step, with an allocation refused after `granted`; whether it was made.
 fn made_with<'a>(
     heap: &'a Refusing<Global>,
     recorded: &mut Recorded<DefaultHasher, &'a Refusing<Global>>,
@@ -210,7 +213,8 @@ fn made_with<'a>(
     Ok(outcome.is_ok())
 }
 
-/// The second step was refused and changed nothing: made again with memory, it and the first are the worked ones.
+/// The second step was refused and changed nothing: made again with memory, it and the first are
+/// the worked ones.
 fn is_made_again<'a>(
     heap: &'a Refusing<Global>,
     recorded: &mut Recorded<DefaultHasher, &'a Refusing<Global>>,
@@ -220,7 +224,7 @@ fn is_made_again<'a>(
     Ok(was_first_alone && are_worked(recorded.steps(), 0))
 }
 
-/// What came of a step.
+/// The result of a step.
 #[derive(Clone, Copy)]
 enum Fate {
     /// It was refused, and made again.
@@ -232,7 +236,7 @@ enum Fate {
     Other,
 }
 
-/// What came of the second step, with a growth refused after so many.
+/// The result of the second step, with an allocation refused after `granted`.
 fn fate_of_second(
     heap: &Refusing<Global>,
     refused: Refused,
@@ -252,8 +256,8 @@ fn fate_of_second(
     })
 }
 
-/// Each growth of the second step is refused in turn: with how many it is refused, and with how many a piece is not
-/// kept. `None` where it does anything else.
+/// Each allocation of the second step is refused in turn: the number with which it is refused, and
+/// the number with which a piece is not kept. `None` where it does anything else.
 fn refusals_of_second(
     heap: &Refusing<Global>,
     refused: Refused,
@@ -270,7 +274,7 @@ fn refusals_of_second(
     Ok(None)
 }
 
-/// Those of the step alone: what it is handed is kept as it is.
+/// Those of the step alone: its input is kept as it is.
 #[test]
 fn a_recorded_run(rt: HostRuntime) -> Result<(), Fail> {
     let heap = Refusing::new(rt.alloc());
@@ -281,7 +285,8 @@ fn a_recorded_run(rt: HostRuntime) -> Result<(), Fail> {
     Ok(())
 }
 
-/// The steps so far, of which there is one, are seen without memory: of one growth that is allowed, one is left.
+/// The steps so far, of which there is one, are seen without allocating: of one allocation that is
+/// allowed, one is left.
 fn are_seen_without_memory(heap: &Refusing<Global>) -> Result<bool, AllocError> {
     let recorded = begun(heap)?;
     heap.allow(1);

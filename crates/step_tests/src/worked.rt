@@ -24,7 +24,8 @@ pub(crate) const SECOND: Peer = Peer {
     port: 53,
 };
 
-/// The first word gives identifier 8 and port 1032, each further one the next identifier and the next port.
+/// The first word gives identifier 8 and port 1032, each further one the next identifier and the
+/// next port.
 pub(crate) const WORDS: [u32; 8] = [
     524_296, 589_833, 655_370, 720_907, 786_444, 851_981, 917_518, 983_055,
 ];
@@ -44,7 +45,7 @@ pub(crate) const QUERY: [u8; 27] =
 pub(crate) const REPLY: &[u8] =
     b"\x00\x08\x85\x00\x00\x01\x00\x01\x00\x00\x00\x00\x01a\x07example\x00\x00\x01\x00\x01\xc0\x0c\x00\x01\x00\x01\x00\x00\x01\x2c\x00\x04\xc6\x33\x64\x05";
 
-/// What the client gets.
+/// The reply to the client.
 pub(crate) const ANSWER: &[u8] =
     b"\x12\x34\x81\x80\x00\x01\x00\x01\x00\x00\x00\x00\x01a\x07example\x00\x00\x01\x00\x01\xc0\x0c\x00\x01\x00\x01\x00\x00\x01\x2c\x00\x04\xc6\x33\x64\x05";
 
@@ -100,7 +101,7 @@ pub(crate) fn asked<A: Allocator + Copy>(
     Ok(forwarder)
 }
 
-/// The actions send these octets to the server, from the query's port, and do nothing else.
+/// Whether the actions send these octets to the server, from the query's port, and nothing else.
 pub(crate) fn send_alone<A: Allocator + Copy>(actions: &Actions<A>, text: &[u8]) -> bool {
     match (actions.get(0), actions.get(1)) {
         (
@@ -117,7 +118,7 @@ pub(crate) fn send_alone<A: Allocator + Copy>(actions: &Actions<A>, text: &[u8])
     }
 }
 
-/// The action replies to the client with these octets, for this reason.
+/// Whether the action replies to the client with these octets, for this reason.
 pub(crate) fn is_reply<A: Allocator>(action: &Action<A>, text: &[u8], reason: Why) -> bool {
     match action {
         Action::Reply { client, bytes, why } => {
@@ -127,7 +128,7 @@ pub(crate) fn is_reply<A: Allocator>(action: &Action<A>, text: &[u8], reason: Wh
     }
 }
 
-/// The actions close the query's port and give the client its answer, and do nothing else.
+/// Whether the actions close the query's port and give the client its answer, and nothing else.
 pub(crate) fn answer_whole<A: Allocator + Copy>(actions: &Actions<A>) -> bool {
     match (actions.get(0), actions.get(1), actions.get(2)) {
         (Some(Action::CloseUdp { port }), Some(reply), None) => {

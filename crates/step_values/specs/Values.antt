@@ -12,8 +12,8 @@ use Rattle.step_values.specs.declared.action.Action.TheVariants.{AskUdp, AskTcp,
 use Rattle.step_values.specs.declared.actions.Listed.{Listed}
 use Rattle.step_values.specs.declared.actions.Listed.TheVariants.{Nothing, One, More}
 
--- what happens: a message of a client, a message on a path to a server, the end of such a path, the passing of time, a
--- new beginning
+-- an event: a message of a client, a message on a path to a server, the end of such a path, the
+-- passing of time, or a restart
 pub data Event : Type 0 where
   from_client : Client → List ℕ → Event
   delivery : Path → Peer → List ℕ → Event
@@ -21,7 +21,8 @@ pub data Event : Type 0 where
   tick : Event
   restart : Event
 
--- what is to be done: a query by UDP from a port or by TCP over a connection, the end of either, a reply to a client
+-- an action: a query by UDP from a port or by TCP over a connection, the end of either, or a reply
+-- to a client
 pub data Action : Type 0 where
   ask_udp : ℕ → Peer → List ℕ → Action
   ask_tcp : ℕ → Peer → List ℕ → Action
@@ -43,12 +44,13 @@ HasActions Nothing = Unit {0}
 HasActions (One action) = Unit {0}
 HasActions (More actions) = 1 ≤ length actions.items
 
+-- the list has one action, in place
 abbrev pub IsOne : {A : Type 0} → Listed A → Type 0
 IsOne Nothing = ⊥
 IsOne (One action) = Unit {0}
 IsOne (More actions) = ⊥
 
--- ---- what an event and an action show
+-- ---- the parts of an event and of an action
 
 -- a client's message
 pub record Request : Type 0 where
@@ -73,6 +75,7 @@ pub record SentReply : Type 0 where
   pub octets : List ℕ
   pub why : Why
 
+-- the client's message of an event, if it is one
 abbrev pub request_in : Event → Option Request
 request_in (from_client client octets) = Some (record { client = client; octets = octets })
 request_in (delivery path from octets) = None
@@ -80,6 +83,7 @@ request_in (path_failed path) = None
 request_in tick = None
 request_in restart = None
 
+-- the delivery of an event, if it is one
 abbrev pub delivery_in : Event → Option Delivered
 delivery_in (delivery path from octets) = Some (record { path = path; from = from; octets = octets })
 delivery_in (from_client client octets) = None
@@ -87,6 +91,7 @@ delivery_in (path_failed path) = None
 delivery_in tick = None
 delivery_in restart = None
 
+-- the query that an action sends, if it sends one
 abbrev pub ask_in : Action → Option SentAsk
 ask_in (ask_udp port server octets) = Some (record { path = path.Udp port; server = server; octets = octets })
 ask_in (ask_tcp conn server octets) = Some (record { path = path.Tcp conn; server = server; octets = octets })
@@ -94,6 +99,7 @@ ask_in (close_udp port) = None
 ask_in (close_tcp conn) = None
 ask_in (send_reply client octets why) = None
 
+-- the path that an action gives up, if it gives one up
 abbrev pub closed_path_in : Action → Option Path
 closed_path_in (close_udp port) = Some (path.Udp port)
 closed_path_in (close_tcp conn) = Some (path.Tcp conn)
@@ -101,6 +107,7 @@ closed_path_in (ask_udp port server octets) = None
 closed_path_in (ask_tcp conn server octets) = None
 closed_path_in (send_reply client octets why) = None
 
+-- the reply that an action sends, if it sends one
 abbrev pub reply_in_action : Action → Option SentReply
 reply_in_action (send_reply client octets why) = Some (record { client = client; octets = octets; why = why })
 reply_in_action (ask_udp port server octets) = None
@@ -110,6 +117,7 @@ reply_in_action (close_tcp conn) = None
 
 -- ---- the program's values as these
 
+-- an event of the code as a plain value
 abbrev pub event_of : {A : Type 0} → OwnedEvent A → Event
 event_of (OfClient client octets) = from_client client octets
 event_of (Delivery path from octets) = delivery path from octets
@@ -117,6 +125,7 @@ event_of (PathFailed path) = path_failed path
 event_of Tick = tick
 event_of Restart = restart
 
+-- an action of the code as a plain value
 abbrev pub action_of : {A : Type 0} → OwnedAction A → Action
 action_of (AskUdp port server octets) = ask_udp port server octets
 action_of (AskTcp conn server octets) = ask_tcp conn server octets
@@ -124,19 +133,23 @@ action_of (CloseUdp port) = close_udp port
 action_of (CloseTcp conn) = close_tcp conn
 action_of (Reply client octets why) = send_reply client octets why
 
+-- actions of the code as plain values
 abbrev pub actions_of : {A : Type 0} → List (OwnedAction A) → List Action
 actions_of actions = map action_of actions
 
+-- the input of a step: moment in milliseconds, eight random words, event
 pub record Handed : Type 0 where
   pub now : ℕ
   pub words : List ℕ
   pub event : Event
 
+-- the output of a step: actions, offers without memory, and whether more is due
 pub record Outcome : Type 0 where
   pub actions : List Action
   pub unkept : ℕ
   pub more : Bool
 
+-- a step: its input and its output
 pub record Step : Type 0 where
   pub handed : Handed
   pub outcome : Outcome

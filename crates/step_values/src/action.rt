@@ -1,4 +1,4 @@
-//! What a forwarder wants done, and why a question got its reply.
+//! The actions of a forwarder, and why a question got its reply.
 
 ghost use Rattle.std.specs.Prelude.{◌≡◌, IfOk};
 
@@ -34,13 +34,14 @@ pub enum Why {
     ChainLong,
     /// Its answer passes what TCP can carry: SERVFAIL.
     TooLarge,
-    /// Every try failed, and a set was held that had ended within the configured window: NOERROR (RFC 8767 4).
+    /// Every try failed, and a set was held that had expired within the configured window: NOERROR
+    /// (RFC 8767 4).
     Stale,
     /// The route of its name, or of a name that its aliases lead to, denies it: NXDOMAIN.
     LocalDenied,
 }
 
-/// What the forwarder wants done.
+/// An action that the forwarder asks its caller for.
 #[derive(Drop)]
 pub enum Action<A: Allocator = Global> {
     /// Send a query from this UDP port.

@@ -11,8 +11,8 @@ use std::mem;
 /// How many actions a list has room for once it has more than one: two, and some more.
 const ROOM: usize = 4;
 
-/// Actions, in order. Contracts see them as a list. The first lies in place: most steps have one alone, and take no
-/// memory to list it.
+/// Actions, in order. Contracts see them as a list. The first lies in place: most steps have one
+/// alone, and listing it does not allocate.
 #[derive(Drop)]
 pub struct Actions<A: Allocator = Global> {
     alloc: A,
@@ -40,7 +40,7 @@ impl<A: Allocator> Model for Actions<A> {
 }
 
 impl<A: Allocator + Copy> Actions<A> {
-    /// No actions. It takes no memory.
+    /// No actions. It does not allocate.
     pub fn new(alloc: A) -> Actions<A>
         ensures { result ≡ [] }
     {
@@ -50,7 +50,8 @@ impl<A: Allocator + Copy> Actions<A> {
         }
     }
 
-    /// Puts an action last. The first one does not allocate. `Err` where memory ran out, and then nothing has changed.
+    /// Puts an action last. The first one does not allocate. `Err` where memory ran out, and then
+    /// nothing has changed.
     pub fn push(&mut self, action: Action<A>) -> Result<(), AllocError>
         ensures ok { OnOk result (self.new ≡ self.old ++ action ∷ []) }
         ensures err { OnErr result (self.new ≡ self.old) }
@@ -59,7 +60,7 @@ impl<A: Allocator + Copy> Actions<A> {
         self.listed.push(self.alloc, action)
     }
 
-    /// How many actions there are. It takes no memory.
+    /// How many actions there are. It does not allocate.
     pub fn len(&self) -> usize
         ensures { result ≡ length self.now }
     {
@@ -70,14 +71,14 @@ impl<A: Allocator + Copy> Actions<A> {
         }
     }
 
-    /// Whether there are none. It takes no memory.
+    /// Whether there are none. It does not allocate.
     pub fn is_empty(&self) -> bool
         ensures { result ≡ (length self.now == 0) }
     {
         self.len() == 0
     }
 
-    /// The action at this place, from 0; `None` where there are not so many. It takes no memory.
+    /// The action at this place, counted from 0; `None` past the last one. It does not allocate.
     pub fn get(&self, place: usize) -> Option<&Action<A>>
         ensures { MatchOption result (slice_get self.now place ≡ None)
             (λ action. slice_get self.now place ≡ Some action.now) }
@@ -112,7 +113,7 @@ impl<A: Allocator> Listed<A> {
         }
     }
 
-    /// Puts an action behind the only one.
+    /// Puts an action after the only one.
     fn push_second(&mut self, alloc: A, action: Action<A>) -> Result<(), AllocError>
         requires { IsOne self.old }
         ensures kept { HasActions self.new }

@@ -1,4 +1,4 @@
-//! What happens to a forwarder.
+//! Events of a forwarder.
 
 ghost use Rattle.std.specs.Prelude.{◌≡◌, IfOk};
 
@@ -14,7 +14,7 @@ pub enum Client {
     Tcp(u64),
 }
 
-/// What happens to the forwarder.
+/// An event of the forwarder.
 #[derive(Drop)]
 pub enum Event<A: Allocator = Global> {
     /// A message of a client, without the length that goes before it over TCP.
@@ -34,7 +34,7 @@ pub enum Event<A: Allocator = Global> {
     },
     /// Time has passed.
     Tick,
-    /// The forwarder begins anew.
+    /// The forwarder begins again.
     Restart,
 }
 

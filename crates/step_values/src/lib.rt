@@ -1,4 +1,4 @@
-//! What a step of the forwarder is handed and what comes out of it, as values: events, actions, reasons, outcomes.
+//! Inputs and outputs of a step of the forwarder as values: events, actions, reasons, outcomes.
 #![tactic(auto)]
 
 mod action;
@@ -11,6 +11,3 @@ pub use actions::Actions;
 pub use event::{Client, Event};
 pub use outstanding::Path;
 pub use step::{Handed, Outcome, Step};
-
-#[cfg(test)]
-mod tests;

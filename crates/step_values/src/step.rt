@@ -1,4 +1,4 @@
-//! A step: what is handed in, and what comes out.
+//! A step: its input and its outcome.
 
 ghost use Rattle.std.specs.Prelude.{◌≡◌, IfOk};
 
@@ -7,7 +7,7 @@ use crate::event::Event;
 use std::alloc::{AllocError, Allocator, Global};
 use std::marker::Model;
 
-/// What a step did.
+/// The outcome of a step.
 #[derive(Drop)]
 pub struct Outcome<A: Allocator = Global> {
     /// In the order in which they are to be done.
@@ -26,7 +26,7 @@ impl<A: Allocator> Model for Outcome<A> {
     ghost view = { λ o. record { actions = actions_of o.actions; unkept = o.unkept; more = o.more } };
 }
 
-/// What a step is handed: a moment in milliseconds, random words, and what happened.
+/// The input of a step: a moment in milliseconds, random words, and an event.
 #[derive(Drop)]
 pub struct Handed<A: Allocator = Global> {
     pub now: u64,

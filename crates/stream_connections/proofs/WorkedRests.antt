@@ -1,4 +1,5 @@
--- A client that has waited for nothing for a second, or a millisecond less, or that waits for a reply.
+-- A client that has waited for nothing for a second, or a millisecond less, or that waits for a
+-- reply.
 use Rattle.std.proofs.Common.{◌≡◌, refl, [], true, false}
 use Rattle.stream_connections.specs.Waiting.{is_resting}
 

@@ -37,7 +37,8 @@ abbrev pub RepliesOn : {A : Type 0} → (conn : ℕ) (reply : List ℕ) (now : �
 RepliesOn conn reply now (Some answer) before after = ChangesAt conn (Replies reply now answer) before after
 RepliesOn conn reply now None before after = IsNotOpen conn before after
 
--- A connection that is admitted is listed under its number, as one that has just come; the others stay.
+-- A connection that is admitted is listed under its number, as one that has just come; the others
+-- stay.
 pub record Admits {A : Type 0} (conn now : ℕ) (before after : List (ℕ × ClientStream A)) : Type 0 where
   pub client : ClientStream A
   pub is_new : IsNew now client

@@ -1,4 +1,4 @@
--- What a call does to the connection of a client.
+-- The effect of a call on the connection of a client.
 use Rattle.std.specs.declared.io.Error.{Error}
 use Rattle.std.specs.Prelude.{◌≡◌, ℕ, zero, suc, ◌+◌, ◌-◌, ◌^◌, ◌<◌, ◌≤◌, ◌==◌, ◌++◌, ◌⊎◌}
 use Rattle.std.specs.Prelude.{Bool, true, false, not, List, length}
@@ -30,19 +30,21 @@ pub record Takes {A : Type 0} (now : ℕ) (before after : ClientStream A) : Type
 abbrev pub Sends : {A : Type 0} → (now : ℕ) → ClientStream A → ClientStream A → Type 0
 Sends now before after = Keeps before after ⊎ Takes now before after
 
--- After a write of which the stream took this: octets are progress, none leaves all as it was.
+-- The effect of a write by the octets that the stream took: some are progress, none leaves all as
+-- it was.
 abbrev pub WroteBy : {A : Type 0} → Result ℕ Error → (now : ℕ) → Result (Unit {0}) Error
     → (before after : ClientStream A) → Type 0
 WroteBy (Ok zero) now result before after = (result ≡ Ok tt) × (after ≡ before)
 WroteBy (Ok (suc more)) now result before after = (result ≡ Ok tt) × (after ≡ record before { took = now })
 WroteBy (Err error) now result before after = (result ≡ Err error) × (after ≡ before)
 
--- A piece of the client's stream is heard at this moment: the messages that end in it have no reply yet.
+-- A piece of the client's stream is heard at this moment: the messages that end in it have no reply
+-- yet.
 pub record HearsPiece {A : Type 0} (piece : List ℕ) (now : ℕ) (before after : ClientStream A) : Type 0 where
   pub stands : (rest : List ℕ) → Stands before.within rest → Stands after.within (unfinished_of (rest ++ piece))
   pub hears : (rest : List ℕ) → Stands before.within rest → Hears (length (frames_of (rest ++ piece))) now before after
 
--- Nothing has changed, unless the client's stream has ended.
+-- Nothing has changed, except that the client's stream may be at its end.
 pub record MayEnd {A : Type 0} (before after : ClientStream A) : Type 0 where
   pub rest : after ≡ record before { ended = after.ended }
   pub stays : before.ended ≡ true → after.ended ≡ true
@@ -59,22 +61,22 @@ abbrev pub Reads : {A : Type 0} → Option ℕ → (now : ℕ) (buffer : List �
 Reads (Some count) now buffer before after = ReadsPiece count now buffer before after
 Reads None now buffer before after = MayEnd before after
 
--- What is heard where the buffer is read into.
+-- The effect of reading into the buffer, by what was heard.
 abbrev pub HearsInto : {A : Type 0} → Heard → (now : ℕ) (buffer : List ℕ) → ClientStream A → ClientStream A → Type 0
 HearsInto (Octets count) now buffer before after = Reads (Some count) now buffer before after
 HearsInto Nothing now buffer before after = Reads None now buffer before after
 HearsInto Done now buffer before after = Reads None now buffer before after
 HearsInto Failed now buffer before after = after ≡ before
 
--- Whether the client is done with is told where nothing is heard.
+-- A read that heard nothing reports whether the client is done with.
 abbrev pub TellsWhetherDone : {A : Type 0} → Heard → ClientStream A → Type 0
 TellsWhetherDone (Octets _) after = Unit {0}
 TellsWhetherDone Nothing after = is_done after ≡ false
 TellsWhetherDone Done after = is_done after ≡ true
 TellsWhetherDone Failed after = Unit {0}
 
--- After a read by which this was heard of the stream: a piece at the beginning of the buffer, or
--- the client's end. Otherwise nothing has changed.
+-- The effect of a read with this result: a piece at the beginning of the buffer, or the client's
+-- end. Otherwise nothing has changed.
 abbrev pub HearsBy : {A : Type 0} → Heard → (now : ℕ) (buffer : List ℕ) → (result : Heard)
     → (before after : ClientStream A) → Type 0
 HearsBy (Octets count) now buffer result before after =
@@ -83,7 +85,7 @@ HearsBy Nothing now buffer result before after = (result ≡ Nothing) × (after 
 HearsBy Done now buffer result before after = (result ≡ silence_of after) × (after ≡ record before { ended = true })
 HearsBy Failed now buffer result before after = (result ≡ Failed) × (after ≡ before)
 
--- Reading into the buffer, unless the client has ended.
+-- Reading into the buffer, unless the client's stream is at its end.
 pub record Receives {A : Type 0} (heard : Heard) (now : ℕ) (buffer : List ℕ) (before after : ClientStream A)
     : Type 0 where
   pub hears : HearsInto heard now buffer before after
@@ -97,7 +99,7 @@ pub record Serves {A : Type 0} (heard : Heard) (now : ℕ) (buffer : List ℕ) (
   pub hears : HearsInto heard now buffer between after
   pub tells : TellsWhetherDone heard after
 
--- with the frame of a reply put behind what is left
+-- with the frame of a reply appended to what is left
 abbrev pub with_frame : {A : Type 0} → (frame : List ℕ) (now : ℕ) → ClientStream A → ClientStream A
 with_frame frame now before = record before {
   unsent = pushed frame before.unsent;
@@ -106,20 +108,21 @@ with_frame frame now before = record before {
   took = if length before.unsent.left == 0 then now else before.took;
 }
 
--- whether the connection on which a reply was lost so is to be closed
+-- whether the connection is to be closed after a reply was lost for this reason
 abbrev pub is_over : Lost → Bool
 is_over Memory = false
 is_over TooLong = false
 is_over TooMuch = true
 is_over Gone = true
 
--- why a reply is lost that has no frame
+-- the reason for which a reply without a frame is lost
 abbrev pub lost_by : FrameFault → Lost
 lost_by fault.Memory = Memory
 lost_by fault.TooLong = TooLong
 
--- What came of a reply: its frame goes behind what is left, and then the client takes what it takes. True where the
--- connection goes on. A reply that is lost leaves all as it was, unless the stream takes nothing any more.
+-- The result of a reply: its frame is appended to what is left, and then the client takes what it
+-- takes. True where the connection goes on. A reply that is lost leaves all as it was, unless the
+-- stream takes nothing any more.
 abbrev pub Answers : {A : Type 0} → (reply : List ℕ) (now : ℕ) → Result Bool Lost → ClientStream A → ClientStream A
     → Type 0
 Answers reply now (Ok goes_on) before after =

@@ -1,4 +1,4 @@
--- Which clients wait, and which have been silent for too long (RFC 7766 6.2.3).
+-- The clients that wait, and those that have been silent for too long (RFC 7766 6.2.3).
 use Rattle.std.specs.Prelude.{◌≡◌, ℕ, ◌+◌, ◌-◌, ◌^◌, ◌==◌, ◌&&◌, min, Bool, false, nat_le, List, [], length}
 use Rattle.std.specs.Prelude.{if◌then◌else◌}
 use Rattle.tcp_frames.specs.declared.framing.Within.TheVariants as within
@@ -15,7 +15,7 @@ pub record IsNew {A : Type 0} (now : ℕ) (client : ClientStream A) : Type 0 whe
   pub active : client.active ≡ now
   pub took : client.took ≡ now
 
--- With so many whole messages at this moment.
+-- The client after `messages` whole messages at this moment, in ms.
 abbrev pub Hears : {A : Type 0} → (messages now : ℕ) → ClientStream A → ClientStream A → Type 0
 Hears messages now before after =
     after ≡ record before {
@@ -24,7 +24,8 @@ Hears messages now before after =
       active = if messages == 0 then before.active else now;
     }
 
--- whether a client with so many messages without a reply, and these octets that it didn't take yet, waits for nothing
+-- whether a client waits for nothing: it has this number of messages without a reply, and these
+-- octets that it didn't take yet
 abbrev pub is_idle : ℕ → List ℕ → Bool
 is_idle unanswered unsent = (unanswered == 0) && (length unsent == 0)
 
@@ -36,14 +37,15 @@ is_done client = client.ended && is_idle client.unanswered client.unsent.left
 abbrev pub silence_of : {A : Type 0} → ClientStream A → Heard
 silence_of client = if is_done client then Done else Nothing
 
--- whether it has been silent for too long: it took nothing for 10 s of what is left for it; or, where nothing is, sent
--- no whole message and got no reply for 10 s, and where it waits for replies for so many milliseconds more as they may
--- take
+-- whether it has been silent for too long (RFC 7766 6.2.3): it took nothing for 10 s of what is
+-- left for it; or, where nothing is left, sent no whole message and got no reply for 10 s, and for
+-- `deadline` ms more where it waits for replies
 abbrev pub is_late : (unanswered : ℕ) (unsent : List ℕ) (took active now deadline : ℕ) → Bool
 is_late unanswered unsent took active now deadline =
     if length unsent == 0 then nat_le (10000 + (if unanswered == 0 then 0 else deadline)) (now - active)
     else nat_le 10000 (now - took)
 
--- whether it has waited for nothing for a second
+-- whether it has waited for nothing for a second: no reply is due to it, and nothing is left that
+-- it has to take
 abbrev pub is_resting : (unanswered : ℕ) (unsent : List ℕ) (active now : ℕ) → Bool
 is_resting unanswered unsent active now = is_idle unanswered unsent && nat_le 1000 (now - active)

@@ -6,12 +6,12 @@ ghost use Rattle.stream_connections.specs.Answers.{by_kind, heard_by, refusal_of
 use std::io;
 use std::io::ErrorKind;
 
-/// Why a call on a socket that never waits gave nothing.
+/// The reason for which a call on a socket that never waits gave nothing.
 #[derive(Clone, Copy)]
 pub enum Refusal {
     /// It would have to wait (EAGAIN).
     WouldBlock,
-    /// A signal came first (EINTR). A call that never waits doesn't report it: it counts as a
+    /// A signal came first (EINTR). A call that never waits does not report it, so it counts as a
     /// failure.
     Interrupted,
     /// The process has as many descriptors as it may have (EMFILE).
@@ -20,22 +20,22 @@ pub enum Refusal {
     Failed,
 }
 
-/// What came of reading a stream.
+/// The result of reading a stream.
 #[derive(Drop)]
 pub enum Heard {
-    /// Octets: how many there are, one at least.
+    /// The number of octets, at least one.
     Octets(usize),
-    /// Nothing that is there now.
+    /// Nothing is there now.
     Nothing,
-    /// Nothing, and nothing more is to be done: a server sends nothing more, or a client sends
-    /// nothing more and waits for nothing.
+    /// Nothing, now and later: a server sends nothing more, or a client sends nothing more and
+    /// waits for nothing.
     Done,
-    /// Nothing, since the stream failed.
+    /// Nothing, because the stream failed.
     Failed,
 }
 
 impl Refusal {
-    /// The refusal that this error of a call reports.
+    /// Returns the refusal that this error of a call reports.
     pub fn of(error: &io::Error) -> Refusal
         ensures { result ≡ refusal_of error.now }
     {
@@ -56,8 +56,8 @@ impl Refusal {
     }
 }
 
-/// How many octets a stream took, by its answer to a write: none where it would block. `Err` where
-/// it takes none any more.
+/// Returns the number of octets that a stream took, by its answer to a write: 0 where it would
+/// block. `Err` where it takes none any more.
 pub(crate) fn taken_by(answer: io::Result<usize>) -> io::Result<usize>
     ensures { result ≡ taken_by answer }
 {
@@ -70,7 +70,7 @@ pub(crate) fn taken_by(answer: io::Result<usize>) -> io::Result<usize>
     }
 }
 
-/// What was heard of a stream, by its answer to a read: no octets are its end.
+/// The result of reading a stream, by the system's answer: a read of no octets is its end.
 pub(crate) fn heard_by(answer: io::Result<usize>) -> Heard
     ensures { result ≡ heard_by answer }
 {

@@ -18,14 +18,15 @@ use std::io;
 use std::io::Read;
 use tcp_frames::{Unsent, Within, frame};
 
-/// For how many milliseconds a client may send no whole message, or take nothing of its replies (RFC 7766 6.2.3).
+/// The time, in ms, for which a client may send no whole message, or take nothing of its replies
+/// (RFC 7766 6.2.3).
 const PATIENCE: u64 = 10_000;
 
-/// For how many milliseconds a client that waits for nothing keeps its connection where no descriptor is left for a
-/// query or for another client: in that time its first question is read.
+/// The time, in ms, for which a client that waits for nothing keeps its connection where no
+/// descriptor is left for a query or for another client. In that time its first question is read.
 const REST: u64 = 1_000;
 
-/// How many octets of replies are kept for a client.
+/// The most octets of replies that are kept for a client.
 const MOST_UNSENT: usize = 1 << 20;
 
 /// A connection that a client opened.
@@ -35,13 +36,13 @@ pub(crate) struct ClientStream<A: Allocator> {
     /// Frames of replies that it didn't take yet.
     unsent: Unsent<A>,
     within: Within,
-    /// How many whole messages have no reply.
+    /// The number of whole messages without a reply.
     unanswered: usize,
-    /// It sends nothing more.
+    /// Whether it sends nothing more.
     ended: bool,
-    /// The last moment at which it sent a whole message or got a reply.
+    /// The last moment, in ms, at which it sent a whole message or got a reply.
     active: u64,
-    /// The last moment at which it took octets, or had taken all.
+    /// The last moment, in ms, at which it took octets, or had taken all.
     took: u64,
 }
 
@@ -60,29 +61,29 @@ impl<A: Allocator + Copy> ClientStream<A> {
         }
     }
 
-    /// It waits for nothing.
+    /// Whether it waits for nothing.
     pub fn is_idle(&self) -> bool
         ensures { result ≡ is_idle self.now.unanswered self.now.unsent.left }
     {
         self.unanswered == 0 && self.unsent.is_empty()
     }
 
-    /// It has waited for nothing for a while.
+    /// Whether it has waited for nothing for a second.
     pub fn is_resting(&self, now: u64) -> bool
         ensures { result ≡ is_resting self.now.unanswered self.now.unsent.left self.now.active now }
     {
         self.is_idle() && now.saturating_sub(self.active) >= REST
     }
 
-    /// It sends nothing more and waits for nothing.
+    /// Whether it sends nothing more and waits for nothing.
     fn is_done(&self) -> bool
         ensures { result ≡ is_done self.now }
     {
         self.ended && self.is_idle()
     }
 
-    /// It has been silent for too long. One that waits for replies may be for `deadline` milliseconds more, in which
-    /// they come.
+    /// Whether it has been silent for too long (RFC 7766 6.2.3). One that waits for replies may be
+    /// silent for `deadline` ms more, in which they come.
     pub fn is_late(&self, now: u64, deadline: u64) -> bool
         ensures { result ≡ is_late self.now.unanswered self.now.unsent.left self.now.took self.now.active now deadline }
     {
@@ -94,7 +95,7 @@ impl<A: Allocator + Copy> ClientStream<A> {
         silent >= PATIENCE && silent - PATIENCE >= allowed
     }
 
-    /// Has it take what it takes of the replies. `Err` where it takes none any more.
+    /// Sends as much of the replies as it takes. `Err` where it takes none any more.
     fn send(&mut self, now: u64) -> io::Result<()>
         ensures ok { OnOk result (Sends now self.old self.new) }
         ensures err { OnErr result (Keeps self.old self.new) }
@@ -159,7 +160,7 @@ impl<A: Allocator + Copy> ClientStream<A> {
         }
     }
 
-    /// Reads into the buffer what it has sent.
+    /// Reads what it has sent into the buffer.
     fn receive(&mut self, buffer: &mut [u8], now: u64) -> Heard
         ensures { Receives result now buffer.new self.old self.new }
     {
@@ -170,7 +171,7 @@ impl<A: Allocator + Copy> ClientStream<A> {
         self.hear(answer, buffer, now)
     }
 
-    /// `Done` or `Nothing`, of a client that sends nothing now.
+    /// Returns `Done` or `Nothing` for a client that sends nothing now.
     fn silence(&self) -> Heard
         ensures { result ≡ silence_of self.now }
     {
@@ -201,7 +202,8 @@ impl<A: Allocator + Copy> ClientStream<A> {
         }
     }
 
-    /// Puts the frame of a reply behind what is left. `Err` where memory ran out, and then nothing has changed.
+    /// Appends the frame of a reply to what is left. `Err` where memory ran out: nothing has
+    /// changed.
     fn list(&mut self, frame: Octets<A>, now: u64) -> Result<(), AllocError>
         ensures ok { OnOk result (self.new ≡ with_frame frame now self.old) }
         ensures err { OnErr result (self.new ≡ self.old) }
@@ -215,14 +217,15 @@ impl<A: Allocator + Copy> ClientStream<A> {
         Ok(())
     }
 
-    /// A reply of so many octets would leave too much.
+    /// Whether a reply of `octets` octets would leave more than 1 MiB.
     fn is_too_much(&self, octets: usize) -> bool
         ensures { result ≡ nat_lt (2 ^ 20) (length self.now.unsent.left + octets + 2) }
     {
         self.unsent.len().saturating_add(octets) > MOST_UNSENT - 2
     }
 
-    /// Replies, behind the reply's length, and tells whether the connection goes on.
+    /// Sends a reply after its length in two octets (RFC 1035 4.2.2). Returns whether the
+    /// connection goes on.
     pub fn reply(&mut self, alloc: A, reply: &[u8], now: u64) -> Result<bool, Lost>
         ensures { Replies reply.now now result self.old self.new }
     {
@@ -234,8 +237,8 @@ impl<A: Allocator + Copy> ClientStream<A> {
         self.goes_on_after(sent)
     }
 
-    /// Whether the connection goes on after this send. `Err` where the stream takes nothing any
-    /// more.
+    /// Returns whether the connection goes on after this send. `Err` where the stream takes nothing
+    /// any more.
     fn goes_on_after(&self, sent: io::Result<()>) -> Result<bool, Lost>
         ensures ok { OnOk sent (result ≡ Ok (not (is_done self.now))) }
         ensures err { OnErr sent (result ≡ Err Gone) }

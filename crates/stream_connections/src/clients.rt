@@ -14,11 +14,11 @@ use std::alloc::{AllocError, Allocator};
 use std::collections::BTreeMap;
 use std::marker::Model;
 
-/// How many connections clients may have.
+/// The most connections that clients may have.
 const MOST: usize = 1024;
 
-/// The connections that clients opened and that are open yet, by their numbers: never more than may be. Contracts see
-/// them in the order of their numbers.
+/// The connections that clients opened and that are still open, by their numbers, at most 1,024.
+/// Contracts see them in the order of their numbers.
 #[derive(Drop)]
 pub(crate) struct Clients<A: Allocator> {
     open: BTreeMap<u64, ClientStream<A>, A>,
@@ -36,7 +36,7 @@ impl<A: Allocator> Model for Clients<A> {
 }
 
 impl<A: Allocator + Copy> Clients<A> {
-    /// None; it takes no memory.
+    /// Starts with no connection. It does not allocate.
     pub fn new(alloc: A) -> Clients<A>
         ensures { result ≡ [] }
     {
@@ -45,7 +45,7 @@ impl<A: Allocator + Copy> Clients<A> {
         }
     }
 
-    /// No further one may be opened.
+    /// Whether no further one may be opened.
     pub fn is_full(&self) -> bool
         ensures full { result ≡ nat_le 1024 (length self.now) }
         ensures most { length self.now ≤ 1024 }
@@ -59,7 +59,7 @@ impl<A: Allocator + Copy> Clients<A> {
         self.open.len()
     }
 
-    /// Lists a connection under its number. `Err` where memory ran out, and then nothing has changed.
+    /// Lists a connection under its number. `Err` where memory ran out: nothing has changed.
     pub fn admit(
         &mut self,
         alloc: A,
@@ -77,7 +77,8 @@ impl<A: Allocator + Copy> Clients<A> {
         Ok(())
     }
 
-    /// Sends what is left for the one with this number, and reads of it into the buffer; `None` where it isn't open.
+    /// Sends what is left for the client with this number, and reads what it sent into the buffer;
+    /// `None` where it isn't open.
     pub fn serve(&mut self, conn: u64, buffer: &mut [u8], now: u64) -> Option<Heard>
         ensures serves { ServesOn conn result now buffer.new self.old self.new }
         ensures number { length self.new ≡ length self.old }
@@ -86,7 +87,8 @@ impl<A: Allocator + Copy> Clients<A> {
         Some(client.serve(buffer, now))
     }
 
-    /// Replies to the one with this number, and tells whether its connection goes on; `None` where it isn't open.
+    /// Replies to the client with this number, and returns whether its connection goes on; `None`
+    /// where it isn't open.
     pub fn reply(
         &mut self,
         alloc: A,
@@ -101,7 +103,7 @@ impl<A: Allocator + Copy> Clients<A> {
         Some(client.reply(alloc, reply, now))
     }
 
-    /// Closes it; false where it isn't open.
+    /// Closes the connection with this number; false where it isn't open.
     pub fn close(&mut self, conn: u64) -> bool
         ensures open { result ≡ is_some (lookup (is_at (nat_cmp conn)) self.old) }
         ensures rest { self.new ≡ remove_entry (is_at (nat_cmp conn)) self.old }
@@ -110,7 +112,7 @@ impl<A: Allocator + Copy> Clients<A> {
         self.open.remove(&conn).is_some()
     }
 
-    /// The oldest that waits for nothing.
+    /// The number of the oldest that waits for nothing.
     pub fn oldest_idle(&self) -> Option<u64>
         ensures { result ≡ first_idle self.now }
     {
@@ -122,7 +124,7 @@ impl<A: Allocator + Copy> Clients<A> {
         None
     }
 
-    /// The oldest that has waited for nothing for a while.
+    /// The number of the oldest that has waited for nothing for a second.
     pub fn oldest_resting(&self, now: u64) -> Option<u64>
         ensures { result ≡ first_resting now self.now }
     {
@@ -134,7 +136,8 @@ impl<A: Allocator + Copy> Clients<A> {
         None
     }
 
-    /// The first from this number on, and whether it has been silent for too long.
+    /// Returns the first client from this number on, and whether it has been silent for too long
+    /// (RFC 7766 6.2.3).
     pub fn from(&self, conn: u64, now: u64, deadline: u64) -> Option<(u64, bool)>
         ensures { result ≡ first_from conn now deadline self.now }
     {

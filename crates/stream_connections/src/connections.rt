@@ -1,4 +1,4 @@
-//! The connections that are open, and the ends of others that are yet to be told.
+//! The connections that are open, and the ends of others that are yet to be reported.
 
 ghost use Rattle.std.specs.Prelude.{◌≡◌, ◌<◌, length, drop, slice_get, nat_lt};
 ghost use Rattle.std.specs.Prelude.{true, is_some, IsTrue, OnOk, OnErr};
@@ -27,9 +27,9 @@ pub enum Closed {
     Server(u64),
 }
 
-/// The connections of clients and of asks that are open, by their numbers, and those that were closed and whose end is
-/// not told yet. There is always room to tell the end of each. A moment is in milliseconds, by one clock for all calls;
-/// the oldest of several clients has the least number.
+/// The connections of clients and of asks that are open, by their numbers, and those that were
+/// closed and whose end is not reported yet. There is always room to report the end of each. A
+/// moment is in ms, by one clock for all calls; the oldest of several clients has the least number.
 #[derive(Drop)]
 pub struct Connections<A: Allocator = Global> {
     clients: Clients<A>,
@@ -49,7 +49,7 @@ impl<A: Allocator> Model for Connections<A> {
 }
 
 impl<A: Allocator + Copy> Connections<A> {
-    /// None; it takes no memory.
+    /// Starts with no connection. It does not allocate.
     pub fn new(alloc: A) -> Connections<A>
         ensures { AreNone result }
     {
@@ -60,7 +60,7 @@ impl<A: Allocator + Copy> Connections<A> {
         }
     }
 
-    /// Takes out the end that is told next.
+    /// Takes out the end that is to be reported next.
     pub fn next_end(&mut self) -> Option<Closed>
         ensures first { result ≡ slice_get self.old.closed 0 }
         ensures rest { self.new ≡ record self.old { closed = drop 1 self.old.closed; has_room = self.new.has_room } }
@@ -68,7 +68,7 @@ impl<A: Allocator + Copy> Connections<A> {
         self.ends.pop_front()
     }
 
-    /// Keeps room to tell the end of each connection that is open, and of one more.
+    /// Keeps room to report the end of each connection that is open, and of one more.
     pub fn keep_room(&mut self) -> Result<(), AllocError>
         ensures ok { OnOk result (self.new.has_room ≡ true) }
         ensures rest { self.new ≡ record self.old { has_room = self.new.has_room } }
@@ -77,7 +77,7 @@ impl<A: Allocator + Copy> Connections<A> {
         self.ends.reserve(open.saturating_add(1))
     }
 
-    /// Closes a client's connection where it is open; its end is told.
+    /// Closes a client's connection where it is open; its end will be reported.
     pub fn close_client(&mut self, conn: u64)
         ensures { self.new ≡ without_client conn self.old }
     {
@@ -86,7 +86,7 @@ impl<A: Allocator + Copy> Connections<A> {
         }
     }
 
-    /// Closes a connection to a server where it is open; its end is told.
+    /// Closes a connection to a server where it is open; its end will be reported.
     pub fn close_server(&mut self, conn: u64)
         ensures { self.new ≡ without_server conn self.old }
     {
@@ -95,7 +95,7 @@ impl<A: Allocator + Copy> Connections<A> {
         }
     }
 
-    /// Closes the oldest connection of a client that waits for nothing; false where there is none.
+    /// Closes the oldest connection of a client that waits for nothing; false where no client does.
     #[tactic(auto, using(crate::proofs::Ends::fewer_without_idle))]
     fn close_oldest(&mut self) -> bool
         ensures closed { self.new ≡ without_first (first_idle self.old.clients) self.old }
@@ -111,7 +111,8 @@ impl<A: Allocator + Copy> Connections<A> {
         }
     }
 
-    /// Closes the oldest connection of a client that has waited for nothing for a second; false where there is none.
+    /// Closes the oldest connection of a client that has waited for nothing for a second; false
+    /// where no client has.
     pub fn close_resting(&mut self, now: u64) -> bool
         ensures closed { self.new ≡ without_first (first_resting now self.old.clients) self.old }
         ensures found { result ≡ is_some (first_resting now self.old.clients) }
@@ -125,8 +126,8 @@ impl<A: Allocator + Copy> Connections<A> {
         }
     }
 
-    /// Makes a place for one client more: where there are as many as may be, the oldest that waits for nothing is
-    /// closed. False where all of them wait, and then nothing has changed.
+    /// Makes a place for one client more: where there are 1,024, the oldest that waits for nothing
+    /// is closed. False where all of them wait: nothing has changed.
     pub fn make_place(&mut self) -> bool
         ensures place { IsTrue result → length self.new.clients < 1024 }
         ensures made { MakesPlace result self.old self.new }
@@ -134,7 +135,8 @@ impl<A: Allocator + Copy> Connections<A> {
         !self.clients.is_full() || self.close_oldest()
     }
 
-    /// Lists a client's connection under its number. `Err` where memory ran out, and then nothing has changed.
+    /// Lists a client's connection under its number. `Err` where memory ran out: nothing has
+    /// changed.
     pub fn admit(
         &mut self,
         alloc: A,
@@ -151,7 +153,8 @@ impl<A: Allocator + Copy> Connections<A> {
         self.clients.admit(alloc, conn, stream, now)
     }
 
-    /// Lists a connection to a server under its number. `Err` where memory ran out, and then nothing has changed.
+    /// Lists a connection to a server under its number. `Err` where memory ran out: nothing has
+    /// changed.
     pub fn list_server(&mut self, conn: u64, stream: ServerStream<A>) -> Result<(), AllocError>
         requires { self.old.has_room ≡ true }
         ensures ok { OnOk result (self.new.servers ≡ insert_entry nat_cmp self.old.servers conn stream) }
@@ -162,7 +165,8 @@ impl<A: Allocator + Copy> Connections<A> {
         Ok(())
     }
 
-    /// Sends what is left for the client with this number, and reads of it into the buffer; `None` where it isn't open.
+    /// Sends what is left for the client with this number, and reads what it sent into the buffer;
+    /// `None` where it isn't open.
     pub fn serve_client(&mut self, conn: u64, buffer: &mut [u8], now: u64) -> Option<Heard>
         ensures serves { ServesOn conn result now buffer.new self.old.clients self.new.clients }
         ensures rest { self.new ≡ record self.old { clients = self.new.clients } }
@@ -170,8 +174,8 @@ impl<A: Allocator + Copy> Connections<A> {
         self.clients.serve(conn, buffer, now)
     }
 
-    /// Sends what is left for the server on the connection with this number, and reads of it into the buffer; `None`
-    /// where it isn't open.
+    /// Sends what is left for the server on the connection with this number, and reads what it sent
+    /// into the buffer; `None` where it isn't open.
     pub fn serve_server(&mut self, conn: u64, buffer: &mut [u8]) -> Option<(Peer, Heard)>
         ensures serves { ServesServer conn result buffer.new self.old.servers self.new.servers }
         ensures rest { self.new ≡ record self.old { servers = self.new.servers } }
@@ -180,8 +184,8 @@ impl<A: Allocator + Copy> Connections<A> {
         Some((server.server, server.serve(buffer)))
     }
 
-    /// Replies to the client with this number, behind what it is still to take, and tells whether its connection goes
-    /// on; `None` where it isn't open. At most 1 MiB is left for a client.
+    /// Replies to the client with this number, after what it is still to take. Returns whether its
+    /// connection goes on; `None` where it isn't open. At most 1 MiB is left for a client.
     pub fn reply(
         &mut self,
         alloc: A,
@@ -195,15 +199,15 @@ impl<A: Allocator + Copy> Connections<A> {
         self.clients.reply(alloc, conn, reply, now)
     }
 
-    /// The first client from this number on, and whether it has been silent for too long: for 10 s, and where it waits
-    /// for a reply for `deadline` milliseconds more (RFC 7766 6.2.3).
+    /// Returns the first client from this number on, and whether it has been silent for too long:
+    /// for 10 s, and where it waits for a reply for `deadline` ms more (RFC 7766 6.2.3).
     pub fn client_from(&self, conn: u64, now: u64, deadline: u64) -> Option<(u64, bool)>
         ensures { result ≡ first_from conn now deadline self.now.clients }
     {
         self.clients.from(conn, now, deadline)
     }
 
-    /// The first connection to a server from this number on.
+    /// Returns the first connection to a server from this number on.
     pub fn server_from(&self, conn: u64) -> Option<u64>
         ensures { result ≡ first_number conn self.now.servers }
     {
@@ -211,7 +215,7 @@ impl<A: Allocator + Copy> Connections<A> {
         Some(*number)
     }
 
-    /// A connection to a server is open.
+    /// Whether a connection to a server is open.
     pub fn has_server(&self) -> bool
         ensures { result ≡ nat_lt 0 (length self.now.servers) }
     {

@@ -1,5 +1,5 @@
-//! Connections over TCP that clients opened, and those that were begun to ask servers: what each is still to take,
-//! which client gives way to another, and the ends that are to be told.
+//! Connections over TCP that clients opened, and those that were begun to ask servers: what each is
+//! still to take, which client gives way to another, and the ends that are to be reported.
 #![tactic(auto)]
 
 mod answers;

@@ -1,4 +1,4 @@
-//! Why a reply to a client is lost.
+//! The reasons for which a reply to a client is lost.
 
 ghost use Rattle.std.specs.Prelude.{◌≡◌};
 ghost use Rattle.stream_connections.specs.declared.lost.Lost.TheVariants.{Memory};
@@ -9,21 +9,22 @@ use std::io;
 use std::io::ErrorKind;
 use tcp_frames::FrameFault;
 
-/// Why a reply to a client on a connection is lost.
+/// The reason for which a reply to a client on a connection is lost.
 #[derive(Clone, Copy)]
 pub enum Lost {
     /// Memory ran out. Nothing has changed.
     Memory,
     /// The reply has more octets than its length can say. Nothing has changed.
     TooLong,
-    /// Too much is left that the client didn't take. Nothing has changed; the connection is to be closed.
+    /// Too much is left that the client didn't take. Nothing has changed; the connection is to be
+    /// closed.
     TooMuch,
     /// The stream takes nothing any more. The connection is to be closed.
     Gone,
 }
 
 impl Lost {
-    /// The connection is to be closed.
+    /// Whether the connection is to be closed.
     pub fn is_over(self) -> bool
         ensures { result ≡ is_over self }
     {

@@ -13,8 +13,8 @@ use std::io::{ErrorKind, Read};
 use suffix_routes::Peer;
 use tcp_frames::{Unsent, frame};
 
-/// What a server is to take of a query: its frame, the query behind its length in two octets (RFC 1035 4.2.2). `Err`
-/// where memory ran out, or the query has more than 65,535 octets.
+/// The octets of a query that a server is to take: its frame, the query after its length in two
+/// octets (RFC 1035 4.2.2). `Err` where memory ran out, or the query has more than 65,535 octets.
 pub fn unsent_query<A: Allocator + Copy>(alloc: A, query: &[u8]) -> io::Result<Unsent<A>>
     ensures { IfOk result (λ unsent. unsent ≡ record { left = framed query.now; taken = 0 }) }
 {
@@ -26,7 +26,7 @@ pub fn unsent_query<A: Allocator + Copy>(alloc: A, query: &[u8]) -> io::Result<U
     Ok(unsent)
 }
 
-/// A connection to a server, and what of the query it didn't take yet.
+/// A connection to a server, with the rest of the query that it didn't take yet.
 #[derive(Drop)]
 pub struct ServerStream<A: Allocator = Global> {
     stream: TcpStream,
@@ -35,7 +35,7 @@ pub struct ServerStream<A: Allocator = Global> {
 }
 
 impl<A: Allocator + Copy> ServerStream<A> {
-    /// A connection that was begun to this server, which is to take these octets.
+    /// Makes a connection that was begun to this server, which is to take these octets.
     pub fn new(stream: TcpStream, server: Peer, unsent: Unsent<A>) -> ServerStream<A>
         ensures server { result.server ≡ server }
         ensures unsent { result.unsent ≡ unsent }
@@ -56,7 +56,7 @@ impl<A: Allocator + Copy> ServerStream<A> {
         self.receive_after(sent, buffer)
     }
 
-    /// Has the server take what it takes of the query. `Err` where it takes none any more.
+    /// Sends as much of the query as the server takes. `Err` where it takes none any more.
     fn send(&mut self) -> io::Result<usize>
         ensures { SendsQuery self.old self.new }
     {

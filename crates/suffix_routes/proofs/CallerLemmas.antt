@@ -1,11 +1,11 @@
--- What the proofs of crates above cite of routes.
+-- Lemmas on routes for the proofs of crates above.
 use Rattle.std.proofs.Common.{◌≡◌, ℕ, ◌<◌, ◌≤◌, true, false, List, length, Option, Some, None, ap, arith, inl, inr}
 use Rattle.std.proofs.lemmas.Bool.{cases_Bool}
 use Rattle.std.specs.Prelude.{slice_get}
 use Rattle.std.specs.List.{AllByRecursion}
 use Rattle.dns_name.specs.Labels.{IsSame, IsUnder, lowered, size_of}
 use Rattle.suffix_routes.specs.Values.{Route, IsRoute, AllDiffer}
-use Rattle.suffix_routes.specs.Routes.{IsRouteOf, route_of, serving, serving_route_of, denies, is_denied}
+use Rattle.suffix_routes.specs.Routes.{IsRouteOf, route_of, serving, denies, is_denied}
 use Rattle.suffix_routes.specs.Laws.{NothingIsDenied}
 use Rattle.suffix_routes.proofs.RouteLaws as routes
 use Rattle.suffix_routes.proofs.ServingLaws as those_that_serve
@@ -30,7 +30,8 @@ route_found_within = routes.route_of-within
 pub route_at_place_is_route : (routes : List Route) (place : ℕ) (route : Route) → AllByRecursion IsRoute routes → slice_get routes place ≡ Some route → IsRoute route
 route_at_place_is_route = routes.route_holds
 
--- a name has the route of a name above it where no suffix of it has more octets than that one, and else another
+-- a name has the route of a name above it where no suffix of it has more octets than that one, and
+-- otherwise another
 pub routes_above_same : (routes : List Route) (name above : List (List ℕ)) → AllDiffer routes → IsUnder name above
     → ((k : ℕ) (other : Route) → slice_get routes k ≡ Some other → IsUnder name other.suffix → size_of other.suffix ≤ size_of above)
     → route_of routes above ≡ route_of routes name
@@ -52,10 +53,10 @@ pub serving_denies_nothing : (routes : List Route) (place : ℕ) (route : Route)
 serving_denies_nothing = those_that_serve.serving_denies_nothing
 
 -- names that are the same are served by the same route, or by none
-pub serving_respects_same : (routes : List Route) (n m : List (List ℕ)) → IsSame n m → serving_route_of routes n ≡ serving_route_of routes m
+pub serving_respects_same : (routes : List Route) (n m : List (List ℕ)) → IsSame n m → serving routes (route_of routes n) ≡ serving routes (route_of routes m)
 serving_respects_same routes n m same = ap (serving routes) (route_of_respects_same routes n m same)
 
-pub serving_lowered : (routes : List Route) (name : List (List ℕ)) → serving_route_of routes (lowered name) ≡ serving_route_of routes name
+pub serving_lowered : (routes : List Route) (name : List (List ℕ)) → serving routes (route_of routes (lowered name)) ≡ serving routes (route_of routes name)
 serving_lowered routes name = ap (serving routes) (route_of_lowered routes name)
 
 -- names that are the same are denied alike
@@ -66,7 +67,7 @@ pub denied_lowered : (routes : List Route) (name : List (List ℕ)) → is_denie
 denied_lowered routes name = ap (denies routes) (route_of_lowered routes name)
 
 -- a name that is denied is served by no route
-pub denied_is_not_served : (routes : List Route) (name : List (List ℕ)) → is_denied routes name ≡ true → serving_route_of routes name ≡ None
+pub denied_is_not_served : (routes : List Route) (name : List (List ℕ)) → is_denied routes name ≡ true → serving routes (route_of routes name) ≡ None
 denied_is_not_served routes name is = those_that_serve.denies_serves_not routes (route_of routes name) is
 
 -- a route has no more than 8 servers, whether it denies or not

@@ -163,7 +163,7 @@ writes_peer text peer w =
     )
     refl
 
--- what from_text tells
+-- the answer of from_text
 pub told_peer : (text : Text) (answer : Option Peer) → answer ≡ peer_of text → MatchOption answer ((peer : Peer) → Writes text peer → ⊥) (λ peer. Writes text peer)
 told_peer text (Some peer) is = peer_writes text peer (sym is)
 told_peer text None is = λ peer written. absurd (let no : None ≡ Some peer = is ∙ writes_peer text peer written in cc)

@@ -1,4 +1,4 @@
--- What holds of a configuration that was read, and how faults are passed on.
+-- A configuration that was read is well formed, and faults are passed on.
 use Rattle.std.proofs.Common.{◌≡◌, ℕ, suc, ◌+◌, ◌<◌, Bool, true, false, ◌==◌, List, [], ◌∷◌, ◌++◌, length, get_or, Option, Some, None, Result, Ok, Err, refl, sym, ap, subst, arith, inl, inr}
 use Rattle.std.specs.Prelude.{slice_get, position, codes}
 use Rattle.std.proofs.lemmas.Bool.Decides.{nat_tests}

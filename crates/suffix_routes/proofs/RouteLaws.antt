@@ -88,7 +88,8 @@ no_own routes name is k other there one =
     let no : false ≡ true = sym fails ∙ (same_decides name other.suffix).1 one in
     absurd cc
 
--- an answer for the name without its first label is one for the name, where no suffix is the name itself
+-- an answer for the name without its first label is one for the name, where no suffix is the name
+-- itself
 longer_name : (routes : List Route) (l : List ℕ) (ls : Name) (answer : Option ℕ) → route_at routes (l ∷ ls) ≡ None → IsAnswer routes ls answer → IsAnswer routes (l ∷ ls) answer
 longer_name routes l ls None none answer = λ k other there under.
     elim (under_cases l ls other.suffix under) [

@@ -3,7 +3,7 @@ use Rattle.std.proofs.Common.{◌≡◌, ℕ, Bool, true, false, List, [], ◌�
 use Rattle.std.specs.Prelude.{slice_get, if◌then◌else◌}
 use Rattle.suffix_routes.specs.declared.peer.Peer.{Peer}
 use Rattle.suffix_routes.specs.Values.{Route}
-use Rattle.suffix_routes.specs.Routes.{serving, serving_at, serving_route_of, denies, denies_at, is_denied, route_of}
+use Rattle.suffix_routes.specs.Routes.{serving, serving_at, denies, denies_at, is_denied, route_of}
 use Rattle.suffix_routes.specs.Laws.{NothingIsDenied}
 use Rattle.suffix_routes.proofs.RouteLaws.{route_of-some, all_hold}
 
@@ -77,11 +77,11 @@ routes =
     ∷ []
 
 -- c is served by the first route, and c.b by none, although it has one
-served : serving_route_of routes ((99 ∷ []) ∷ []) ≡ Some 0
+served : serving routes (route_of routes ((99 ∷ []) ∷ [])) ≡ Some 0
 unfolding route_of
 served = refl
 
-denied : serving_route_of routes ((99 ∷ []) ∷ (98 ∷ []) ∷ []) ≡ None
+denied : serving routes (route_of routes ((99 ∷ []) ∷ (98 ∷ []) ∷ [])) ≡ None
 unfolding route_of
 denied = refl
 
@@ -90,7 +90,7 @@ unfolding route_of
 has_a_route = refl
 
 -- c.a.b is served by the longer route, in any letter case
-served_below : serving_route_of routes ((67 ∷ []) ∷ (65 ∷ []) ∷ (66 ∷ []) ∷ []) ≡ Some 2
+served_below : serving routes (route_of routes ((67 ∷ []) ∷ (65 ∷ []) ∷ (66 ∷ []) ∷ [])) ≡ Some 2
 unfolding route_of
 served_below = refl
 

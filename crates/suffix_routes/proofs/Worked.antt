@@ -1,4 +1,4 @@
--- Worked configurations, computed, each beside a neighbour that reads otherwise.
+-- Worked configurations, computed, each with a neighbour that reads otherwise.
 use Rattle.std.proofs.Common.{◌≡◌, ℕ, ℤ, pos, Bool, true, false, List, [], ◌∷◌, Result, Ok, Err, refl, arith}
 use Rattle.std.specs.Prelude.{codes}
 use Rattle.toml.specs.Data.{Data, string, integer, boolean, array, table, Items, no_items, item, Members, no_members, member}
@@ -32,7 +32,7 @@ none_is_refused : version_in (versioned 0) ≡ Err (fault.Version (pos 0))
 unfolding version_in
 none_is_refused = refl
 
--- ---- the window for answers past their end
+-- ---- the window for stale answers
 
 abbrev windowed : ℕ → Members
 windowed n = member (codes "stale_s") (integer (pos n)) no_members
@@ -63,7 +63,7 @@ unknown_is_none : all_limits_in One no_members ≡ Ok default_limits
 unfolding all_limits_in known_keys limit_in
 unknown_is_none = refl
 
--- it comes behind each other limit
+-- it comes after each other limit
 window_behind_deadline : all_limits_in Two (member (codes "deadline_ms") (boolean true) (windowed 86401)) ≡ Err (fault.WrongKind (place.Limit limit.DeadlineMs) kind.Boolean)
 unfolding all_limits_in known_keys limit_in
 window_behind_deadline = refl

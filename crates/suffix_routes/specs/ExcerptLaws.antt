@@ -3,10 +3,12 @@ use Rattle.std.proofs.Common.{◌≡◌, ℕ, ◌+◌, ◌-◌, List, length, ta
 use Rattle.std.proofs.lemmas.List.{length-append, length-take, length-replicate}
 use Rattle.suffix_routes.specs.Excerpts.{kept_octets, kept_len, IsExcerpt}
 
+-- an excerpt is its text, filled up with zeros
 pub octets_back : (octets : List ℕ) (len : ℕ) → IsExcerpt octets len → kept_octets (take len octets) ≡ octets
 unfolding kept_octets
 octets_back octets len is = is.zeros
 
+-- an excerpt has the length of its text
 pub len_back : (octets : List ℕ) (len : ℕ) → IsExcerpt octets len → kept_len (take len octets) ≡ len
 unfolding kept_len
 len_back octets len is =

@@ -3,6 +3,7 @@ use Rattle.toml.specs.Data.{Data, string, integer, float, boolean, datetime, arr
 use Rattle.suffix_routes.specs.declared.kind.Kind.{Kind}
 use Rattle.suffix_routes.specs.declared.kind.Kind.TheVariants.{String, Integer, Float, Boolean, Datetime, Array, Table}
 
+-- the kind of a value of TOML
 abbrev pub kind_of : Data → Kind
 kind_of (string s) = String
 kind_of (integer z) = Integer

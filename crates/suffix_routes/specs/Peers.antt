@@ -8,11 +8,12 @@ use Rattle.suffix_routes.specs.declared.peer.Peer.{Peer}
 
 -- what comes next of what is there
 infixl 10 ◌>>?◌
+-- what the second reading yields of the first one's result, if both succeed
 abbrev pub ◌>>?◌ : {A B : Type 0} → Option A → (A → Option B) → Option B
 (Some x) >>? f = f x
 None >>? f = None
 
--- what stands before the first separator, and what behind it
+-- the octets before the first separator, and those after it
 abbrev pub cut : ℕ → List ℕ → Option (List ℕ × List ℕ)
 cut separator text = option_map (λ at. (take at text, drop (at + 1) text)) (position (λ c. c == separator) text)
 
@@ -21,6 +22,7 @@ abbrev pub is_decimal : List ℕ → Bool
 is_decimal text = (nat_lt 0 (length text) && not (nat_lt 1 (length text) && slice_index text 0 == 48))
     && list_all is_ascii_digit text
 
+-- the number of decimal digits
 abbrev pub decimal_value : List ℕ → ℕ
 decimal_value digits = fold (λ n c. 10 * n + (c - 48)) 0 digits
 
@@ -67,7 +69,7 @@ pub record Writes (text : List ℕ) (peer : Peer) : Type 0 where
   pub is_port : number_in 1 65535 last ≡ Some port
   pub is_peer : peer ≡ record { ip = a ∷ b ∷ c ∷ d ∷ []; port = port }
 
--- how a peer is written: its octets with dots between, a colon, its port
+-- the text of a peer: its octets with dots between, a colon, its port
 abbrev pub peer_text : Peer → List ℕ
 peer_text peer =
     decimal (slice_index peer.ip 0)

@@ -14,6 +14,7 @@ use Rattle.suffix_routes.specs.declared.fault.ConfigFault.TheVariants as fault
 
 -- ---- the table of limits
 
+-- the key of a limit in the table `limits`
 abbrev pub limit_key : Limit → List ℕ
 limit_key Questions = codes "questions"
 limit_key Inquiries = codes "inquiries"
@@ -23,6 +24,7 @@ limit_key AskMs = codes "ask_ms"
 limit_key DeadlineMs = codes "deadline_ms"
 limit_key StaleS = codes "stale_s"
 
+-- the value of a limit that the text leaves out
 abbrev pub default_of : Limit → ℕ
 default_of Questions = 1024
 default_of Inquiries = 256
@@ -32,6 +34,7 @@ default_of AskMs = 1500
 default_of DeadlineMs = 8000
 default_of StaleS = 0
 
+-- the least value that a limit may have
 abbrev pub lowest : Limit → ℕ
 lowest Questions = 1
 lowest Inquiries = 1
@@ -41,6 +44,7 @@ lowest AskMs = 100
 lowest DeadlineMs = 500
 lowest StaleS = 0
 
+-- the greatest value that a limit may have
 abbrev pub highest : Limit → ℕ
 highest Questions = 4096
 highest Inquiries = 1024
@@ -52,24 +56,30 @@ highest StaleS = 86400
 
 -- ---- the keys of each table: version 2 has one more of a limit, and one more of a route
 
+-- the keys of a configuration
 abbrev pub document_keys : List (List ℕ)
 document_keys = codes "version" ∷ codes "listen" ∷ codes "limits" ∷ codes "route" ∷ []
 
+-- the keys of `limits` in version 1
 abbrev pub first_limit_keys : List (List ℕ)
 first_limit_keys = limit_key Questions ∷ limit_key Inquiries ∷ limit_key Cache ∷ limit_key Tries ∷ limit_key AskMs
     ∷ limit_key DeadlineMs ∷ []
 
+-- the keys of `limits` in a version
 abbrev pub limit_keys : Version → List (List ℕ)
 limit_keys One = first_limit_keys
 limit_keys Two = limit_key StaleS ∷ first_limit_keys
 
+-- the keys of a route in version 1
 abbrev pub first_route_keys : List (List ℕ)
 first_route_keys = codes "suffix" ∷ codes "servers" ∷ []
 
+-- the keys of a route in a version
 abbrev pub route_keys : Version → List (List ℕ)
 route_keys One = first_route_keys
 route_keys Two = codes "deny" ∷ first_route_keys
 
+-- a key is one of these
 abbrev pub is_among : List (List ℕ) → List ℕ → Bool
 is_among keys key = list_any (λ k. pointwise nat_eq key k) keys
 
@@ -80,8 +90,9 @@ knows version Limits key = is_among (limit_keys version) key
 knows version (Route place) key = is_among (route_keys version) key
 knows version _ key = false
 
--- ---- the numbers by which programs tell a fault
+-- ---- the numbers of faults, for programs
 
+-- the number of a fault, as `replay` prints it
 abbrev pub number_of : ConfigFault → ℕ
 number_of (fault.Toml at) = 1
 number_of (fault.Version value) = 2

@@ -1,4 +1,4 @@
--- The configuration that a table of TOML holds, else the first fault in order.
+-- The configuration that a table of TOML holds, otherwise the first fault in order.
 use Rattle.std.specs.Prelude.{◌≡◌, ℕ, ◌≤◌, ℤ, pos, int_le, unsigned_abs, Bool, true, false, not, ◌==◌, nat_lt, ◌&&◌}
 use Rattle.std.specs.Prelude.{if◌then◌else◌, List, [], ◌∷◌, ◌++◌, length, take, codes, option_map, Option, Some, None}
 use Rattle.std.specs.Prelude.{Result, Ok, Err}
@@ -33,35 +33,37 @@ use Rattle.suffix_routes.specs.Excerpts.{excerpt}
 use Rattle.suffix_routes.specs.Kinds.{kind_of}
 use Rattle.suffix_routes.specs.Routes.{route_at}
 
--- the fault that is a want of memory
+-- whether the fault is that memory ran out
 abbrev pub wants_memory : ConfigFault → Bool
 wants_memory Memory = true
 wants_memory fault = false
 
--- What a call failed with is the answer, unless memory ran out.
+-- The fault of a call is the answer, unless memory ran out.
 abbrev pub Fails : {Y : Type 0} → ConfigFault → Result Y ConfigFault → Type 0
 Fails fault answer = reading.Fails wants_memory fault answer
 
--- What a call answered, seen by view, is the answer, unless memory ran out.
+-- The answer of a call, seen by view, is the answer, unless memory ran out.
 abbrev pub Gives : {X Y : Type 0} → (X → Y) → Result X ConfigFault → Result Y ConfigFault → Type 0
 Gives view given answer = reading.Gives wants_memory view given answer
 
--- What a call answered, seen by view, is the answer; such a call takes no memory.
+-- The answer of a call, seen by view, is the answer; such a call does not allocate.
 abbrev pub Shows : {X Y : Type 0} → (X → Y) → Result X ConfigFault → Result Y ConfigFault → Type 0
 Shows view (Ok x) answer = answer ≡ Ok (view x)
 Shows view (Err fault) answer = answer ≡ Err fault
 
--- what is there, else the fault
+-- the value, if any, otherwise the fault
 abbrev pub ok_or : {X : Type 0} → Option X → ConfigFault → Result X ConfigFault
 ok_or (Some x) fault = Ok x
 ok_or None fault = Err fault
 
 -- ---- parts of a table
 
+-- the keys of a table, in order
 abbrev pub keys_of : Members → List (List ℕ)
 keys_of no_members = []
 keys_of (member k d ms) = k ∷ keys_of ms
 
+-- the values of an array, in order
 abbrev pub list_of : Items → List Data
 list_of no_items = []
 list_of (item d ds) = d ∷ list_of ds
@@ -75,7 +77,7 @@ abbrev pub no_strange : Version → Place → Option (List ℕ) → Result (Unit
 no_strange version place None = Ok tt
 no_strange version place (Some key) = Err (UnknownKey version place (excerpt key))
 
--- no key but those that the table at this place may have, else the first that it may not have
+-- no key but those that the table at this place may have, otherwise the first that it may not have
 unfoldable pub known_keys : Version → Place → Members → Result (Unit {0}) ConfigFault
 known_keys version place ms = no_strange version place (find (is_strange version place) (keys_of ms))
 
@@ -83,20 +85,25 @@ known_keys version place ms = no_strange version place (find (is_strange version
 abbrev pub required : Place → List ℕ → Members → Result Data ConfigFault
 required place key ms = ok_or (get_member key ms) (MissingKey place)
 
--- ---- what stands at one place
+-- ---- the value at one place
 
+-- the text of a value; WrongKind where it is none
 abbrev pub text_in : Place → Data → Result (List ℕ) ConfigFault
 text_in place d = ok_or (as_str d) (WrongKind place (kind_of d))
 
+-- the integer of a value; WrongKind where it is none
 abbrev pub integer_in : Place → Data → Result ℤ ConfigFault
 integer_in place d = ok_or (as_integer d) (WrongKind place (kind_of d))
 
+-- the boolean of a value; WrongKind where it is none
 abbrev pub boolean_in : Place → Data → Result Bool ConfigFault
 boolean_in place d = ok_or (as_bool d) (WrongKind place (kind_of d))
 
+-- the values of an array; WrongKind where it is none
 abbrev pub array_in : Place → Data → Result (List Data) ConfigFault
 array_in place d = ok_or (option_map list_of (as_array d)) (WrongKind place (kind_of d))
 
+-- the members of a table; WrongKind where it is none
 abbrev pub table_in : Place → Data → Result Members ConfigFault
 table_in place d = ok_or (as_table d) (WrongKind place (kind_of d))
 
@@ -106,20 +113,23 @@ peer_in place d =
     text_in place d >>= λ text.
     ok_or (peer_of text) (BadPeer place (excerpt text))
 
--- a limit: its default where the key is absent, else an integer in its range
+-- a limit: its default where the key is absent, otherwise an integer in its range
 abbrev pub in_range : Limit → ℤ → Result ℕ ConfigFault
 in_range limit z =
     if int_le (pos (lowest limit)) z && int_le z (pos (highest limit)) then Ok (unsigned_abs z) else Err (Range limit z)
 
+-- a limit by its value, if any; otherwise its default
 abbrev pub limit_of : Limit → Option Data → Result ℕ ConfigFault
 limit_of limit None = Ok (default_of limit)
 limit_of limit (Some d) = integer_in (place.Limit limit) d >>= in_range limit
 
+-- a limit in the table `limits`
 unfoldable pub limit_in : Limit → Members → Result ℕ ConfigFault
 limit_in limit ms = limit_of limit (get_member (limit_key limit) ms)
 
 -- ---- the keys of the document
 
+-- the version of an integer: 1 or 2
 abbrev pub version_of : ℤ → Result Version ConfigFault
 version_of z = if int_eq z (pos 1) then Ok One else (if int_eq z (pos 2) then Ok Two else Err (fault.Version z))
 
@@ -133,10 +143,12 @@ version_in ms =
 abbrev pub default_listen : Peer
 default_listen = record { ip = 127 ∷ 0 ∷ 0 ∷ 1 ∷ []; port = 53 }
 
+-- the address that is listened at, or its default
 abbrev pub listen_of : Option Data → Result Peer ConfigFault
 listen_of None = Ok default_listen
 listen_of (Some d) = peer_in place.Listen d
 
+-- the address that a document listens at
 unfoldable pub listen_in : Members → Result Peer ConfigFault
 listen_in ms = listen_of (get_member (codes "listen") ms)
 
@@ -161,10 +173,12 @@ all_limits_in version ms =
       stale_s = stale_s;
     })
 
+-- the limits of a table `limits`, or all defaults
 abbrev pub limits_of : Version → Option Data → Result Limits ConfigFault
 limits_of version None = Ok default_limits
 limits_of version (Some d) = table_in place.Limits d >>= all_limits_in version
 
+-- the limits of a document
 unfoldable pub limits_in : Version → Members → Result Limits ConfigFault
 limits_in version ms = limits_of version (get_member (codes "limits") ms)
 
@@ -180,6 +194,7 @@ abbrev pub new_suffix : ℕ → List (List ℕ) → Option ℕ → Result (List 
 new_suffix place suffix None = Ok suffix
 new_suffix place suffix (Some earlier) = Err (TwiceSuffix place earlier)
 
+-- the suffix of a route, which no earlier route has
 unfoldable pub suffix_in : List Route → Members → Result (List (List ℕ)) ConfigFault
 suffix_in earlier ms =
     required (place.Suffix (length earlier)) (codes "suffix") ms >>= λ d.
@@ -187,7 +202,7 @@ suffix_in earlier ms =
     suffix_name (length earlier) text (name_in text) >>= λ suffix.
     new_suffix (length earlier) suffix (route_at earlier suffix)
 
--- the servers, each behind those before it
+-- the servers, each after those before it
 abbrev pub servers_after : ℕ → List Peer → List Data → Result (List Peer) ConfigFault
 servers_after route earlier [] = Ok earlier
 servers_after route earlier (d ∷ ds) = peer_in (place.Server route (length earlier)) d
@@ -199,6 +214,7 @@ counted_servers route ds =
     if length ds == 0 then Err (NoServers route)
     else (if nat_lt 8 (length ds) then Err (TooManyServers route (length ds)) else servers_after route [] ds)
 
+-- the servers of a route: 1 to 8
 unfoldable pub servers_in : ℕ → Members → Result (List Peer) ConfigFault
 servers_in route ms =
     required (place.Servers route) (codes "servers") ms >>= λ d.
@@ -210,6 +226,7 @@ abbrev pub deny_of : ℕ → Option Data → Result Bool ConfigFault
 deny_of route None = Ok false
 deny_of route (Some d) = boolean_in (place.Deny route) d
 
+-- whether a route denies its names
 unfoldable pub deny_in : ℕ → Members → Result Bool ConfigFault
 deny_in route ms = deny_of route (get_member (codes "deny") ms)
 
@@ -218,11 +235,13 @@ abbrev pub no_servers : ℕ → Option Data → Result (List Peer) ConfigFault
 no_servers route None = Ok []
 no_servers route (Some d) = Err (DenyWithServers route)
 
+-- the servers of a route; a route that denies has none, and the value of a key `servers` there is
+-- not looked at
 unfoldable pub group_in : Bool → ℕ → Members → Result (List Peer) ConfigFault
 group_in true route ms = no_servers route (get_member (codes "servers") ms)
 group_in false route ms = servers_in route ms
 
--- a route behind the earlier ones
+-- a route that follows the earlier ones
 unfoldable pub route_in : Version → List Route → Data → Result Route ConfigFault
 route_in version earlier d =
     table_in (place.Route (length earlier)) d >>= λ ms.
@@ -234,6 +253,7 @@ route_in version earlier d =
 
 -- ---- the routes
 
+-- the earlier routes, and those of the remaining tables
 abbrev pub routes_after : Version → List Route → List Data → Result (List Route) ConfigFault
 routes_after version earlier [] = Ok earlier
 routes_after version earlier (d ∷ ds) = route_in version earlier d
@@ -245,6 +265,7 @@ counted_routes version ds =
     if length ds == 0 then Err (MissingKey place.Routes)
     else (if nat_lt 64 (length ds) then Err (TooManyRoutes (length ds)) else routes_after version [] ds)
 
+-- the routes of a document: 1 to 64
 unfoldable pub routes_in : Version → Members → Result (List Route) ConfigFault
 routes_in version ms =
     required place.Routes (codes "route") ms >>= λ d.
@@ -253,6 +274,7 @@ routes_in version ms =
 
 -- ---- the whole
 
+-- the configuration of a document, or its first fault in order
 unfoldable pub config_in : Members → Result Config ConfigFault
 config_in ms =
     version_in ms >>= λ version.
@@ -262,18 +284,18 @@ config_in ms =
     routes_in version ms >>= λ routes.
     Ok (record { listen = listen; limits = limits; routes = routes })
 
--- the fault of a text that is no TOML, which tells the position of an octet of it or of its end
+-- the fault of a text that is no TOML, with the position of one of its octets or of its end
 abbrev pub IsNoToml : List ℕ → Result Config ConfigFault → Type 0
 IsNoToml text (Err (Toml position)) = (at : ℕ) × (at ≤ length text) × (position ≡ position_of (take at text))
 IsNoToml text (Err Memory) = Unit {0}
 IsNoToml text _ = ⊥
 
--- what is told of a document, where it could be read
+-- the answer for a text: by its document, if it could be read, otherwise the fault of no TOML
 abbrev pub IsTold : List ℕ → Option Members → Result Config ConfigFault → Type 0
 IsTold text None answer = IsNoToml text answer
 IsTold text (Some ms) answer = Gives (λ c. c) answer (config_in ms)
 
--- what was read in a text: its configuration, else its first fault
+-- the result of reading a text: its configuration, otherwise its first fault
 abbrev pub IsReadIn : List ℕ → Result Config ConfigFault → Type 0
 IsReadIn text answer = IsTold text (parse_document text) answer
 
@@ -282,5 +304,6 @@ abbrev pub HasVersion : Version → Option Members → Type 0
 HasVersion version None = ⊥
 HasVersion version (Some ms) = version_in ms ≡ Ok version
 
+-- the text is a document of this version
 abbrev pub IsTextOf : Version → List ℕ → Type 0
 IsTextOf version text = HasVersion version (parse_document text)

@@ -1,13 +1,28 @@
 -- The route of a configuration that serves a name, and names that it denies.
-use Rattle.std.specs.Prelude.{ℕ, Bool, List, Option}
+use Rattle.std.specs.Prelude.{ℕ, Bool, true, false, List, Option, Some, None}
 use Rattle.suffix_routes.specs.Values.{Config}
-use Rattle.suffix_routes.specs.Routes.{serving_route_of, is_denied}
+use Rattle.suffix_routes.specs.Routes.{route_of, serving, is_denied}
+use Rattle.suffix_routes.specs.declared.routing.Routing.{Routing}
+use Rattle.suffix_routes.specs.declared.routing.Routing.TheVariants as routing
 
--- the place of the route whose servers are asked for a name: that of the configured suffix with the most labels which
--- the name is under, where that route does not deny it
-abbrev pub route_of : Config → List (List ℕ) → Option ℕ
-route_of config name = serving_route_of config.routes name
+-- the place of the route whose servers are asked for a name: that of the configured suffix with the
+-- most labels which the name is under, where that route does not deny it
+abbrev pub serving_route_of : Config → List (List ℕ) → Option ℕ
+serving_route_of config name = serving config.routes (route_of config.routes name)
 
--- the route of the name is there, and denies it: the configuration itself answers that there is no such name
+-- the route of the name is there, and denies it: the configuration itself answers that there is no
+-- such name
 abbrev pub is_local : Config → List (List ℕ) → Bool
 is_local config name = is_denied config.routes name
+
+-- the route that serves a name of which the configuration says this
+abbrev pub served_by : Routing → Option ℕ
+served_by (routing.Served place) = Some place
+served_by routing.Denied = None
+served_by routing.None = None
+
+-- whether the configuration denies a name of which it says this
+abbrev pub denied_by : Routing → Bool
+denied_by (routing.Served place) = false
+denied_by routing.Denied = true
+denied_by routing.None = false

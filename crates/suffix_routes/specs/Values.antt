@@ -1,15 +1,17 @@
--- What a configuration is: plain values, and what holds of each that was accepted.
+-- Configurations: plain values, and what holds of each that was accepted.
 use Rattle.std.specs.Prelude.{◌≡◌, ℕ, Bool, true, false, ◌≤◌, List, [], ◌∷◌, length}
 use Rattle.std.specs.List.{AllByRecursion}
 use Rattle.dns_name.specs.Labels.{IsName, IsSame}
 use Rattle.suffix_routes.specs.declared.peer.Peer.{Peer}
 use Rattle.suffix_routes.specs.declared.limits.Limits.{Limits}
 
+-- a route: suffix, whether it denies, and servers in the order in which they are asked
 pub record Route : Type 0 where
   pub suffix : List (List ℕ)
   pub deny : Bool
   pub servers : List Peer
 
+-- a configuration
 pub record Config : Type 0 where
   pub listen : Peer
   pub limits : Limits
@@ -19,6 +21,7 @@ pub record Config : Type 0 where
 abbrev pub IsWithin : ℕ → ℕ → ℕ → Type 0
 IsWithin low high n = (low ≤ n) × (n ≤ high)
 
+-- each limit is in its range; times in milliseconds, `stale_s` in seconds
 pub record AreLimits (limits : Limits) : Type 0 where
   pub questions : IsWithin 1 4096 limits.questions
   pub inquiries : IsWithin 1 1024 limits.inquiries
@@ -55,14 +58,14 @@ abbrev pub AllDiffer : List Route → Type 0
 AllDiffer [] = Unit {0}
 AllDiffer (r ∷ rs) = HasNoSuffix r.suffix rs × AllDiffer rs
 
+-- a configuration that was accepted: limits in range, 1 to 64 routes with different suffixes
 pub record IsConfig (config : Config) : Type 0 where
   pub limits : AreLimits config.limits
   pub count : IsWithin 1 64 (length config.routes)
   pub each : AllByRecursion IsRoute config.routes
   pub differ : AllDiffer config.routes
 
--- no window for answers past their end, and no route that denies: nothing that the second version has more than the
--- first
+-- no window for stale answers, and no route that denies: nothing that only the second version has
 pub record HasNeither (config : Config) : Type 0 where
   pub window : config.limits.stale_s ≡ 0
   pub routes : AllByRecursion (λ r. r.deny ≡ false) config.routes

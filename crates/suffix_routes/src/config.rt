@@ -2,18 +2,20 @@
 
 ghost use Rattle.std.specs.Prelude.{◌≡◌, IfOk};
 ghost use Rattle.suffix_routes.specs.Values.{IsConfig};
-ghost use Rattle.suffix_routes.specs.Routes.{IsAnswer, denies, is_denied, route_of, serving, serving_route_of};
+ghost use Rattle.suffix_routes.specs.Routes.{IsAnswer, denies, route_of, serving};
+ghost use Rattle.suffix_routes.specs.Serving.{denied_by, is_local, served_by, serving_route_of};
 
 use crate::limits::Limits;
 use crate::peer::Peer;
 use crate::route::{Route, RouteId};
+use crate::routing::Routing;
 use dns_name::{Name, NameKey};
 use plain_list::PlainList;
 use std::alloc::{AllocError, Allocator, Global};
 use std::marker::Model;
 
-/// A configuration that was accepted: its limits are in range, it has 1 to 64 routes, each has 1 to 8 servers, or none
-/// where it denies, and no two suffixes are the same name.
+/// A configuration that was accepted: its limits are in range, it has 1 to 64 routes, each has 1 to
+/// 8 servers, or none where it denies, and no two suffixes are the same name.
 #[derive(Drop)]
 pub struct Config<A: Allocator = Global> {
     /// Where clients are served, over UDP and TCP.
@@ -35,8 +37,8 @@ impl<A: Allocator> Model for Config<A> {
 }
 
 impl<A: Allocator> Config<A> {
-    /// The routes, in the order of the configuration. What holds of each accepted configuration is said here. It takes
-    /// no memory.
+    /// The routes, in the order of the configuration. The clauses say what holds of each accepted
+    /// configuration. It does not allocate.
     pub fn routes(&self) -> &[Route<A>]
         ensures routes { result.now ≡ self.now.routes }
         ensures accepted { IsConfig self.now }
@@ -44,8 +46,8 @@ impl<A: Allocator> Config<A> {
         self.routes.as_slice()
     }
 
-    /// The route of a name: the one whose suffix has the most labels among those that the name is under; `None` where
-    /// it is under none. It takes no memory.
+    /// The route of a name: the one whose suffix has the most labels among those that the name is
+    /// under; `None` where it is under none. It does not allocate.
     pub fn route_of(&self, name: &Name<A>) -> Option<RouteId>
         ensures longest { IsAnswer self.now.routes name.now result }
         ensures computed { result ≡ route_of self.now.routes name.now }
@@ -53,7 +55,7 @@ impl<A: Allocator> Config<A> {
         self.route_of_key(&name.key())
     }
 
-    /// The route of the names that have this key, as `route_of` gives it. It takes no memory.
+    /// The route of the names that have this key, as `route_of` gives it. It does not allocate.
     pub fn route_of_key(&self, key: &NameKey) -> Option<RouteId>
         ensures longest { IsAnswer self.now.routes key.now result }
         ensures computed { result ≡ route_of self.now.routes key.now }
@@ -61,56 +63,35 @@ impl<A: Allocator> Config<A> {
         longest(self.routes(), key)
     }
 
-    /// The route whose servers are asked for a name: its route, where that doesn't deny the name; else `None`. It takes
-    /// no memory.
-    pub fn serving_route_of(&self, name: &Name<A>) -> Option<RouteId>
-        ensures { result ≡ serving_route_of self.now.routes name.now }
+    /// The routing of a name: the route that serves it, that its route denies it, or that it has
+    /// none. It does not allocate.
+    pub fn routing(&self, name: &Name<A>) -> Routing
+        ensures served { served_by result ≡ serving_route_of self.now name.now }
+        ensures denied { denied_by result ≡ is_local self.now name.now }
     {
-        self.serving(self.route_of(name))
+        self.routing_on(self.route_of(name))
     }
 
-    /// The route that serves the names that have this key, as `serving_route_of` gives it. It takes no memory.
-    pub fn serving_route_of_key(&self, key: &NameKey) -> Option<RouteId>
-        ensures { result ≡ serving_route_of self.now.routes key.now }
+    /// The routing of the names that have this key, as `routing` gives it. It does not allocate.
+    pub fn routing_of_key(&self, key: &NameKey) -> Routing
+        ensures served { served_by result ≡ serving_route_of self.now key.now }
+        ensures denied { denied_by result ≡ is_local self.now key.now }
     {
-        self.serving(self.route_of_key(key))
+        self.routing_on(self.route_of_key(key))
     }
 
-    /// Whether a name has a route that denies it. It takes no memory.
-    pub fn denies(&self, name: &Name<A>) -> bool
-        ensures { result ≡ is_denied self.now.routes name.now }
-    {
-        self.is_denying(self.route_of(name))
-    }
-
-    /// Whether the names that have this key are denied, as `denies` says it. It takes no memory.
-    pub fn denies_key(&self, key: &NameKey) -> bool
-        ensures { result ≡ is_denied self.now.routes key.now }
-    {
-        self.is_denying(self.route_of_key(key))
-    }
-
-    /// Whether there is a route, and it denies the names that are on it.
-    fn is_denying(&self, found: Option<RouteId>) -> bool
-        ensures { result ≡ denies self.now.routes found }
+    /// The routing of the names of this route, or of those that have none.
+    fn routing_on(&self, found: Option<RouteId>) -> Routing
+        ensures served { served_by result ≡ serving self.now.routes found }
+        ensures denied { denied_by result ≡ denies self.now.routes found }
     {
         let Some(id) = found else {
-            return false;
+            return Routing::None;
         };
         match self.routes().get(id.place) {
-            Some(route) => route.deny,
-            None => false,
-        }
-    }
-
-    /// The route, where it doesn't deny the names that are on it.
-    fn serving(&self, found: Option<RouteId>) -> Option<RouteId>
-        ensures { result ≡ serving self.now.routes found }
-    {
-        let id = found?;
-        match self.routes().get(id.place) {
-            Some(route) if !route.deny => Some(id),
-            _ => None,
+            Some(route) if route.deny => Routing::Denied,
+            Some(_) => Routing::Served(id),
+            None => Routing::None,
         }
     }
 }

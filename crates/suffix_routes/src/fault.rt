@@ -1,4 +1,4 @@
-//! Why a text is no configuration.
+//! The faults of a configuration.
 
 ghost use Rattle.std.specs.Prelude.{◌≡◌};
 ghost use Rattle.suffix_routes.specs.Places.{number_of};
@@ -13,8 +13,8 @@ use dns_name::NameFault;
 use std::alloc::AllocError;
 use thiserror::Error;
 
-/// Why a text is no configuration: the first fault in the order of `Config::read`, or that memory ran out. Places are
-/// shown with routes and servers counted from 1.
+/// The reason why a text is no configuration: the first fault in the order of `Config::read`, or
+/// that memory ran out. Places are shown with routes and servers counted from 1.
 #[derive(Clone, Copy, Debug, PartialEq, Eq, Error)]
 pub enum ConfigFault {
     /// The text is no TOML; where its reader stopped.
@@ -23,35 +23,35 @@ pub enum ConfigFault {
     /// `version` is this number, which is neither 1 nor 2.
     #[error("`version` is {0}, and has to be 1 or 2")]
     Version(i64),
-    /// Nothing stands at this place, or no route in the array of routes.
+    /// This place is empty, or there is no route in the array of routes.
     #[error("{} is {}, and has to be {}", .0, .0.absence(), .0.wanted())]
     MissingKey(Place),
-    /// What stands at this place is of this kind, which is another than it has to be.
+    /// The value at this place is of this kind, and has to be of another.
     #[error("{} is {}, and has to be {}", .0, .1, .0.wanted())]
     WrongKind(Place, Kind),
     /// The suffix of this route is this text, which is no name.
     #[error("{} is {}, which is no name: {}", Place::Suffix(*.0), .1, .2)]
     BadName(usize, Excerpt, NameFault),
-    /// What stands at this place is this text, which is no peer.
+    /// The value at this place is this text, which is no peer.
     #[error("{0} is {1}, and has to be four numbers from 0 to 255 with dots between, a colon, and a port from 1 to 65535")]
     BadPeer(Place, Excerpt),
     /// A limit has this value, which is out of its range.
     #[error("{} is {}, and has to be {} to {}", Place::Limit(*.0), .1, .0.lowest(), .0.highest())]
     Range(Limit, i64),
-    /// The route at this place has so many servers, which are more than 8.
+    /// The number of servers of the route at this place, more than 8.
     #[error("{} are {}, and have to be 1 to 8", Place::Servers(*.0), .1)]
     TooManyServers(usize, usize),
     /// The route at this place has the suffix of an earlier one.
     #[error("{} is that of {} too, and each route has to have its own", Place::Suffix(*.0), Place::Route(*.1))]
     TwiceSuffix(usize, usize),
-    /// There are so many routes, which are more than 64.
+    /// The number of routes, more than 64.
     #[error("there are {0} routes, and have to be 1 to 64")]
     TooManyRoutes(usize),
     /// The route at this place has no servers.
     #[error("{} is empty, and has to have 1 to 8", Place::Servers(*.0))]
     NoServers(usize),
-    /// In a text of this version the table at this place has this key, which is not known there. Of several it is the
-    /// least by its octets.
+    /// In a text of this version the table at this place has this key, which is not known there. Of
+    /// several it is the least by its octets.
     #[error("{} has the key {}, which {} {}", .1, .2, .1.refusal(*.0, .2), .1.remedy(*.0, .2))]
     UnknownKey(Version, Place, Excerpt),
     /// The route at this place denies, and has the key `servers`.
@@ -63,9 +63,9 @@ pub enum ConfigFault {
 }
 
 impl ConfigFault {
-    /// The number by which programs tell the fault: 1 no TOML, 2 version, 3 missing key, 4 wrong kind, 5 bad name, 6
-    /// bad peer, 7 out of range, 8 suffix twice, 9 too many routes, 10 no servers, 11 unknown key, 12 memory, 13
-    /// servers of a route that denies.
+    /// The number of the fault, for programs: 1 no TOML, 2 version, 3 missing key, 4 wrong kind, 5
+    /// bad name, 6 bad peer, 7 out of range, 8 suffix twice, 9 too many routes, 10 no servers, 11
+    /// unknown key, 12 memory, 13 servers of a route that denies.
     pub fn number(&self) -> u8
         ensures { result ≡ number_of self.now }
     {

@@ -1,9 +1,9 @@
-//! What the second version leaves of the first.
+//! The law that a configuration of version 1 has nothing of version 2.
 
 ghost use Rattle.suffix_routes.specs.Laws.{FirstVersionHasNeither, NothingIsDenied};
 
-/// The configuration of a text of version 1 has a window of 0 seconds for answers past their end, and no route that
-/// denies.
+/// The configuration of a text of version 1 has a window of 0 seconds for stale answers, and no
+/// route that denies.
 pub fn first_version_has_neither()
     ensures { FirstVersionHasNeither }
 {}

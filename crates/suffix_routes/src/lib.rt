@@ -1,4 +1,5 @@
-//! The configuration: where the forwarder listens, its limits, and its routes by the suffix of a name.
+//! The configuration: where the forwarder listens, its limits, and its routes by the suffix of a
+//! name.
 #![tactic(auto)]
 
 mod config;
@@ -13,6 +14,7 @@ mod position;
 mod read;
 mod read_route;
 mod route;
+mod routing;
 mod table;
 mod version;
 
@@ -26,4 +28,5 @@ pub use peer::Peer;
 pub use place::{Limit, Place};
 pub use position::Position;
 pub use route::{Route, RouteId};
+pub use routing::Routing;
 pub use version::Version;

@@ -6,19 +6,20 @@ ghost use Rattle.suffix_routes.specs.Values.{default_limits};
 /// The limits of a forwarder. In an accepted configuration each is in its range.
 #[derive(Clone, Copy, Debug, PartialEq, Eq)]
 pub struct Limits {
-    /// How many questions may wait, 1 to 4,096.
+    /// The number of questions that may wait, 1 to 4,096.
     pub questions: usize,
-    /// How many inquiries may be open, 1 to 1,024.
+    /// The number of inquiries that may be open, 1 to 1,024.
     pub inquiries: usize,
-    /// How many entries the cache has room for, 1 to 65,536.
+    /// The number of entries that the cache has room for, 1 to 65,536.
     pub cache: usize,
-    /// How many asks one inquiry may make, 1 to 16.
+    /// The number of asks that one inquiry may make, 1 to 16.
     pub tries: u8,
-    /// How many milliseconds an ask is live, 100 to 10,000.
+    /// The time for which an ask is live, 100 to 10,000 ms.
     pub ask_ms: u64,
-    /// How many milliseconds a question may wait, 500 to 30,000.
+    /// The time for which a question may wait, 500 to 30,000 ms.
     pub deadline_ms: u64,
-    /// For how many seconds past its end a set may still be answered where all tries failed, 0 to 86,400.
+    /// The seconds for which an expired set may still be answered where all tries failed, 0 to
+    /// 86,400 (RFC 8767 5).
     pub stale_s: u32,
 }
 

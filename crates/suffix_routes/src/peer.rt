@@ -18,8 +18,9 @@ pub struct Peer {
 }
 
 impl Peer {
-    /// The peer that a text writes: four decimal numbers from 0 to 255 with dots between, a colon, and a port from 1 to
-    /// 65535, where no number has a leading zero but `0` itself. `None` for any other text. It takes no memory.
+    /// The peer that a text writes: four decimal numbers from 0 to 255 with dots between, a colon,
+    /// and a port from 1 to 65535, where no number has a leading zero but `0` itself. `None` for
+    /// any other text. It does not allocate.
     #[tactic(auto, using(crate::proofs::PeerLaws::told_peer))]
     pub fn from_text(text: &str) -> Option<Peer>
         ensures exact { MatchOption result ((peer : Peer) → Writes text.now peer → ⊥) (λ peer. Writes text.now peer) }
@@ -43,7 +44,7 @@ fn read_peer(text: &[u8]) -> Option<Peer>
     Some(Peer { ip, port })
 }
 
-/// What stands before the first separator, and what behind it.
+/// The octets before the first separator, and those after it; `None` where there is no separator.
 fn cut(text: &[u8], separator: u8) -> Option<(&[u8], &[u8])>
     ensures { option_map (λ x. (x.0.now, x.1.now)) result ≡ cut separator text.now }
 {

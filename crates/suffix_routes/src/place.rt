@@ -87,7 +87,8 @@ impl Limit {
     }
 }
 
-/// A place in a configuration. Routes and servers are counted from 0 here, and from 1 where a place is shown.
+/// A place in a configuration. Routes and servers are counted from 0 here, and from 1 where a place
+/// is shown.
 #[derive(Clone, Copy, Debug, PartialEq, Eq)]
 pub enum Place {
     /// The whole document.
@@ -115,7 +116,7 @@ pub enum Place {
 }
 
 impl Place {
-    /// What has to stand at this place.
+    /// The value that this place has to have, in words.
     pub fn wanted(&self) -> &'static str {
         match self {
             Place::Document | Place::Limits | Place::Route(_) => "a table",
@@ -128,7 +129,7 @@ impl Place {
         }
     }
 
-    /// How the fault of a missing key is worded: an empty array of routes is told by it too.
+    /// The words for a missing key, or for an empty array of routes.
     pub(crate) fn absence(&self) -> &'static str {
         match self {
             Place::Routes => "missing or empty",
@@ -152,7 +153,8 @@ impl Place {
         }
     }
 
-    /// Why a key is refused that a table at this place may not have in this version; `remedy` follows it.
+    /// The reason why a key is refused, which a table at this place may not have in this version;
+    /// `remedy` follows it.
     pub(crate) fn refusal(&self, version: Version, key: &Excerpt) -> &'static str {
         if self.needs_second(version, key) {
             "needs"
@@ -161,7 +163,7 @@ impl Place {
         }
     }
 
-    /// What is to be written for such a key, or beside it.
+    /// The text to write for such a key, or next to it.
     pub(crate) fn remedy(&self, version: Version, key: &Excerpt) -> &'static str {
         if self.needs_second(version, key) {
             "`version = 2`"
@@ -170,7 +172,7 @@ impl Place {
         }
     }
 
-    /// Whether it is this version that keeps a key from standing at this place.
+    /// Whether only the second version has this key at this place, and the text is of the first.
     fn needs_second(&self, version: Version, key: &Excerpt) -> bool {
         match (self, version) {
             (Place::Limits, Version::One) => key.octets() == b"stale_s".as_slice(),

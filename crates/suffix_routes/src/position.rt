@@ -15,7 +15,7 @@ pub struct Position {
 }
 
 impl Position {
-    /// The position behind these octets of UTF-8. It takes no memory.
+    /// The position after these octets of UTF-8. It does not allocate.
     pub fn behind(octets: &[u8]) -> Position
         ensures { result ≡ position_of octets.now }
     {

@@ -21,19 +21,20 @@ use std::alloc::{Allocator, Global};
 use toml::Table;
 
 impl<A: Allocator + Copy> Config<A> {
-    /// The configuration that a TOML text holds.
+    /// Reads a configuration from a TOML text.
     ///
-    /// `version` has to be 1 or 2. `listen` is the peer at which clients are served, `127.0.0.1:53` where it is absent.
-    /// The table `limits` may have the keys of `Limits`; one that is absent has its default. `route` is an array of 1
-    /// to 64 tables with a `suffix`, read by `Name::from_text`, and 1 to 8 `servers`, read by `Peer::from_text`. In
-    /// version 2 alone `limits` may have `stale_s`, and a route may have `deny`; one with `deny = true` may not have
-    /// `servers`.
+    /// `version` has to be 1 or 2. `listen` is the peer at which clients are served, `127.0.0.1:53`
+    /// where it is absent. The table `limits` may have the keys of `Limits`; one that is absent has
+    /// its default. `route` is an array of 1 to 64 tables with a `suffix`, read by
+    /// `Name::from_text`, and 1 to 8 `servers`, read by `Peer::from_text`. In version 2 alone
+    /// `limits` may have `stale_s`, and a route may have `deny`; one with `deny = true` may not
+    /// have `servers`.
     ///
-    /// The fault is the first in this order: a text that is no TOML; `version`; a key of the document that is not
-    /// known; `listen`; `limits`, first its unknown keys and then each limit; `route` and the count of routes; each
-    /// route in turn: its kind, its unknown keys, its suffix, `deny`, its servers and their count, each server.
-    /// `Memory` comes where a growth was refused, `heap` being used for the table that is read and `alloc` for the
-    /// configuration.
+    /// The fault is the first in this order: a text that is no TOML; `version`; a key of the
+    /// document that is not known; `listen`; `limits`, first its unknown keys and then each limit;
+    /// `route` and the count of routes; each route in turn: its kind, its unknown keys, its suffix,
+    /// `deny`, its servers and their count, each server. `Memory` where an allocation was refused:
+    /// the table that is read is in `heap`, the configuration in `alloc`.
     pub fn read(heap: Global, alloc: A, text: &str) -> Result<Config<A>, ConfigFault>
         ensures { IsReadIn text.now result }
     {

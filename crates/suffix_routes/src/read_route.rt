@@ -56,7 +56,7 @@ fn read_each_route<A: Allocator + Copy>(
     Ok(routes)
 }
 
-/// A route behind the earlier ones.
+/// Reads a route that follows the earlier ones.
 #[tactic(auto, unfolding(crate::specs::Reading::route_in))]
 fn read_route<A: Allocator + Copy>(
     alloc: A,
@@ -122,7 +122,7 @@ fn place_of<A: Allocator>(routes: &[Route<A>], name: &Name<A>) -> Option<usize>
     None
 }
 
-/// Whether the route at this place denies: it does not where nothing is said.
+/// Whether the route at this place denies: not where the key `deny` is absent.
 #[tactic(auto, unfolding(crate::specs::Reading::deny_in))]
 fn read_deny(table: &Table, route: usize) -> Result<bool, ConfigFault>
     ensures { result ≡ deny_in route (table_view table.now) }
@@ -133,7 +133,8 @@ fn read_deny(table: &Table, route: usize) -> Result<bool, ConfigFault>
     }
 }
 
-/// The group of the route at this place: none where it denies, and then the key `servers` may not be there.
+/// The group of the route at this place: none where it denies, and then the key `servers` may not
+/// be there.
 #[tactic(auto, unfolding(crate::specs::Reading::group_in))]
 fn read_group<A: Allocator + Copy>(
     alloc: A,

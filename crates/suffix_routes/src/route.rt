@@ -15,7 +15,8 @@ pub struct Route<A: Allocator = Global> {
     pub suffix: Name<A>,
     /// Whether the names are denied; nothing is asked for them.
     pub deny: bool,
-    /// The group of servers in the order of the configuration, 1 to 8, or none where the route denies.
+    /// The group of servers in the order of the configuration, 1 to 8, or none where the route
+    /// denies.
     pub servers: PlainList<Peer, A>,
 }
 
@@ -42,7 +43,8 @@ impl<A: Allocator + Copy> Route<A> {
     }
 }
 
-/// A route of a configuration, by its place among the routes, from 0. Contracts see it as that place.
+/// A route of a configuration, by its place among the routes, from 0. Contracts see it as that
+/// place.
 #[derive(Clone, Copy, Debug, PartialEq, Eq, PartialOrd, Ord, Hash)]
 pub struct RouteId {
     /// The place in `Config::routes`.

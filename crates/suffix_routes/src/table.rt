@@ -1,4 +1,4 @@
-//! What stands at a place of a TOML table.
+//! The values at places of a TOML table.
 
 ghost use Rattle.std.specs.Prelude.{◌≡◌, ◌≤◌, IfOk, not, map, option_map, option_copied, string_bytes};
 ghost use Rattle.std.specs.BTreeMap.{keys};
@@ -117,7 +117,7 @@ pub(crate) fn peer_at(value: &Value, place: Place) -> Result<Peer, ConfigFault>
     }
 }
 
-/// A limit: its default where its key is absent, else an integer in its range.
+/// A limit: its default where its key is absent, otherwise an integer in its range.
 #[tactic(auto, unfolding(crate::specs::Reading::limit_in))]
 pub(crate) fn limit_at(table: &Table, limit: Limit) -> Result<u64, ConfigFault>
     ensures value { result ≡ limit_in limit (table_view table.now) }

@@ -1,12 +1,12 @@
--- Where a stream stands behind a part of a frame, and behind a piece.
+-- The place of a stream in its frames after a part of a frame, and after a piece.
 use Rattle.std.proofs.Common.{◌≡◌, ℕ, ◌+◌, ◌-◌, ◌*◌, ◌<◌, ◌≤◌, List, [], ◌∷◌, ◌++◌, length, take, drop, get_or, refl, sym, ap, ◌∙◌, append-nil, append_assoc, arith}
 use Rattle.std.proofs.lemmas.Bool.{le-leb, lt-leb}
 use Rattle.std.proofs.lemmas.List.{take_all, drop_all, length-append, length-take-le, take-append-drop}
 use Rattle.tcp_frames.specs.Frames.{frames_within, frames_of, unfinished_of}
-use Rattle.tcp_frames.specs.Laws.{PiecesContinue}
 use Rattle.tcp_frames.specs.declared.framing.Within.{Within}
 use Rattle.tcp_frames.specs.declared.framing.Within.TheVariants.{Nothing, Length, Message}
 use Rattle.tcp_frames.specs.Counting.{Counts, Leaves, Misses, Stands, ended}
+use Rattle.tcp_frames.proofs.FrameLaws.{continues}
 
 -- ---- a part of a frame
 
@@ -28,7 +28,8 @@ unfolding unfinished_of
 unfinished_whole high low more whole =
     rw (frames_whole high low more whole, append-nil more, drop_all (length more) more (omega arith)) refl
 
--- what a place says of the octets behind the last whole frame: with none behind them there is no whole frame
+-- the meaning of a place for the octets after the last whole frame: without any there is no whole
+-- frame
 frames_none : (rest : List ℕ) (place : Within) → Stands place rest → frames_of rest ≡ []
 unfolding frames_of frames_within
 frames_none rest Nothing here = rw here refl
@@ -75,9 +76,14 @@ message_goes_on piece (high ∷ low ∷ more) left count place within fits misse
     let led = part_leads high low (left - count) (more ++ octets) place (omega (arith, long, taken)) leaves in
     record { frames = led.0; stands = led.1 }
 
+pub ended_once : (place : Within) → ended place ≤ 1
+ended_once Nothing = omega arith
+ended_once (Length high) = omega arith
+ended_once (Message left) = omega arith
+
 -- ---- a piece, part by part
 
--- so far: behind these octets and so many frames the rest of the piece is left
+-- so far: after these octets and `count` frames the rest of the piece is left
 pub record GoesOn (rest piece left : List ℕ) (count : ℕ) (place : Within) : Type 0 where
   pub behind : List ℕ
   pub stands : Stands place behind
@@ -87,14 +93,14 @@ pub record GoesOn (rest piece left : List ℕ) (count : ℕ) (place : Within) : 
 pub goes_on_none : (rest piece : List ℕ) (place : Within) → Stands place rest → GoesOn rest piece piece 0 place
 goes_on_none rest piece place stands = record { behind = rest; stands = stands; frames = omega arith; unfinished = refl }
 
-pub goes_on_more : PiecesContinue → (rest piece left : List ℕ) (count taken : ℕ) (place next : Within)
+pub goes_on_more : (rest piece left : List ℕ) (count taken : ℕ) (place next : Within)
     → ((behind : List ℕ) → Stands place behind → Counts behind (take taken left) (ended next) next)
     → GoesOn rest piece left count place → GoesOn rest piece (drop taken left) (count + ended next) next
-goes_on_more law rest piece left count taken place next counts so_far =
+goes_on_more rest piece left count taken place next counts so_far =
     let behind = so_far.behind in
     let counted = counts behind so_far.stands in
     let part = behind ++ take taken left in
-    let later = law part (drop taken left) in
+    let later = continues part (drop taken left) in
     let parts : behind ++ left ≡ part ++ drop taken left =
     ap (λ (octets : List ℕ). behind ++ octets) (sym (take-append-drop taken left)) ∙ sym (append_assoc behind (take taken left) (drop taken left)) in
     let split = ap (λ (messages : List (List ℕ)). length messages) (ap frames_of parts ∙ later.frames) in

@@ -1,4 +1,5 @@
--- The frames of a stream, as they are read: what `frames_of` and `unfinished_of` are where a frame leads, and where none does.
+-- The frames of a stream, as they are read: what `frames_of` and `unfinished_of` are where a frame
+-- leads, and where none does.
 use Rattle.std.proofs.Common.{◌≡◌, ℕ, zero, suc, ◌+◌, ◌*◌, ◌/◌, ◌%◌, ◌<◌, ◌≤◌, Bool, true, List, [], ◌∷◌, ◌++◌, length, take, drop, refl, sym, ap, ◌∙◌, append_assoc, inl, inr, arith}
 use Rattle.std.specs.Prelude.{nat_le, if◌then◌else◌}
 use Rattle.std.specs.List.{flat_map, AllByRecursion}
@@ -55,7 +56,7 @@ unfinished_of-leads message rest stream leads =
     ∙ ap (drop (length (framed message) + length later)) leads.octets
     ∙ drop-append-add (framed message) rest (length later)
 
--- more octets behind the stream leave its first frame
+-- more octets after the stream leave its first frame
 pub leads-append : (message rest stream more : List ℕ) → Leads message rest stream → Leads message (rest ++ more) (stream ++ more)
 leads-append message rest stream more leads = record {
   short = leads.short;

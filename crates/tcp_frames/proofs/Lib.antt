@@ -1,3 +1,4 @@
 pub mod FrameLaws
 pub mod RunLaws
 pub mod Counting
+pub mod CallerLemmas

@@ -1,4 +1,5 @@
--- Messages in a TCP stream (RFC 1035 4.2.2): each goes behind its length in two octets, the high one first.
+-- Messages in a TCP stream (RFC 1035 4.2.2): each follows its length in two octets, the high one
+-- first.
 use Rattle.std.specs.Prelude.{◌≡◌, ℕ, suc, ◌+◌, ◌*◌, ◌/◌, ◌%◌, ◌<◌, ◌≤◌, List, [], ◌∷◌, ◌++◌, length, take, drop}
 use Rattle.std.specs.Prelude.{Option, Some, None, Result, Ok, Err, OnOk, OnErr, nat_le, if◌then◌else◌}
 use Rattle.std.specs.List.{flat_map, AllByRecursion}
@@ -6,11 +7,12 @@ use Rattle.std.specs.declared.alloc.AllocError.{AllocError}
 use Rattle.tcp_frames.specs.declared.fault.FrameFault.{FrameFault}
 use Rattle.tcp_frames.specs.declared.fault.FrameFault.TheVariants.{Memory, TooLong}
 
--- a message behind its length
+-- a message after its length
 abbrev pub framed : List ℕ → List ℕ
 framed message = length message / 256 ∷ length message % 256 ∷ message
 
--- What a call of `frame` answers: the frame of a message whose length two octets can say, unless memory ran out.
+-- The answer of a call of `frame`: the frame of a message whose length two octets can say, unless
+-- memory ran out.
 abbrev pub Frames : List ℕ → Result (List ℕ) FrameFault → Type 0
 Frames message (Ok octets) = (length message ≤ 65535) × (octets ≡ framed message)
 Frames message (Err Memory) = length message ≤ 65535
@@ -21,30 +23,33 @@ pub record Leads (message rest stream : List ℕ) : Type 0 where
   pub short : length message ≤ 65535
   pub octets : stream ≡ framed message ++ rest
 
--- The stream ends within its first frame: before the length is there, or before as many octets as it says.
+-- The stream ends within its first frame: before the length is there, or before as many octets as
+-- it says.
 abbrev pub IsUnfinished : List ℕ → Type 0
 IsUnfinished [] = Unit {0}
 IsUnfinished (high ∷ []) = Unit {0}
 IsUnfinished (high ∷ low ∷ more) = length more < 256 * high + low
 
--- What a feed does: on `Err` nothing.
+-- The effect of a feed: on `Err` none.
 pub record Feeds (before piece : List ℕ) (answer : Result (Unit {0}) AllocError) (after : List ℕ) : Type 0 where
   pub ok : OnOk answer (after ≡ before ++ piece)
   pub err : OnErr answer (after ≡ before)
 
--- What stands at the beginning of the stream: a first message, or none; on `Err` there is one, but it was not copied.
+-- The beginning of the stream: a first message, or none; on `Err` there is one, but it was not
+-- copied.
 abbrev pub Finds : List ℕ → Result (Option (List ℕ)) AllocError → Type 0
 Finds stream (Ok (Some message)) = Leads message (drop (2 + length message) stream) stream
 Finds stream (Ok None) = IsUnfinished stream
 Finds stream (Err _) = (message : List ℕ) × ((rest : List ℕ) × Leads message rest stream)
 
--- What a take does: the first message goes out with its length; else nothing is taken.
+-- The effect of a take: the first message goes out with its length; otherwise nothing is taken.
 abbrev pub Takes : List ℕ → Result (Option (List ℕ)) AllocError → List ℕ → Type 0
 Takes before (Ok (Some message)) after = Leads message after before
 Takes before (Ok None) after = (after ≡ before) × IsUnfinished before
 Takes before (Err _) after = (after ≡ before) × ((message : List ℕ) × ((rest : List ℕ) × Leads message rest before))
 
--- the messages whose frames stand whole at the beginning of the stream, in order; `most` is at least their number
+-- the messages whose frames are whole at the beginning of the stream, in order; `most` is at least
+-- their number
 unfoldable pub frames_within : ℕ → List ℕ → List (List ℕ)
 frames_within (suc most) (high ∷ low ∷ more) =
     if nat_le (256 * high + low) (length more) then take (256 * high + low) more
@@ -59,7 +64,7 @@ frames_of stream = frames_within (length stream) stream
 unfoldable pub unfinished_of : List ℕ → List ℕ
 unfinished_of stream = drop (length (flat_map framed (frames_of stream))) stream
 
--- The stream is the frames of these messages, one behind the other, and a rest that is unfinished.
+-- The stream is the frames of these messages, one after the other, and a rest that is unfinished.
 pub record IsCut (messages : List (List ℕ)) (rest stream : List ℕ) : Type 0 where
   pub short : AllByRecursion (λ message. length message ≤ 65535) messages
   pub octets : stream ≡ flat_map framed messages ++ rest

@@ -3,6 +3,7 @@ use Rattle.std.specs.Prelude.{◌≡◌, ℕ, List, [], ◌∷◌, ◌++◌, Opt
 use Rattle.std.specs.declared.alloc.AllocError.{AllocError}
 use Rattle.tcp_frames.specs.Frames.{Feeds, Takes}
 
+-- a call of a reader, with its answer
 pub data Call : Type 0 where
   fed : List ℕ → Result (Unit {0}) AllocError → Call
   took : Result (Option (List ℕ)) AllocError → Call

@@ -1,7 +1,8 @@
 -- The octets that a stream is still to take, and what is kept for them.
 use Rattle.std.specs.Prelude.{ℕ, ◌+◌, List, ◌++◌, length, drop, if◌then◌else◌, nat_le, nat_lt}
 
--- The octets that are left, in order, and how many that the stream took are kept in memory before them.
+-- The octets that are left, in order; before them the count of octets that the stream took and that
+-- are still in memory.
 pub record Keeping : Type 0 where
   pub left : List ℕ
   pub taken : ℕ
@@ -13,7 +14,7 @@ pushed more before = record {
   taken = if nat_le before.taken (length before.left) then before.taken else 0;
 }
 
--- after the stream took so many: once it took all none are kept
+-- after the stream took `count` octets: once it took all, none are kept
 abbrev pub sent : ℕ → Keeping → Keeping
 sent count before = record {
   left = drop count before.left;

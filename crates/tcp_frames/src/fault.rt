@@ -12,7 +12,8 @@ pub enum FrameFault {
     /// Memory ran out.
     #[error("memory ran out")]
     Memory,
-    /// The message has more octets than the two octets of a length can say: more than 65,535 (RFC 1035 4.2.2).
+    /// The message has more octets than the two octets of a length can say: more than 65,535 (RFC
+    /// 1035 4.2.2).
     #[error("a message of over 65,535 octets")]
     TooLong,
 }

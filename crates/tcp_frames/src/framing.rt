@@ -1,24 +1,23 @@
-//! How many whole messages a client has sent.
+//! The number of whole messages that a client has sent.
 
 ghost use Rattle.std.specs.Prelude.{◌≡◌, ℕ, ◌<◌, ◌≤◌, List, length, take};
 ghost use Rattle.tcp_frames.specs.Counting.{Counts, Leaves, Stands, ended};
 
-use crate::laws::pieces_continue;
 use std::num::NonZeroU16;
 
-/// Where a stream stands in its frames: each is a length in two octets, the high one first, and as many octets
-/// (RFC 1035 4.2.2).
+/// The place of a stream in its frames: each is a length in two octets, the high one first, and
+/// that many octets (RFC 1035 4.2.2).
 #[derive(Clone, Copy)]
 pub enum Within {
     /// Between two frames.
     Nothing,
-    /// Behind the high octet of a length.
+    /// After the high octet of a length.
     Length(u8),
-    /// Before so many octets of a message.
+    /// Before the last octets of a message, of this number.
     Message(NonZeroU16),
 }
 
-/// Where the stream stands behind a message, or before the rest of it.
+/// The place of the stream after a message, or before the rest of it.
 fn before(left: u16) -> Within
     ensures { Leaves left result }
 {
@@ -29,7 +28,7 @@ fn before(left: u16) -> Within
 }
 
 impl Within {
-    /// How many frames end where a part of one leads here.
+    /// The number of frames that end where a part of one leads here.
     fn ended(self) -> usize
         ensures { result ≡ ended self }
     {
@@ -39,7 +38,8 @@ impl Within {
         }
     }
 
-    /// Goes on by the beginning of a piece, at most to the end of a frame, and tells how many octets that was.
+    /// Goes on by the beginning of a piece, at most to the end of a frame; returns the number of
+    /// octets.
     fn advance(&mut self, piece: &[u8]) -> usize
         requires { 0 < length piece.now }
         ensures taken { (0 < result) × (result ≤ length piece.now) }
@@ -63,11 +63,10 @@ impl Within {
         }
     }
 
-    /// Goes on by a piece of the stream, and tells how many frames ended in it.
+    /// Goes on by a piece of the stream; returns the number of frames that ended in it.
     pub fn count(&mut self, piece: &[u8]) -> usize
         ensures { (rest : List ℕ) → Stands self.old rest → Counts rest piece.now result self.new }
     {
-        pieces_continue();
         let mut ended = 0;
         let mut rest = piece;
         while !rest.is_empty() {

@@ -1,8 +1,10 @@
-//! DNS messages over TCP: each goes behind its length in two octets, the high one first (RFC 1035 4.2.2, RFC 7766 8).
+//! DNS messages over TCP: each follows its length in two octets, the high one first (RFC 1035
+//! 4.2.2, RFC 7766 8).
 //!
-//! `frame` makes the octets of one message for the stream. A `FrameReader` takes the octets of a stream in pieces as
-//! they come, cut anywhere, and gives the messages back whole and in order. What is kept of a stream beside its
-//! messages is where it stands in its frames (`Within`), and the octets that it is still to take (`Unsent`).
+//! `frame` makes the octets of one message for the stream. A `FrameReader` takes the octets of a
+//! stream in pieces as they come, cut anywhere, and gives the messages back whole and in order.
+//! Besides messages, a stream's place in its frames (`Within`) and the octets that it is still to
+//! take (`Unsent`) are kept.
 #![tactic(auto)]
 
 mod fault;

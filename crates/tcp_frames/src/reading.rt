@@ -7,13 +7,13 @@ use plain_list::Octets;
 use std::alloc::{AllocError, Allocator, Global};
 use std::marker::Model;
 
-/// The octets of one TCP stream that came and were not yet taken as messages. Contracts see it as the list of these
-/// octets.
+/// The octets of one TCP stream that came and were not yet taken as messages. Contracts see it as
+/// the list of these octets.
 #[derive(Drop)]
 pub struct FrameReader<A: Allocator = Global> {
-    /// What came since the rest was moved to the front last.
+    /// The octets since the rest was last moved to the front.
     octets: Vec<u8, A>,
-    /// How many of them were taken already: at most half, so that the room is used again.
+    /// The number of them that were taken already: at most half, so that the room is used again.
     taken: usize,
     alloc: A,
 }
@@ -29,7 +29,7 @@ impl<A: Allocator> Model for FrameReader<A> {
 }
 
 impl<A: Allocator + Copy> FrameReader<A> {
-    /// A reader that was fed nothing. It takes no memory; what it takes later comes from `alloc`.
+    /// A reader that was fed nothing. It does not allocate; later allocations come from `alloc`.
     pub fn new(alloc: A) -> FrameReader<A>
         ensures { result ≡ [] }
     {
@@ -40,7 +40,7 @@ impl<A: Allocator + Copy> FrameReader<A> {
         }
     }
 
-    /// Puts a piece of the stream behind what came before it. A piece may be cut anywhere, and may be empty.
+    /// Appends a piece of the stream. A piece may be cut anywhere, and may be empty.
     ///
     /// `Err` where memory ran out, and then nothing was fed.
     pub fn feed(&mut self, piece: &[u8]) -> Result<(), AllocError>
@@ -50,8 +50,8 @@ impl<A: Allocator + Copy> FrameReader<A> {
         Ok(())
     }
 
-    /// Takes the first message out, with its length. `None` exactly where no whole frame came, and then nothing is
-    /// taken. A frame of length 0 is a message of 0 octets.
+    /// Takes the first message out, with its length. `None` exactly where no whole frame came, and
+    /// then nothing is taken. A frame of length 0 is a message of 0 octets.
     ///
     /// `Err` where a whole frame came and memory for its message ran out; then nothing is taken.
     pub fn take(&mut self) -> Result<Option<Octets<A>>, AllocError>
@@ -87,9 +87,9 @@ fn message_of_first_frame(stream: &[u8]) -> Option<&[u8]>
     more.get(..usize::from(*high) * 256 + usize::from(*low))
 }
 
-/// Forgets the first octets, of which `taken` is the count: it says how many of them still stand there. The rest is
-/// moved to the front only where it is not longer than what is forgotten, so that each octet that is taken pays for
-/// one that is moved.
+/// Forgets the first `taken` octets; returns how many of them are still there. The rest is moved to
+/// the front only where it is not longer than what is forgotten, so that each octet that is taken
+/// pays for one that is moved.
 fn move_to_front<A: Allocator>(octets: &mut Vec<u8, A>, taken: usize) -> usize
     requires { taken ≤ vec_len octets.old }
     ensures rest { drop result octets.new.items ≡ drop taken octets.old.items }

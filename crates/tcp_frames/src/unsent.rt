@@ -11,12 +11,13 @@ use std::io;
 use std::io::Write;
 use std::marker::Model;
 
-/// Octets that a stream is still to take, in order. Contracts see these, and how many that it took are kept yet.
+/// Octets that a stream is still to take, in order. Contracts see these, and the number of taken
+/// ones that are still kept.
 #[derive(Drop)]
 pub struct Unsent<A: Allocator> {
     alloc: A,
     octets: Vec<u8, A>,
-    /// How many of them it took.
+    /// The number of them that it took.
     taken: usize,
 }
 
@@ -32,7 +33,7 @@ impl<A: Allocator> Model for Unsent<A> {
 }
 
 impl<A: Allocator + Copy> Unsent<A> {
-    /// None; it takes no memory.
+    /// None; it does not allocate.
     pub fn new(alloc: A) -> Unsent<A>
         ensures { result ≡ record { left = []; taken = 0 } }
     {
@@ -43,23 +44,23 @@ impl<A: Allocator + Copy> Unsent<A> {
         }
     }
 
-    /// There are none.
+    /// Whether there are none.
     pub fn is_empty(&self) -> bool
         ensures { result ≡ (length self.now.left == 0) }
     {
         self.len() == 0
     }
 
-    /// How many they are.
+    /// The number of octets.
     pub fn len(&self) -> usize
         ensures { result ≡ length self.now.left }
     {
         self.octets.len() - self.taken
     }
 
-    /// Puts octets last. Of those that the stream took no more are kept then than are left, so that one which is slow
-    /// for ever keeps little; and no more of those that are left are copied for it than it took. `Err` where memory ran
-    /// out, and then nothing has changed.
+    /// Puts octets last. Afterwards at most as many taken octets are kept as are left, so that a
+    /// stream that stays slow keeps little; and at most as many of those left are copied for it as
+    /// it took. `Err` where memory ran out, and then nothing has changed.
     pub fn push(&mut self, more: Octets<A>) -> Result<(), AllocError>
         ensures ok { OnOk result (self.new ≡ pushed more self.old) }
         ensures few { OnOk result (self.new.taken ≤ length self.new.left) }
@@ -77,8 +78,8 @@ impl<A: Allocator + Copy> Unsent<A> {
         Ok(())
     }
 
-    /// Puts octets last, behind a copy of those that are left. `Err` where memory ran out, and then nothing has
-    /// changed.
+    /// Puts octets last, after a copy of those that are left. `Err` where memory ran out, and then
+    /// nothing has changed.
     fn push_anew(&mut self, more: &[u8]) -> Result<(), AllocError>
         ensures ok { OnOk result (self.new ≡ record { left = self.old.left ++ more.now; taken = 0 }) }
         ensures err { OnErr result (self.new ≡ self.old) }
@@ -91,8 +92,8 @@ impl<A: Allocator + Copy> Unsent<A> {
         Ok(())
     }
 
-    /// Has the stream take what it takes at once, and tells how many octets that were; none where it takes nothing any
-    /// more. `Err` as the stream tells it, where it took none.
+    /// Lets the stream take octets, once; returns the number that it took, 0 where it takes none
+    /// any more. `Err` as the stream reports it, where it took none.
     pub fn send<W: Write>(&mut self, stream: &mut W) -> io::Result<usize>
         ensures taken { IfOk result (λ count. self.new ≡ sent count self.old) }
         ensures bound { WritesAtMost result self.old.left }

@@ -7,10 +7,10 @@ use crate::fault::FrameFault;
 use plain_list::Octets;
 use std::alloc::Allocator;
 
-/// The frame of a message: its length in two octets, the high one first, then its octets (RFC 1035 4.2.2). A message
-/// of 0 octets has a frame too.
+/// The frame of a message: its length in two octets, the high one first, then its octets (RFC 1035
+/// 4.2.2). A message of 0 octets has a frame too.
 ///
-/// `TooLong` exactly where the message has over 65,535 octets; `Memory` where the frame found no memory.
+/// `TooLong` exactly where the message has over 65,535 octets; `Memory` where memory ran out.
 pub fn frame<A: Allocator>(alloc: A, message: &[u8]) -> Result<Octets<A>, FrameFault>
     ensures { Frames message.now result }
 {

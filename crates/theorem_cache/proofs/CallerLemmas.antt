@@ -1,4 +1,4 @@
--- What the proofs of crates above cite: the laws, and how aliases go on.
+-- Lemmas for the proofs of crates above: the laws, and how aliases go on.
 pub use Rattle.theorem_cache.proofs.Slots.{AreOne, are_one, is_one}
 pub use Rattle.theorem_cache.proofs.Short.{alone_short}
 pub use Rattle.theorem_cache.proofs.Justifying.{follows_append, follows_first, leads_stay_leads}

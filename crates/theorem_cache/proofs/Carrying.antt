@@ -6,7 +6,7 @@ use Rattle.dns_name.specs.Labels.{IsSame}
 use Rattle.dns_message.specs.Values.{Question, Message}
 use Rattle.dns_message.specs.Messages.{IsSameQuestion, HasShapes}
 use Rattle.suffix_routes.specs.Values.{Config}
-use Rattle.suffix_routes.specs.Routes.{serving, route_of as route_among}
+use Rattle.suffix_routes.specs.Routes.{serving, route_of}
 use Rattle.suffix_routes.proofs.CallerLemmas.{serving_lowered, serving_is}
 use Rattle.trust_rank.specs.declared.slot.Slot.{Slot}
 use Rattle.trust_rank.specs.Values.{Piece, End, found, ends_no_data, ends_denied, elsewhere, lame, Walk, Reply, reply_of}
@@ -16,7 +16,7 @@ use Rattle.trust_rank.specs.Laws.{IsCarriedFor, Lead, last_kind, Closes, EndsSo,
 use Rattle.trust_rank.proofs.CallerLemmas.{walk_leads, servers_fit, pieces_are_writable}
 use Rattle.record_cache.specs.Values.{Held}
 use Rattle.record_cache.specs.Laws.{Among}
-use Rattle.suffix_routes.specs.Serving.{route_of}
+use Rattle.suffix_routes.specs.Serving.{serving_route_of}
 use Rattle.step_values.specs.Values.{Step}
 use Rattle.step_history.specs.History.{is_restart, moment_at, InEra, Look, Carries}
 use Rattle.step_history.specs.Carried.{CarriedInEra, Justified}
@@ -35,7 +35,7 @@ use Rattle.theorem_cache.proofs.Walking.{ClosesAt, Serves, walk_closes, at_name,
 piece_kept : (r : Reply) → Serves r → (name : List (List ℕ)) (kind : Option ℕ) (p : Piece) → IsCarriedFor r name kind p → IsWritable p → CanBeKept r.config p
 piece_kept r serves name kind p carried writable = record {
   formed = carried.piece;
-  on_route = ap (λ (s : Slot). route_of r.config s.key) carried.slot ∙ serving_lowered r.config.routes name ∙ ap (serving r.config.routes) carried.on_route ∙ serves ∙ ap Some (sym carried.route);
+  on_route = ap (λ (s : Slot). serving_route_of r.config s.key) carried.slot ∙ serving_lowered r.config.routes name ∙ ap (serving r.config.routes) carried.on_route ∙ serves ∙ ap Some (sym carried.route);
   writable = writable;
 }
 
@@ -71,8 +71,8 @@ accepted_pieces_can_be_kept c m q route message shapes question on fine =
     (walk_kept r own.1 w.pieces w.authority w.end (walk_leads c m q route shapes own.0) fine writable.0)
     (servers_kept r own.1 w.authority (servers_fit c m q route shapes) writable.1)
   where
-    own : (route_among c.routes q.name ≡ Some route) × (serving c.routes (Some route) ≡ Some route)
-    own = serving_is c.routes (route_among c.routes q.name) route on
+    own : (route_of c.routes q.name ≡ Some route) × (serving c.routes (Some route) ≡ Some route)
+    own = serving_is c.routes (route_of c.routes q.name) route on
 
     r : Reply
     r = reply_of c m q route
@@ -95,7 +95,7 @@ among_last t [] p = inl refl
 among_last t (q ∷ ps) p = inr (among_last t ps p)
 
 module _ (c : Config) (asked s : Step) (before past : List Step) (os : List Held) (m : Message) (q other : Question) (route : ℕ) (era : InEra (asked ∷ before) past) (runs : is_restart s ≡ false) (carried : CarriedInEra c past os)
-    (carries : Carries c s past ((walk_of c m q route).pieces ++ (walk_of c m q route).authority)) (shapes : HasShapes m) (on : route_of c q.name ≡ Some route) (alike : IsSameQuestion other q) where
+    (carries : Carries c s past ((walk_of c m q route).pieces ++ (walk_of c m q route).authority)) (shapes : HasShapes m) (on : serving_route_of c q.name ≡ Some route) (alike : IsSameQuestion other q) where
   abbrev w : Walk
   w = walk_of c m q route
 
@@ -103,7 +103,7 @@ module _ (c : Config) (asked s : Step) (before past : List Step) (os : List Held
   r = reply_of c m q route
 
   own : Serves r
-  own = (serving_is c.routes (route_among c.routes q.name) route on).1
+  own = (serving_is c.routes (route_of c.routes q.name) route on).1
 
   abbrev t : ℕ
   t = moment_at (s ∷ past)
@@ -111,7 +111,7 @@ module _ (c : Config) (asked s : Step) (before past : List Step) (os : List Held
   abbrev look : Look
   look = look_from c asked before (s ∷ past)
 
-  serves : (o : Held) (name : List (List ℕ)) → Among o (map (held_at t) (w.pieces ++ w.authority)) → route_of c name ≡ Some o.piece.route → Justified look name o
+  serves : (o : Held) (name : List (List ℕ)) → Among o (map (held_at t) (w.pieces ++ w.authority)) → serving_route_of c name ≡ Some o.piece.route → Justified look name o
   serves o name among on_route = new_is_justified c asked s before past (w.pieces ++ w.authority) os name o era runs carries carried among on_route
 
   -- the question at a name
@@ -161,4 +161,4 @@ pub accepted_pieces_lead_on : AcceptedPiecesLeadOn
 accepted_pieces_lead_on c asked s before past os m q other route name era runs carried carries shapes on ends alike =
     lead_on c asked s before past os m q other route era runs carried carries shapes on alike name
     (subst (EndsSo (reply_of c m q route) (walk_of c m q route).pieces (walk_of c m q route).authority) ends
-    (walk_leads c m q route shapes (serving_is c.routes (route_among c.routes q.name) route on).0))
+    (walk_leads c m q route shapes (serving_is c.routes (route_of c.routes q.name) route on).0))

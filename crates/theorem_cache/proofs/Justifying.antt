@@ -1,4 +1,5 @@
--- What is justified stays so, aliases lead on behind aliases, and what is kept or comes now is justified.
+-- A justified piece stays so, aliases lead on after aliases, and pieces that are kept or come now
+-- are justified.
 use Rattle.std.proofs.Common.{◌≡◌, ◌⊎◌, ℕ, zero, suc, ◌<◌, ◌≤◌, List, [], ◌∷◌, ◌++◌, take, false, refl, sym, ap, subst, inl, inr, ⊎_elim, arith, Some}
 use Rattle.std.specs.Prelude.{map}
 use Rattle.suffix_routes.specs.Values.{Config}
@@ -8,7 +9,7 @@ use Rattle.record_cache.specs.Values.{Held}
 use Rattle.record_cache.specs.Ageing.{end_of}
 use Rattle.record_cache.specs.Laws.{Among}
 use Rattle.step_values.specs.Values.{Step}
-use Rattle.suffix_routes.specs.Serving.{route_of}
+use Rattle.suffix_routes.specs.Serving.{serving_route_of}
 use Rattle.step_history.specs.History.{is_restart, moment_at, InEra, Look, Carries}
 use Rattle.step_history.specs.Carried.{then_carried, CarriedInEra, NotReplaced, Justified}
 use Rattle.step_history.specs.Answers.{FollowsAliases}
@@ -55,7 +56,7 @@ follows_later c asked s before now on q (o ∷ os) last h =
 pub leads_stay_leads : LeadsStayLeads
 leads_stay_leads c asked s before now q os last on h = record { few = h.few; follows = follows_later c asked s before now on q os last h.follows }
 
--- ---- aliases behind aliases
+-- ---- aliases after aliases
 
 pub follows_append : (l : Look) (q mid last : Question) (os more : List Held) → FollowsAliases l q os mid → FollowsAliases l mid more last → FollowsAliases l q (os ++ more) last
 follows_append l q mid last [] more h k = subst (λ (x : Question). FollowsAliases l x more last) h k
@@ -69,7 +70,7 @@ follows_first l (suc k) q last (o ∷ os) h =
     let rest = follows_first l k (asked_at q h.3) last os h.5 in
     (rest.0, (h.0, h.1, h.2, h.3, h.4, rest.1))
 
--- ---- what is kept
+-- ---- kept pieces
 
 not_replaced_since : (o : Held) (new os : List Held) → NotReplaced o (new ++ os) → Among o new ⊎ NotReplaced o os
 not_replaced_since o [] os h = inr h
@@ -84,9 +85,10 @@ moments_of_era upto (s ∷ past) (inr later) =
     let b : moment_at past ≤ moment_at (s ∷ past) = moment_later s past later.0 in
     omega (arith, a, b)
 
--- what was carried, was not replaced and is alive now serves each question of the era for a name on its route
+-- a piece that was carried, was not replaced and is alive now serves each question of the era for a
+-- name on its route
 pub kept_is_justified : (c : Config) (asked : Step) (before now : List Step) (name : List (List ℕ)) (all : List Held) (o : Held)
-    → InEra (asked ∷ before) now → CarriedInEra c now all → NotReplaced o all → moment_at now < end_of o → route_of c name ≡ Some o.piece.route → Justified (look_from c asked before now) name o
+    → InEra (asked ∷ before) now → CarriedInEra c now all → NotReplaced o all → moment_at now < end_of o → serving_route_of c name ≡ Some o.piece.route → Justified (look_from c asked before now) name o
 kept_is_justified c asked before now name all o era carried kept alive route =
     let since = carried_since c (asked ∷ before) now all era carried in
     let low : moment_at (asked ∷ before) ≤ moment_at now = moments_of_era (asked ∷ before) now era in
@@ -100,17 +102,17 @@ kept_is_justified c asked before now name all o era carried kept alive route =
       counts = ⊎_elim (λ (a : Among o since.1). inr a) (λ (k : NotReplaced o since.0). inl (k, then)) (not_replaced_since o since.1 since.0 (subst (NotReplaced o) since.3 kept));
     }
 
--- ---- what comes now
+-- ---- pieces that come now
 
 among_newest : (t : ℕ) (ps : List Piece) (o : Held) (os : List Held) → Among o (map (held_at t) ps) → Among o (then_carried t ps os)
 among_newest t [] o os h = absurd h
 among_newest t (p ∷ ps) o os (inl here) = among_older t ps o (record { piece = p; accepted = t } ∷ os) (inl here)
 among_newest t (p ∷ ps) o os (inr h) = among_newest t ps o (record { piece = p; accepted = t } ∷ os) h
 
--- what the newest step carries serves each question of the era for a name on its route
+-- a piece that the newest step carries serves each question of the era for a name on its route
 pub new_is_justified : (c : Config) (asked s : Step) (before past : List Step) (ps : List Piece) (os : List Held) (name : List (List ℕ)) (o : Held)
     → InEra (asked ∷ before) past → is_restart s ≡ false → Carries c s past ps → CarriedInEra c past os → Among o (map (held_at (moment_at (s ∷ past))) ps)
-    → route_of c name ≡ Some o.piece.route → Justified (look_from c asked before (s ∷ past)) name o
+    → serving_route_of c name ≡ Some o.piece.route → Justified (look_from c asked before (s ∷ past)) name o
 new_is_justified c asked s before past ps os name o era run carries carried among route =
     let since = carried_since c (asked ∷ before) past os era carried in
     let t : ℕ = moment_at (s ∷ past) in

@@ -1,4 +1,4 @@
--- What holds of the entries after promotions and offers.
+-- The entries after promotions and offers.
 use Rattle.std.proofs.Common.{◌≡◌, ℕ, zero, suc, ◌≤◌, List, [], ◌∷◌, take, filter, Bool, true, false, cond, refl, sym, ap, ◌∙◌, subst, inl, inr, arith, Option, Some}
 use Rattle.std.specs.Prelude.{not, ◌==◌, ◌&&◌, ◌||◌, nat_lt, nat_le}
 use Rattle.std.specs.List.{list_any, AllByRecursion}
@@ -58,7 +58,7 @@ pub promotions_leave : (P : Held → Type 0) (used : List Slot) (es : List Held)
 promotions_leave P [] es all = all
 promotions_leave P (slot ∷ used) es all = promotions_leave P used (promoted slot es) (promoted_all_of P slot es all)
 
--- ---- what an offer leaves is not replaced by it
+-- ---- an entry that an offer leaves is not replaced by it
 
 pub own_key : (p : Piece) → IsPiece p → lowered p.slot.key ≡ p.slot.key
 own_key p formed = ap lowered formed.key ∙ lowered_again p.owner ∙ sym formed.key
@@ -80,7 +80,7 @@ not_taken p e formed formed_e other shown_over = by (is_name_error e.piece) refl
 
 -- ---- an offer
 
--- what is left where a piece shows its name
+-- the entries that are left where a piece shows its name
 pub record IsShown (capacity : ℕ) (p : Piece) (es left : List Held) : Type 0 where
   pub held : AreHeld (record { capacity = capacity; entries = left })
   pub was : (e : Held) → Among e left → Among e es
@@ -122,7 +122,7 @@ not_none : (k : ℕ) → (k == 0) ≡ false → 1 ≤ k
 not_none zero e = absurd (true≢false e)
 not_none (suc k) e = omega arith
 
--- how an offer ends: by its being outranked, its want of a lifetime, and room or an old entry
+-- how an offer ends: outranked, without a lifetime, or with room or an old entry
 abbrev ends_by : Bool → Bool → Bool → Offered
 ends_by a b d = cond a Outranked (cond b NotKept (cond d Kept Unkept))
 
@@ -189,7 +189,7 @@ module _ (c : Config) (capacity n : ℕ) (p : Piece) (offer : CanBeKept c p) (os
               and_false true = refl
               and_false false = refl
 
-  -- what an offer leaves
+  -- the entries that an offer leaves
   abbrev Leaves : List Held → Type 0
   Leaves after = AreHeld (record { capacity = capacity; entries = after }) × AllByRecursion (IsKept c (new ∷ os) n) after
 

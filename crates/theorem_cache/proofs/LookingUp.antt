@@ -1,4 +1,4 @@
--- What a look-up gives is a chain that the history justifies, and looking again gives the same.
+-- A look-up yields a chain that the history justifies, and a second look-up yields the same.
 use Rattle.std.proofs.Common.{◌≡◌, ℕ, zero, suc, ◌+◌, ◌<◌, ◌≤◌, List, [], ◌∷◌, ◌++◌, length, length-append, true, refl, sym, ap, ◌∙◌, subst, inl, inr, arith, Option, Some, None}
 use Rattle.std.specs.Prelude.{◌≢◌, ◌==◌, ◌&&◌}
 use Rattle.std.specs.List.{AllByRecursion}
@@ -25,7 +25,7 @@ use Rattle.negative_cache.specs.Entries.{are_rows, tells_no_data}
 use Rattle.negative_cache.specs.Finding.{found as found_in}
 use Rattle.negative_cache.specs.Laws.{Fits, IsTyped, IsDenial, IsLiving}
 use Rattle.negative_cache.proofs.CallerLemmas.{found_fits, equal_questions_find_the_same, promotion_keeps_found}
-use Rattle.suffix_routes.specs.Serving.{route_of}
+use Rattle.suffix_routes.specs.Serving.{serving_route_of}
 use Rattle.step_history.specs.History.{Look}
 use Rattle.step_history.specs.Carried.{Justified}
 use Rattle.step_history.specs.Answers.{has_slot, FollowsAliases, EndsChain}
@@ -37,14 +37,15 @@ use Rattle.theorem_cache.proofs.Slots.{are_one, same_slot_turned}
 use Rattle.step_table.proofs.CallerLemmas.{All-append}
 use Rattle.theorem_cache.proofs.Justifying.{follows_append}
 
--- ---- what was found at one name
+-- ---- a look-up at one name
 
--- an entry: it can be told, is formed, on its route, and while it lives it may serve each name of that
+-- an entry: it can be written, is well formed, within its route, and may serve each name of that
+-- route while it lives
 pub record IsUsable (l : Look) (n : ℕ) (h : Held) : Type 0 where
   pub told : CanBeTold n h
   pub formed : IsPiece h.piece
-  pub on_route : route_of l.config h.piece.slot.key ≡ Some h.piece.route
-  pub serves : (name : List (List ℕ)) → n < end_of h → route_of l.config name ≡ Some h.piece.route → Justified l name h
+  pub on_route : serving_route_of l.config h.piece.slot.key ≡ Some h.piece.route
+  pub serves : (name : List (List ℕ)) → n < end_of h → serving_route_of l.config name ≡ Some h.piece.route → Justified l name h
 
 pub all_among : (P : Held → Type 0) (h : Held) (entries : List Held) → AllByRecursion P entries → Among h entries → P h
 all_among P h [] all among = absurd among
@@ -115,7 +116,7 @@ module _ (l : Look) (n : ℕ) (entries : List Held) (usable : AllByRecursion (Is
 
   -- ---- a look-up
 
-  -- how it leads, and what it ends at
+  -- how it leads, and the piece that it ends at
   pub record IsLed (q : Question) (v : LookUp) : Type 0 where
     pub told : AllByRecursion (CanBeTold n) v.held
     pub follows : FollowsAliases l q v.held v.wanted
@@ -172,7 +173,7 @@ look_up_sized routes n entries (suc more) held q is =
     sized_step held q (λ h name. through h (look_up routes n entries more (held ++ h ∷ []) (asked_at q name))) (omega (arith, is))
     (λ h name. look_up_sized routes n entries more (held ++ h ∷ []) (asked_at q name) (ap (λ (k : ℕ). more + k) (length-append held (h ∷ [])) ∙ (omega (arith, is)))) (found_in routes n entries q)
 
--- ---- what is held stays held
+-- ---- a held alias stays held
 
 more_held : (held : List Held) (q : Question) (onward : Held → List (List ℕ) → LookUp) → 1 ≤ length held → ((h : Held) (name : List (List ℕ)) → 1 ≤ length (onward h name).held) → (f : Found) → 1 ≤ length (look_up_after held q onward f).held
 more_held held q onward some go found.local = some
@@ -197,14 +198,14 @@ still_held routes n entries (suc more) held q some =
 
 -- ---- the same again
 
--- where one name finds the same, so do all that it leads to
+-- where look-ups at one name agree, so do look-ups along aliases
 pub same_look_ups : (routes : List Route) (n : ℕ) (entries others : List Held) → ((q : Question) → found_in routes n entries q ≡ found_in routes n others q)
     → (more : ℕ) (held : List Held) (q : Question) → look_up routes n entries more held q ≡ look_up routes n others more held q
 same_look_ups routes n entries others same zero held q = ap (look_up_after held q (one_too_many held q)) (same q)
 same_look_ups routes n entries others same (suc more) held q =
     (λ i. look_up_after held q (λ h name. through h (same_look_ups routes n entries others same more (held ++ h ∷ []) (asked_at q name) i)) (same q i))
 
--- promotions change no look-up, and leave what holds of the entries
+-- promotions change no look-up, and keep `AreHeld`
 pub promotions_keep : (routes : List Route) (n capacity : ℕ) (used : List Slot) (entries : List Held) → AreHeld (record { capacity = capacity; entries = entries })
     → AreHeld (record { capacity = capacity; entries = promoted_all used entries }) × ((q : Question) → found_in routes n (promoted_all used entries) q ≡ found_in routes n entries q)
 promotions_keep routes n capacity [] entries held = (held, λ q. refl)

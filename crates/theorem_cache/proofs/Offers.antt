@@ -12,7 +12,8 @@ none_more k = omega arith
 one_and_more : (k first rest : ℕ) → k + first + rest ≡ k + (first + rest)
 one_and_more k first rest = omega arith
 
--- P holds of what was carried, of the entries, and of how many found no memory; each offer of a piece that fits keeps it
+-- P holds of the carried pieces, of the entries, and of how many found no memory; each offer of a
+-- piece that fits keeps it
 module _ (capacity n : ℕ) (Fits : Piece → Type 0) (P : List Held → List Held → ℕ → Type 0)
     (one : (room : Bool) (p : Piece) (os es : List Held) (k : ℕ) → Fits p → P os es k → P (held_at n p ∷ os) (put capacity n room p es) (k + count_of (ended_so n room p es))) where
   -- so all of them keep it

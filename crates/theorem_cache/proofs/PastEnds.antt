@@ -1,4 +1,4 @@
--- What is found past the ends of entries is justified so.
+-- Expired data that a look-up finds is justified.
 use Rattle.std.proofs.Common.{◌≡◌, ◌≢◌, ℕ, zero, suc, ◌+◌, ◌*◌, ◌<◌, ◌≤◌, List, [], ◌∷◌, true, false, refl, ap, ◌∙◌, inl, inr, arith, Option, Some, None}
 use Rattle.std.specs.Prelude.{option_map}
 use Rattle.std.proofs.lemmas.Bool.{ltb-true, false≢true}
@@ -19,7 +19,7 @@ use Rattle.negative_cache.specs.Stale.{stale}
 use Rattle.negative_cache.specs.Laws.{IsTypedWithin, FitsWithin}
 use Rattle.negative_cache.proofs.CallerLemmas.{stale_fits}
 use Rattle.step_values.specs.Values.{Step}
-use Rattle.suffix_routes.specs.Serving.{route_of}
+use Rattle.suffix_routes.specs.Serving.{serving_route_of}
 use Rattle.step_history.specs.History.{is_restart, moment_at, Look, NothingAccepted}
 use Rattle.step_history.specs.Carried.{NotReplaced}
 use Rattle.step_history.specs.Answers.{has_slot}
@@ -33,7 +33,7 @@ use Rattle.theorem_cache.specs.Laws.{LookUpsPastEndsAreRight}
 use Rattle.theorem_cache.proofs.Slots.{are_one, same_slot_turned}
 use Rattle.theorem_cache.proofs.LookingUp.{all_among}
 
--- what is not replaced was carried
+-- a piece that is not replaced was carried
 carried_there : (o : Held) (os : List Held) → NotReplaced o os → Among o os
 carried_there o [] h = absurd h
 carried_there o (x ∷ os) (inl here) = inl here
@@ -52,7 +52,7 @@ module _ (c : Config) (asked s : Step) (before past : List Step) (m n : ℕ) (ca
   abbrev window : ℕ
   window = c.limits.stale_s
 
-  -- an entry may be told
+  -- an entry can be written
   told_of : (h : Held) → IsPiece h.piece → IsKept c was.carried m h → CanBeTold n h
   told_of h formed kept = record {
     formed = formed;
@@ -65,7 +65,7 @@ module _ (c : Config) (asked s : Step) (before past : List Step) (m n : ℕ) (ca
 
   -- a set within the window serves each name on its route
   serves : (h : Held) → IsKept c was.carried m h → are_rows h.piece.body ≡ true → n < h.accepted + 1000 * (h.piece.lifetime + window)
-      → (name : List (List ℕ)) → route_of c name ≡ Some h.piece.route → JustifiedPastItsEnd l name h
+      → (name : List (List ℕ)) → serving_route_of c name ≡ Some h.piece.route → JustifiedPastItsEnd l name h
   serves h kept set less name on = record {
     old = was.carried;
     new = [];

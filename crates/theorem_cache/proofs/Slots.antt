@@ -42,8 +42,8 @@ same_slot_turned a b e =
     let one = are_one a b e in
     is_one b a (record { name = sym one.name; class = sym one.class; kind = sym one.kind })
 
--- A piece that is carried for a name is in the slot of each name that is the same: so what came for the ask's spelling
--- serves the spelling of each client.
+-- A piece that is carried for a name is in the slot of each name that is the same: so a piece that
+-- came for the ask's spelling serves the spelling of each client.
 pub slot_carried_over : (p : Piece) (name other : List (List ℕ)) (class : ℕ) (kind : Option ℕ) → p.slot ≡ record { key = lowered name; class = class; kind = kind } → IsSame other name
     → has_slot p other class kind ≡ true
 slot_carried_over p name other class kind slot alike =

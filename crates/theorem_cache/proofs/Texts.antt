@@ -1,4 +1,4 @@
--- What is written of an answer is read as the answer.
+-- The octets of an answer are read as the answer.
 use Rattle.std.proofs.Common.{◌≡◌, ℕ, zero, suc, ◌<◌, ◌≤◌, List, [], ◌∷◌, ◌++◌, length, Bool, true, false, cond, refl, sym, ap, ◌∙◌, subst, inl, inr, arith, Option, Some, None}
 use Rattle.std.specs.Prelude.{if◌then◌else◌, map, nat_le}
 use Rattle.std.specs.List.{flat_map, AllByRecursion}
@@ -26,13 +26,13 @@ use Rattle.theorem_cache.specs.Laws.{AnswersAreSpelled, StaleAnswersAreSpelled, 
 use Rattle.theorem_cache.proofs.Short.{question_short}
 use Rattle.step_table.proofs.CallerLemmas.{All-append}
 
--- what is told of it can be written
+-- the piece can be written with these seconds
 record CanTell (x : Told) : Type 0 where
   pub formed : IsPiece x.piece
   pub writable : IsWritable x.piece
   pub seconds : x.seconds < 4294967296
 
--- what is left of a lifetime fits 32 bits
+-- the seconds that are left of a lifetime fit 32 bits
 left_can : (t : ℕ) (h : Held) → CanBeTold t h → CanTell (told_at t h)
 left_can t h told =
     let short : h.piece.lifetime ≤ 604800 = told.formed.lifetime in
@@ -40,7 +40,7 @@ left_can t h told =
     let most : seconds_left t h ≤ 604800 = omega (arith, short, before) in
     record { formed = told.formed; writable = told.writable; seconds = omega (arith, most) }
 
--- so do the 30 seconds of what has ended
+-- so do the 30 seconds of an expired set (RFC 8767 4)
 past_can : (t : ℕ) (h : Held) → CanBeTold t h → CanTell (told_past t h)
 past_can t h told = by (is_alive t h)
   where
@@ -158,7 +158,7 @@ sections_spelled a q s asks can (Udp peer) fits = by (nat_le (length (full_text 
     by true few = inl (message_spelled a q false s asks can (let small = leb-true (length (full_text a s)) 512 few in omega (arith, small)))
     by false many = inr (message_spelled a q true (bare s.rcode) asks bare_can (cut_short a q s asks))
 
--- what a client gets is read as the answer, or as the answer cut to the question
+-- the octets that a client gets are read as the answer, or as the answer cut to the question
 pub answers_are_spelled : AnswersAreSpelled
 answers_are_spelled a q t aliases end asks told client fits = sections_spelled a q (sections_of t (aliases ++ end ∷ [])) asks (sections_can t (aliases ++ end ∷ []) told) client fits
 

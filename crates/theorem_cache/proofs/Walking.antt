@@ -6,7 +6,7 @@ use Rattle.dns_name.proofs.CallerLemmas.{is_under_decides, under_itself, under_r
 use Rattle.dns_message.specs.Values.{Question, Message}
 use Rattle.dns_message.specs.Messages.{HasShapes}
 use Rattle.suffix_routes.specs.Values.{Config}
-use Rattle.suffix_routes.specs.Routes.{serving, route_of as route_among}
+use Rattle.suffix_routes.specs.Routes.{serving, route_of}
 use Rattle.suffix_routes.proofs.CallerLemmas.{route_of_respects_same, serving_is}
 use Rattle.trust_rank.specs.Values.{Body, rows, no_data, denied, Piece, End, found, ends_no_data, ends_denied, elsewhere, lame, Walk, Reply, reply_of}
 use Rattle.trust_rank.specs.Walks.{walk_of, most_aliases, has_last}
@@ -14,22 +14,22 @@ use Rattle.trust_rank.specs.Laws.{IsCarriedFor, IsAliasTo, Lead, last_kind, IsLa
 use Rattle.trust_rank.proofs.CallerLemmas.{walk_leads}
 use Rattle.record_cache.specs.Values.{Held}
 use Rattle.record_cache.specs.Laws.{Among}
-use Rattle.suffix_routes.specs.Serving.{route_of}
+use Rattle.suffix_routes.specs.Serving.{serving_route_of}
 use Rattle.step_history.specs.History.{Look}
 use Rattle.step_history.specs.Carried.{Justified}
 use Rattle.step_history.specs.Answers.{FollowsAliases, EndsChain}
 use Rattle.alias_chains.specs.Offering.{held_at}
 use Rattle.theorem_cache.proofs.Slots.{slot_carried_over}
 
--- ---- what a walk gives that was accepted
+-- ---- the pieces of an accepted walk
 
 -- at the end of aliases a piece closes; the walk has no other
 abbrev pub ClosesAt : Reply → List Piece → End → Type 0
 ClosesAt r pieces end = Closes r most_aliases r.question.name end pieces
 
-pub walk_closes : (c : Config) (m : Message) (q : Question) (route : ℕ) → HasShapes m → route_of c q.name ≡ Some route → has_last (walk_of c m q route).end ≡ true
+pub walk_closes : (c : Config) (m : Message) (q : Question) (route : ℕ) → HasShapes m → serving_route_of c q.name ≡ Some route → has_last (walk_of c m q route).end ≡ true
     → ClosesAt (reply_of c m q route) (walk_of c m q route).pieces (walk_of c m q route).end
-walk_closes c m q route shapes on fine = by (walk_of c m q route).end (walk_leads c m q route shapes (serving_is c.routes (route_among c.routes q.name) route on).0) fine
+walk_closes c m q route shapes on fine = by (walk_of c m q route).end (walk_leads c m q route shapes (serving_is c.routes (route_of c.routes q.name) route on).0) fine
   where
     w : Walk
     w = walk_of c m q route
@@ -49,14 +49,14 @@ at_name name kind class = record { name = name; kind = kind; class = class }
 
 -- the pieces among some that were carried now serve each name on their route
 abbrev Serve : Look → ℕ → List Held → Type 0
-Serve l t new = (o : Held) (name : List (List ℕ)) → Among o new → route_of l.config name ≡ Some o.piece.route → Justified l name o
+Serve l t new = (o : Held) (name : List (List ℕ)) → Among o new → serving_route_of l.config name ≡ Some o.piece.route → Justified l name o
 
 -- the reply came on a route that serves names
 abbrev pub Serves : Reply → Type 0
 Serves r = serving r.config.routes (Some r.route) ≡ Some r.route
 
 -- a name that is the same as one that a piece was carried for is on the piece's route
-pub on_its_route : (r : Reply) → Serves r → (name other : List (List ℕ)) (kind : Option ℕ) (p : Piece) → IsCarriedFor r name kind p → IsSame other name → route_of r.config other ≡ Some p.route
+pub on_its_route : (r : Reply) → Serves r → (name other : List (List ℕ)) (kind : Option ℕ) (p : Piece) → IsCarriedFor r name kind p → IsSame other name → serving_route_of r.config other ≡ Some p.route
 on_its_route r serves name other kind p carried alike =
     ap (serving r.config.routes) (route_of_respects_same r.config.routes other name alike ∙ carried.on_route) ∙ serves ∙ ap Some (sym carried.route)
 
@@ -69,7 +69,7 @@ lead_follows l r t serves config name other last (p ∷ aliases) lead alike serv
     let target : List (List ℕ) = lead.0 in
     let alias : IsAliasTo r name target p = lead.1 in
     let rest = lead_follows l r t serves config target target last aliases lead.2 refl (λ o n among. serve o n (inr among)) in
-    let route : route_of l.config other ≡ Some p.route = subst (λ (c : Config). route_of c other ≡ Some p.route) config (on_its_route r serves name other (Some 5) p alias.carried alike) in
+    let route : serving_route_of l.config other ≡ Some p.route = subst (λ (c : Config). serving_route_of c other ≡ Some p.route) config (on_its_route r serves name other (Some 5) p alias.carried alike) in
     (rest.0, rest.1, (alias.follows, serve (held_at t p) other (inl refl) route, slot_carried_over p name other r.question.class (Some 5) alias.carried.slot alike, target, alias.leads, rest.2))
 
 -- to the last name as it is spelled there, from the first as it is spelled there
@@ -78,7 +78,7 @@ lead_goes : (l : Look) (r : Reply) (t : ℕ) → Serves r → r.config ≡ l.con
 lead_goes l r t serves config name last [] lead serve = λ i. at_name (sym lead i) r.question.kind r.question.class
 lead_goes l r t serves config name last (p ∷ aliases) lead serve =
     let alias : IsAliasTo r name lead.0 p = lead.1 in
-    let route : route_of l.config name ≡ Some p.route = subst (λ (c : Config). route_of c name ≡ Some p.route) config (on_its_route r serves name name (Some 5) p alias.carried refl) in
+    let route : serving_route_of l.config name ≡ Some p.route = subst (λ (c : Config). serving_route_of c name ≡ Some p.route) config (on_its_route r serves name name (Some 5) p alias.carried refl) in
     (alias.follows, serve (held_at t p) name (inl refl) route, slot_carried_over p name name r.question.class (Some 5) alias.carried.slot refl, lead.0, alias.leads, lead_goes l r t serves config lead.0 last aliases lead.2 (λ o n among. serve o n (inr among)))
 
 -- or, where there is an alias, from each name that is the same
@@ -87,7 +87,7 @@ pub lead_follows_to : (l : Look) (r : Reply) (t : ℕ) → Serves r → r.config
 lead_follows_to l r t serves config name other last [] lead alike some serve = absurd (omega (arith, some))
 lead_follows_to l r t serves config name other last (p ∷ aliases) lead alike some serve =
     let alias : IsAliasTo r name lead.0 p = lead.1 in
-    let route : route_of l.config other ≡ Some p.route = subst (λ (c : Config). route_of c other ≡ Some p.route) config (on_its_route r serves name other (Some 5) p alias.carried alike) in
+    let route : serving_route_of l.config other ≡ Some p.route = subst (λ (c : Config). serving_route_of c other ≡ Some p.route) config (on_its_route r serves name other (Some 5) p alias.carried alike) in
     (alias.follows, serve (held_at t p) other (inl refl) route, slot_carried_over p name other r.question.class (Some 5) alias.carried.slot alike, lead.0, alias.leads, lead_goes l r t serves config lead.0 last aliases lead.2 (λ o n among. serve o n (inr among)))
 
 -- the piece that closes ends the look-up of each question at a name that is the same

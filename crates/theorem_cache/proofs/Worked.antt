@@ -1,5 +1,5 @@
--- What explains what is kept, and which chains are right, computed: entries, answers that are still found, what is read
--- as an answer, how many aliases a look-up holds, and the chains of an accepted reply.
+-- Kept entries and right chains, computed: entries, answers that are still found, octets that are
+-- read as an answer, how many aliases a look-up holds, and the chains of an accepted reply.
 use Rattle.std.proofs.Common.{◌≡◌, ◌≢◌, ℕ, ◌≤◌, List, [], ◌∷◌, length, map, false, refl, sym, ap, ◌∙◌, inl, inr, arith, Option, Some, None}
 use Rattle.std.proofs.lemmas.Bool.{true≢false}
 use Rattle.dns_name.specs.Labels.{IsLabel, IsName}
@@ -66,12 +66,12 @@ name_of_a = record { each = (label 97, (label 101, tt)); short = omega arith }
 writable : IsWritable (set a)
 writable = record { owner = name_of_a; class = omega arith; kind = omega arith; body = tt }
 
--- what a reply carried, beside what it carried behind it
+-- a piece that a reply carried, after another one of the same reply
 is_kept : IsKept config (held_at 1020 (set b) ∷ kept ∷ []) 2000 kept
 unfolding route_of
 is_kept = record { on_route = refl; earlier = omega arith; has_lifetime = omega arith; not_replaced = inr (refl, inl refl); writable = writable }
 
--- nothing is kept before it was accepted, and nothing that no reply carried
+-- no piece is kept before it was accepted, and none that no reply carried
 yet_to_come : IsKept config (kept ∷ []) 1019 kept → ⊥
 yet_to_come h = let before : 1020 ≤ 1019 = h.earlier in omega (arith, before)
 
@@ -118,7 +118,7 @@ found_no_more found =
     still_found : IsStillFound config 2000 [] (address a) cut_text → ⊥
     still_found still = let met : missed ≡ ends still.end = still.ends_so in absurd cc
 
--- what is read as the answer is the whole or the same cut to the question
+-- octets that are read as the answer are the whole, or the same cut to the question
 abbrev cut : Message
 cut = cut_answer (asked 4660 (address a)) (sections_of 2000 (kept ∷ []))
 
@@ -155,7 +155,7 @@ sized_otherwise = (
   λ h. let few : 8 ≡ 9 = h in omega (arith, few),
 )
 
--- ---- what leads on
+-- ---- steps that go on
 
 abbrev of_event : Event → Step
 of_event e = record {
@@ -166,7 +166,7 @@ of_event e = record {
 goes_on : GoesOn config (of_event tick) []
 goes_on = (refl, inl (λ ps carries. none carries.accepts.matches.delivered))
 
--- nothing goes on over a restart
+-- a restart is none
 begins_anew : GoesOn config (of_event restart) [] → ⊥
 begins_anew h = true≢false h.0
 

@@ -25,10 +25,11 @@ GoesOn c s past = (is_restart s ≡ false) × (NothingAccepted c s past ⊎ ((ps
 
 -- ---- of a look-up
 
--- it can be told at the moment, is justified, and ends the look-up of the question
+-- it can be written at the moment, is justified, and ends the look-up of the question
 abbrev pub IsRightEnd : Look → ℕ → Question → Held → Type 0
 IsRightEnd l t q h = CanBeTold t h × Justified l q.name h × EndsChain q h.piece h.piece.body
 
+-- a look-up ends in a justified piece, if it ends in one
 abbrev pub EndsRight : Look → ℕ → Question → LookUpEnd → Type 0
 EndsRight l t q (ends h) = IsRightEnd l t q h
 EndsRight l t q too_long = Unit {0}
@@ -40,16 +41,17 @@ IsSized (ends h) k = k ≤ 8
 IsSized too_long k = k ≡ 9
 IsSized missed k = k ≤ 8
 
--- its aliases lead from the question to what is wanted at the end, and the end is right for that
+-- its aliases lead from the question to the one that it ends at, and the end is right for that one
 pub record IsRight (l : Look) (t : ℕ) (q : Question) (v : LookUp) : Type 0 where
   pub told : AllByRecursion (CanBeTold t) v.held
   pub follows : FollowsAliases l q v.held v.wanted
   pub right_end : EndsRight l t v.wanted v.met
   pub sized : IsSized v.met (length v.held)
 
--- ---- of a look-up past the ends of entries
+-- ---- of a look-up of expired data
 
--- aliases, at most so many, that may have ended lead from the question to what a set answers that may have ended too
+-- at most `most` aliases that may have expired lead from the question to a set that may have
+-- expired too (RFC 8767 5)
 pub record IsRightPast (l : Look) (t : ℕ) (q : Question) (most : ℕ) (chain : List Held) : Type 0 where
   pub aliases : List Held
   pub end : Held
@@ -63,7 +65,8 @@ pub record IsRightPast (l : Look) (t : ℕ) (q : Question) (most : ℕ) (chain :
 
 -- ---- of an accepted reply
 
--- pieces that came at the moment t: aliases that lead on from the question, and the one that ends its look-up
+-- pieces that came at the moment t: aliases that lead on from the question, and the one that ends
+-- its look-up
 pub record LeadToEnd (l : Look) (t : ℕ) (q : Question) (ps : List Piece) : Type 0 where
   pub aliases : List Piece
   pub last : Piece
@@ -73,7 +76,8 @@ pub record LeadToEnd (l : Look) (t : ℕ) (q : Question) (ps : List Piece) : Typ
   pub justified : Justified l to.name (held_at t last)
   pub right_end : EndsChain to last last.body
 
--- pieces that came at the moment t: one to eight aliases that lead on from the question to the same at this name
+-- pieces that came at the moment t: one to eight aliases that lead on from the question to the same
+-- at this name
 pub record LeadOn (l : Look) (t : ℕ) (q : Question) (ps : List Piece) (name : List (List ℕ)) : Type 0 where
   pub some : 1 ≤ length ps
   pub few : length ps ≤ 8

@@ -1,4 +1,4 @@
--- How a history explains what is kept of replies, and what was answered from it.
+-- How a history explains the entries of the cache, and the answers from it.
 use Rattle.std.specs.Prelude.{◌≡◌, ℕ, ◌<◌, ◌≤◌, false, List, [], ◌∷◌, ◌++◌, Some, ◌⊎◌}
 use Rattle.std.specs.List.{AllByRecursion}
 use Rattle.dns_message.specs.Header.{Header}
@@ -16,7 +16,7 @@ use Rattle.answer_builder.specs.Values.{Asked, Sections, asked_in}
 use Rattle.answer_builder.specs.Answers.{sections_of, full_answer, cut_answer}
 use Rattle.step_values.specs.declared.event.Client.{Client}
 use Rattle.step_values.specs.Values.{Step}
-use Rattle.suffix_routes.specs.Serving.{route_of}
+use Rattle.suffix_routes.specs.Serving.{serving_route_of}
 use Rattle.step_history.specs.History.{is_restart, moment_at, NothingAccepted}
 use Rattle.step_history.specs.Carried.{CarriedInEra, NotReplaced}
 use Rattle.step_history.specs.Replies.{answer_text, cut_text, sized_for}
@@ -26,8 +26,8 @@ use Rattle.step_table.specs.Progress.{IsOnRoute}
 
 -- ---- entries
 
--- an entry: on its route, accepted not after the present moment, carried by a reply of the era with a lifetime, and not
--- replaced since
+-- an entry: on its route, accepted not after the present moment, carried by a reply of the era with
+-- a lifetime, and not replaced since
 pub record IsKept (c : Config) (carried : List Held) (moment : ℕ) (h : Held) : Type 0 where
   pub on_route : IsOnRoute c h
   pub earlier : h.accepted ≤ moment
@@ -35,7 +35,8 @@ pub record IsKept (c : Config) (carried : List Held) (moment : ℕ) (h : Held) :
   pub not_replaced : NotReplaced h carried
   pub writable : IsWritable h.piece
 
--- what an answer tells of an entry at the moment can be written
+-- an answer at the moment t can be written from the entry: it is well formed, writable, and came at
+-- t or before
 pub record CanBeTold (t : ℕ) (h : Held) : Type 0 where
   pub formed : IsPiece h.piece
   pub writable : IsWritable h.piece
@@ -44,12 +45,12 @@ pub record CanBeTold (t : ℕ) (h : Held) : Type 0 where
 -- a piece that can be kept: of its name's route, and it can be written
 pub record CanBeKept (c : Config) (p : Piece) : Type 0 where
   pub formed : IsPiece p
-  pub on_route : route_of c p.slot.key ≡ Some p.route
+  pub on_route : serving_route_of c p.slot.key ≡ Some p.route
   pub writable : IsWritable p
 
 -- ---- answers
 
--- what was asked can be repeated
+-- an answer can repeat the question
 pub record CanBeRepeated (a : Asked) (q : Question) : Type 0 where
   pub question : a.question ≡ Some q
   pub is_question : IsQuestion q
@@ -86,7 +87,8 @@ AreStillFound c t entries (s ∷ past) =
     → ((q : Question) (octets : List ℕ) → FromCache s q octets → IsStillFound c t entries q octets)
     × AreStillFound c t entries past
 
--- what is kept of the replies, and what was answered from it, is explained by what was carried
+-- the pieces that were carried explain the cache and the answers from it: its capacity, each entry,
+-- and each answer from cache at this moment with nothing accepted since
 pub record IsCached (c : Config) (past : List Step) (moment : ℕ) (cache : Cache) : Type 0 where
   pub carried : List Held
   pub carried_is : CarriedInEra c past carried

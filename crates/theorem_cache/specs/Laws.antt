@@ -1,4 +1,4 @@
--- What the definitions are good for, as statements: they hold along the table's steps.
+-- Statements about the cache and its answers that hold along the table's steps.
 use Rattle.std.specs.Prelude.{◌≡◌, ℕ, ◌+◌, true, false, length, Bool, List, [], ◌∷◌, ◌++◌, Some}
 use Rattle.std.specs.List.{AllByRecursion}
 use Rattle.dns_message.specs.Values.{Question, Message}
@@ -12,7 +12,7 @@ use Rattle.record_cache.specs.Values.{Held, Cache}
 use Rattle.answer_builder.specs.Values.{Asked}
 use Rattle.step_values.specs.declared.event.Client.{Client}
 use Rattle.step_values.specs.Values.{Step}
-use Rattle.suffix_routes.specs.Serving.{route_of}
+use Rattle.suffix_routes.specs.Serving.{serving_route_of}
 use Rattle.step_history.specs.History.{is_restart, moment_at, InEra, Carries, NothingAccepted}
 use Rattle.step_history.specs.Carried.{CarriedInEra}
 use Rattle.step_history.specs.Answers.{FollowsAliases, Leads}
@@ -26,21 +26,23 @@ use Rattle.theorem_cache.specs.Kept.{CanBeKept, CanBeTold, CanBeRepeated, Spells
 use Rattle.theorem_cache.specs.Kept.{IsStillFound, IsCached}
 use Rattle.theorem_cache.specs.Chains.{look_from, GoesOn, IsRight, IsRightPast, LeadToEnd, LeadOn}
 
--- ---- what is kept
+-- ---- entries
 
--- A step that accepts nothing keeps what was kept, where each of its answers from cache is found now.
+-- The cache stays explained by a step that accepts nothing, where each of its answers from cache is
+-- found now.
 abbrev pub QuietStepsKeep : Type 0
 QuietStepsKeep = (c : Config) (past : List Step) (m n : ℕ) (cache : Cache) (s : Step) → IsCached c past m cache
     → m ≡ moment_at past → (is_restart s ≡ false) × NothingAccepted c s past → n ≡ moment_at (s ∷ past)
     → ((q : Question) (octets : List ℕ) → FromCache s q octets → IsStillFound c n cache.entries q octets)
     → IsCached c (s ∷ past) n cache
 
--- So does a promotion.
+-- The cache stays explained by promotions.
 abbrev pub PromotionsKeep : Type 0
 PromotionsKeep = (c : Config) (past : List Step) (m : ℕ) (cache : Cache) (used : List Slot) → IsCached c past m cache
     → IsCached c past m (record { capacity = cache.capacity; entries = promoted_all used cache.entries })
 
--- An accepted reply leaves what it carried among what is kept, whatever memory there was for it.
+-- The cache stays explained where the pieces of an accepted reply are offered to it, whatever
+-- memory there was for them.
 abbrev pub OffersKeep : Type 0
 OffersKeep = (c : Config) (past : List Step) (m n : ℕ) (cache : Cache) (s : Step) (rooms : List Bool) (ps : List Piece)
     → IsCached c past m cache → m ≡ moment_at past → is_restart s ≡ false → n ≡ moment_at (s ∷ past)
@@ -55,37 +57,39 @@ OffersKeep = (c : Config) (past : List Step) (m n : ℕ) (cache : Cache) (s : St
 -- The pieces of a reply that isn't lame can be kept.
 abbrev pub AcceptedPiecesCanBeKept : Type 0
 AcceptedPiecesCanBeKept = (c : Config) (m : Message) (q : Question) (route : ℕ) → IsMessage m → HasShapes m
-    → IsQuestion q → route_of c q.name ≡ Some route → is_lame (walk_of c m q route).end ≡ false
+    → IsQuestion q → serving_route_of c q.name ≡ Some route → is_lame (walk_of c m q route).end ≡ false
     → AllByRecursion (CanBeKept c) ((walk_of c m q route).pieces ++ (walk_of c m q route).authority)
 
--- Where the walk has a last piece, they answer each question of the era that is equal to the one that was asked.
+-- Where the walk has a last piece, its pieces answer each question of the era that is equal to the
+-- one that was asked.
 abbrev pub AcceptedPiecesAnswer : Type 0
 AcceptedPiecesAnswer = (c : Config) (asked s : Step) (before past : List Step) (os : List Held) (m : Message)
     (q other : Question) (route : ℕ) → InEra (asked ∷ before) past → is_restart s ≡ false → CarriedInEra c past os
     → Carries c s past ((walk_of c m q route).pieces ++ (walk_of c m q route).authority) → HasShapes m
-    → route_of c q.name ≡ Some route → has_last (walk_of c m q route).end ≡ true → IsSameQuestion other q
+    → serving_route_of c q.name ≡ Some route → has_last (walk_of c m q route).end ≡ true → IsSameQuestion other q
     → LeadToEnd (look_from c asked before (s ∷ past)) (moment_at (s ∷ past)) other (walk_of c m q route).pieces
 
--- Where it leads to a name that it doesn't answer, they are aliases that lead each such question on to that name.
+-- Where the walk leads to a name that it doesn't answer, its pieces are aliases that lead each such
+-- question on to that name.
 abbrev pub AcceptedPiecesLeadOn : Type 0
 AcceptedPiecesLeadOn = (c : Config) (asked s : Step) (before past : List Step) (os : List Held) (m : Message)
     (q other : Question) (route : ℕ) (name : List (List ℕ)) → InEra (asked ∷ before) past → is_restart s ≡ false
     → CarriedInEra c past os → Carries c s past ((walk_of c m q route).pieces ++ (walk_of c m q route).authority)
-    → HasShapes m → route_of c q.name ≡ Some route
+    → HasShapes m → serving_route_of c q.name ≡ Some route
     → (walk_of c m q route).end ≡ elsewhere name → IsSameQuestion other q
     → LeadOn (look_from c asked before (s ∷ past)) (moment_at (s ∷ past)) other (walk_of c m q route).pieces name
 
 -- ---- a look-up
 
--- What a client's question meets in the cache is justified, in a step that accepts nothing.
+-- The look-up of a client's question is justified, in a step that accepts nothing.
 abbrev pub LookUpsAreRight : Type 0
 LookUpsAreRight = (c : Config) (past : List Step) (m n : ℕ) (cache : Cache) (s : Step) (q : Question)
     → IsCached c past m cache → m ≡ moment_at past → (is_restart s ≡ false) × NothingAccepted c s past
     → n ≡ moment_at (s ∷ past)
     → IsRight (look_from c s past (s ∷ past)) n q (looked c n cache.entries q)
 
--- A look-up that goes on for a question that waits, with the aliases that it holds, in the cache as it was before the
--- step, is right too, whatever the step accepts.
+-- A look-up that goes on for a question that waits, with the aliases that it holds, in the cache as
+-- it was before the step, is right too, whatever the step accepts.
 abbrev pub LookUpsThatGoOnAreRight : Type 0
 LookUpsThatGoOnAreRight = (c : Config) (asked s : Step) (before past : List Step) (m n : ℕ) (cache : Cache)
     (q wanted : Question) (held : List Held) (more : ℕ) → IsCached c past m cache → m ≡ moment_at past
@@ -93,7 +97,8 @@ LookUpsThatGoOnAreRight = (c : Config) (asked s : Step) (before past : List Step
     → FollowsAliases (look_from c asked before (s ∷ past)) q held wanted → more + length held ≡ most_aliases
     → IsRight (look_from c asked before (s ∷ past)) n q (look_up c.routes n cache.entries more held wanted)
 
--- What is found past the ends of entries, in a step that accepts nothing, is justified so for each question of the era.
+-- The expired data that a look-up finds, in a step that accepts nothing, is justified for each
+-- question of the era (RFC 8767 5).
 abbrev pub LookUpsPastEndsAreRight : Type 0
 LookUpsPastEndsAreRight = (c : Config) (asked s : Step) (before past : List Step) (m n : ℕ) (cache : Cache)
     (q : Question) (most : ℕ) (chain : List Held) → IsCached c past m cache → m ≡ moment_at past
@@ -103,14 +108,16 @@ LookUpsPastEndsAreRight = (c : Config) (asked s : Step) (before past : List Step
 
 -- ---- answers
 
--- What a client gets of a chain is read as the answer, or as the answer cut to the question.
+-- The octets that a client gets from a chain are read as the answer, or as the answer cut to the
+-- question.
 abbrev pub AnswersAreSpelled : Type 0
 AnswersAreSpelled = (a : Asked) (q : Question) (t : ℕ) (aliases : List Held) (end : Held) → CanBeRepeated a q
     → AllByRecursion (CanBeTold t) (aliases ++ end ∷ []) → (client : Client)
     → FitsTransport client (sized_for client (answer_text a aliases end t) (cut_text a aliases end t))
     → SpellsAnswer (sized_for client (answer_text a aliases end t) (cut_text a aliases end t)) a (aliases ++ end ∷ []) t
 
--- So is what it gets past the ends of entries, and where the configuration denies.
+-- The octets of an answer with expired data are read as that answer, or as the same cut to the
+-- question (RFC 8767 4).
 abbrev pub StaleAnswersAreSpelled : Type 0
 StaleAnswersAreSpelled = (a : Asked) (q : Question) (t : ℕ) (held past : List Held) (end : Held) → CanBeRepeated a q
     → AllByRecursion (CanBeTold t) (held ++ (past ++ end ∷ [])) → (client : Client)
@@ -119,6 +126,8 @@ StaleAnswersAreSpelled = (a : Asked) (q : Question) (t : ℕ) (held past : List 
     → SpellsSections (sized_for client (full_text a (stale_sections t held past end))
     (short_text a (stale_sections t held past end))) a (stale_sections t held past end)
 
+-- The octets of a denial by the configuration are read as its sections, or as the same cut to the
+-- question.
 abbrev pub LocalAnswersAreSpelled : Type 0
 LocalAnswersAreSpelled = (a : Asked) (q : Question) (t : ℕ) (aliases : List Held) → CanBeRepeated a q
     → AllByRecursion (CanBeTold t) aliases → (client : Client)
@@ -127,20 +136,20 @@ LocalAnswersAreSpelled = (a : Asked) (q : Question) (t : ℕ) (aliases : List He
     → SpellsSections (sized_for client (full_text a (denied_sections t aliases))
     (short_text a (denied_sections t aliases))) a (denied_sections t aliases)
 
--- An answer from cache has the sections of each earlier one to an equal question at its moment, back to the last
--- accepted reply.
+-- An answer from cache has the sections of each earlier one to an equal question at its moment,
+-- back to the last accepted reply.
 abbrev pub AnswersFromCacheAgree : Type 0
 AnswersFromCacheAgree = (c : Config) (past : List Step) (m n : ℕ) (cache : Cache) (q : Question) (octets : List ℕ)
     → IsCached c past m cache → m ≡ moment_at past → IsStillFound c n cache.entries q octets
     → SameAsEarlierFromCache c n q octets past
 
--- A promotion leaves what is found.
+-- A promotion changes no answer that is still found.
 abbrev pub PromotionsFindTheSame : Type 0
 PromotionsFindTheSame = (c : Config) (past : List Step) (m n : ℕ) (cache : Cache) (used : List Slot) (q : Question)
     (octets : List ℕ) → IsCached c past m cache → IsStillFound c n cache.entries q octets
     → IsStillFound c n (promoted_all used cache.entries) q octets
 
--- ---- what waits
+-- ---- aliases that are held
 
 -- Aliases that lead on lead on a step later too.
 abbrev pub LeadsStayLeads : Type 0

@@ -1,5 +1,5 @@
-//! What is kept of replies along the table's steps, what is found in it, and what is answered from it: each is
-//! explained by the history.
+//! Laws along the table's steps: the history explains the entries of the cache, the look-ups in it,
+//! and the answers from it.
 #![tactic(auto)]
 
 mod laws;

@@ -13,7 +13,7 @@ use Rattle.trust_rank.specs.Walks.{walk_of, has_last}
 use Rattle.record_cache.specs.Values.{Held}
 use Rattle.step_values.specs.declared.action.Why.TheVariants.{ChainLong}
 use Rattle.step_values.specs.Values.{Step}
-use Rattle.suffix_routes.specs.Serving.{route_of}
+use Rattle.suffix_routes.specs.Serving.{serving_route_of}
 use Rattle.step_history.specs.History.{is_restart, moment_at, Look, Carries}
 use Rattle.step_history.specs.Carried.{CarriedInEra}
 use Rattle.step_history.specs.Answers.{FollowsAliases, Leads, Chain}
@@ -55,7 +55,7 @@ last_is p (q ∷ ps) (x ∷ aliases) last e =
     let more = last_is q ps aliases last rest in
     ((λ i. head i ∷ more.0 i), more.1)
 
--- ---- what the table does with the end of a walk that has a last piece
+-- ---- the table's rule for a walk that has a last piece
 
 ends_at_last : (n : ℕ) (held : List Held) (q : Question) (aliases : List Piece) (last : Piece)
     → ends_at n held q (aliases ++ last ∷ []) ≡ record { held = held ++ map (held_at n) aliases; wanted = q; met = ends (held_at n last); used = [] }
@@ -66,7 +66,7 @@ ends_at_last n held q (p ∷ ps) last =
 
 -- ---- each question that waited for it
 
--- what comes now can be told
+-- pieces that come now can be written
 pub pieces_told : (c : Config) (n : ℕ) (ps : List Piece) → AllByRecursion (CanBeKept c) ps → AllByRecursion (CanBeTold n) (map (held_at n) ps)
 pieces_told c n [] all = tt
 pieces_told c n (p ∷ ps) all = (record { formed = all.0.formed; writable = all.0.writable; earlier = omega arith }, pieces_told c n ps all.1)
@@ -83,7 +83,7 @@ owns_too_many c n now y i comes held last follows f =
     ))
 
 module _ (c : Config) (past : List Step) (step : Step) (n : ℕ) (os : List Held) (a : Ask) (m : Message) (runs : is_restart step ≡ false) (is_now : n ≡ moment_at (step ∷ past)) (carried : CarriedInEra c past os)
-    (on : route_of c a.question.name ≡ Some a.route) (shapes : HasShapes m) (fine : has_last (walk_of c m a.question a.route).end ≡ true)
+    (on : serving_route_of c a.question.name ≡ Some a.route) (shapes : HasShapes m) (fine : has_last (walk_of c m a.question a.route).end ≡ true)
     (kept : AllByRecursion (CanBeKept c) ((walk_of c m a.question a.route).pieces ++ (walk_of c m a.question a.route).authority))
     (carries : Carries c step past ((walk_of c m a.question a.route).pieces ++ (walk_of c m a.question a.route).authority)) where
   abbrev w : Walk
@@ -99,7 +99,8 @@ module _ (c : Config) (past : List Step) (step : Step) (n : ℕ) (os : List Held
     abbrev look : Look
     look = look_from c was.comes.asked was.comes.before now
 
-    -- the aliases of the walk lead on from what the question wants, to what the walk ends at
+    -- the aliases of the walk lead on from the question that is wanted, to the one that the walk
+    -- ends at
     led : LeadToEnd look n y.wanted w.pieces
     led = subst (λ (t : ℕ). LeadToEnd look t y.wanted w.pieces) (sym is_now)
         (accepted_pieces_answer c was.comes.asked step was.comes.before past os m a.question y.wanted a.route was.comes.in_era runs carried carries shapes on fine ((same_question_decides y.wanted a.question).0 same))

@@ -1,4 +1,5 @@
--- What the actions of a step tell the history: owners of replies, listed asks, asks by TCP, closed paths, right asks.
+-- The actions of a step in the history: owners of replies, listed asks, asks by TCP, closed paths,
+-- right asks.
 use Rattle.std.proofs.Common.{◌≡◌, ℕ, List, [], ◌∷◌, ◌++◌, Bool, true, false, cond, refl, sym, ap, ◌∙◌, inl, inr, arith, Option, Some, None}
 use Rattle.std.specs.Prelude.{map, not, ◌==◌, ◌||◌}
 use Rattle.std.specs.List.{cons_option, AllByRecursion}
@@ -34,7 +35,7 @@ OwnsReply c now i (close_tcp conn) = ⊥
 abbrev pub AreFated : Config → List Step → List (Fate × ℕ) → Type 0
 AreFated c now gs = AllByRecursion (λ g. Fated (OwnsReply c now) (Waits c now) g.0 g.1) gs
 
--- what reads no reply
+-- a function of actions that passes over replies
 abbrev pub Passes : {Y : Type 0} → (List Action → Y) → Type 0
 Passes f = (client : Client) (octets : List ℕ) (why : Why) (more : List Action) → f (send_reply client octets why ∷ more) ≡ f more
 
@@ -81,7 +82,7 @@ still_free : (n : ℕ) (owners is : List ℕ) → AllByRecursion (λ j. (j == n)
 still_free n owners [] a b = tt
 still_free n owners (i ∷ is) a b = (ap (λ v. v || among i owners) (ne_eqb n i (λ e. false≢true (sym a.0 ∙ eq-eqb i n (sym e)))) ∙ b.0, still_free n owners is a.1 b.1)
 
--- each that gets its reply owns it, and no other; asks behind them own nothing
+-- each question that gets its reply owns it, and no other; the asks after the replies own nothing
 pub owned_replies : (c : Config) (now : List Step) (rest : List Action) → ((owners : List ℕ) → EachOwned c now rest owners []) → (gs : List (Fate × ℕ)) → AreFated c now gs
     → (owners : List ℕ) → Distinct (owners_by gs) → Free owners (owners_by gs) → EachOwned c now (replies (fates_in gs) ++ rest) owners (owners_by gs)
 owned_replies c now rest quiet [] h owners d free = quiet owners
@@ -207,7 +208,7 @@ closing_closes p (Some a) more none = by a.path ∙ ap (λ b. same_path p a.path
     or_false true = refl
     or_false false = refl
 
--- what is listed after a step that settles, and what it closes
+-- the listed asks after a step that settles, and the paths that it closes
 pub listed_settled : (t : ℕ) (close : Option Ask) (fates : List Fate) (next : Option Ask) (listed : List Ask) → AllByRecursion Speaks fates → AskedAt t next
     → asks_after t (closing close ++ (replies fates ++ map asks (ask_list next))) (map shown listed) ≡ map shown (without_ask close listed ++ ask_list next)
 listed_settled t close fates next listed speak asked_at =

@@ -1,4 +1,4 @@
--- What a client gets is right for its question.
+-- The reply that a client gets is right for its question.
 use Rattle.std.proofs.Common.{◌≡◌, ℕ, ◌+◌, ◌<◌, ◌≤◌, List, [], ◌∷◌, ◌++◌, length, Bool, true, false, cond, refl, sym, ap, ◌∙◌, subst, inl, inr, arith, Option, Some, None}
 use Rattle.std.specs.Prelude.{nat_le, not, ◌&&◌, Result, Ok, Err}
 use Rattle.std.specs.List.{AllByRecursion}
@@ -19,7 +19,7 @@ use Rattle.step_values.specs.declared.event.Client.TheVariants.{Udp, Tcp}
 use Rattle.step_values.specs.declared.action.Why.{Why}
 use Rattle.step_values.specs.declared.action.Why.TheVariants.{Answered, NoRoute, ChainLong, TooLarge, Stale, LocalDenied}
 use Rattle.step_values.specs.Values.{Action, send_reply, Step}
-use Rattle.suffix_routes.specs.Serving.{route_of, is_local}
+use Rattle.suffix_routes.specs.Serving.{serving_route_of, is_local}
 use Rattle.step_history.specs.History.{is_restart, is_taken_request, listed, moment_at, Look, Reads}
 use Rattle.step_history.specs.Answers.{FollowsAliases, Leads, Chain}
 use Rattle.step_history.specs.Stale.{ChainPastEnds}
@@ -161,7 +161,7 @@ answer_owned c n now x i k is aliases end chain told = sized_owned c now x i k A
       large = subst (λ (o : List ℕ). 65535 < length o) (λ j. answer_text (k.asked_is j) aliases end (is j)) many;
     })
 
--- once all tries failed, what was found past its end is answered, or is too large to be
+-- once all tries failed, the expired data that was found is sent, or is too large to be
 pub stale_owned : (c : Config) (n : ℕ) (now : List Step) (x : Waiting) (i : ℕ) (k : Comes now x.client x.asked i) → n ≡ moment_at now
     → Leads (look_from c k.asked k.before now) k.question x.held x.wanted → LastFailed c x.wanted now c.limits.tries → ClosesNow x.wanted now → NoneAsks x.wanted (listed now)
     → 1 ≤ c.limits.stale_s → AllByRecursion (CanBeTold n) x.held
@@ -234,7 +234,7 @@ stale_owned c n now x i k is leads failed closed none window told most found roo
       large = subst (λ (o : List ℕ). 65535 < length o) (λ j. full_text (k.asked_is j) (stale_sections (is j) x.held past end)) many;
     }))
 
--- aliases that lead to a denied name are answered, or are too large to be
+-- aliases that lead to a denied name are sent, or are too large to be
 local_owned : (c : Config) (n : ℕ) (now : List Step) (x : Waiting) (i : ℕ) (k : Comes now x.client x.asked i) → n ≡ moment_at now → (aliases : List Held)
     → ChainToLocal (look_from c k.asked k.before now) k.question aliases → AllByRecursion (CanBeTold n) aliases → OwnsReply c now i (denied_locally n x aliases)
 local_owned c n now x i k is aliases chain told = sized_owned c now x i k LocalDenied (denied_sections n aliases) right large
@@ -281,9 +281,9 @@ local_owned c n now x i k is aliases chain told = sized_owned c now x i k LocalD
       large = subst (λ (o : List ℕ). 65535 < length o) (λ j. full_text (k.asked_is j) (denied_sections (is j) aliases)) many;
     }))
 
--- what no route serves, behind aliases or not, is denied by the configuration or has no route
+-- a name that no route serves, after aliases or not, is denied by the configuration or has no route
 pub without_server_owned : (c : Config) (n : ℕ) (now : List Step) (x : Waiting) (i : ℕ) (k : Comes now x.client x.asked i) → n ≡ moment_at now → (aliases : List Held) (last : Question)
-    → Leads (look_from c k.asked k.before now) k.question aliases last → route_of c last.name ≡ None → (aliases ≡ [] → now ≡ k.asked ∷ k.before) → AllByRecursion (CanBeTold n) aliases
+    → Leads (look_from c k.asked k.before now) k.question aliases last → serving_route_of c last.name ≡ None → (aliases ≡ [] → now ≡ k.asked ∷ k.before) → AllByRecursion (CanBeTold n) aliases
     → OwnsReply c now i (without_server c n x aliases last.name)
 without_server_owned c n now x i k is aliases last leads none at_once told =
     cond_both (is_local c last.name) (denied_locally n x aliases) (gives_up NoRoute x) (OwnsReply c now i)
@@ -304,7 +304,7 @@ without_server_owned c n now x i k is aliases last leads none at_once told =
       },
     )))
 
--- neither tells success
+-- a reply for another reason is no success
 pub sends_other : (own : Why) (x : Waiting) (r : Result (List ℕ) Fault) (client : Client) (octets : List ℕ) (why : Why) → (own ≡ Answered → ⊥) → sends own x r ≡ send_reply client octets why → why ≡ Answered → ⊥
 sends_other own x (Ok text) client octets why other e success = let same : own ≡ why = cc in other (same ∙ success)
 sends_other own x (Err fault) client octets why other e success = let same : TooLarge ≡ why = cc in let bad : TooLarge ≡ Answered = same ∙ success in absurd (cc)
@@ -315,12 +315,12 @@ without_server_fails c n x aliases name client octets why =
     (λ _. sends_other LocalDenied x (local_answer_of x.asked aliases n (transport_of x.client)) client octets why (λ e. cc))
     (λ _ e success. let same : NoRoute ≡ why = cc in let bad : NoRoute ≡ Answered = same ∙ success in absurd (cc))
 
--- what is told of a chain
+-- the octets that are sent for a chain
 pub record IsTold (n : ℕ) (client : Client) (a : Asked) (aliases : List Held) (end : Held) (octets : List ℕ) : Type 0 where
   pub text : octets ≡ sized_for client (answer_text a aliases end n) (cut_text a aliases end n)
   pub spells : SpellsAnswer octets a (aliases ++ end ∷ []) n
 
--- a successful reply tells its chain
+-- a successful reply has the octets of its chain
 pub answered_told : (n : ℕ) (now : List Step) (x : Waiting) (i : ℕ) (k : Comes now x.client x.asked i) (aliases : List Held) (end : Held) → AllByRecursion (CanBeTold n) (aliases ++ end ∷ [])
     → (client : Client) (octets : List ℕ) (why : Why) → answered n x aliases end ≡ send_reply client octets why → why ≡ Answered → IsTold n x.client x.asked aliases end octets
 answered_told n now x i k aliases end told client octets why is success = by x.client is
@@ -348,7 +348,8 @@ answered_told n now x i k aliases end told client octets why is success = by x.c
         over true fits e = sent (Tcp conn) (of_reply full Answered e).0 (leb-true (length full) 65535 fits)
         over false large e = let bad : TooLarge ≡ Answered = (of_reply (failure_text x.asked TooLarge) TooLarge e).1 ∙ success in absurd (cc)
 
--- a question is answered rightly after its look-up, or goes on waiting with aliases that it may hold
+-- a question is answered rightly after its look-up, or goes on waiting with aliases that it may
+-- hold
 pub fate_is_right : (c : Config) (n : ℕ) (now : List Step) (x : Waiting) (i : ℕ) (l : LookUp) (m : LookUpEnd) (k : Comes now x.client x.asked i) → n ≡ moment_at now → x.taken ≡ moment_at (k.asked ∷ k.before)
     → AllByRecursion (CanBeTold n) l.held → FollowsAliases (look_from c k.asked k.before now) k.question l.held l.wanted → EndsRight (look_from c k.asked k.before now) n l.wanted m → IsSized m (length l.held)
     → (l.held ≡ [] → now ≡ k.asked ∷ k.before)
@@ -357,11 +358,11 @@ fate_is_right c n now x i l (ends e) k is taken told follows right size at_once 
     answer_owned c n now x i k is l.held e (record { last = l.wanted; leads = record { few = size; follows = follows }; justified = right.1; ends = right.2 }) (All-append (CanBeTold n) l.held (e ∷ []) told (right.0, tt))
 fate_is_right c n now x i l too_long k is taken told follows right size at_once =
     owns c now x.client x.asked i k ChainLong (failure_text x.asked ChainLong) (λ waiting. (failure_told now x.client x.asked i k ChainLong, record { question = k.question; reads = k.reads; aliases = l.held; last = l.wanted; many = size; follows = follows }))
-fate_is_right c n now x i l missed k is taken told follows right size at_once = by (route_of c l.wanted.name) refl
+fate_is_right c n now x i l missed k is taken told follows right size at_once = by (serving_route_of c l.wanted.name) refl
   where
     leads : Leads (look_from c k.asked k.before now) k.question l.held l.wanted
     leads = record { few = size; follows = follows }
 
-    by : (r : Option ℕ) → route_of c l.wanted.name ≡ r → Fated (OwnsReply c now) (Waits c now) (fate_missed c n x l r) i
+    by : (r : Option ℕ) → serving_route_of c l.wanted.name ≡ r → Fated (OwnsReply c now) (Waits c now) (fate_missed c n x l r) i
     by (Some route) on = record { comes = k; moment = taken; leads = leads; told = subst (λ (t : ℕ). AllByRecursion (CanBeTold t) l.held) is told }
     by None none = without_server_owned c n now x i k is l.held l.wanted leads none at_once told

@@ -1,4 +1,4 @@
--- What holds of the listed asks after one more step.
+-- The listed asks after one more step.
 use Rattle.std.proofs.Common.{◌≡◌, ℕ, suc, zero, List, [], ◌∷◌, length, true, false, sym, ap, ◌∙◌, subst, inr, arith, Some}
 use Rattle.std.specs.Prelude.{map}
 use Rattle.std.specs.List.{AllByRecursion}

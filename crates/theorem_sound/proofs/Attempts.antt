@@ -1,14 +1,12 @@
--- What is known of an ask that comes next.
+-- Facts about the ask that comes next.
 use Rattle.std.proofs.Common.{◌≡◌, ℕ, refl, Option, Some, None}
 use Rattle.std.specs.Prelude.{slice_get}
 use Rattle.dns_message.specs.Values.{Question}
 use Rattle.suffix_routes.specs.declared.peer.Peer.{Peer}
 use Rattle.suffix_routes.specs.Values.{Config, Route}
-use Rattle.suffix_routes.specs.Serving.{route_of}
+use Rattle.suffix_routes.specs.Serving.{serving_route_of}
 use Rattle.step_history.specs.Asked.{IsServerFor}
 use Rattle.step_table.specs.Attempts.{group_of, servers_in, peer_at}
-
--- ---- an ask by what was drawn
 
 -- ---- servers
 
@@ -17,9 +15,7 @@ group_there None server p e = absurd (cc)
 group_there (Some r) server p e = (r, refl, e)
 
 -- a peer at a place of the route's group is a server for the question
-pub serves : (c : Config) (q : Question) (route server : ℕ) (p : Peer) → route_of c q.name ≡ Some route → peer_at c route server ≡ Some p → IsServerFor c q p
+pub serves : (c : Config) (q : Question) (route server : ℕ) (p : Peer) → serving_route_of c q.name ≡ Some route → peer_at c route server ≡ Some p → IsServerFor c q p
 serves c q route server p on there =
     let at = group_there (group_of c route) server p there in
     record { route = route; group = at.0; place = server; route_is = on; there = at.1; server = at.2 }
-
--- ---- preferred servers

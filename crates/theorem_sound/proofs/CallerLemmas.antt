@@ -1,4 +1,5 @@
--- What crates above cite: the theorem, runs that go on by a step, what a delivery carries, and what is sent on.
+-- Lemmas for the proofs of crates above: the theorem, runs that go on by a step, the pieces of a
+-- delivery, and questions that are sent on.
 pub use Rattle.theorem_sound.proofs.Theorem.{row_explained, start_explained}
 pub use Rattle.theorem_sound.proofs.Deliveries.{IsHeard, heard, heard_carried, carries, offered}
 pub use Rattle.theorem_sound.proofs.Runs.{row_stays, IsExplained-start, explained_is_sound, explained_more, run_more, stays_at, handed_more}

@@ -1,4 +1,4 @@
--- What each kind of step leaves explained.
+-- The state stays explained, by each kind of step.
 use Rattle.std.proofs.Common.{◌≡◌, ℕ, suc, ◌+◌, ◌<◌, ◌≤◌, List, [], ◌∷◌, ◌++◌, length, Bool, true, false, refl, sym, ap, ◌∙◌, subst, inl, inr, arith, Option, Some, None}
 use Rattle.std.specs.Prelude.{filter, map, not, ◌||◌}
 use Rattle.std.specs.List.{concat, cons_option, AllByRecursion}
@@ -35,7 +35,7 @@ use Rattle.theorem_sound.proofs.Due.{due_is}
 use Rattle.theorem_sound.proofs.Numbers.{unanswered-more, are_free, numbers_left, numbers_at_once, numbers_waiting}
 use Rattle.theorem_sound.proofs.Actions.{OwnsReply, AreFated, past_replies, fated_speak, owned_replies, owned_closing, owned_asks, AskedAt, next_listed, closing_tcp, next_tcp, asks_close_none, listed_settled, right_closing, IsRightNext, right_next, right_replies}
 
--- ---- what goes on
+-- ---- a step that is no restart
 
 up : (n : ℕ) (is : List ℕ) → AllByRecursion (λ i. i < n) is → AllByRecursion (λ i. i < suc n) is
 up n is h = All-weaker (λ i. i < n) (λ i. i < suc n) (λ i l. omega (arith, l)) is h
@@ -65,7 +65,7 @@ step_of h actions unkept more = record { handed = h; outcome = record { actions 
 
 -- ---- the cases
 
--- all that is to be known of a step, of the owners of its replies and of the state after it
+-- all facts about a step, the owners of its replies and the state after it
 pub record Parts (c : Config) (past : List Step) (w : List (List ℕ)) (s : Step) (is : List ℕ) (after : State) : Type 0 where
   pub runs : is_restart s ≡ false
   pub owned : EachOwned c (s ∷ past) s.outcome.actions (concat w) is
@@ -115,7 +115,7 @@ explained c past w before after s is x p = record {
     asks_now = p.asks ∙ sym (cond-false (is_restart s) _ _ p.runs)
 
 module _ (c : Config) (past : List Step) (w : List (List ℕ)) (s : State) (x : Explains c past w s) (h : Handed) (unkept : ℕ) (more : Bool) (n : ℕ) where
-  -- what holds of the moment of a step that is no restart
+  -- the moment of a step that is no restart
   abbrev pub IsNow : List Action → Type 0
   IsNow actions = (is_restart (step_of h actions unkept more) ≡ false) × (n ≡ moment_at (step_of h actions unkept more ∷ past))
 

@@ -1,4 +1,4 @@
--- A client's message leaves explained what was explained.
+-- The state stays explained by a client's message.
 use Rattle.std.proofs.Common.{◌≡◌, ℕ, ◌+◌, ◌^◌, ◌≤◌, List, [], ◌∷◌, ◌++◌, length, Bool, true, false, refl, sym, ap, ◌∙◌, subst, inl, inr, arith, Option, Some, None}
 use Rattle.std.specs.Prelude.{◌==◌, min, max, nat_le}
 use Rattle.std.specs.List.{concat, AllByRecursion}
@@ -20,7 +20,7 @@ use Rattle.step_values.specs.declared.action.Why.{Why}
 use Rattle.step_values.specs.declared.action.Why.TheVariants.{Answered, BadFormat, BadOpcode, NotServed, QuestionsFull, InquiriesFull, NoPort, ChainLong}
 use Rattle.step_values.specs.Values.{from_client, Action, ask_udp, ask_tcp, close_udp, close_tcp, send_reply, Handed, Step}
 use Rattle.plain_list.specs.Octets.{AreOctets}
-use Rattle.suffix_routes.specs.Serving.{route_of}
+use Rattle.suffix_routes.specs.Serving.{serving_route_of}
 use Rattle.step_history.specs.History.{moment_at, listed, Reads, NothingAccepted}
 use Rattle.step_values.specs.Requests.{is_taken}
 use Rattle.step_history.specs.Draws.{drawn}
@@ -62,7 +62,7 @@ module _ (c : Config) (past : List Step) (w : List (List ℕ)) (s : State) (x : 
   abbrev step : List Action → Step
   step actions = step_of handed actions unkept more
 
-  -- what was done, and whether more is due, is explained
+  -- the actions, and whether more is due, are explained
   abbrev P : Done → Type 0
   P d = more ≡ is_due_at c d.state.moment d.state → (os : List ℕ) × Explains c (step d.actions ∷ past) (os ∷ w) d.state
 
@@ -72,7 +72,7 @@ module _ (c : Config) (past : List Step) (w : List (List ℕ)) (s : State) (x : 
   no_delivery : (actions : List Action) → NothingAccepted c (step actions) past
   no_delivery actions ps k = absurd (let never = k.accepts.matches.delivered in cc)
 
-  -- what is kept stays so, where nothing is answered from it
+  -- the cache stays explained, where nothing is answered from it
   cached : (actions : List Action) (cache : Cache) → IsCached c past s.moment cache → ((q : Question) (octets : List ℕ) → FromCache (step actions) q octets → IsStillFound c n cache.entries q octets) → IsCached c (step actions ∷ past) n cache
   cached actions cache was from = quiet_steps_keep c past s.moment n cache (step actions) was x.moment (refl, no_delivery actions) moment from
 
@@ -91,7 +91,7 @@ module _ (c : Config) (past : List Step) (w : List (List ℕ)) (s : State) (x : 
       never octets (inl f) = failure f.0
       never octets (inr f) = f
 
-  -- a reply that tells no success, with the cache as it is or as a look-up left it
+  -- a reply that is no success, with the cache as it is or as a look-up left it
   told_at_once : (cache : Cache) → IsCached c past s.moment cache → is_taken request ≡ true → (reply : Action)
       → ((a : Action) → reply ≡ a → OwnsReply c (step (a ∷ []) ∷ past) (length past) a)
       → ((cl : Client) (octets : List ℕ) (why : Why) → reply ≡ send_reply cl octets why → why ≡ Answered → ⊥)
@@ -141,7 +141,7 @@ module _ (c : Config) (past : List Step) (w : List (List ℕ)) (s : State) (x : 
       served = served;
     }
 
-    -- what a failure repeats
+    -- the question that a failure repeats
     told : (why : Why) → (z : Question) × Reads request z × (failure_text y.asked why ≡ failure_text (asked_in (header_in request) (Some z)) why)
     told why = (q, reads, refl)
 
@@ -153,7 +153,7 @@ module _ (c : Config) (past : List Step) (w : List (List ℕ)) (s : State) (x : 
     abbrev l : LookUp
     l = looked c n s.cache.entries q
 
-    -- the cache with what the look-up used promoted
+    -- the cache with the entries that the look-up used promoted
     abbrev used : Cache
     used = record { capacity = s.cache.capacity; entries = promoted_all l.used s.cache.entries }
 
@@ -163,8 +163,8 @@ module _ (c : Config) (past : List Step) (w : List (List ℕ)) (s : State) (x : 
     right : (actions : List Action) → IsRight (look_from c (step actions) past (step actions ∷ past)) n q l
     right actions = look_ups_are_right c past s.moment n s.cache (step actions) q x.cache x.moment (refl, no_delivery actions) moment
 
-    -- a question of which the cache tells no more than aliases
-    module _ (met : l.met ≡ missed) (route : ℕ) (on : route_of c l.wanted.name ≡ Some route) where
+    -- a question for which the cache has no more than aliases
+    module _ (met : l.met ≡ missed) (route : ℕ) (on : serving_route_of c l.wanted.name ≡ Some route) where
       -- as it waits
       abbrev z : Waiting
       z = waits_with y l
@@ -333,15 +333,15 @@ module _ (c : Config) (past : List Step) (w : List (List ℕ)) (s : State) (x : 
       hit : P (reply_step n (answered n y l.held end) (record s { cache = used }))
       hit = hit_by (answered n y l.held end) refl
 
-    -- a name that no route serves is denied, or told to have no route
-    unserved : (actions : List Action) (aliases : List Held) (last : Question) (a : Action) → Leads (look_from c (step actions) past (step actions ∷ past)) q aliases last → route_of c last.name ≡ None
+    -- a name that no route serves is denied, or has no route
+    unserved : (actions : List Action) (aliases : List Held) (last : Question) (a : Action) → Leads (look_from c (step actions) past (step actions ∷ past)) q aliases last → serving_route_of c last.name ≡ None
         → AllByRecursion (CanBeTold n) aliases → without_server c n y aliases last.name ≡ a → OwnsReply c (step actions ∷ past) (length past) a
     unserved actions aliases last a leads none told_so is =
         subst (OwnsReply c (step actions ∷ past) (length past)) is
         (without_server_owned c n (step actions ∷ past) y (length past) (comes actions) moment aliases last leads none (λ e. refl) told_so)
 
-    -- what its look-up missed is asked for, where its name has a route
-    missed_row : l.met ≡ missed → (r : Option ℕ) → route_of c l.wanted.name ≡ r → P (row_of_fate (turn c n words (record s { cache = used })) (fate_missed c n y l r))
+    -- the question that its look-up missed is asked, where its name has a route
+    missed_row : l.met ≡ missed → (r : Option ℕ) → serving_route_of c l.wanted.name ≡ r → P (row_of_fate (turn c n words (record s { cache = used })) (fate_missed c n y l r))
     missed_row met None none = told_at_once used used_is takes (without_server c n y l.held l.wanted.name)
         (λ a is. unserved (a ∷ []) l.held l.wanted a (record { few = subst (λ (m : LookUpEnd). IsSized m (length l.held)) met (right (a ∷ [])).sized; follows = (right (a ∷ [])).follows }) none (right (a ∷ [])).told is)
         (without_server_fails c n y l.held l.wanted.name)
@@ -363,9 +363,9 @@ module _ (c : Config) (past : List Step) (w : List (List ℕ)) (s : State) (x : 
     looked_up : (m : LookUpEnd) → l.met ≡ m → P (row_of_fate (turn c n words (record s { cache = used })) (fate_at c n y l m))
     looked_up (ends end) met = hit end met
     looked_up too_long met = too_long_row met
-    looked_up missed met = missed_row met (route_of c l.wanted.name) refl
+    looked_up missed met = missed_row met (serving_route_of c l.wanted.name) refl
 
-    routed : (r : Option ℕ) → route_of c q.name ≡ r → P (row_of_route (turn c n words s) y r)
+    routed : (r : Option ℕ) → serving_route_of c q.name ≡ r → P (row_of_route (turn c n words s) y r)
     routed None none = told_at_once s.cache x.cache takes (without_server c n y [] q.name)
         (λ a is. unserved (a ∷ []) [] q a (record { few = omega arith; follows = refl }) none tt is)
         (without_server_fails c n y [] q.name)
@@ -376,7 +376,7 @@ module _ (c : Config) (past : List Step) (w : List (List ℕ)) (s : State) (x : 
   asked takes opcode (Some q) reads =
       cond_both (is_unserved q) _ _ P
       (λ t. refused s.cache x.cache _ NotServed takes (λ e. cc) ((q, reads, refl), record { at_once = refl; opcode = opcode; question = q; reads = reads; unserved = t }))
-      (λ f. routed takes opcode q reads f (route_of c q.name) refl)
+      (λ f. routed takes opcode q reads f (serving_route_of c q.name) refl)
 
   pub client_explained : P (row_of_request (turn c n words s) client request)
   client_explained =

@@ -1,4 +1,4 @@
--- A delivery leaves explained what was explained.
+-- The state stays explained by a delivery.
 use Rattle.std.proofs.Common.{◌≡◌, ◌⊎◌, ℕ, ◌+◌, ◌^◌, ◌<◌, ◌≤◌, arith, List, [], ◌∷◌, ◌++◌, length, Bool, true, false, refl, sym, ap, ◌∙◌, subst, inl, inr, ⊎_elim, Option, Some, None}
 use Rattle.std.specs.Prelude.{slice_set, option_map, map, filter, ◌==◌, ◌||◌, min, max, nat_lt, Result, Ok, Err}
 use Rattle.std.specs.List.{AllByRecursion}
@@ -24,7 +24,7 @@ use Rattle.reply_match.specs.Verdicts.{judge, judged_whole, matches}
 use Rattle.retry_failover.specs.declared.Failure.TheVariants as failure
 use Rattle.step_values.specs.declared.action.Why.TheVariants.{NoPort}
 use Rattle.step_values.specs.Values.{delivery, Delivered, Action, Step}
-use Rattle.suffix_routes.specs.Serving.{route_of}
+use Rattle.suffix_routes.specs.Serving.{serving_route_of}
 use Rattle.plain_list.specs.Octets.{AreOctets}
 use Rattle.record_cache.specs.Values.{Cache}
 use Rattle.trust_rank.specs.declared.slot.Slot.{Slot}
@@ -74,7 +74,7 @@ module _ (c : Config) (past : List Step) (w : List (List ℕ)) (s : State) (x : 
   moment_now : (actions : List Action) → n ≡ moment_at (told actions ∷ past)
   moment_now actions = failures.moment_now c past w s x now words unkept more (delivery path from octets) refl refl actions
 
-  -- what an accepted delivery has
+  -- the parts of an accepted delivery
   pub record IsHeard : Type 0 where
     pub ask : Ask
     pub on : ask_on path s.asks ≡ Some ask
@@ -135,7 +135,7 @@ module _ (c : Config) (past : List Step) (w : List (List ℕ)) (s : State) (x : 
 
       route_is : k.route ≡ a.route
       route_is =
-          let two : Some k.route ≡ Some a.route = sym accepts.route_is ∙ ap (λ (q : Question). route_of c q.name) question_is ∙ tried.on_route in
+          let two : Some k.route ≡ Some a.route = sym accepts.route_is ∙ ap (λ (q : Question). serving_route_of c q.name) question_is ∙ tried.on_route in
           let same : k.route ≡ a.route = cc in
           same
 
@@ -165,7 +165,7 @@ module _ (c : Config) (past : List Step) (w : List (List ℕ)) (s : State) (x : 
           (same_peer-is from a.peer (ap (λ (d : Delivered). d.from) delivered_is ∙ ap (λ (q : ShownAsk). q.server) (sym at.2))))
           (ap (asks_this a.question) (ap one_question octets_is ∙ of_ask.reads) ∙ subst (λ (q : Question). same_question of_ask.question q ≡ true) question_is of_ask.same_question_as_ask)
 
-  -- what it carried are the pieces that were carried
+  -- its pieces are those that were carried
   pub heard_carried : (actions : List Action) (ps : List Piece) (k : Carries c (told actions) past ps) → (heard actions ps k).carried ≡ ps
   unfolding heard
   heard_carried actions ps k = refl
@@ -285,7 +285,8 @@ module _ (c : Config) (past : List Step) (w : List (List ℕ)) (s : State) (x : 
       preferred : ArePreferred c.routes (slice_set s.preferred a.route a.server)
       preferred = preferred_put c.routes s.preferred a.route a.server x.preferred (λ r there. subst (λ (o : Option Route). a.server < length (servers_in o)) there (peer_within c a.route a.server a.peer tried_a.server))
 
-      -- the cache with what the look-ups used promoted, and then the pieces offered to it
+      -- the cache with the entries that the look-ups used promoted, and then the pieces offered to
+      -- it
       abbrev promoted : List Slot → Cache
       promoted used = record { capacity = s.cache.capacity; entries = promoted_all used s.cache.entries }
 
@@ -295,7 +296,7 @@ module _ (c : Config) (past : List Step) (w : List (List ℕ)) (s : State) (x : 
       cached_now : (used : List Slot) (actions : List Action) → IsCached c (told actions ∷ past) n (kept used)
       cached_now used actions = offers_keep_cached c past s.moment n (promoted used) (told actions) rooms (walk.pieces ++ walk.authority) (promotions_keep_cached c past s.moment s.cache used x.cache) x.moment refl (moment_now actions) (carries actions) offered
 
-      -- what is done, and the step with that
+      -- the actions, and the step with them
       abbrev done : (Waiting → Fate) → Option Ask → List Action
       done fate' next = failures.actions_by c past w s x now words unkept more (delivery path from octets) refl refl a on_own (map fate' s.waiting) next
 
@@ -326,11 +327,11 @@ module _ (c : Config) (past : List Step) (w : List (List ℕ)) (s : State) (x : 
         abbrev draw : Option (ℕ × ℕ)
         draw = udp_draw words (without_path a.path s.asks) None
 
-        -- the words draw what the history says
+        -- the words give the draw that the history says
         drawn_is : (fate' : Waiting → Fate) (next : Option Ask) → AllByRecursion Speaks (map fate' s.waiting) → drawn words (listed past) (done fate' next) ≡ draw
         drawn_is fate' next speak = failures.udp_drawn c past w s x now words unkept more (delivery path from octets) refl refl a on_own (map fate' s.waiting) next speak ∙ sym (draws_left words a.path s.asks)
 
-        -- without a port those that would wait on for it are told so
+        -- without a port those that would wait on for it fail
         no_port : first_ask (turn c n words listed_then) q new.route ≡ None → D (offering_step n rooms (walk.pieces ++ walk.authority) (closing_step n a (unless_no_port fate a.question) None (after used)))
         no_port none = closed used (unless_no_port fate a.question) None each tt tt tt tt tt
           where
@@ -352,7 +353,7 @@ module _ (c : Config) (past : List Step) (w : List (List ℕ)) (s : State) (x : 
                 (λ _. one (fate y) i (fates (done (unless_no_port fate a.question) None) y i was))
                 (λ _. on_later (done (unless_no_port fate a.question) None) y i was)
 
-        -- else one ask goes out for all of them
+        -- otherwise one ask goes out for all of them
         asked_next : (next : Ask) → first_ask (turn c n words listed_then) q new.route ≡ Some next → D (offering_step n rooms (walk.pieces ++ walk.authority) (closing_step n a fate (Some next) (after used)))
         asked_next next is = closed used fate (Some next) (fates (done fate (Some next))) facts.asked
             (record { path = free; question = ap (λ (z : Question). of_question z (without_path a.path s.asks)) facts.question ∙ new.new; later = later; in_time = in_time }, room)

@@ -1,4 +1,4 @@
--- What is due by the state is what is due by the history.
+-- The state and the history agree on whether more is due.
 use Rattle.std.proofs.Common.{◌≡◌, ℕ, suc, ◌+◌, ◌≤◌, List, [], ◌∷◌, length, refl, sym, ap, ◌∙◌, inl, inr, arith}
 use Rattle.std.specs.Prelude.{map, nat_le, ◌||◌, ◌==◌}
 use Rattle.std.specs.List.{list_any, AllByRecursion}

@@ -1,4 +1,4 @@
--- A failed attempt, a failed path and the passing of time leave explained what was explained.
+-- The state stays explained by a failed attempt, a failed path and the passing of time.
 use Rattle.std.proofs.Common.{◌≡◌, ◌⊎◌, ℕ, zero, suc, ◌+◌, ◌-◌, ◌^◌, ◌<◌, ◌≤◌, List, [], ◌∷◌, ◌++◌, length, Bool, true, false, cond, refl, sym, ap, ◌∙◌, subst, inl, inr, arith, Option, Some, None}
 use Rattle.std.specs.Prelude.{Result, Ok, Err, ◌==◌, min, max, map}
 use Rattle.std.specs.List.{AllByRecursion}
@@ -54,7 +54,7 @@ use Rattle.theorem_sound.proofs.Actions.{OwnsReply, Speaks, AskedAt, IsRightNext
 use Rattle.theorem_sound.proofs.Cases.{step_of, waits_later, idle_explained, settled_explained}
 use Rattle.step_history.proofs.CallerLemmas.{moment_small}
 
--- what closes an ask of a question closes one of each equal question
+-- a step that closes an ask of a question closes one of each equal question
 closes_alike : (q q' : Question) (s : Step) (past : List Step) → same_question q q' ≡ true → ClosesAsk q s past → ClosesAsk q' s past
 closes_alike q q' s past same k = record { ask = k.ask; asked = k.asked; is_listed = k.is_listed; closed = k.closed; reads = k.reads; same = same_question-trans k.asked q q' k.same same }
 
@@ -81,12 +81,12 @@ past_speaks : (n : ℕ) (x : Waiting) (r : Option (List Held)) → Speaks (gets 
 past_speaks n x None = tt
 past_speaks n x (Some found) = sends_speak Stale x (stale_answer_of x.asked (x.held ++ found) (length x.held) n (transport_of x.client))
 
--- so is the last that can be told
+-- so is the last possible reply
 runs_out_speak : (c : Config) (n : ℕ) (entries : List Held) (q : Question) (xs : List Waiting) → AllByRecursion Speaks (map (runs_out c n entries q) xs)
 runs_out_speak c n entries q [] = tt
 runs_out_speak c n entries q (x ∷ xs) = (cond_both (waits_for q x) (gets (told_past n x (found_past c n entries x))) (waits x) Speaks (λ _. past_speaks n x (found_past c n entries x)) (λ _. tt), runs_out_speak c n entries q xs)
 
--- where something was found past its end, there is a window
+-- where expired data was found, there is a window
 found_so : (window : ℕ) (b : Bool) (r : Option (List Held)) (found : List Held) → (window == 0) ≡ b → cond b None r ≡ Some found → (1 ≤ window) × (r ≡ Some found)
 found_so window true r found is e = absurd (cc)
 found_so zero false r found is e = absurd (true≢false is)
@@ -106,7 +106,7 @@ module _ (c : Config) (past : List Step) (w : List (List ℕ)) (s : State) (x : 
   abbrev pub step : List Action → Step
   step actions = step_of handed actions unkept more
 
-  -- what was done, and whether more is due, is explained
+  -- the actions, and whether more is due, are explained
   abbrev pub P : Done → Type 0
   P d = more ≡ is_due_at c d.state.moment d.state → (os : List ℕ) × Explains c (step d.actions ∷ past) (os ∷ w) d.state
 
@@ -172,7 +172,7 @@ module _ (c : Config) (past : List Step) (w : List (List ℕ)) (s : State) (x : 
         by (Udp k) = refl
         by (Tcp k) = refl
 
-    -- so the words draw what the history says
+    -- so the words give the draw that the history says
     pub udp_drawn : (fates : List Fate) (next : Option Ask) → AllByRecursion Speaks fates → drawn words (listed past) (actions_by fates next) ≡ udp_draw words s.asks (freed_by a.path)
     udp_drawn fates next speak = ap (λ ls. drawn words ls (actions_by fates next)) (sym x.asks) ∙ drawn-shown words s.asks (actions_by fates next) (freed_by a.path) (frees fates next speak)
 
@@ -211,7 +211,7 @@ module _ (c : Config) (past : List Step) (w : List (List ℕ)) (s : State) (x : 
       cached_now : (actions : List Action) → IsCached c (step actions ∷ past) n s.cache
       cached_now actions = quiet_steps_keep c past s.moment n s.cache (step actions) x.cache x.moment (runs, quiet actions) (moment_now actions) (λ q octets f. absurd (no_question actions q octets f))
 
-      -- those that wait for it are told why not
+      -- those that wait for it get the reason why not
       told : (why : Why) (actions : List Action)
           → ((y : Waiting) (i : ℕ) (was : Waits c past y i) → same_question y.wanted a.question ≡ true → (k : ℕ)
           → RightReply (look_from c was.comes.asked was.comes.before (step actions ∷ past)) y.client was.comes.request k why (failure_text y.asked why))
@@ -220,7 +220,7 @@ module _ (c : Config) (past : List Step) (w : List (List ℕ)) (s : State) (x : 
           (λ t. owns c (step actions ∷ past) y.client y.asked i (comes_later (step actions) past y.client y.asked i runs was.comes) why (failure_text y.asked why) (right y i was t))
           (λ _. waits_later c (step actions) past y i (on_now actions) was)
 
-      -- what is told where no try is left
+      -- the fate of each question where no try is left
       abbrev last_of : Waiting → Fate
       last_of = runs_out c n s.cache.entries a.question
 

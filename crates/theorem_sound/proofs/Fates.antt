@@ -52,7 +52,7 @@ owner_one : (P : ℕ → Type 0) (v : Fate) (i : ℕ) (os : List ℕ) → P i �
 owner_one P (gets a) i os p h = (p, h)
 owner_one P (waits y) i os p h = h
 
--- what holds of each number holds of each owner
+-- a fact about each number is one about each owner
 pub All-owners : (P : ℕ → Type 0) (gs : List (Fate × ℕ)) → AllByRecursion P (numbers_in gs) → AllByRecursion P (owners_by gs)
 All-owners P [] h = tt
 All-owners P (g ∷ gs) h = owner_one P g.0 g.1 (owners_by gs) h.0 (All-owners P gs h.1)

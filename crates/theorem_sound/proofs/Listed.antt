@@ -42,5 +42,3 @@ drawn-shown (word ∷ words) asks actions freed closed =
     let port = port_of word in
     (λ i. cond (used_shown port asks i && not (closed port i)) (drawn-shown words asks actions freed closed i) (Some (word % 65536, port)))
     ∙ turned (is_used port asks) (is_freed port freed) (udp_draw words asks freed) (Some (word % 65536, port))
-
--- ---- connections

@@ -1,4 +1,4 @@
--- What a verdict rests on.
+-- The facts from which a verdict follows.
 use Rattle.std.proofs.Common.{◌≡◌, ℕ, ◌+◌, ◌≤◌, List, length, Bool, true, false, refl, sym, ◌∙◌, arith, Option, Some, None}
 use Rattle.std.specs.Prelude.{◌==◌, ◌&&◌, ◌||◌, nat_le}
 use Rattle.std.proofs.lemmas.Bool.{and_parts, leb-true, le-leb, cond-true, cond-false, eqb-true, false≢true}
@@ -14,7 +14,7 @@ use Rattle.outstanding.specs.Values.{Ask}
 use Rattle.dns_message.specs.Header.{header_in}
 use Rattle.theorem_sound.proofs.Names.{same_peer-true}
 
--- what a verdict rests on
+-- a whole reply matches, has no TC, and has response code 0 or 3
 pub judged_parts : (from : Peer) (octets : List ℕ) (a : Ask) → judge a from octets ≡ Whole
     → (matches a from octets ≡ true) × ((header_in octets).tc ≡ false) × ((((header_in octets).rcode == 0) || ((header_in octets).rcode == 3)) ≡ true)
 judged_parts from octets a e = by (matches a from octets) refl (header_in octets).tc refl (((header_in octets).rcode == 0) || ((header_in octets).rcode == 3)) refl

@@ -1,4 +1,4 @@
--- What octets spell is what is read of them.
+-- Octets spell the message that is read from them.
 use Rattle.std.proofs.Common.{◌≡◌, ℕ, List}
 use Rattle.std.specs.Prelude.{Ok}
 use Rattle.dns_message.specs.Values.{Message}

@@ -9,9 +9,8 @@ use Rattle.dns_message.specs.Messages.{IsSameQuestion}
 use Rattle.dns_message.proofs.CallerLemmas.{same_question_decides}
 use Rattle.suffix_routes.specs.declared.peer.Peer.{Peer}
 use Rattle.suffix_routes.specs.Values.{Config}
-use Rattle.suffix_routes.specs.Routes.{serving_route_of}
 use Rattle.suffix_routes.proofs.CallerLemmas.{serving_lowered}
-use Rattle.suffix_routes.specs.Serving.{route_of}
+use Rattle.suffix_routes.specs.Serving.{serving_route_of}
 use Rattle.plain_list.specs.Octets.{same_octets}
 use Rattle.plain_list.proofs.CallerLemmas.{same_octets_reflexive, same_octets_equal}
 use Rattle.reply_match.specs.Peers.{same_peer}
@@ -35,15 +34,15 @@ pub same_peer-is : (a b : Peer) → a ≡ b → same_peer a b ≡ true
 same_peer-is a b e = subst (λ (x : Peer). same_peer a x ≡ true) e (and_from (same_octets a.ip a.ip) (a.port == a.port) (same_octets_reflexive a.ip) (eq-eqb a.port a.port refl))
 
 -- equal names are on one route
-pub route_of-alike : (c : Config) (a b : Question) → IsSameQuestion a b → route_of c a.name ≡ route_of c b.name
-route_of-alike c a b same = sym (serving_lowered c.routes a.name) ∙ ap (serving_route_of c.routes) same.name ∙ serving_lowered c.routes b.name
+pub route_of-alike : (c : Config) (a b : Question) → IsSameQuestion a b → serving_route_of c a.name ≡ serving_route_of c b.name
+route_of-alike c a b same = sym (serving_lowered c.routes a.name) ∙ ap (serving_route_of c) same.name ∙ serving_lowered c.routes b.name
 
 pub same_question-sym : (a b : Question) → same_question a b ≡ true → same_question b a ≡ true
 same_question-sym a b e =
     let same = (same_question_decides a b).0 e in
     (same_question_decides b a).1 (record { name = sym same.name; kind = sym same.kind; class = sym same.class })
 
--- a test that is told by the fact is this test
+-- a test that is equivalent to the fact is this test
 pub told_same_name : (r : Bool) (a b : List (List ℕ)) → (r ≡ true → IsSame a b) × (IsSame a b → r ≡ true) → r ≡ same_name a b
 told_same_name r a b tells = told r (same_name a b) tells (same_decides a b)
 

@@ -17,7 +17,7 @@ use Rattle.retry_failover.specs.declared.Failure.TheVariants.{TimedOut, Broken, 
 use Rattle.retry_failover.specs.declared.Next.TheVariants.{AskUdp, AskTcp, GiveUp}
 use Rattle.retry_failover.specs.Table.{next_server, row}
 use Rattle.step_values.specs.Values.{Step}
-use Rattle.suffix_routes.specs.Serving.{route_of}
+use Rattle.suffix_routes.specs.Serving.{serving_route_of}
 use Rattle.outstanding.specs.Draws.{ask_message}
 use Rattle.step_history.specs.Causes.{LastFailed}
 use Rattle.step_history.specs.Asked.{IsDrawn}
@@ -29,12 +29,12 @@ use Rattle.theorem_sound.proofs.AskText.{ask_reads}
 use Rattle.theorem_sound.proofs.Attempts.{serves}
 use Rattle.theorem_sound.proofs.Actions.{IsRightNext}
 
--- what is known of an ask for a question that comes next
+-- facts about an ask for a question that comes next
 pub record IsNext (c : Config) (now : List Step) (q : Question) (a : Ask) : Type 0 where
   pub question : a.question ≡ q
   pub is_question : IsQuestion q
   pub small : a.id < 2 ^ 16
-  pub on_route : route_of c q.name ≡ Some a.route
+  pub on_route : serving_route_of c q.name ≡ Some a.route
   pub server : peer_at c a.route a.server ≡ Some a.peer
   pub before : ℕ
   pub used : a.used ≡ suc before
@@ -47,7 +47,7 @@ next_tried c now q a next =
       question = subst IsQuestion (sym next.question) next.is_question;
       reads = subst (λ (z : Question). Rattle.dns_message.specs.Questions.one_question (written (ask_message a.id z)) ≡ Some z) (sym next.question) text.0;
       identifier = subst (λ (z : Question). (Rattle.dns_message.specs.Header.header_in (written (ask_message a.id z))).id ≡ a.id) (sym next.question) text.1;
-      on_route = subst (λ (z : Question). route_of c z.name ≡ Some a.route) (sym next.question) next.on_route;
+      on_route = subst (λ (z : Question). serving_route_of c z.name ≡ Some a.route) (sym next.question) next.on_route;
       server = next.server;
       before = next.before;
       used = next.used;
@@ -68,7 +68,7 @@ next_right c s past now q a next drawn =
 
 -- ---- lists
 
--- what lets an ask be put behind these
+-- an ask that may be put after these, if any
 abbrev pub MayFollow : Config → List Ask → Option Ask → Type 0
 MayFollow c listed None = Unit {0}
 MayFollow c listed (Some a) = MayBegin a listed × (length listed < c.limits.inquiries)

@@ -55,13 +55,13 @@ run_more c c' first steps steps' s s' h o same pushed run row =
 pub stays_at : (c c' : Config) (s : State) (h : Handed) (o : Outcome) (s' : State) → c' ≡ c → StaysExplained c' s h o s' → StaysExplained c s h o s'
 stays_at c c' s h o s' same x = subst (λ (d : Config). StaysExplained d s h o s') same x
 
--- one more was handed in
+-- one more input was passed in
 pub handed_more : (steps steps' : List Step) (h item : Handed) (o : Outcome) (all : List Handed) (i : ℕ) → steps' ≡ steps ++ record { handed = h; outcome = o } ∷ []
     → map (λ (s : Step). s.handed) steps ≡ take i all → i < length all → h ≡ item → item ≡ get_or all i item → map (λ (s : Step). s.handed) steps' ≡ take (i + 1) all
 handed_more steps steps' h item o all i pushed so_far below is there =
     ap (map (λ (s : Step). s.handed)) pushed ∙ map-append (λ (s : Step). s.handed) steps (record { handed = h; outcome = o } ∷ []) ∙ (λ j. so_far j ++ (is ∙ there) j ∷ []) ∙ sym (take_more all i item below)
 
--- what explains the state before a run explains the state after it
+-- a history that explains the state before a run explains, with its steps, the state after it
 Run-explained : (c : Config) (s s' : State) (steps : List Step) (past : List Step) (w : List (List ℕ)) → Explains c past w s → Run c s steps s' → (w' : List (List ℕ)) × Explains c (reverse steps ++ past) w' s'
 Run-explained c s s' [] past w x run = (w, subst (Explains c past w) (sym run) x)
 Run-explained c s s' (t ∷ steps) past w x run =

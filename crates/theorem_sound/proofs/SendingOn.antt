@@ -1,5 +1,5 @@
--- An accepted reply that leads elsewhere gives each question that waited for it a fate that is right, and what is asked next
--- can be asked.
+-- An accepted reply that leads elsewhere gives each question that waited for it a right fate, and
+-- the next question can be asked.
 use Rattle.std.proofs.Common.{◌≡◌, ℕ, ◌-◌, ◌≤◌, List, [], ◌∷◌, ◌++◌, length, length-append, true, false, refl, sym, ap, subst, inr, arith, Option, Some, None}
 use Rattle.std.specs.Prelude.{map, filter, nat_le}
 use Rattle.std.specs.List.{cons_option, AllByRecursion}
@@ -18,7 +18,7 @@ use Rattle.trust_rank.specs.Values.{Body, rows, no_data, denied, elsewhere, Walk
 use Rattle.trust_rank.specs.Walks.{target_of, most_aliases, walk_of}
 use Rattle.record_cache.specs.Values.{Held, Cache}
 use Rattle.step_values.specs.Values.{Step}
-use Rattle.suffix_routes.specs.Serving.{route_of}
+use Rattle.suffix_routes.specs.Serving.{serving_route_of}
 use Rattle.step_history.specs.History.{is_restart, moment_at, Look, Carries}
 use Rattle.step_history.specs.Answers.{FollowsAliases, Leads}
 use Rattle.step_history.proofs.CallerLemmas.{moment_later}
@@ -39,7 +39,7 @@ use Rattle.theorem_sound.proofs.AskText.{read_well}
 use Rattle.theorem_sound.proofs.Accepting.{pieces_told, owns_too_many}
 use Rattle.theorem_sound.proofs.Answering.{comes_later, fate_is_right}
 
--- ---- what is wanted is a question
+-- ---- the wanted question is well formed
 
 target_is_name : (b : Body) (name : List (List ℕ)) → target_of b ≡ Some name → IsName name
 target_is_name (rows []) name e = absurd (cc)
@@ -53,9 +53,9 @@ pub question_led : (l : Look) (q last : Question) (held : List Held) → IsQuest
 question_led l q last [] is h = subst IsQuestion (sym h) is
 question_led l q last (o ∷ os) is h = question_led l (asked_at q h.3) last os (record { name = target_is_name o.piece.body h.3 h.4; kind = is.kind; class = is.class }) h.5
 
--- what a question waits for now can be asked for
+-- the question that is now wanted can be asked: it is well formed and has a route
 abbrev pub CanBeSent : Config → Waiting → Type 0
-CanBeSent c y = IsQuestion y.wanted × (route : ℕ) × (route_of c y.wanted.name ≡ Some route)
+CanBeSent c y = IsQuestion y.wanted × (route : ℕ) × (serving_route_of c y.wanted.name ≡ Some route)
 
 abbrev pub IsSent : Config → Fate → Type 0
 IsSent c (gets a) = Unit {0}
@@ -64,9 +64,9 @@ IsSent c (waits y) = CanBeSent c y
 sent_at : (c : Config) (n : ℕ) (y : Waiting) (l : LookUp) (m : LookUpEnd) → IsQuestion l.wanted → IsSent c (fate_at c n y l m)
 sent_at c n y l (ends e) is = tt
 sent_at c n y l too_long is = tt
-sent_at c n y l missed is = by (route_of c l.wanted.name) refl
+sent_at c n y l missed is = by (serving_route_of c l.wanted.name) refl
   where
-    by : (r : Option ℕ) → route_of c l.wanted.name ≡ r → IsSent c (fate_missed c n y l r)
+    by : (r : Option ℕ) → serving_route_of c l.wanted.name ≡ r → IsSent c (fate_missed c n y l r)
     by None on = tt
     by (Some route) on = (is, route, on)
 
@@ -74,7 +74,7 @@ one_sent : (c : Config) (v : Fate) (ys : List Waiting) → IsSent c v → AllByR
 one_sent c (gets a) ys is all = all
 one_sent c (waits y) ys is all = (is, all)
 
--- so can what those want that wait on
+-- so can the questions that are wanted by those who wait on
 pub all_sent : (c : Config) (q : Question) (fate : Waiting → Fate) (before : Waiting → ℕ → Type 0) (zs : List (Waiting × ℕ)) → ((y : Waiting) (i : ℕ) → before y i → waits_for q y ≡ true → IsSent c (fate y))
     → AllByRecursion (λ z. before z.0 z.1) zs → AllByRecursion (CanBeSent c) (still_waiting (map fate (filter (waits_for q) (map (λ z. z.0) zs))))
 all_sent c q fate before [] each all = tt
@@ -84,11 +84,11 @@ all_sent c q fate before (z ∷ zs) each all =
     cond_both (waits_for q z.0) (z.0 ∷ others) others (λ ys. AllByRecursion (CanBeSent c) (still_waiting (map fate ys)))
     (λ t. one_sent c (fate z.0) (still_waiting (map fate others)) (each z.0 z.1 all.0 t) rest) (λ _. rest)
 
--- what is to be asked: a question with a route, which is not asked yet
+-- the question to ask: it has a route, and is not asked yet
 pub record IsNew (c : Config) (listed : List Ask) (q : Question) : Type 0 where
   pub is_question : IsQuestion q
   pub route : ℕ
-  pub on_route : route_of c q.name ≡ Some route
+  pub on_route : serving_route_of c q.name ≡ Some route
   pub new : of_question q listed ≡ None
 
 pub asked_is_new : (c : Config) (listed : List Ask) (ys : List Waiting) (q : Question) → AllByRecursion (CanBeSent c) ys → to_be_asked listed ys ≡ Some q → IsNew c listed q
@@ -109,12 +109,10 @@ pub no_port_speaks : (fate : Waiting → Fate) (q : Question) (xs : List Waiting
 no_port_speaks fate q [] all = tt
 no_port_speaks fate q (x ∷ xs) all = (cond_both (waits_for q x) (without_port (fate x)) (waits x) Speaks (λ _. without_speaks (fate x) all.0) (λ _. tt), no_port_speaks fate q xs all.1)
 
--- ---- what is drawn once a path is closed
-
 -- ---- each question that waited for the reply
 
 module _ (c : Config) (past : List Step) (step : Step) (t n : ℕ) (cache : Cache) (cached : IsCached c past t cache) (t_is : t ≡ moment_at past) (a : Ask) (m : Message) (name : List (List ℕ)) (runs : is_restart step ≡ false) (is_now : n ≡ moment_at (step ∷ past))
-    (on : route_of c a.question.name ≡ Some a.route) (shapes : HasShapes m) (ends_so : (walk_of c m a.question a.route).end ≡ elsewhere name)
+    (on : serving_route_of c a.question.name ≡ Some a.route) (shapes : HasShapes m) (ends_so : (walk_of c m a.question a.route).end ≡ elsewhere name)
     (kept : AllByRecursion (CanBeKept c) ((walk_of c m a.question a.route).pieces ++ (walk_of c m a.question a.route).authority))
     (carries : Carries c step past ((walk_of c m a.question a.route).pieces ++ (walk_of c m a.question a.route).authority)) where
   abbrev w : Walk
@@ -133,7 +131,7 @@ module _ (c : Config) (past : List Step) (step : Step) (t n : ℕ) (cache : Cach
     abbrev look : Look
     look = look_from c was.comes.asked was.comes.before now
 
-    -- the aliases of the walk lead on from what the question wants
+    -- the aliases of the walk lead on from the question that is wanted
     lead : LeadOn look n y.wanted w.pieces name
     lead = subst (λ (k : ℕ). LeadOn look k y.wanted w.pieces name) (sym is_now)
         (accepted_pieces_lead_on c was.comes.asked step was.comes.before past cached.carried m a.question y.wanted a.route name was.comes.in_era runs cached.carried_is carries shapes on ends_so ((same_question_decides y.wanted a.question).0 same))
@@ -193,6 +191,6 @@ module _ (c : Config) (past : List Step) (step : Step) (t n : ℕ) (cache : Cach
         (λ few. sent_at c n y looked_on looked_on.met (question_led look was.comes.question looked_on.wanted looked_on.held (read_well was.comes.request was.comes.question was.comes.octets was.comes.reads) (right few).follows))
         (λ many. tt)
 
-    -- and what it waits for then can be asked for
+    -- and the question that it then wants can be asked
     pub sent_led : IsSent c (fate_of c n y (looked_by c n cache.entries w y w.end))
     sent_led = subst (λ e. IsSent c (fate_of c n y (looked_by c n cache.entries w y e))) (sym ends_so) sent_on

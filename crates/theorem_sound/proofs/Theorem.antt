@@ -1,4 +1,4 @@
--- A row leaves explained what was explained.
+-- The state stays explained by a row.
 use Rattle.std.proofs.Common.{◌≡◌, ℕ, ◌^◌, List, [], ◌∷◌, Bool, refl, sym, subst, arith}
 use Rattle.std.specs.Prelude.{min, max}
 use Rattle.suffix_routes.specs.Values.{Config, IsConfig}
@@ -27,7 +27,7 @@ module _ (c : Config) (past : List Step) (w : List (List ℕ)) (s : State) (x : 
   event_row tick are d h = subst (Explained tick) (sym h) (tick_explained c past w s x now words unkept more)
   event_row restart are d h = subst (Explained restart) (sym h) (λ more_is. ([], restart_explained c past w s x (record { now = now; words = words; event = restart }) unkept more n (start c) refl refl more_is))
 
--- what is explained stays explained
+-- an explained state stays explained
 pub row_explained : (c : Config) (past : List Step) (w : List (List ℕ)) (s : State) (h : Handed) (o : Outcome) (s' : State) → Explains c past w s → Row c s h o s'
     → (os : List ℕ) × Explains c (record { handed = h; outcome = o } ∷ past) (os ∷ w) s'
 row_explained c past w s h o s' x r = event_row c past w s x h.now h.words o.unkept o.more h.event r.octets (record { actions = o.actions; unkept = o.unkept; state = s' }) r.happens r.more

@@ -1,4 +1,4 @@
--- A failed path and the passing of time leave explained what was explained.
+-- The state stays explained by a failed path and by the passing of time.
 use Rattle.std.proofs.Common.{◌≡◌, ℕ, ◌+◌, ◌^◌, ◌≤◌, List, [], ◌∷◌, ◌++◌, length, Bool, true, false, cond, refl, sym, ap, ◌∙◌, subst, inl, arith, Option, Some, None}
 use Rattle.std.specs.Prelude.{min, max, map, nat_le, not}
 use Rattle.std.specs.List.{list_any, AllByRecursion}
@@ -77,7 +77,7 @@ module _ (c : Config) (past : List Step) (w : List (List ℕ)) (s : State) (x : 
   moment_now : (actions : List Action) → n ≡ moment_at (step actions ∷ past)
   moment_now actions = failures.moment_now c past w s x now words unkept more tick refl refl actions
 
-  -- the ask that is closed with a question, where there is one, is listed
+  -- the ask that is closed with a question, if any, is listed
   abbrev IsListed : Option Ask → Type 0
   IsListed None = Unit {0}
   IsListed (Some a) = ask_on a.path s.asks ≡ Some a

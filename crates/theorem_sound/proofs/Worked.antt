@@ -1,5 +1,5 @@
--- A state and the history that explains it, computed: a forwarder in which as many questions wait as may, what it asked
--- and whom it owes an answer.
+-- A state and the history that explains it, computed: a forwarder in which as many questions wait
+-- as may, its ask, and whom it owes an answer.
 use Rattle.std.proofs.Common.{◌≡◌, ℕ, ◌<◌, ◌≤◌, List, [], ◌∷◌, Bool, true, false, refl, sym, ap, ◌∙◌, inl, inr, arith, Option, Some, None}
 use Rattle.std.specs.Prelude.{◌&&◌, nat_le}
 use Rattle.std.proofs.lemmas.Bool.{leb-true, true≢false}
@@ -88,7 +88,7 @@ asked_twice = record asked_once {
   moment = 2500;
 }
 
--- what is shown of an ask
+-- the action of an ask
 shows : shown ask ≡ record { path = Udp 1032; server = server; octets = text 8 1; moment = 1000 }
 unfolding written ◌▹◌ each name_text
 shows = refl
@@ -194,7 +194,7 @@ unserved x h =
     question_is (asks_for 255) (text 7 255) (record (address a) { kind = 255 }) x 0 refl refl h in
     true≢false (ap is_unserved (sym own) ∙ h.served)
 
--- without aliases nothing else is wanted than what was asked
+-- without aliases the wanted question is the one that was asked
 wants_another : Waits for_one (first ∷ []) (record waiting { wanted = record (address a) { kind = 28 } }) 0 → ⊥
 unfolding first_question question_at octets_end name_within walk_in name_step
 wants_another h =
@@ -203,7 +203,7 @@ wants_another h =
     let kinds : 28 ≡ 1 = ap (λ (q : Question). q.kind) (h.leads.follows ∙ own) in
     omega (arith, kinds)
 
--- ---- what explains a state
+-- ---- a history that explains a state
 
 nothing_accepted : NothingAccepted for_one first []
 nothing_accepted ps carries = none carries.accepts.matches.delivered

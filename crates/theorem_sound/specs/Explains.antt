@@ -7,7 +7,7 @@ use Rattle.dns_message.specs.Written.{IsQuestion}
 use Rattle.plain_list.specs.Octets.{AreOctets}
 use Rattle.suffix_routes.specs.Values.{Config, IsConfig}
 use Rattle.step_values.specs.Values.{Step}
-use Rattle.suffix_routes.specs.Serving.{route_of}
+use Rattle.suffix_routes.specs.Serving.{serving_route_of}
 use Rattle.dns_message.specs.Header.{header_in}
 use Rattle.answer_builder.specs.Values.{Asked, asked_in}
 use Rattle.step_values.specs.declared.event.Client.{Client}
@@ -48,26 +48,27 @@ pub record Comes (now : List Step) (client : Client) (a : Asked) (i : ℕ) : Typ
   pub opcode : (header_in request).opcode ≡ 0
   pub served : is_unserved question ≡ false
 
--- the step with this number asked the question that waits; the aliases that it holds lead to what it wants to know, and
--- can be told
+-- the step with this number asked the question that waits; the aliases that it holds lead to the
+-- question that it now wants, and can be written
 pub record Waits (c : Config) (now : List Step) (x : Waiting) (i : ℕ) : Type 0 where
   pub comes : Comes now x.client x.asked i
   pub moment : x.taken ≡ moment_at (comes.asked ∷ comes.before)
   pub leads : Leads (look_from c comes.asked comes.before now) comes.question x.held x.wanted
   pub told : AllByRecursion (CanBeTold (moment_at now)) x.held
 
--- the text of a listed ask reads as its question, on its route; it went to the server at its place in the group; the
--- tries before it failed
+-- the text of a listed ask reads as its question, on its route; it went to the server at its place
+-- in the group; the tries before it, one fewer than those used, failed
 pub record Tried (c : Config) (now : List Step) (a : Ask) : Type 0 where
   pub question : IsQuestion a.question
   pub reads : Reads (written (ask_message a.id a.question)) a.question
   pub identifier : (header_in (written (ask_message a.id a.question))).id ≡ a.id
-  pub on_route : route_of c a.question.name ≡ Some a.route
+  pub on_route : serving_route_of c a.question.name ≡ Some a.route
   pub server : peer_at c a.route a.server ≡ Some a.peer
   pub before : ℕ
   pub used : a.used ≡ suc before
   pub failed : LastFailed c a.question now before
 
+-- the history with its owners explains the state, and is sound
 pub record Explains (c : Config) (past : List Step) (w : List (List ℕ)) (s : State) : Type 0 where
   pub config : IsConfig c
   pub sound : Sound c past w

@@ -9,7 +9,8 @@ use Rattle.step_table.specs.Row.{Row}
 use Rattle.theorem_sound.specs.Explains.{Explains}
 use Rattle.theorem_sound.specs.Runs.{Run, IsSound, StaysExplained}
 
--- A row keeps what explains.
+-- A history that explains the state before a row explains, with its step and owners for its
+-- replies, the state after it.
 abbrev pub RowsKeepWhatExplains : Type 0
 RowsKeepWhatExplains = (c : Config) (s : State) (h : Handed) (o : Outcome) (s' : State) → Row c s h o s'
     → StaysExplained c s h o s'

@@ -14,8 +14,8 @@ abbrev pub Run : Config → State → List Step → State → Type 0
 Run c s [] s' = s' ≡ s
 Run c s (t ∷ steps) s' = (mid : State) × Row c s t.handed t.outcome mid × Run c mid steps s'
 
--- Some owners make these steps, the oldest first, sound; with them each step tells whether more is due, and the
--- questions that own no reply are no more than may wait.
+-- Some owners make these steps, the oldest first, sound; with them each step says whether more is
+-- due, and the questions that own no reply are no more than may wait.
 pub record IsSound (c : Config) (steps : List Step) : Type 0 where
   pub owners : List (List ℕ)
   pub sound : Sound c (reverse steps) owners
@@ -26,7 +26,7 @@ pub record IsSound (c : Config) (steps : List Step) : Type 0 where
 abbrev pub IsExplained : Config → List Step → State → Type 0
 IsExplained c steps s = (w : List (List ℕ)) × Explains c (reverse steps) w s
 
--- what explains the state before explains, with the step, the state after
+-- a history that explains the state before the step explains, with the step, the state after it
 abbrev pub StaysExplained : Config → State → Handed → Outcome → State → Type 0
 StaysExplained c s h o s' = (past : List Step) (w : List (List ℕ)) → Explains c past w s → (owners : List ℕ)
     × Explains c (record { handed = h; outcome = o } ∷ past) (owners ∷ w) s'

@@ -1,4 +1,5 @@
--- Where those who wait in a state and its asks serve each other, so they do in the history that explains it.
+-- Where those who wait in a state and its asks serve each other, so they do in the history that
+-- explains it.
 use Rattle.std.proofs.Common.{◌≡◌, ◌∙◌, ℕ, zero, suc, List, [], ◌∷◌, true, false, sym, ap, subst, inl, inr, arith, ◌⊎◌}
 use Rattle.std.specs.Prelude.{map, option_map}
 use Rattle.std.specs.List.{concat, AllByRecursion}
@@ -20,7 +21,7 @@ use Rattle.theorem_use.specs.Asking.{AnyByRecursion, EachWants, Wants, Asks, Was
 use Rattle.theorem_use.specs.Asking.{AsksForWaiting}
 use Rattle.theorem_use.proofs.Asked.{same_as_itself, Retries, Spelled, AreServedOn}
 
--- ---- what the waiting questions want
+-- ---- the questions that are wanted
 
 wants : (c : Config) (now : List Step) (x : Waiting) (i : ℕ) → Waits c now x i → Wants c now i x.wanted
 wants c now x i h = record {
@@ -44,7 +45,7 @@ each_wants c now (z ∷ zs) all = (wants c now z.0 z.1 all.0, each_wants c now z
 
 -- ---- lists
 
--- one of those is one of what they are shown as
+-- the action of a listed ask is one of the shown asks
 any_shown : (R P : Ask → Type 0) (Q : ShownAsk → Type 0) → ((a : Ask) → R a → P a → Q (shown a)) → (asks : List Ask)
     → AllByRecursion R asks → AnyByRecursion P asks → AnyByRecursion Q (map shown asks)
 any_shown R P Q f [] all any = absurd any

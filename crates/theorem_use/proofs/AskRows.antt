@@ -12,7 +12,7 @@ use Rattle.dns_message.specs.Questions.{same_question, one_question, is_unserved
 use Rattle.dns_message.proofs.CallerLemmas.{spelled_message_has_shapes}
 use Rattle.suffix_routes.specs.declared.peer.Peer.{Peer}
 use Rattle.suffix_routes.specs.Values.{Config}
-use Rattle.suffix_routes.specs.Routes.{route_of as route_among}
+use Rattle.suffix_routes.specs.Routes.{route_of}
 use Rattle.suffix_routes.proofs.CallerLemmas.{serving_is}
 use Rattle.outstanding.specs.declared.ask.Path.{Path}
 use Rattle.outstanding.specs.declared.ask.Path.TheVariants.{Udp, Tcp}
@@ -37,7 +37,7 @@ use Rattle.record_cache.specs.Values.{Held}
 use Rattle.step_values.specs.declared.event.Client.{Client}
 use Rattle.step_values.specs.declared.action.Why.TheVariants.{NoPort, Deadline}
 use Rattle.step_values.specs.Values.{Action, Event, from_client, delivery, path_failed, tick, restart, Step}
-use Rattle.suffix_routes.specs.Serving.{route_of}
+use Rattle.suffix_routes.specs.Serving.{serving_route_of}
 use Rattle.step_values.specs.Requests.{is_taken}
 use Rattle.step_table.specs.State.{State, turn}
 use Rattle.waiting_questions.specs.Values.{Waiting, waits_for}
@@ -61,7 +61,7 @@ use Rattle.theorem_use.proofs.Asked.{any_weaker, any_with, any_first, any_last, 
 
 first_asks : (c : Config) (n : ℕ) (words : List ℕ) (q : Question) (s : State) (a : Ask)
     → first_ask_for (turn c n words s) q ≡ Some a → a.question ≡ q
-first_asks c n words q s a is = by (route_of c q.name) is
+first_asks c n words q s a is = by (serving_route_of c q.name) is
   where
     by : (r : Option ℕ) → first_ask_on (turn c n words s) q r ≡ Some a → a.question ≡ q
     by None is = absurd (cc)
@@ -89,7 +89,7 @@ next_used c n words a s (AskTcp server) d is =
     (over_tcp (drawn_by_tcp words s.tcp_asks)) d is).used_is
 next_used c n words a s GiveUp d is = absurd (cc)
 
--- ---- what actions close
+-- ---- the paths that actions close
 
 -- an ask closes nothing
 asks_close_none : (o : Option Ask) (path : Path) → closes_path path (map asks (ask_list o)) ≡ false
@@ -105,7 +105,7 @@ closes_first : (path : Path) (more : List Action) → closes_path path (closes p
 closes_first (Udp port) more = ap (λ (v : Bool). v || closes_path (Udp port) more) (same_path_reflexive (Udp port))
 closes_first (Tcp conn) more = ap (λ (v : Bool). v || closes_path (Tcp conn) more) (same_path_reflexive (Tcp conn))
 
--- ---- what an accepted delivery gives
+-- ---- the parts of an accepted delivery
 
 abbrev pub GivesIfHeard : Config → ℕ → State → Type 0 → Event → Type 0
 GivesIfHeard c n s Accepted (delivery path from octets) =
@@ -152,7 +152,7 @@ nothing_any (x ∷ xs) (inr later) = nothing_any xs later
 
 module _ (c : Config) (n : ℕ) (words : List ℕ) (s : State) (served : AreServed s.asks s.waiting)
     (in_turn : AreInTurn s.asks) (Accepted : Type 0) where
-  -- after what was done those who wait and the asks serve each other
+  -- after the step those who wait and the asks serve each other
   abbrev pub K : Done → Type 0
   K d = AreServedOn Accepted d.actions s.asks d.state.asks d.state.waiting
 
@@ -257,7 +257,7 @@ module _ (c : Config) (n : ℕ) (words : List ℕ) (s : State) (served : AreServ
       asked : (r : Option Question) → K (row_of_question (turn c n words s) client (header_in octets) r)
       asked None = same
       asked (Some q) = cond_both (is_unserved q) _ _ K (λ t. same)
-          (λ f. routed (taken_now n client (header_in octets) q) (route_of c q.name))
+          (λ f. routed (taken_now n client (header_in octets) q) (serving_route_of c q.name))
 
   -- ---- the passing of time
 
@@ -376,7 +376,7 @@ module _ (c : Config) (n : ℕ) (words : List ℕ) (s : State) (served : AreServ
 
   -- ---- an accepted reply
 
-  module _ (a : Ask) (on : ask_on a.path s.asks ≡ Some a) (route_is : route_of c a.question.name ≡ Some a.route)
+  module _ (a : Ask) (on : ask_on a.path s.asks ≡ Some a) (route_is : serving_route_of c a.question.name ≡ Some a.route)
       (m : Message) (shapes : HasShapes m) where
     abbrev w : Walk
     w = walk_of c m a.question a.route
@@ -391,7 +391,7 @@ module _ (c : Config) (n : ℕ) (words : List ℕ) (s : State) (served : AreServ
     keeps : (x : Waiting) → waits_for a.question x ≡ false → fate x ≡ waits x
     keeps x f = cond-false (waits_for a.question x) _ _ f
 
-    -- what waits on behind a last piece is nothing
+    -- after a last piece nobody waits on
     ended_by : (R : Waiting → Type 0) (x : Waiting) (held : List Held) (q : Question) (ps : List Piece) → 1 ≤ length ps
         → FateHas R (fate_of c n x (unless_many (ends_at n held q ps)))
     ended_by R x held q [] some = absurd (omega (arith, some))
@@ -499,7 +499,7 @@ module _ (c : Config) (n : ℕ) (words : List ℕ) (s : State) (served : AreServ
     some_pieces : (e : End) → w.end ≡ e → has_last e ≡ true → 1 ≤ length w.pieces
     some_pieces e is fine = by e (subst (EndsSo (reply_of c m a.question a.route) w.pieces w.authority) is
         (walk_leads c m a.question a.route shapes
-        (serving_is c.routes (route_among c.routes a.question.name) a.route route_is).0)) fine
+        (serving_is c.routes (route_of c.routes a.question.name) a.route route_is).0)) fine
       where
         long : (k : End) → Closes (reply_of c m a.question a.route) most_aliases a.question.name k w.pieces
             → 1 ≤ length w.pieces

@@ -1,4 +1,4 @@
--- Asks and those who wait for them: what one step leaves of both.
+-- Asks and those who wait for them, after one step.
 use Rattle.std.proofs.Common.{◌≡◌, ◌∙◌, ◌+◌, List, [], ◌∷◌, ◌++◌, Bool, true, false, cond, refl, sym, ap, subst, inl, inr, Option, Some, None, ◌⊎◌}
 use Rattle.std.specs.Prelude.{map, filter, not}
 use Rattle.std.specs.List.{cons_option, AllByRecursion}
@@ -25,7 +25,7 @@ any_weaker P Q f [] any = absurd any
 any_weaker P Q f (x ∷ xs) (inl here) = inl (f x here)
 any_weaker P Q f (x ∷ xs) (inr later) = inr (any_weaker P Q f xs later)
 
--- with what holds of all
+-- with a fact that holds of all
 pub any_with : {X : Type 0} (R P Q : X → Type 0) → ((x : X) → R x → P x → Q x) → (xs : List X) → AllByRecursion R xs
     → AnyByRecursion P xs → AnyByRecursion Q xs
 any_with R P Q f [] all any = absurd any
@@ -132,7 +132,7 @@ all_cons : (R : Waiting → Type 0) (v : Fate) (ys : List Waiting) → FateHas R
 all_cons R (gets a) ys has all = all
 all_cons R (waits y) ys has all = (has, all)
 
--- what each fate has, all have who wait on
+-- a fact about each fate holds of all who wait on
 pub all_still : (R : Waiting → Type 0) (fate : Waiting → Fate) (xs : List Waiting)
     → AllByRecursion (λ x. FateHas R (fate x)) xs → AllByRecursion R (still_waiting (map fate xs))
 all_still R fate [] all = tt
@@ -212,7 +212,7 @@ pub all_wait_on : (xs : List Waiting) → still_waiting (map (λ x. waits x) xs)
 all_wait_on [] = refl
 all_wait_on (x ∷ xs) = ap (λ ys. x ∷ ys) (all_wait_on xs)
 
--- ---- what a step leaves
+-- ---- after a step
 
 -- the ask follows one that these actions close: for its question, one try later
 pub record Retries (actions : List Action) (before : List Ask) (a : Ask) : Type 0 where
@@ -232,7 +232,7 @@ abbrev pub Spelled : Type 0 → List Action → List Ask → List Waiting → As
 Spelled Accepted actions before waiting a =
     AnyByRecursion (λ b. b ≡ a) before ⊎ (Retries actions before a ⊎ Opens Accepted actions waiting a)
 
--- those that wait and the asks serve each other, and each ask is spelled so
+-- those that wait and the asks serve each other, and each ask has the right spelling
 pub record AreServedOn (Accepted : Type 0) (actions : List Action) (before asks : List Ask) (waiting : List Waiting)
     : Type 0 where
   pub served : AreServed asks waiting
@@ -250,7 +250,7 @@ unchanged Accepted actions asks waiting served = record {
   spelled = all_spelled Accepted actions asks waiting;
 }
 
--- what comes next, where something does
+-- the next ask, if any
 abbrev pub NextHas : (Ask → Type 0) → Option Ask → Type 0
 NextHas P None = Unit {0}
 NextHas P (Some a) = P a
@@ -304,13 +304,13 @@ module _ (asks : List Ask) (waiting : List Waiting) (served : AreServed asks wai
   abbrev others : List Ask
   others = without_path a.path asks
 
-  -- none of the others asks what the closed one asked
+  -- no other ask has the question of the closed one
   apart : AllByRecursion (λ b. same_question b.question a.question ≡ false) others
   apart = none_same a.question others (question_free_without_path a.path a.question asks a in_turn on
       (same_as_itself a.question))
 
-  -- An ask is closed. Who doesn't wait for it waits on as before; who does gets a reply, or waits on for another ask or
-  -- the next one; and what comes next is wanted.
+  -- An ask is closed. Who doesn't wait for it waits on as before; who does gets a reply, or waits
+  -- on for another ask or the next one; and the next ask is wanted.
   pub closed_on : (Accepted : Type 0) (actions : List Action) (fate : Waiting → Fate) (next : Option Ask)
       → ((x : Waiting) → waits_for a.question x ≡ false → fate x ≡ waits x)
       → AllByRecursion (λ x. waits_for a.question x ≡ true

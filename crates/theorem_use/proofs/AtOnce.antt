@@ -15,7 +15,7 @@ use Rattle.step_values.specs.declared.event.Client.{Client}
 use Rattle.step_values.specs.declared.action.Why.{Why}
 use Rattle.step_values.specs.declared.action.Why.TheVariants.{Answered, TooLarge}
 use Rattle.step_values.specs.Values.{from_client, Request, Action, send_reply, SentReply, Handed, Step}
-use Rattle.suffix_routes.specs.Serving.{route_of}
+use Rattle.suffix_routes.specs.Serving.{serving_route_of}
 use Rattle.step_history.specs.History.{InEra, Sends, moment_at, NothingAccepted}
 use Rattle.step_values.specs.Requests.{is_taken}
 use Rattle.step_history.specs.Replies.{failure_text}
@@ -36,9 +36,9 @@ use Rattle.theorem_sound.proofs.Actions.{OwnsReply}
 use Rattle.theorem_sound.proofs.Answering.{IsTold, answered_told, answer_owned}
 use Rattle.theorem_sound.proofs.Cases.{step_of, at_once_explained}
 
--- ---- what the newest step's own question owns
+-- ---- replies that the newest step's own question owns
 
--- what is in an era is not longer than it
+-- a history that is in an era is not longer than it
 era_is_longer : (upto now : List Step) → InEra upto now → length upto ≤ length now
 era_is_longer upto [] never = absurd never
 era_is_longer upto (s ∷ past) (inl same) = let one : length upto ≡ length (s ∷ past) =
@@ -106,7 +106,7 @@ module _ (c : Config) (past : List Step) (w : List (List ℕ)) (s : State) (x : 
     pub reads : one_question request ≡ Some question
     pub served : is_unserved question ≡ false
     pub route : ℕ
-    pub on_route : route_of c question.name ≡ Some route
+    pub on_route : serving_route_of c question.name ≡ Some route
     pub end : Held
     pub ends_so : (looked c n s.cache.entries question).met ≡ ends end
 
@@ -121,7 +121,7 @@ module _ (c : Config) (past : List Step) (w : List (List ℕ)) (s : State) (x : 
 
   abbrev hits_for : Option Question → Bool
   hits_for None = false
-  hits_for (Some q) = not (is_unserved q) && hits_on q (route_of c q.name)
+  hits_for (Some q) = not (is_unserved q) && hits_on q (serving_route_of c q.name)
 
   abbrev pub is_hit : Bool
   is_hit = is_taken request && (((header_in request).opcode == 0) && hits_for (one_question request))
@@ -136,7 +136,7 @@ module _ (c : Config) (past : List Step) (w : List (List ℕ)) (s : State) (x : 
 
   module _ (takes : is_taken request ≡ true) (opcode : (header_in request).opcode ≡ 0) where
     met_so : (q : Question) → one_question request ≡ Some q → is_unserved q ≡ false → (route : ℕ)
-        → route_of c q.name ≡ Some route → (m : LookUpEnd) → (looked c n s.cache.entries q).met ≡ m → has_end m ≡ true → IsHit
+        → serving_route_of c q.name ≡ Some route → (m : LookUpEnd) → (looked c n s.cache.entries q).met ≡ m → has_end m ≡ true → IsHit
     met_so q reads served route on (ends e) is t =
         record {
           takes = takes;
@@ -154,15 +154,15 @@ module _ (c : Config) (past : List Step) (w : List (List ℕ)) (s : State) (x : 
     met_so q reads served route on missed is t = absurd (true≢false (sym t))
 
     routed : (q : Question) → one_question request ≡ Some q → is_unserved q ≡ false → (r : Option ℕ)
-        → route_of c q.name ≡ r → hits_on q r ≡ true → IsHit
+        → serving_route_of c q.name ≡ r → hits_on q r ≡ true → IsHit
     routed q reads served None none t = absurd (true≢false (sym t))
     routed q reads served (Some route) on t = met_so q reads served route on (looked c n s.cache.entries q).met refl t
 
     asked : (r : Option Question) → one_question request ≡ r → hits_for r ≡ true → IsHit
     asked None none t = absurd (true≢false (sym t))
     asked (Some q) reads t =
-        let both = and_parts (not (is_unserved q)) (hits_on q (route_of c q.name)) t in
-        routed q reads (not-true (is_unserved q) both.0) (route_of c q.name) refl both.1
+        let both = and_parts (not (is_unserved q)) (hits_on q (serving_route_of c q.name)) t in
+        routed q reads (not-true (is_unserved q) both.0) (serving_route_of c q.name) refl both.1
 
   pub is_hit_so : is_hit ≡ true → IsHit
   is_hit_so t =
@@ -170,9 +170,10 @@ module _ (c : Config) (past : List Step) (w : List (List ℕ)) (s : State) (x : 
       let two = and_parts ((header_in request).opcode == 0) (hits_for (one_question request)) one.1 in
       asked one.0 (eqb-true (header_in request).opcode 0 two.0) (one_question request) refl two.1
 
-  -- ---- what it gets
+  -- ---- its reply
 
-  -- one reply is all that is done, its owner is the step, it is right, and with it the state is explained
+  -- the only action is one reply, its owner is the step, it is right, and with it the state is
+  -- explained
   pub record IsOwnAnswer (d : Done) : Type 0 where
     pub octets : List ℕ
     pub why : Why
@@ -194,7 +195,7 @@ module _ (c : Config) (past : List Step) (w : List (List ℕ)) (s : State) (x : 
     abbrev l : LookUp
     l = looked c n s.cache.entries h.question
 
-    -- the cache with what the look-up used promoted
+    -- the cache with the entries that the look-up used promoted
     abbrev used : Cache
     used = record { capacity = s.cache.capacity; entries = promoted_all l.used s.cache.entries }
 

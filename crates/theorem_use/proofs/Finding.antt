@@ -1,4 +1,4 @@
--- Where the living entries and what stands are the same, so is what a look-up finds in the one and in the other.
+-- Where the living entries are the pieces that stand, a look-up finds the same among both.
 use Rattle.std.proofs.Common.{◌≡◌, ◌∙◌, ℕ, ◌≤◌, List, [], ◌∷◌, length, filter, Bool, true, false, cond, refl, sym, ap, subst, inl, inr, arith, Option, Some, None}
 use Rattle.std.specs.Prelude.{◌==◌, ◌&&◌, nat_lt, is_none}
 use Rattle.std.specs.List.{find}
@@ -22,7 +22,7 @@ use Rattle.theorem_cache.proofs.CallerLemmas.{all_among, among_filtered, entry_a
 
 -- ---- the first that passes a test
 
--- what is found is there and passes
+-- the member that is found is there and passes
 found_is : (test : Held → Bool) (es : List Held) (h : Held) → find test es ≡ Some h → Among h es × (test h ≡ true)
 found_is test [] h is = absurd (cc)
 found_is test (e ∷ es) h is = by (found_is test es h) (test e) refl is
@@ -92,7 +92,7 @@ nearest_is (e ∷ es) h is = by (nearest_is es) (nearest es) refl is
             far k (inl here) = let a = ap (λ (x : Held). length x.piece.slot.key) here in omega (arith, a)
             far k (inr later) = let le = ltb-false (length e.piece.slot.key) (length o.piece.slot.key) f in let more = rest.1 k later in omega (arith, le, more)
 
--- ---- what is found
+-- ---- look-ups at one name
 
 module _ (routes : List Route) (m capacity : ℕ) (es st : List Held) (held : AreHeld (record { capacity = capacity; entries = es }))
     (over : (h : Held) → Among h es → is_alive m h ≡ true → Among h st) (back : (h : Held) → Among h st → Among h es) (q : Question) where
@@ -161,7 +161,7 @@ module _ (routes : List Route) (m capacity : ℕ) (es st : List Held) (held : Ar
         kind = no_kind h.piece.slot.kind a.error ∙ sym (no_kind k.piece.slot.kind b.error);
       }))
 
-  -- a denial among the entries is one of what stands, and the other way round
+  -- a denial among the entries is one of those that stand, and the other way round
   denied_over : (h : Held) → Among h (filter denial es) → Among h (filter denial st)
   denied_over h among =
       let part = among_filtered denial h es among in

@@ -12,3 +12,4 @@ pub mod AskHistory
 pub mod Theorem
 pub mod CallerLemmas
 pub mod Worked
+pub mod WorkedAsks

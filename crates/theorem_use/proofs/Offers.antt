@@ -1,4 +1,4 @@
--- How promotions and the offers of a reply keep what mirrors.
+-- Promotions and the offers of a reply keep `Mirrors`.
 use Rattle.std.proofs.Common.{◌≡◌, ℕ, ◌+◌, ◌≤◌, List, [], ◌∷◌, ◌++◌, length, Bool, true, false, refl, ◌⊎◌, inl, inr, arith}
 use Rattle.std.specs.Prelude.{not, filter}
 use Rattle.std.specs.List.{AllByRecursion}
@@ -18,7 +18,7 @@ use Rattle.theorem_use.specs.Use.{IsOneOf}
 use Rattle.theorem_use.specs.Mirrors.{Mirrors}
 use Rattle.theorem_use.proofs.Putting.{put_mirrors}
 
--- what mirrors at a moment does so later
+-- entries that mirror at a moment do so later
 pub mirrors_later : (m n : ℕ) (os es : List Held) → m ≤ n → Mirrors m os es → Mirrors n os es
 mirrors_later m n os es le was = record {
   was_carried = was.was_carried;
@@ -60,7 +60,7 @@ among_promoted slot es h among = elim (among_either h (filter (of_slot slot) es)
   | inr back ↦ (among_filtered (λ e. not (of_slot slot e)) h es back).0
 ]
 
--- promotions keep what mirrors
+-- promotions keep `Mirrors`
 pub promotions_mirror : (n : ℕ) (used : List Slot) (os es : List Held) → Mirrors n os es → Mirrors n os (promoted_all used es)
 promotions_mirror n [] os es was = was
 promotions_mirror n (slot ∷ used) os es was = promotions_mirror n used os (promoted slot es) (record {
@@ -71,13 +71,14 @@ promotions_mirror n (slot ∷ used) os es was = promotions_mirror n used os (pro
 
 -- ---- the offers of a reply
 
--- what mirrors, where none found too little memory and what was carried is of these slots
+-- the entries mirror, where memory was found for each offer and all that was carried is of these
+-- slots
 abbrev MirrorsIn : ℕ → ℕ → List Slot → List Held → List Held → ℕ → Type 0
 MirrorsIn capacity n slots os es k =
     AllByRecursion (λ o. IsOneOf o.piece.slot slots) os → k ≡ 0 → AreHeld (record { capacity = capacity; entries = es }) × Mirrors n os es
 
--- what an accepted reply carried is offered: the entries mirror what stands after it, where there are few slots and
--- memory was found
+-- after the offers of an accepted reply the entries mirror what stands, where there are few slots
+-- and memory was found
 pub offers_mirror : (capacity n : ℕ) (slots : List Slot) (rooms : List Bool) (ps : List Piece) (os es : List Held)
     → length slots ≤ capacity → AllByRecursion (λ o. IsOneOf o.piece.slot slots) (then_carried n ps os)
     → AllByRecursion IsPiece ps → AreHeld (record { capacity = capacity; entries = es })

@@ -1,4 +1,4 @@
--- What one offer keeps of what mirrors, as it ends.
+-- One offer keeps `Mirrors`, for each way that it may end.
 use Rattle.std.proofs.Common.{◌≡◌, ℕ, suc, ◌≤◌, List, ◌∷◌, length, take_all, Bool, true, false, cond, Some, refl, sym, ap, ◌∙◌, subst, inl, inr, arith}
 use Rattle.std.specs.Prelude.{not, ◌==◌, ◌&&◌, ◌||◌, nat_lt, nat_le, is_none}
 use Rattle.std.specs.List.{list_any, AllByRecursion}
@@ -26,7 +26,7 @@ use Rattle.theorem_use.specs.Mirrors.{Mirrors}
 use Rattle.theorem_use.proofs.Standing.{IsFound, one_found, any_among, not_believed, one_above, newest_stands, still_stands, StoodBefore, stands_so, standing_lives}
 use Rattle.theorem_use.proofs.Room.{held_are_few}
 
--- how an offer ends: by its being outranked, its want of a lifetime, and room or an old entry
+-- how an offer ends: outranked, without a lifetime, or with room or an old entry
 abbrev ends_by : Bool → Bool → Bool → Offered
 ends_by a b d = cond a Outranked (cond b NotKept (cond d Kept Unkept))
 
@@ -49,13 +49,13 @@ module _ (capacity n : ℕ) (p : Piece) (formed : IsPiece p) (os es : List Held)
   one_kind : (h : Held) → of_slot p.slot h ≡ true → is_name_error p ≡ is_name_error h.piece
   one_kind h own = ap (λ (s : Slot). is_none s.kind) ((slots_decide p.slot h.piece.slot).0 own)
 
-  -- what of p's slot has a higher rank keeps its place
+  -- a piece of p's slot with a higher rank keeps its place
   higher_stays : (h : Held) → is_name_error p ≡ false → of_slot p.slot h ≡ true → nat_lt p.rank h.piece.rank ≡ true → takes_place_of p h.piece ≡ false
   higher_stays h set own higher =
       cond-false (is_name_error h.piece) _ _ (sym (one_kind h own) ∙ set)
       ∙ and_right (same_slot p.slot h.piece.slot) (nat_le h.piece.rank p.rank) (lt-leb h.piece.rank p.rank (ltb-true p.rank h.piece.rank higher))
 
-  -- what of p's slot keeps its place has a higher rank, and p is no name error
+  -- a piece of p's slot that keeps its place has a higher rank, and p is no name error
   stays_higher : (h : Held) → Among h es → of_slot p.slot h ≡ true → takes_place_of p h.piece ≡ false → (is_name_error p ≡ false) × (nat_lt p.rank h.piece.rank ≡ true)
   stays_higher h among own free = by (is_name_error h.piece) refl
     where
@@ -68,7 +68,7 @@ module _ (capacity n : ℕ) (p : Piece) (formed : IsPiece p) (os es : List Held)
           let low : nat_le h.piece.rank p.rank ≡ false = sym (λ i. same i && nat_le h.piece.rank p.rank) ∙ sym (cond-false (is_name_error h.piece) _ _ set) ∙ free in
           (one_kind h own ∙ set, lt-ltb p.rank h.piece.rank (leb-false h.piece.rank p.rank low))
 
-  -- what keeps its place is left
+  -- an entry that keeps its place is left
   stays_left : (h : Held) → Among h es → takes_place_of p h.piece ≡ false → Among h left
   stays_left h among free = by (is_name_error p) refl
     where
@@ -84,19 +84,19 @@ module _ (capacity n : ℕ) (p : Piece) (formed : IsPiece p) (os es : List Held)
       and_from (not (is_name_error p)) (list_any (outranks n p) left) (not_from_false (is_name_error p) set)
       (any_among (outranks n p) h left among (and_from (of_slot p.slot h) (is_alive n h && nat_lt p.rank h.piece.rank) own (and_from (is_alive n h) (nat_lt p.rank h.piece.rank) alive higher)))
 
-  -- what is left was carried
+  -- an entry that is left was carried
   left_carried : (h : Held) → Among h left → Among h (new ∷ os)
   left_carried h among = inr (was.was_carried h (facts.was h among))
 
-  -- what is left and keeps its place stands
+  -- an entry that is left and keeps its place stands
   left_stands : (m : ℕ) → n ≤ m → (h : Held) → Among h left → is_alive m h ≡ true → takes_place_of p h.piece ≡ false → Among h (standing m (new ∷ os))
   left_stands m from h among alive free = still_stands m new h os (was.stands m from h (facts.was h among) alive) free
 
-  -- what stood before and keeps its place is left
+  -- a piece that stood before and keeps its place is left
   stood_left : (m : ℕ) → n ≤ m → (h : Held) → StoodBefore m new h os → Among h left
   stood_left m from h before = stays_left h (was.held m from h before.among) before.free
 
-  -- what is left of another slot keeps its place
+  -- an entry of another slot that is left keeps its place
   other_stays : (h : Held) → Among h left → of_slot p.slot h ≡ false → takes_place_of p h.piece ≡ false
   other_stays h among other = not_taken p h formed (all_among (λ x. IsPiece x.piece) h left facts.held.formed among) other (facts.over h among)
 
@@ -138,7 +138,7 @@ module _ (capacity n : ℕ) (p : Piece) (formed : IsPiece p) (os es : List Held)
         not_believed new above.one (standing n os) is_set (was.stands n (omega arith) above.one among lives_higher.0)
         (and_from (same_slot p.slot above.one.piece.slot) (nat_lt p.rank above.one.piece.rank) (sym (own_slot above.one among) ∙ own) lives_higher.1)
 
-    -- and what is left mirrors what stands
+    -- and the entries that are left mirror what stands
     outranked_mirror : Mirrors n (new ∷ os) left
     outranked_mirror = record {
       was_carried = left_carried;
@@ -152,17 +152,17 @@ module _ (capacity n : ℕ) (p : Piece) (formed : IsPiece p) (os es : List Held)
   -- ---- p is not outranked
 
   module _ (highest : is_outranked n p left ≡ false) where
-    -- what is left of other slots stands
+    -- the entries of other slots that are left stand
     others_stand : (m : ℕ) → n ≤ m → (h : Held) → Among h (without p.slot left) → is_alive m h ≡ true → Among h (standing m (new ∷ os))
     others_stand m from h among alive =
         let part = among_filtered (λ x. not (of_slot p.slot x)) h left among in
         left_stands m from h part.0 alive (other_stays h part.0 (not-true (of_slot p.slot h) part.1))
 
-    -- and was carried
+    -- and were carried
     others_carried : (h : Held) → Among h (without p.slot left) → Among h (new ∷ os)
     others_carried h among = left_carried h (among_filtered (λ x. not (of_slot p.slot x)) h left among).0
 
-    -- what stood before and keeps its place is of another slot
+    -- a piece that stood before and keeps its place is of another slot
     stood_others : (m : ℕ) → n ≤ m → (h : Held) → StoodBefore m new h os → Among h (without p.slot left)
     stood_others m from h before = among_filter (λ x. not (of_slot p.slot x)) left h mine (not_from_false (of_slot p.slot h) (false_from_ne_true (of_slot p.slot h) none))
       where
@@ -188,7 +188,7 @@ module _ (capacity n : ℕ) (p : Piece) (formed : IsPiece p) (os es : List Held)
             let mine : Among above.1.one left = stays_left above.1.one among (higher_stays above.1.one above.0 own parts.1) in
             false≢true (sym highest ∙ outranked_by above.1.one mine (standing_lives n above.1.one os above.1.among) above.0 own parts.1)
 
-    -- with no lifetime p is dead at once
+    -- without a lifetime p has expired at once
     dead_mirror : (p.lifetime == 0) ≡ true → Mirrors n (new ∷ os) (without p.slot left)
     dead_mirror none = record {
       was_carried = others_carried;
@@ -199,7 +199,7 @@ module _ (capacity n : ℕ) (p : Piece) (formed : IsPiece p) (os es : List Held)
       ];
     }
 
-    -- else it goes to the front
+    -- otherwise it goes to the front
     front_mirror : Mirrors n (new ∷ os) (new ∷ without p.slot left)
     front_mirror = record {
       was_carried = carried;
@@ -239,11 +239,11 @@ module _ (capacity n : ℕ) (p : Piece) (formed : IsPiece p) (os es : List Held)
         one_of e (inl here) = subst (λ (x : Held). IsOneOf x.piece.slot slots) here each.0
         one_of e (inr later) = all_among (λ o. IsOneOf o.piece.slot slots) e (new ∷ os) each (others_carried e later)
 
-  -- what an offer leaves
+  -- the entries that an offer leaves
   abbrev Leaves : List Held → Type 0
   Leaves after = AreHeld (record { capacity = capacity; entries = after }) × Mirrors n (new ∷ os) after
 
-  -- an offer that found memory keeps what mirrors
+  -- an offer that found memory keeps `Mirrors`
   pub put_mirrors : (slots : List Slot) → length slots ≤ capacity → AllByRecursion (λ o. IsOneOf o.piece.slot slots) (new ∷ os) → (room : Bool) → count_of (ended_so n room p es) ≡ 0
       → Leaves (put capacity n room p es)
   put_mirrors slots few each room = by (is_outranked n p left) refl (p.lifetime == 0) refl (room || has_slot p.slot left) refl

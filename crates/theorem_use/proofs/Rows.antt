@@ -1,4 +1,4 @@
--- What a row of the table makes of the entries.
+-- The entries after a row of the table.
 use Rattle.std.proofs.Common.{◌≡◌, ◌∙◌, ℕ, List, [], length, map, filter, Bool, true, false, refl, ap, Option, Some, None}
 use Rattle.std.specs.Prelude.{◌==◌, nat_le, nat_lt, Result, Ok, Err}
 use Rattle.std.proofs.lemmas.Bool.{cond_both, cond-true, cond-false}
@@ -25,7 +25,7 @@ use Rattle.trust_rank.specs.Values.{End, found, ends_no_data, ends_denied, elsew
 use Rattle.trust_rank.specs.Walks.{most_aliases, walk_of, is_lame}
 use Rattle.record_cache.specs.Values.{Cache}
 use Rattle.step_values.specs.declared.event.Client.{Client}
-use Rattle.suffix_routes.specs.Serving.{route_of}
+use Rattle.suffix_routes.specs.Serving.{serving_route_of}
 use Rattle.step_values.specs.Requests.{is_taken}
 use Rattle.step_table.specs.State.{State, turn}
 use Rattle.waiting_questions.specs.Values.{Waiting, waits_for}
@@ -41,13 +41,13 @@ use Rattle.step_table.specs.Clients.{fate_of, taken_now, row_of_opening, row_of_
 abbrev pub promoted_cache : List Slot → Cache → Cache
 promoted_cache used cache = record { capacity = cache.capacity; entries = promoted_all used cache.entries }
 
--- nothing is kept that came now: some of what is kept is promoted, and the moment has come
+-- no piece that came now is kept: some entries are promoted, and the moment is the step's
 pub record IsQuiet (n : ℕ) (cache : Cache) (d : Done) : Type 0 where
   pub used : List Slot
   pub cache_is : d.state.cache ≡ promoted_cache used cache
   pub moment_is : d.state.moment ≡ n
 
--- what was promoted before
+-- entries that were promoted before
 abbrev IsUsed : Cache → State → Type 0
 IsUsed cache s = (used : List Slot) × (s.cache ≡ promoted_cache used cache)
 
@@ -126,7 +126,7 @@ module _ (c : Config) (n : ℕ) (words : List ℕ) (s : State) where
       asked None = record { used = []; cache_is = refl; moment_is = refl }
       asked (Some q) = cond_both (is_unserved q) _ _ (IsQuiet n s.cache)
           (λ t. record { used = []; cache_is = refl; moment_is = refl })
-          (λ f. routed (taken_now n client (header_in octets) q) (route_of c q.name))
+          (λ f. routed (taken_now n client (header_in octets) q) (serving_route_of c q.name))
 
   pub path_is : (r : Option Ask) → IsQuiet n s.cache (row_of_failed_path (turn c n words s) r)
   path_is None = idle_is n s.cache s own
@@ -184,7 +184,7 @@ module _ (c : Config) (n : ℕ) (words : List ℕ) (s : State) where
         ∙ ap (row_of_message (turn c n words s) rooms a) read
         ∙ cond-false (is_lame (walk_of c m a.question a.route).end) _ _ fine
 
-  -- the end of its walk promotes what look-ups used
+  -- the end of its walk promotes the entries that look-ups used
   pub end_is : (a : Ask) (w : Walk) (fate : Waiting → Fate) (e : End) → IsQuiet n s.cache (row_of_end (turn c n words (with_preferred_server a s)) a w fate e)
   end_is a w fate (elsewhere name) = sent_is n s.cache (with_promoted (used_by c n s.cache.entries a w s.waiting) (with_preferred_server a s)) (used_by c n s.cache.entries a w s.waiting, refl) c words a fate
       (to_be_asked (without_path a.path s.asks) (still_waiting (map fate (filter (waits_for a.question) s.waiting))))

@@ -1,4 +1,4 @@
--- What stands, member by member.
+-- The pieces that stand, member by member.
 use Rattle.std.proofs.Common.{◌≡◌, ℕ, List, [], ◌∷◌, Bool, true, false, refl, sym, ap, ◌∙◌, subst, ◌⊎◌, inl, inr}
 use Rattle.std.specs.Prelude.{not, ◌&&◌, ◌||◌, filter}
 use Rattle.std.specs.List.{list_any}
@@ -36,17 +36,17 @@ any_among test h (x ∷ xs) (inr later) passes = or_right (test x) (list_any tes
 
 -- ---- belief
 
--- nothing is believed beside one of its slot that has a higher rank, but a name error
+-- a piece is not believed where one of its slot with a higher rank stood, unless it is a name error
 pub not_believed : (o h : Held) (stood : List Held) → is_name_error o.piece ≡ false → Among h stood → ranks_above o h ≡ true → is_believed o stood ≡ false
 not_believed o h stood set among above = or_from (is_name_error o.piece) (not (list_any (ranks_above o) stood)) set (not_from_true (list_any (ranks_above o) stood) (any_among (ranks_above o) h stood among above))
 
--- what is not believed is no name error, and one of its slot stood that has a higher rank
+-- a piece that is not believed is no name error, and one of its slot with a higher rank stood
 pub one_above : (o : Held) (stood : List Held) → is_believed o stood ≡ false → (is_name_error o.piece ≡ false) × IsFound (ranks_above o) stood
 one_above o stood doubted =
     let parts = or_parts (is_name_error o.piece) (not (list_any (ranks_above o) stood)) doubted in
     (parts.0, one_found (ranks_above o) stood (not-false (list_any (ranks_above o) stood) parts.1))
 
--- ---- what stands
+-- ---- pieces that stand
 
 -- o leaves this its place
 abbrev leaves_place : Held → Held → Bool
@@ -57,7 +57,7 @@ pub newest_stands : (m : ℕ) (o : Held) (os : List Held) → is_alive m o ≡ t
 newest_stands m o os alive believed =
     subst (λ (b : Bool). Among o (with_this b o (filter (leaves_place o) (standing m os)))) (sym (and_from (is_alive m o) (is_believed o (standing o.accepted os)) alive believed)) (inl refl)
 
--- what stood still stands, where the newest doesn't take its place
+-- a piece that stood still stands, where the newest doesn't take its place
 pub still_stands : (m : ℕ) (o h : Held) (os : List Held) → Among h (standing m os) → takes_place_of o.piece h.piece ≡ false → Among h (standing m (o ∷ os))
 still_stands m o h os among free = by (is_alive m o && is_believed o (standing o.accepted os))
   where
@@ -68,12 +68,12 @@ still_stands m o h os among free = by (is_alive m o && is_believed o (standing o
     by true = inr behind
     by false = behind
 
--- one that stands behind the newest stood before it, and kept its place
+-- a piece that stands and is not the newest stood before it, and kept its place
 pub record StoodBefore (m : ℕ) (o h : Held) (os : List Held) : Type 0 where
   pub among : Among h (standing m os)
   pub free : takes_place_of o.piece h.piece ≡ false
 
--- what stands is the newest, which is alive, and was believed, or stood before
+-- a piece that stands is the newest, which is alive and was believed, or stood before
 pub stands_so : (m : ℕ) (o h : Held) (os : List Held) → Among h (standing m (o ∷ os))
     → ((o ≡ h) × ((is_alive m o ≡ true) × (is_believed o (standing o.accepted os) ≡ true))) ⊎ StoodBefore m o h os
 stands_so m o h os among = by (is_alive m o && is_believed o (standing o.accepted os)) refl among
@@ -87,7 +87,7 @@ stands_so m o h os among = by (is_alive m o && is_believed o (standing o.accepte
     by true t (inr later) = inr (behind later)
     by false f later = inr (behind later)
 
--- what stands is alive
+-- a piece that stands is alive
 pub standing_lives : (m : ℕ) (h : Held) (os : List Held) → Among h (standing m os) → is_alive m h ≡ true
 standing_lives m h [] among = absurd among
 standing_lives m h (o ∷ os) among = elim (stands_so m o h os among) [

@@ -1,4 +1,4 @@
--- A row keeps what mirrors, and uses what stands.
+-- A row keeps `Mirrors`, and uses what stands.
 use Rattle.std.proofs.Common.{◌≡◌, ◌∙◌, ℕ, ◌^◌, ◌≤◌, List, [], ◌∷◌, ◌++◌, length, Bool, true, false, refl, sym, ap, subst, inl, inr, arith, Some, None, append_assoc}
 use Rattle.std.specs.Prelude.{min, max, reverse}
 use Rattle.std.specs.List.{concat, AllByRecursion}
@@ -51,7 +51,7 @@ use Rattle.theorem_use.proofs.Finding.{finds_the_same}
 use Rattle.theorem_use.proofs.Offers.{offers_mirror, promotions_mirror, mirrors_later}
 use Rattle.theorem_use.proofs.Rows.{promoted_cache, IsQuiet, request_is, path_is, tick_is, unheard_is, heard_is, end_is}
 
--- ---- what was carried before a reply
+-- ---- pieces that were carried before a reply
 
 -- those that were there are of few slots where all are
 all_before : (P : Held → Type 0) (n : ℕ) (ps : List Piece) (os : List Held) → AllByRecursion P (then_carried n ps os) → AllByRecursion P os
@@ -66,7 +66,7 @@ memory_parts : (t : Step) (past : List Step) → is_restart t ≡ false → Foun
 memory_parts t past runs (inl restarts) = absurd (true≢false (sym restarts ∙ runs))
 memory_parts t past runs (inr found) = found
 
--- ---- what an event shows
+-- ---- the message or the delivery of an event
 
 sent_is : (a b : Request) → Some a ≡ Some b → a ≡ b
 sent_is a b e = cc
@@ -222,7 +222,7 @@ module _ (c : Config) (past : List Step) (w : List (List ℕ)) (s : State) (x : 
         mirrored : Mirrors n carried s.cache.entries
         mirrored = before carried is room
 
-        -- its look-up among the entries is that in what stands
+        -- its look-up among the entries is that among the pieces that stand
         same : look_up c.routes n s.cache.entries most_aliases [] q ≡ look_up c.routes n
             (standing n carried) most_aliases [] q
         same = same_look_ups c.routes n s.cache.entries (standing n carried)
@@ -249,7 +249,7 @@ module _ (c : Config) (past : List Step) (w : List (List ℕ)) (s : State) (x : 
   abbrev IsUsedAfter : Event → Done → Type 0
   IsUsedAfter e d = (os : List ℕ) × Explains c (told e d ∷ past) (os ∷ w) d.state × UsesNow e d os
 
-  -- a message that the cache answers is its own answer's owner; of any other nothing is known
+  -- a message that the cache answers owns its answer; for any other nothing is claimed
   message_after : (client : Client) (octets : List ℕ) (are : AreOctets octets) (d : Done)
       → d ≡ row_of_request (turn c n words s) client octets → more ≡ is_due_at c d.state.moment d.state
       → IsExplainedAfter (from_client client octets) d → (b : Bool)
@@ -357,7 +357,7 @@ row_fully_explained c past w s h o s' both r = (
     used = used_after c past w s both.explained both.mirrored h.now h.words o.unkept o.more h.event r.octets d r.happens
         r.more (row_explained c past w s h o s' both.explained r)
 
-    -- an accepted delivery carries something
+    -- an accepted delivery carries pieces
     gives : (e : Event) → HandsOctets e
         → GivesIfHeard c (effective h.now s) s (NothingAccepted c (record { handed = record h { event = e }; outcome = o })
         past → ⊥) e
@@ -414,7 +414,7 @@ few_wait c past w s x =
     let few = x.few in
     omega (arith, one, two, waiting, numbers, few)
 
--- one list of owners is that of all claims
+-- all claims have one list of owners
 pub run_serves_truly : (c : Config) (steps : List Step) (s : State) → ComesTo c steps s → ServesTruly c steps
 run_serves_truly c steps s came =
     let all = run_fully_explained c (start c) s steps [] [] (start_fully_explained c came.config) came.run in

@@ -1,6 +1,7 @@
--- What stands, whether there is room, what is known, what is an answer at once, and whom an ask serves, computed.
-use Rattle.std.proofs.Common.{◌≡◌, ℕ, ◌+◌, ◌≤◌, List, [], ◌∷◌, ◌++◌, length, Bool, true, false, cond, refl, subst}
-use Rattle.std.proofs.Common.{sym, ap, ◌∙◌, ◌⊎◌, inl, inr, arith, Option, Some, None}
+-- Pieces that stand, room for them, questions that are known, answers at once, and the headline,
+-- computed.
+use Rattle.std.proofs.Common.{◌≡◌, ℕ, ◌+◌, ◌≤◌, List, [], ◌∷◌, ◌++◌, length, true, false, refl}
+use Rattle.std.proofs.Common.{subst, sym, ap, ◌∙◌, ◌⊎◌, inl, inr, arith, Option, Some, None}
 use Rattle.std.proofs.lemmas.Bool.{true≢false}
 use Rattle.std.specs.List.{AllByRecursion}
 use Rattle.dns_message.specs.Data.{name_of_rdata}
@@ -17,29 +18,25 @@ use Rattle.trust_rank.specs.Values.{rows, denied}
 use Rattle.record_cache.specs.Values.{Held}
 use Rattle.step_values.specs.declared.event.Client.{Client}
 use Rattle.step_values.specs.declared.action.Why.TheVariants.{Answered, Deadline, TooLarge}
-use Rattle.step_values.specs.Values.{Request, from_client, delivery, Delivered, Action, ask_udp, close_udp, send_reply}
-use Rattle.step_values.specs.Values.{tick, restart, Event}
-use Rattle.step_values.specs.Values.{Step}
-use Rattle.step_history.specs.History.{InEra, ShownAsk, NothingAccepted, Sends}
+use Rattle.step_values.specs.Values.{Request, from_client, delivery, Action, ask_udp, send_reply}
+use Rattle.step_values.specs.Values.{tick, restart, Event, Step}
+use Rattle.step_history.specs.History.{Sends}
 use Rattle.step_history.specs.Carried.{CarriedInEra}
-use Rattle.step_history.specs.Causes.{ClosesAsk}
 use Rattle.step_history.specs.Sound.{RightReply}
 use Rattle.step_table.specs.State.{State}
 use Rattle.step_table.specs.Steps.{start}
 use Rattle.step_table.proofs.Played.{server, client, config}
-use Rattle.theorem_use.specs.Asking.{AnyByRecursion, Wants, EachWants, Asks, WasListed, OpensInquiry, FollowsFailed}
-use Rattle.theorem_use.specs.Asking.{IsSpelled, AsksForWaiting}
 use Rattle.theorem_use.specs.Service.{ServesTruly, ComesTo}
 use Rattle.theorem_use.specs.Standing.{standing}
-use Rattle.theorem_use.specs.Use.{IsOneOf, HasFewSlots, FoundMemory, HasRoom, AsksToLookUp, LeadsToEnd, IsKnown}
-use Rattle.theorem_use.specs.Use.{AnswersAtOnce, UsesWhatStands}
+use Rattle.theorem_use.specs.Use.{IsOneOf, HasFewSlots, FoundMemory, HasRoom, AsksToLookUp}
+use Rattle.theorem_use.specs.Use.{LeadsToEnd, IsKnown, AnswersAtOnce, UsesWhatStands}
 
--- ---- names below e, and what was carried of them
+-- ---- names below e, and pieces of them
 
-abbrev example : List (List ℕ)
+abbrev pub example : List (List ℕ)
 example = (101 ∷ []) ∷ []
 
-abbrev a : List (List ℕ)
+abbrev pub a : List (List ℕ)
 a = (97 ∷ []) ∷ example
 
 abbrev b : List (List ℕ)
@@ -78,37 +75,39 @@ name_error name moment rank = record {
   accepted = moment;
 }
 
--- ---- what stands
+-- ---- pieces that stand
 
 -- up to its last millisecond
 ages : (standing 300999 (host a 1000 300 3 ∷ []) ≡ host a 1000 300 3 ∷ [])
     × (standing 301000 (host a 1000 300 3 ∷ []) ≡ [])
 ages = (refl, refl)
 
--- what is believed as much takes the place, of whatever lifetime
+-- a piece that is believed as much takes the place, of whatever lifetime
 replaced : (standing 2000 (host a 1500 60 3 ∷ host a 1000 300 3 ∷ []) ≡ host a 1500 60 3 ∷ [])
     × (standing 2000 (host a 1500 0 3 ∷ host a 1000 300 3 ∷ []) ≡ [])
 replaced = (refl, refl)
 
--- what is believed less doesn't stand, unless what is believed more had ended when it came
+-- a piece that is believed less doesn't stand, unless the one that is believed more had expired
+-- when it came
 believed_less : (standing 302000 (host a 300999 600 1 ∷ host a 1000 300 3 ∷ []) ≡ [])
     × (standing 302000 (host a 301000 600 1 ∷ host a 1000 300 3 ∷ []) ≡ host a 301000 600 1 ∷ [])
 believed_less = (refl, refl)
 
--- a set below a name error stands, where it came before; where it comes later, the name error does not
+-- a set below a name error stands, where it came before; where it comes later, the name error does
+-- not
 errors_above :
     (standing 2000 (name_error example 1500 3 ∷ host a 1000 300 3 ∷ [])
     ≡ name_error example 1500 3 ∷ host a 1000 300 3 ∷ [])
     × (standing 2000 (host a 1500 0 1 ∷ name_error example 1000 3 ∷ []) ≡ [])
 errors_above = (refl, refl)
 
--- a name error is believed beside each other one of its name
+-- a name error is believed next to each other one of its name
 errors_again : standing 2000 (name_error a 1500 1 ∷ name_error a 1000 3 ∷ []) ≡ name_error a 1500 1 ∷ []
 errors_again = refl
 
 -- ---- room
 
--- what was carried twice for one slot is of one
+-- two pieces of one slot take one slot
 two_slots : HasFewSlots 2 (host a 1500 60 3 ∷ name_error b 1200 3 ∷ host a 1000 300 3 ∷ [])
 two_slots = record {
   slots = (host a 1500 60 3).piece.slot ∷ (name_error b 1200 3).piece.slot ∷ [];
@@ -134,7 +133,7 @@ too_many_slots h = by h.slots h.few h.each
         absurd cc
     by (s ∷ t ∷ slots) few each = omega (arith, few)
 
--- of the newest step's era alone memory is asked
+-- the claim is about memory in the newest step's era alone
 abbrev after : Event → ℕ → Step
 after e unkept = record {
   handed = record { now = 1000; words = []; event = e };
@@ -149,9 +148,9 @@ none_found (inl never) = absurd (true≢false (sym never))
 none_found (inr (same, inl never)) = absurd (true≢false (sym never))
 none_found (inr (same, inr found)) = let one : 1 ≡ 0 = found.0 in omega (arith, one)
 
--- ---- what is known
+-- ---- questions that are known
 
-abbrev address : List (List ℕ) → Question
+abbrev pub address : List (List ℕ) → Question
 address name = record { name = name; kind = 1; class = 1 }
 
 -- along an alias, while it stands
@@ -163,19 +162,19 @@ lost : LeadsToEnd [] 61500 (standing 61500 (alias 1500 60 ∷ host b 1000 300 3 
 unfolding name_of_rdata name_within walk_in name_step route_of
 lost known = known
 
--- behind no more aliases than may be taken
+-- after no more aliases than may be taken
 too_far : LeadsToEnd [] 2000 (standing 2000 (alias 1500 60 ∷ host b 1000 300 3 ∷ [])) 0 (address a) → ⊥
 unfolding name_of_rdata name_within walk_in name_step route_of
 too_far known = known
 
 -- at 2000 time passes, and this is done
-abbrev doing : List Action → Step
+abbrev pub doing : List Action → Step
 doing actions = record {
   handed = record { now = 2000; words = []; event = tick };
   outcome = record { actions = actions; unkept = 0; more = false };
 }
 
-abbrev passes : Step
+abbrev pub passes : Step
 passes = doing []
 
 -- a name of one letter, and its alias of the next one
@@ -191,7 +190,7 @@ eight_links =
     link 109 ∷ link 110 ∷ link 111 ∷ link 112 ∷ link 113 ∷ link 114 ∷ link 115 ∷ link 116
     ∷ host (name_of 117) 1000 300 3 ∷ []
 
--- a question is known behind eight aliases, and not behind nine
+-- a question is known after eight aliases, and not after nine
 behind_eight : IsKnown config passes [] eight_links (address (name_of 109))
 unfolding name_of_rdata name_within walk_in name_step route_of
 behind_eight = tt
@@ -200,13 +199,14 @@ behind_nine : IsKnown config passes [] (link 108 ∷ eight_links) (address (name
 unfolding name_of_rdata name_within walk_in name_step route_of
 behind_nine known = known
 
--- ---- what is an answer at once
+-- ---- answers at once
 
--- a message with this identifier that asks for this type of a name of e, spelled with this letter, or of e itself
-abbrev message : ℕ → List ℕ → ℕ → List ℕ
+-- a message with this identifier that asks for this type of a name of e, spelled with this letter,
+-- or of e itself
+abbrev pub message : ℕ → List ℕ → ℕ → List ℕ
 message id name kind = 0 ∷ id ∷ 1 ∷ 0 ∷ 0 ∷ 1 ∷ 0 ∷ 0 ∷ 0 ∷ 0 ∷ 0 ∷ 0 ∷ name ++ (1 ∷ 101 ∷ 0 ∷ 0 ∷ kind ∷ 0 ∷ 1 ∷ [])
 
-abbrev step_at : ℕ → Event → List Action → Step
+abbrev pub step_at : ℕ → Event → List Action → Step
 step_at now e actions = record {
   handed = record { now = now; words = []; event = e };
   outcome = record { actions = actions; unkept = 0; more = false };
@@ -254,7 +254,7 @@ known : (octets : List ℕ) → IsKnown config (asks_again octets) before carrie
 unfolding name_of_rdata name_within walk_in name_step route_of
 known octets = tt
 
--- where it is right for the step's own question, which owns it, what stands was used
+-- where the reply is right for the step's own question, which owns it, what stands was used
 own_question : (octets : List ℕ)
     → RightReply (record {
       config = config;
@@ -306,8 +306,8 @@ own_question octets right = (
         subst (λ (z : Question × List Held). IsKnown config asks_for_servers [] z.1 z.0)
         (λ i. (sym q_is i, none i)) is_known
 
--- The client's older question, which still waits, is none that may own it: then the newest one waits, of which enough
--- stands.
+-- The client's older question, which still waits, may not own it: then the newest one, for which
+-- enough stands, would wait.
 older_question : (octets : List ℕ) → CarriedInEra config before carried
     → UsesWhatStands config (asks_again octets ∷ before) ((0 ∷ []) ∷ [] ∷ [] ∷ []) → ⊥
 older_question octets is uses =
@@ -342,243 +342,6 @@ overdue h = by h.reason
     by : (h.why ≡ Answered) ⊎ (h.why ≡ TooLarge) → ⊥
     by (inl answers) = let is : Deadline ≡ Answered = why_is ∙ answers in absurd cc
     by (inr large) = let is : Deadline ≡ TooLarge = why_is ∙ large in absurd cc
-
--- ---- whom an ask serves
-
--- a client asks for the address of a, and this is done
-abbrev asks_address : List Action → Step
-asks_address actions = step_at 1000 (from_client client (message 7 (1 ∷ 97 ∷ []) 1)) actions
-
--- an ask for the address of a name with this letter
-abbrev ask_for : ℕ → Action
-ask_for letter = ask_udp 1032 server (message 8 (1 ∷ letter ∷ []) 1)
-
-abbrev shown_for : ℕ → ShownAsk
-shown_for letter = record { path = Udp 1032; server = server; octets = message 8 (1 ∷ letter ∷ []) 1; moment = 1000 }
-
--- no ask was listed before the first step
-none_listed : {x : ShownAsk} → ◌≡◌ {A = Option ShownAsk} None (Some x) → ⊥
-none_listed is = absurd cc
-
--- the client's question, where this is done, wants the address of a
-wants_it : (actions : List Action) (now : List Step) → InEra (asks_address actions ∷ []) now
-    → Wants config now 0 (address a)
-unfolding first_question question_at octets_end name_within walk_in name_step
-wants_it actions now in_era = record {
-  asked = asks_address actions;
-  before = [];
-  in_era = in_era;
-  number = refl;
-  client = client;
-  request = message 7 (1 ∷ 97 ∷ []) 1;
-  sent = refl;
-  question = address a;
-  reads = refl;
-  aliases = [];
-  leads = record { few = omega arith; follows = refl };
-}
-
--- it waits, and what it wants is asked, in its spelling
-waited_for : AsksForWaiting config (asks_address (ask_for 97 ∷ [])) [] []
-unfolding first_question question_at octets_end name_within walk_in name_step
-waited_for = record {
-  wanted = address a ∷ [];
-  each = (wants_it (ask_for 97 ∷ []) (asks_address (ask_for 97 ∷ []) ∷ []) (inl refl), tt);
-  asked = (inl (record { question = address a; reads = refl; same = refl }), tt);
-  wanting = (inl (record { question = address a; reads = refl; same = refl }), tt);
-  spelled = (
-    inr (record {
-      question = address a;
-      reads = refl;
-      from = inl (record { anew = λ closes quiet. none_listed closes.is_listed; spelled = inl refl });
-    }),
-    tt,
-  );
-}
-
--- a question that waits, and nothing is asked
-nothing_asked : AsksForWaiting config (asks_address []) [] [] → ⊥
-nothing_asked h = by h.wanted h.each h.asked
-  where
-    by : (wanted : List Question) → EachWants config (asks_address [] ∷ []) (0 ∷ []) wanted
-        → AllByRecursion (λ q. AnyByRecursion (λ a. Asks a q) []) wanted → ⊥
-    by [] each asked = each
-    by (q ∷ wanted) each asked = asked.0
-
--- an ask while nobody waits
-nobody_waits : AsksForWaiting config (doing (ask_for 97 ∷ [])) [] [] → ⊥
-nobody_waits h = by h.wanted h.each h.wanting
-  where
-    by : (wanted : List Question) → EachWants config (doing (ask_for 97 ∷ []) ∷ []) [] wanted
-        → AllByRecursion (λ a. AnyByRecursion (Asks a) wanted) (record (shown_for 97) { moment = 2000 } ∷ []) → ⊥
-    by [] each wanting = wanting.0
-    by (q ∷ wanted) each wanting = each
-
--- the same name with an upper case letter
-abbrev upper : List (List ℕ)
-upper = (65 ∷ []) ∷ example
-
--- the question that a text reads as
-one_question_is : (q r : Question) → Some q ≡ Some r → q ≡ r
-one_question_is q r is = cc
-
--- letter case tells two spellings apart
-not_spelled_alike : address a ≡ address upper → ⊥
-not_spelled_alike same =
-    let names : (97 ∷ []) ∷ example ≡ (65 ∷ []) ∷ example = ap (λ (q : Question). q.name) same in
-    let letters : ◌≡◌ {A = ℕ} 97 65 = cc in
-    omega (arith, letters)
-
--- asked with the upper case letter, all is right but the spelling
-spelled_otherwise : IsSpelled config (asks_address (ask_for 65 ∷ [])) [] (address a ∷ []) (shown_for 65) → ⊥
-unfolding first_question question_at octets_end name_within walk_in name_step
-spelled_otherwise h = by h.from
-  where
-    question_is : address upper ≡ h.question
-    question_is = one_question_is (address upper) h.question h.reads
-
-    by : OpensInquiry config (asks_address (ask_for 65 ∷ [])) [] (address a ∷ []) h.question
-        ⊎ FollowsFailed config (asks_address (ask_for 65 ∷ [])) [] h.question → ⊥
-    by (inl opens) = elim opens.spelled [
-      | inl same ↦ not_spelled_alike (same ∙ sym question_is)
-      | inr none ↦ none
-    ]
-    by (inr follows) = none_listed follows.closes.is_listed
-
-but_for_its_spelling :
-    AllByRecursion (λ x. WasListed [] x ⊎ IsSpelled config (asks_address (ask_for 65 ∷ [])) [] (address a ∷ []) x)
-    (shown_for 65 ∷ [])
-    → AsksForWaiting config (asks_address (ask_for 65 ∷ [])) [] []
-unfolding first_question question_at octets_end name_within walk_in name_step
-but_for_its_spelling spelled = record {
-  wanted = address a ∷ [];
-  each = (wants_it (ask_for 65 ∷ []) (asks_address (ask_for 65 ∷ []) ∷ []) (inl refl), tt);
-  asked = (inl (record { question = address upper; reads = refl; same = refl }), tt);
-  wanting = (inl (record { question = address upper; reads = refl; same = refl }), tt);
-  spelled = spelled;
-}
-
--- an ask that stays listed keeps its spelling
-stays_listed : AsksForWaiting config passes (asks_address (ask_for 97 ∷ []) ∷ []) []
-unfolding first_question question_at octets_end name_within walk_in name_step
-stays_listed = record {
-  wanted = address a ∷ [];
-  each = (wants_it (ask_for 97 ∷ []) (passes ∷ asks_address (ask_for 97 ∷ []) ∷ []) (inr (refl, inl refl)), tt);
-  asked = (inl (record { question = address a; reads = refl; same = refl }), tt);
-  wanting = (inl (record { question = address a; reads = refl; same = refl }), tt);
-  spelled = (inl (inl refl), tt);
-}
-
--- ---- an ask that follows a failed one
-
--- while the address of a is asked, it is asked for with the upper case letter too; then the ask fails, and this is next
-abbrev two_wait : List Step
-two_wait = step_at 1010 (from_client client (message 9 (1 ∷ 65 ∷ []) 1)) [] ∷ asks_address (ask_for 97 ∷ []) ∷ []
-
-abbrev asks_next : ℕ → Step
-asks_next letter = step_at 2500 tick (close_udp 1032 ∷ ask_udp 1040 server (message 16 (1 ∷ letter ∷ []) 1) ∷ [])
-
-abbrev next_for : ℕ → ShownAsk
-next_for letter = record { path = Udp 1040; server = server; octets = message 16 (1 ∷ letter ∷ []) 1; moment = 2500 }
-
-nothing_came : (letter : ℕ) → NothingAccepted config (asks_next letter) two_wait
-nothing_came letter ps carries = by carries.accepts.matches.delivered
-  where
-    by : {d : Delivered} → ◌≡◌ {A = Option Delivered} None (Some d) → ⊥
-    by is = absurd cc
-
--- the first ask, which it closed, was for a in this spelling
-closes_first : (letter : ℕ) → ClosesAsk (address a) (asks_next letter) two_wait
-unfolding first_question question_at octets_end name_within walk_in name_step
-closes_first letter =
-    record { ask = shown_for 97; asked = address a; is_listed = refl; closed = refl; reads = refl; same = refl }
-
-closes_upper : (letter : ℕ) → ClosesAsk (address upper) (asks_next letter) two_wait
-unfolding first_question question_at octets_end name_within walk_in name_step
-closes_upper letter =
-    record { ask = shown_for 97; asked = address a; is_listed = refl; closed = refl; reads = refl; same = refl }
-
-first_wants : (letter : ℕ) → Wants config (asks_next letter ∷ two_wait) 0 (address a)
-first_wants letter = wants_it (ask_for 97 ∷ []) (asks_next letter ∷ two_wait) (inr (refl, inr (refl, inl refl)))
-
-second_wants : (letter : ℕ) → Wants config (asks_next letter ∷ two_wait) 1 (address upper)
-unfolding first_question question_at octets_end name_within walk_in name_step
-second_wants letter = record {
-  asked = step_at 1010 (from_client client (message 9 (1 ∷ 65 ∷ []) 1)) [];
-  before = asks_address (ask_for 97 ∷ []) ∷ [];
-  in_era = inr (refl, inl refl);
-  number = refl;
-  client = client;
-  request = message 9 (1 ∷ 65 ∷ []) 1;
-  sent = refl;
-  question = address upper;
-  reads = refl;
-  aliases = [];
-  leads = record { few = omega arith; follows = refl };
-}
-
--- the next ask is spelled as the failed one
-goes_on_so : AsksForWaiting config (asks_next 97) two_wait []
-unfolding first_question question_at octets_end name_within walk_in name_step
-    closes_first
-goes_on_so = record {
-  wanted = address a ∷ address upper ∷ [];
-  each = (first_wants 97, (second_wants 97, tt));
-  asked = (
-    inl (record { question = address a; reads = refl; same = refl }),
-    (inl (record { question = address a; reads = refl; same = refl }), tt),
-  );
-  wanting = (inl (record { question = address a; reads = refl; same = refl }), tt);
-  spelled = (
-    inr (record {
-      question = address a;
-      reads = refl;
-      from = inr (record { closes = closes_first 97; failed = nothing_came 97; spelled = refl });
-    }),
-    tt,
-  );
-}
-
--- not as another question that waits; all else is right
-spelled_as_another : (wanted : List Question) → IsSpelled config (asks_next 65) two_wait wanted (next_for 65) → ⊥
-unfolding first_question question_at octets_end name_within walk_in name_step
-spelled_as_another wanted h = by h.from
-  where
-    question_is : address upper ≡ h.question
-    question_is = one_question_is (address upper) h.question h.reads
-
-    the_only_ask : (v : Bool) (x y : ShownAsk) → cond v (Some x) None ≡ Some y → x ≡ y
-    the_only_ask true x y is = cc
-    the_only_ask false x y is = absurd cc
-
-    asked_so : (k : ClosesAsk h.question (asks_next 65) two_wait) → address a ≡ k.asked
-    asked_so k =
-        let same : shown_for 97 ≡ k.ask = the_only_ask _ (shown_for 97) k.ask k.is_listed in
-        one_question_is (address a) k.asked (ap (λ (x : ShownAsk). one_question x.octets) same ∙ k.reads)
-
-    by : OpensInquiry config (asks_next 65) two_wait wanted h.question
-        ⊎ FollowsFailed config (asks_next 65) two_wait h.question → ⊥
-    by (inl opens) =
-        opens.anew (subst (λ (q : Question). ClosesAsk q (asks_next 65) two_wait) question_is (closes_upper 65))
-        (nothing_came 65)
-    by (inr follows) = not_spelled_alike (asked_so follows.closes ∙ follows.spelled ∙ sym question_is)
-
-but_for_that_spelling :
-    AllByRecursion
-    (λ x. WasListed two_wait x ⊎ IsSpelled config (asks_next 65) two_wait (address a ∷ address upper ∷ []) x)
-    (next_for 65 ∷ [])
-    → AsksForWaiting config (asks_next 65) two_wait []
-unfolding first_question question_at octets_end name_within walk_in name_step
-but_for_that_spelling spelled = record {
-  wanted = address a ∷ address upper ∷ [];
-  each = (first_wants 65, (second_wants 65, tt));
-  asked = (
-    inl (record { question = address upper; reads = refl; same = refl }),
-    (inl (record { question = address upper; reads = refl; same = refl }), tt),
-  );
-  wanting = (inl (record { question = address upper; reads = refl; same = refl }), tt);
-  spelled = spelled;
-}
 
 -- ---- the headline
 

@@ -1,4 +1,5 @@
--- What is claimed of whom asks serve: each waiting question wants what a listed ask asks, and nothing else is asked.
+-- Claims about whom asks serve: each waiting question wants what a listed ask asks, and nothing
+-- else is asked.
 use Rattle.std.specs.Prelude.{◌≡◌, ℕ, true, List, [], ◌∷◌, length, ◌⊎◌}
 use Rattle.std.specs.List.{concat, AllByRecursion}
 use Rattle.dns_message.specs.Questions.{same_question}
@@ -14,13 +15,13 @@ use Rattle.step_history.specs.Causes.{ClosesAsk}
 use Rattle.step_history.specs.Sound.{unanswered}
 use Rattle.waiting_questions.specs.Values.{Waiting, waits_for}
 
--- it holds of one of them
+-- P holds of one of them
 abbrev pub AnyByRecursion : {X : Type 0} → (X → Type 0) → List X → Type 0
 AnyByRecursion P [] = ⊥
 AnyByRecursion P (x ∷ xs) = P x ⊎ AnyByRecursion P xs
 
--- The step with this number was a client's message with a question, from which at most eight justified aliases lead to
--- what it wants now (RFC 1034 3.6.2): to itself, without any.
+-- The step with this number was a client's message with a question, from which at most eight
+-- justified aliases lead to the one that it wants now (RFC 1034 3.6.2): without aliases, to itself.
 pub record Wants (c : Config) (now : List Step) (i : ℕ) (wanted : Question) : Type 0 where
   pub asked : Step
   pub before : List Step
@@ -51,28 +52,29 @@ pub record Asks (a : ShownAsk) (wanted : Question) : Type 0 where
 abbrev pub WasListed : List Step → ShownAsk → Type 0
 WasListed past a = AnyByRecursion (λ b. b ≡ a) (listed past)
 
--- an ask for this opens an inquiry: the step closed none that failed for it, and a question that waits wants it, in this
--- spelling
+-- an ask for this opens an inquiry: the step closed none that failed for it, and a question that
+-- waits wants it, in this spelling
 pub record OpensInquiry (c : Config) (s : Step) (past : List Step) (wanted : List Question) (q : Question) : Type 0
   where
     pub anew : ClosesAsk q s past → NothingAccepted c s past → ⊥
     pub spelled : AnyByRecursion (λ w. w ≡ q) wanted
 
--- an ask for this follows a failed one: the step closed one for it, in this spelling, and accepted nothing
+-- an ask for this follows a failed one: the step closed one for it, in this spelling, and accepted
+-- nothing
 pub record FollowsFailed (c : Config) (s : Step) (past : List Step) (q : Question) : Type 0 where
   pub closes : ClosesAsk q s past
   pub failed : NothingAccepted c s past
   pub spelled : closes.asked ≡ q
 
--- an ask of the step has the spelling of what is wanted where it opens an inquiry, and that of the failed ask where it
--- follows one
+-- an ask of the step has the spelling of the wanted question where it opens an inquiry, and that of
+-- the failed ask where it follows one
 pub record IsSpelled (c : Config) (s : Step) (past : List Step) (wanted : List Question) (a : ShownAsk) : Type 0 where
   pub question : Question
   pub reads : Reads a.octets question
   pub from : OpensInquiry c s past wanted question ⊎ FollowsFailed c s past question
 
--- After the newest step each question that waits wants what a listed ask asks, and each listed ask is wanted by one; and
--- each that was not listed before is spelled so.
+-- After the newest step each question that waits wants what a listed ask asks, and each listed ask
+-- is wanted by one; and each that was not listed before is spelled as `IsSpelled` says.
 pub record AsksForWaiting (c : Config) (s : Step) (past : List Step) (owners : List ℕ) : Type 0 where
   pub wanted : List Question
   pub each : EachWants c (s ∷ past) (unanswered (s ∷ past) owners) wanted
@@ -80,7 +82,8 @@ pub record AsksForWaiting (c : Config) (s : Step) (past : List Step) (owners : L
   pub wanting : AllByRecursion (λ a. AnyByRecursion (Asks a) wanted) (listed (s ∷ past))
   pub spelled : AllByRecursion (λ a. WasListed past a ⊎ IsSpelled c s past wanted a) (listed (s ∷ past))
 
--- So it is after every step. w has for each step, the newest first, the owners of its replies.
+-- `AsksForWaiting` holds after every step. w has for each step, the newest first, the owners of its
+-- replies.
 abbrev pub AsksForThoseWhoWait : Config → List Step → List (List ℕ) → Type 0
 AsksForThoseWhoWait c [] w = Unit {0}
 AsksForThoseWhoWait c (s ∷ past) [] = ⊥

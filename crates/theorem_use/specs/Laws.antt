@@ -1,4 +1,4 @@
--- What is claimed of use, and of service, as statements over plain values.
+-- Statements about use and service, over plain values.
 use Rattle.std.specs.Prelude.{List, []}
 use Rattle.suffix_routes.specs.Values.{Config, IsConfig}
 use Rattle.step_values.specs.Values.{Handed, Outcome, Step}
@@ -8,7 +8,8 @@ use Rattle.step_table.specs.Row.{Row}
 use Rattle.theorem_use.specs.Mirrors.{FullyExplains, StaysFullyExplained}
 use Rattle.theorem_use.specs.Service.{ServesTruly, ComesTo}
 
--- A row keeps what fully explains.
+-- A history that fully explains the state before a row fully explains, with its step and owners for
+-- its replies, the state after it.
 abbrev pub RowsKeepWhatFullyExplains : Type 0
 RowsKeepWhatFullyExplains = (c : Config) (s : State) (h : Handed) (o : Outcome) (s' : State) → Row c s h o s'
     → StaysFullyExplained c s h o s'

@@ -1,4 +1,5 @@
--- What is claimed of the use of what replies carried: a question is answered at once of which enough stands.
+-- Claims about the use of the pieces that replies carried: a question is answered at once where
+-- enough stands for it.
 use Rattle.std.specs.Prelude.{◌≡◌, ℕ, zero, suc, ◌≤◌, true, false, List, [], ◌∷◌, length, Option, None, Some, ◌⊎◌}
 use Rattle.std.specs.List.{concat, AllByRecursion}
 use Rattle.dns_message.specs.Header.{header_in}
@@ -13,7 +14,7 @@ use Rattle.step_values.specs.declared.event.Client.{Client}
 use Rattle.step_values.specs.declared.action.Why.{Why}
 use Rattle.step_values.specs.declared.action.Why.TheVariants.{Answered, TooLarge}
 use Rattle.step_values.specs.Values.{send_reply, Step}
-use Rattle.suffix_routes.specs.Serving.{route_of}
+use Rattle.suffix_routes.specs.Serving.{serving_route_of}
 use Rattle.step_history.specs.History.{is_restart, moment_at, Reads, Sends}
 use Rattle.step_values.specs.Requests.{is_taken}
 use Rattle.step_history.specs.Carried.{CarriedInEra}
@@ -23,11 +24,12 @@ use Rattle.theorem_use.specs.Standing.{standing}
 
 -- ---- room
 
+-- the slot is one of these
 abbrev pub IsOneOf : Slot → List Slot → Type 0
 IsOneOf slot [] = ⊥
 IsOneOf slot (s ∷ slots) = (s ≡ slot) ⊎ IsOneOf slot slots
 
--- what was carried is of so many different slots at most
+-- the pieces that were carried are of at most `most` different slots
 pub record HasFewSlots (most : ℕ) (carried : List Held) : Type 0 where
   pub slots : List Slot
   pub few : length slots ≤ most
@@ -45,7 +47,8 @@ pub record HasRoom (c : Config) (past : List Step) (carried : List Held) : Type 
 
 -- ---- a question
 
--- the step is a client's message with a question that is to be looked up
+-- the step is a client's message that is not dropped, with opcode 0 and one question of a type and
+-- class that are served: the question is to be looked up
 pub record AsksToLookUp (c : Config) (s : Step) (client : Client) (q : Question) : Type 0 where
   pub octets : List ℕ
   pub sends : Sends s.handed.event client octets
@@ -54,7 +57,7 @@ pub record AsksToLookUp (c : Config) (s : Step) (client : Client) (q : Question)
   pub reads : Reads octets q
   pub served : is_unserved q ≡ false
   pub route : ℕ
-  pub on_route : route_of c q.name ≡ Some route
+  pub on_route : serving_route_of c q.name ≡ Some route
 
 -- an alias whose one record has a name as its data leads to that name
 abbrev pub AtTarget : (List (List ℕ) → Type 0) → Option (List (List ℕ)) → Type 0
@@ -70,18 +73,20 @@ EndsOrLeadsOn onward (no_data h) = Unit {0}
 EndsOrLeadsOn onward (denied h) = Unit {0}
 EndsOrLeadsOn onward miss = ⊥
 
--- what stands answers the question, behind so many aliases at most
+-- the pieces that stand answer the question, after at most this many aliases
 abbrev pub LeadsToEnd : List Route → ℕ → List Held → ℕ → Question → Type 0
 LeadsToEnd routes n stood zero q = EndsOrLeadsOn (λ name. ⊥) (found routes n stood q)
 LeadsToEnd routes n stood (suc more) q =
     EndsOrLeadsOn (λ name. LeadsToEnd routes n stood more (asked_at q name)) (found routes n stood q)
 
--- at the step's moment, what stands answers the question, behind eight aliases at most
+-- at the step's moment, the pieces that stand answer the question, after at most eight aliases;
+-- this is no look-up of the table (`look_up_ends` says how they agree)
 abbrev pub IsKnown : Config → Step → List Step → List Held → Question → Type 0
 IsKnown c s past carried q = LeadsToEnd c.routes (moment_at (s ∷ past)) (standing (moment_at (s ∷ past)) carried) 8 q
 
--- Nothing is done but one reply, which the step's own question owns, and for which it is right; a failure tells that
--- the answer passes what TCP carries (RFC 1035 4.2.2). `owners` own the replies before it, `is` those of the step.
+-- The only action is one reply, which the step's own question owns, and for which it is right; a
+-- failure says that the answer is too large for TCP (RFC 1035 4.2.2). `owners` own the replies
+-- before it, `is` those of the step.
 pub record AnswersAtOnce (c : Config) (s : Step) (past : List Step) (owners is : List ℕ) (client : Client)
     (request : List ℕ)
     : Type 0 where
@@ -93,8 +98,8 @@ pub record AnswersAtOnce (c : Config) (s : Step) (past : List Step) (owners is :
   pub right : RightReply (record { config = c; asked = s; before = past; now = s ∷ past }) client request
       (length (unanswered past owners)) why octets
 
--- Each question is answered at once of which enough stands, where the cache has room for what its era carried. w has
--- for each step, the newest first, the owners of its replies.
+-- Each question for which enough stands is answered at once, where the cache has room for all that
+-- its era carried. w has for each step, the newest first, the owners of its replies.
 abbrev pub UsesWhatStands : Config → List Step → List (List ℕ) → Type 0
 UsesWhatStands c [] w = Unit {0}
 UsesWhatStands c (s ∷ past) [] = ⊥

@@ -1,4 +1,4 @@
--- What a reply has at a name is carried for that name.
+-- The finding of a reply at a name is carried for that name.
 use Rattle.std.proofs.Common.{◌≡◌, ℕ, Bool, true, false, cond, List, [], ◌∷◌, Option, Some, None, refl, sym, ap, ◌∙◌, subst, ⊎_elim}
 use Rattle.std.specs.Prelude.{◌==◌, ◌&&◌, ◌≢◌, not, is_none}
 use Rattle.std.specs.Option.{IfSome}
@@ -99,7 +99,8 @@ name_error_carried r name shaped on = record {
 
 -- ---- what is met at a name
 
--- what is met is carried for the name; nothing is met at the first name only where that is off the route
+-- what is met is carried for the name; nothing is met at the first name only where that is off the
+-- route
 abbrev pub Meets : Reply → Bool → List (List ℕ) → AtName → Type 0
 Meets r is_first name met_nothing = is_first ≡ true → is_on_route r name ≡ true → ⊥
 Meets r is_first name (met_set p) = IsCarriedFor r name (Some r.question.kind) p × IsLastBody found p.body

@@ -81,7 +81,7 @@ pub new_behind : (index : BTreeSet (Bor (List ℕ))) (rows : List (List ℕ)) (o
 new_behind index rows octets holds unknown missing =
     sym (cond-false (has octets rows) rows (rows ++ octets ∷ []) (has_parts octets rows ∙ or_from (has octets (take few rows)) (has octets (drop few rows)) unknown (sym (holds octets) ∙ missing)))
 
--- of few rows none stands behind the first few
+-- of few rows none is after the first few
 pub new_among_few : (rows : List (List ℕ)) (octets : List ℕ) → length rows < few → has octets (take few rows) ≡ false → rows ++ octets ∷ [] ≡ with_data rows octets
 new_among_few rows octets short unknown =
     sym (cond-false (has octets rows) rows (rows ++ octets ∷ []) (has_parts octets rows ∙ or_from (has octets (take few rows)) (has octets (drop few rows)) unknown (ap (has octets) (drop_all few rows (omega arith)))))
@@ -98,7 +98,7 @@ more_are_indexed old new rows key enough holds updated = λ other.
     ∙ sym (or_swap (same_octets other key.now || false) (same_octets key.now other) (has other (drop few rows)) (or_nothing (same_octets other key.now) ∙ same_back other key.now))
     ∙ sym (ap (has other) (drop-append-le few rows (key.now ∷ []) enough) ∙ list_any-append (same_octets other) (drop few rows) (key.now ∷ []))
 
--- ---- what calls tell
+-- ---- the answers of calls
 
 -- the octets are not among the first few
 pub not_among : (octets row : List ℕ) (front slice rows : List (List ℕ)) (told : Bool) → octets ≡ row → front ≡ take few slice → slice ≡ rows → told ≡ has octets front → told ≡ false → has row (take few rows) ≡ false

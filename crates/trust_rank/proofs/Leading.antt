@@ -1,4 +1,4 @@
--- The walk leads from the asked name to its end, and the name servers beside it fit.
+-- The walk leads from the asked name to its end, and the name servers next to it fit.
 use Rattle.std.proofs.Common.{◌≡◌, ℕ, zero, suc, ◌≤◌, Bool, true, false, cond, List, [], ◌∷◌, ◌++◌, length, Some, refl, sym, ap, ◌∙◌, subst, arith}
 use Rattle.std.specs.Prelude.{◌==◌, ◌&&◌, not}
 use Rattle.std.specs.List.{list_any, AllByRecursion}
@@ -14,7 +14,7 @@ use Rattle.trust_rank.specs.Laws.{IsCarriedFor, IsAliasTo, Lead, last_kind, IsLa
 use Rattle.trust_rank.proofs.PieceLaws.{set_shape, set_with_is_piece}
 use Rattle.trust_rank.proofs.Carrying.{Meets, meets, on_route_is}
 
--- what holds of a walk from a name, on which so many aliases may be taken
+-- the property of a walk from a name, on which this many aliases may be taken
 abbrev Ends : Reply → ℕ → List (List ℕ) → List Piece → End → Type 0
 Ends r most name pieces found = Closes r most name found pieces
 Ends r most name pieces ends_no_data = Closes r most name ends_no_data pieces

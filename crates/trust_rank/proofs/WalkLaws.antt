@@ -5,7 +5,7 @@ use Rattle.std.proofs.lemmas.List.{append-nil}
 use Rattle.trust_rank.specs.Values.{Piece, End, elsewhere, Walk, Reply}
 use Rattle.trust_rank.specs.Walks.{AtName, met_nothing, met_alias, met_at, ending, lame_walk, is_lame, behind, go_on, walk_from}
 
--- these pieces, and the walk behind them
+-- these pieces, and the walk after them
 abbrev pub before : List Piece → Walk → Walk
 before [] w = w
 before (p ∷ ps) w = behind p (before ps w)

@@ -1,4 +1,5 @@
--- Worked replies, computed: what they carry, how their walks end, and which piece takes the place of which.
+-- Worked replies, computed: what they carry, how their walks end, and which piece takes the place
+-- of which.
 use Rattle.std.proofs.Common.{◌≡◌, ℕ, ◌^◌, ◌<◌, Bool, true, false, List, [], ◌∷◌, map, Option, Some, None, refl, arith}
 use Rattle.dns_message.specs.Values.{Question, Record, Message}
 use Rattle.dns_message.specs.Data.{name_of_rdata}
@@ -75,7 +76,8 @@ set : (told (reply true 0 (host a 300 5 ∷ []) []) ≡ ((Some 1, 300, 3) ∷ []
 unfolding walk_from servers_from route_of
 set = (refl, refl)
 
--- a duplicate counts for the lifetime alone; the owner is spelled as in the first record; a TTL with its top bit set is 0
+-- a duplicate counts for the lifetime alone; the owner is spelled as in the first record; a TTL
+-- with its top bit set is 0
 lowest : (carried (reply true 0 (host (below_e 65) 300 5 ∷ host a 200 6 ∷ host a 60 5 ∷ []) [])).pieces
     ≡ record { owner = below_e 65; slot = record { key = a; class = 1; kind = Some 1 }; body = rows ((192 ∷ 0 ∷ 2 ∷ 5 ∷ []) ∷ (192 ∷ 0 ∷ 2 ∷ 6 ∷ []) ∷ []); lifetime = 60; rank = 3; route = 0 } ∷ []
 unfolding walk_from servers_from route_of
@@ -92,7 +94,8 @@ set_and_name_error = refl
 
 -- ---- aliases
 
--- an alias of the asked name from its own server, and the set that it leads to, which is believed less
+-- an alias of the asked name from its own server, and the set that it leads to, which is believed
+-- less
 led : told (reply true 0 (alias a (data_of 98) ∷ host (below_e 98) 300 5 ∷ []) []) ≡ ((Some 5, 60, 3) ∷ (Some 1, 300, 1) ∷ [], [], found)
 unfolding walk_from servers_from route_of name_of_rdata name_within walk_in name_step
 led = refl
@@ -111,7 +114,7 @@ off_route : told (reply true 0 (alias a (1 ∷ 122 ∷ 0 ∷ []) ∷ host ((122 
 unfolding walk_from servers_from route_of name_of_rdata name_within walk_in name_step
 off_route = refl
 
--- eight aliases end the walk, whatever stands at the last name
+-- eight aliases end the walk, whatever is at the last name
 eight : told (reply false 0 (alias a (data_of 98) ∷ alias (below_e 98) (data_of 99) ∷ alias (below_e 99) (data_of 100) ∷ alias (below_e 100) (data_of 101) ∷ alias (below_e 101) (data_of 102)
     ∷ alias (below_e 102) (data_of 103) ∷ alias (below_e 103) (data_of 104) ∷ alias (below_e 104) (data_of 105) ∷ host (below_e 105) 300 5 ∷ []) [])
     ≡ ((Some 5, 60, 1) ∷ (Some 5, 60, 1) ∷ (Some 5, 60, 1) ∷ (Some 5, 60, 1) ∷ (Some 5, 60, 1) ∷ (Some 5, 60, 1) ∷ (Some 5, 60, 1) ∷ (Some 5, 60, 1) ∷ [], [], elsewhere (below_e 105))
@@ -142,7 +145,7 @@ without_soa : (told (reply true 3 [] []) ≡ ((None, 0, 3) ∷ [], [], ends_deni
 unfolding walk_from servers_from route_of
 without_soa = (refl, refl)
 
--- behind an alias a denial is of the last name, and with no SOA that name is asked for
+-- after an alias a denial is of the last name, and without SOA that name is asked for
 behind_alias : (told (reply true 3 (alias a (data_of 98) ∷ []) []) ≡ ((Some 5, 60, 3) ∷ (None, 0, 1) ∷ [], [], ends_denied)) × (told (reply true 0 (alias a (data_of 98) ∷ []) []) ≡ ((Some 5, 60, 3) ∷ [], [], elsewhere (below_e 98)))
     × (told (reply true 0 (alias a (data_of 98) ∷ []) (soa [] 1 3600 ten_minutes ∷ [])) ≡ ((Some 5, 60, 3) ∷ (Some 1, 600, 1) ∷ [], [], ends_no_data))
 unfolding walk_from servers_from route_of name_of_rdata name_within walk_in name_step
@@ -155,7 +158,8 @@ referrals = (refl, refl)
 
 -- ---- name servers
 
--- an authoritative reply carries those at and above the asked name, where no piece has the owner, of the class and on the route
+-- an authoritative reply carries those at and above the asked name, where no piece has the owner,
+-- of the class and on the route
 servers : told (reply true 0 (alias a (data_of 98) ∷ host (below_e 98) 300 5 ∷ []) (ns a 1 50 ∷ ns ((101 ∷ []) ∷ []) 1 40 ∷ ns [] 3 30 ∷ ns (below_e 98) 1 20 ∷ ns ((69 ∷ []) ∷ []) 1 10 ∷ ns [] 1 5 ∷ []))
     ≡ ((Some 5, 60, 3) ∷ (Some 1, 300, 1) ∷ [], (Some 2, 10, 2) ∷ (Some 2, 5, 2) ∷ [], found)
 unfolding walk_from servers_from route_of name_of_rdata name_within walk_in name_step
@@ -193,7 +197,8 @@ error_takes_no_set = (refl, refl, refl, refl)
 error_takes_error : takes_place_of (error_at a 1) (error_at a 3) ≡ true
 error_takes_error = refl
 
--- a set of whatever lifetime and rank ends a name error at or above its name, of its class; none below it
+-- a set of whatever lifetime and rank ends a name error at or above its name, of its class; none
+-- below it
 set_takes_error : (takes_place_of (set_at a 1 1) (error_at ((101 ∷ []) ∷ []) 3) ≡ true) × (takes_place_of (set_at a 1 1) (error_at a 3) ≡ true) × (takes_place_of (set_at a 3 3) (error_at a 1) ≡ false)
     × (takes_place_of (set_at ((101 ∷ []) ∷ []) 1 3) (error_at a 1) ≡ false) × (takes_place_of (piece_at a 1 (Some 1) (no_data None) 0 1) (error_at ((101 ∷ []) ∷ []) 3) ≡ true)
 set_takes_error = (refl, refl, refl, refl, refl)

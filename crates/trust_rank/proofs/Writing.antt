@@ -1,4 +1,4 @@
--- What a reply carries can be written, where what it was read as can.
+-- The pieces that a reply carries can be written, where the reply can.
 use Rattle.std.proofs.Common.{◌≡◌, ℕ, zero, suc, Bool, true, false, cond, List, [], ◌∷◌, ◌++◌, Option, Some, None, refl, sym, subst}
 use Rattle.std.specs.Prelude.{filter, ◌==◌, ◌&&◌, not, is_none}
 use Rattle.std.specs.List.{find, AllByRecursion}

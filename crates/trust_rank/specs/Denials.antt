@@ -23,7 +23,8 @@ minimum_of rdata = number32 rdata (length rdata - 4)
 abbrev pub longest_denial : ℕ
 longest_denial = 10800
 
--- a denial lives for the least of the SOA's TTL and its MINIMUM (RFC 2308 5); with no SOA it is used once and not kept
+-- a denial lives for the least of the SOA's TTL and its MINIMUM (RFC 2308 5); with no SOA it is
+-- used once and not kept
 abbrev pub denial_lifetime : Option Record → ℕ
 denial_lifetime None = 0
 denial_lifetime (Some soa) = min (min (seconds_of soa.ttl) (minimum_of soa.rdata)) longest_denial

@@ -1,4 +1,4 @@
--- What holds of each piece.
+-- The properties of each piece.
 use Rattle.std.specs.Prelude.{◌≡◌, ◌≢◌, ℕ, ◌≤◌, List, [], Option, Some, None}
 use Rattle.std.specs.List.{AllByRecursion}
 use Rattle.std.specs.Option.{IfSome}
@@ -28,8 +28,9 @@ FitsKind None (rows each) = ⊥
 FitsKind None (no_data soa) = ⊥
 FitsKind (Some kind) (denied soa) = ⊥
 
--- the slot is of the owner; a denial of a whole name, and that alone, has no type; a set is not empty; a denial's
--- record is an SOA; data is of its type's shape; and no lifetime is longer than a week
+-- the slot is of the owner; a denial of a whole name, and that alone, has no type; a set is not
+-- empty; a denial's record is an SOA; data is of its type's shape; and no lifetime is longer than a
+-- week
 pub record IsPiece (p : Piece) : Type 0 where
   pub key : p.slot.key ≡ lowered p.owner
   pub body : FitsKind p.slot.kind p.body

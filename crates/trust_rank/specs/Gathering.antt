@@ -9,19 +9,20 @@ use Rattle.dns_message.specs.Values.{Question, Record}
 use Rattle.trust_rank.specs.Sets.{is_of, with_data, seconds_of}
 use denote.Ref.{Bor}
 
--- so many data are compared one by one
+-- the number of data that are compared one by one
 abbrev pub few : ℕ
 few = 16
 
--- the index has the data behind those
+-- the index has the data after those
 abbrev pub Indexes : BTreeSet (Bor (List ℕ)) → List (List ℕ) → Type 0
 Indexes index rows = (octets : List ℕ) → contains_by (λ (k : Bor (List ℕ)). slice_cmp nat_cmp octets k.now) index
     ≡ list_any (same_octets octets) (drop few rows)
 
--- the data of a record that belongs to the set, behind what is there
+-- the data so far, followed by that of a record that belongs to the set
 abbrev pub added : Question → List (List ℕ) → Record → List (List ℕ)
 added q kept r = if is_of q r then with_data kept r.rdata else kept
 
+-- the data of a set, with that of all these records that are of it
 abbrev pub added_all : Question → List (List ℕ) → List Record → List (List ℕ)
 added_all q kept [] = kept
 added_all q kept (r ∷ records) = added_all q (added q kept r) records
@@ -30,6 +31,7 @@ added_all q kept (r ∷ records) = added_all q (added q kept r) records
 abbrev pub lowered_by : Question → ℕ → Record → ℕ
 lowered_by q most r = if is_of q r then min most (seconds_of r.ttl) else most
 
+-- the lifetime of a set after all these records
 abbrev pub lowered_by_all : Question → ℕ → List Record → ℕ
 lowered_by_all q most [] = most
 lowered_by_all q most (r ∷ records) = lowered_by_all q (lowered_by q most r) records

@@ -1,4 +1,4 @@
--- What the walk of a reply is good for, as statements.
+-- Statements about the walk of a reply.
 use Rattle.std.specs.Prelude.{◌≡◌, ◌≢◌, ℕ, ◌<◌, ◌≤◌, true, List, [], ◌∷◌, ◌++◌, length, Option, Some, None}
 use Rattle.std.specs.List.{AllByRecursion}
 use Rattle.dns_name.specs.Labels.{lowered, is_under}
@@ -13,7 +13,8 @@ use Rattle.trust_rank.specs.Walks.{target_of, most_aliases, walk_of}
 use Rattle.trust_rank.specs.Formed.{IsPiece}
 use Rattle.trust_rank.specs.Writable.{IsWritable}
 
--- a piece of the asked class, of this name and type, formed, with the route that was asked, on which the name is
+-- a piece of the asked class, of this name and type, formed, with the route that was asked, on
+-- which the name is
 pub record IsCarriedFor (r : Reply) (name : List (List ℕ)) (kind : Option ℕ) (p : Piece) : Type 0 where
   pub piece : IsPiece p
   pub slot : p.slot ≡ record { key = lowered name; class = r.question.class; kind = kind }
@@ -31,7 +32,7 @@ abbrev pub Lead : Reply → List (List ℕ) → List Piece → List (List ℕ) �
 Lead r name [] last = name ≡ last
 Lead r name (p ∷ pieces) last = (target : List (List ℕ)) × IsAliasTo r name target p × Lead r target pieces last
 
--- the type that the last piece tells of
+-- the type of the last piece
 abbrev pub last_kind : Reply → End → Option ℕ
 last_kind r ends_denied = None
 last_kind r found = Some r.question.kind
@@ -46,7 +47,7 @@ IsLastBody ends_no_data (no_data soa) = Unit {0}
 IsLastBody ends_denied (denied soa) = Unit {0}
 IsLastBody end body = ⊥
 
--- fewer aliases than so many, and a last piece at the name that they lead to
+-- fewer aliases than `most`, and a last piece at the name that they lead to
 pub record Closes (r : Reply) (most : ℕ) (name : List (List ℕ)) (end : End) (pieces : List Piece) : Type 0 where
   pub aliases : List Piece
   pub last : Piece
@@ -66,8 +67,9 @@ EndsSo r pieces authority (elsewhere name) = (1 ≤ length pieces) × (length pi
     × Lead r r.question.name pieces name
 EndsSo r pieces authority lame = (pieces ≡ []) × (authority ≡ [])
 
--- Aliases lead from the asked name one to the next, and a last piece closes at the last name: fewer than eight aliases
--- before it; one to eight where the name that they lead to has to be asked for; a lame reply carries nothing.
+-- Aliases lead from the asked name one to the next, and a last piece closes at the last name: fewer
+-- than eight aliases before it; one to eight where the name that they lead to has to be asked for;
+-- a lame reply carries nothing.
 abbrev pub WalkLeads : Type 0
 WalkLeads =
     (c : Config) (m : Message) (q : Question) (route : ℕ) → HasShapes m → route_of c.routes q.name ≡ Some route
@@ -79,13 +81,14 @@ pub record IsServerSet (r : Reply) (p : Piece) : Type 0 where
   pub carried : IsCarriedFor r p.owner (Some 2) p
   pub above : is_under r.question.name p.owner ≡ true
 
--- The other pieces are NS sets of the asked class at or above the asked name, on the route that was asked.
+-- The other pieces are NS sets of the asked class at or above the asked name, on the route that was
+-- asked.
 abbrev pub ServersFit : Type 0
 ServersFit =
     (c : Config) (m : Message) (q : Question) (route : ℕ) → HasShapes m
     → AllByRecursion (IsServerSet (reply_of c m q route)) (walk_of c m q route).authority
 
--- What a reply carries can be written, where the question and the records of its sections can.
+-- The pieces of a reply can be written, where the question and the records of its sections can.
 abbrev pub PiecesAreWritable : Type 0
 PiecesAreWritable =
     (c : Config) (m : Message) (q : Question) (route : ℕ) → IsQuestion q → AllByRecursion IsRecord m.answers

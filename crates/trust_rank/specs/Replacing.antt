@@ -1,10 +1,12 @@
--- When a piece takes the place of another one: RFC 2181 5.4, RFC 8020 2. History and cache both go by it.
+-- When a piece takes the place of another one: RFC 2181 5.4, RFC 8020 2. History and cache both go
+-- by it.
 use Rattle.std.specs.Prelude.{ℕ, Bool, true, false, not, if◌then◌else◌, ◌==◌, ◌&&◌, ◌||◌, nat_le, Option, Some, None}
 use Rattle.std.specs.Prelude.{is_none}
 use Rattle.dns_name.specs.Labels.{same, is_under}
 use Rattle.trust_rank.specs.declared.slot.Slot.{Slot}
 use Rattle.trust_rank.specs.Values.{Piece}
 
+-- two slots have the same type, or both are of a whole name
 abbrev pub same_kind : Option ℕ → Option ℕ → Bool
 same_kind None None = true
 same_kind None (Some b) = false
@@ -23,8 +25,8 @@ is_name_error p = is_none p.slot.kind
 abbrev pub shows_name : Piece → Piece → Bool
 shows_name q p = not (is_name_error q) && (q.slot.class == p.slot.class) && is_under q.slot.key p.slot.key
 
--- q takes the place of p: of p's slot, at a rank that is not lower; of a name error, one of its slot at any rank, and
--- what shows its name
+-- q takes the place of p: of p's slot, at a rank that is not lower; of a name error, one of its
+-- slot at any rank, and what shows its name
 abbrev pub takes_place_of : Piece → Piece → Bool
 takes_place_of q p =
     if is_name_error p then same_slot q.slot p.slot || shows_name q p

@@ -15,10 +15,11 @@ is_of q r = (r.kind == q.kind) && (r.class == q.class) && same r.owner q.name
 abbrev pub records_for : Question → List Record → List Record
 records_for q records = filter (is_of q) records
 
--- data that is there already is left out (RFC 2181 5)
+-- data that is already there is left out (RFC 2181 5)
 abbrev pub with_data : List (List ℕ) → List ℕ → List (List ℕ)
 with_data kept octets = if list_any (same_octets octets) kept then kept else kept ++ octets ∷ []
 
+-- the data of all these records without equal data twice (RFC 2181 5)
 abbrev pub with_all_data : List (List ℕ) → List Record → List (List ℕ)
 with_all_data kept [] = kept
 with_all_data kept (r ∷ records) = with_all_data (with_data kept r.rdata) records
@@ -36,7 +37,7 @@ lifetime_within most (r ∷ records) = lifetime_within (min most (seconds_of r.t
 abbrev pub longest : ℕ
 longest = 604800
 
--- the set of a record and of those behind it: its owner is spelled as in the first
+-- the set of a record and of those after it: its owner is spelled as in the first
 abbrev pub set_with : ℕ → ℕ → Record → List Record → Piece
 set_with rank route first others = record {
   owner = first.owner;

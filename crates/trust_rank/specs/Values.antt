@@ -1,4 +1,4 @@
--- What one reply carries, as plain values.
+-- The pieces of one reply as plain values.
 use Rattle.std.specs.Prelude.{ℕ, Bool, List, Option, Some, None, Box}
 use Rattle.dns_message.specs.Values.{Question, Record, Message}
 use Rattle.suffix_routes.specs.Values.{Config}
@@ -8,13 +8,14 @@ use Rattle.trust_rank.specs.declared.piece.Body.TheVariants.{Rows, NoData, Denie
 use Rattle.trust_rank.specs.declared.walk.End.{End as OwnedEnd}
 use Rattle.trust_rank.specs.declared.walk.End.TheVariants as ends
 
--- the data of a record set, or the SOA of a denial: of one type (NODATA), or of the whole name (NXDOMAIN) (RFC 2308 2)
+-- the data of a record set, or the SOA of a denial: of one type (NODATA), or of the whole name
+-- (NXDOMAIN) (RFC 2308 2)
 pub data Body : Type 0 where
   rows : List (List ℕ) → Body
   no_data : Option Record → Body
   denied : Option Record → Body
 
--- what one reply told of one slot
+-- the content of one reply for one slot
 pub record Piece : Type 0 where
   pub owner : List (List ℕ)
   pub slot : Slot
@@ -47,6 +48,7 @@ pub record Reply : Type 0 where
   pub answers : List Record
   pub authority : List Record
 
+-- a message as the reply to a question on a route
 abbrev pub reply_of : Config → Message → Question → ℕ → Reply
 reply_of c m q route = record {
   config = c;
@@ -58,16 +60,18 @@ reply_of c m q route = record {
   authority = m.authority;
 }
 
--- the record in the box, where there is one
+-- the record in the box, if any
 abbrev pub unboxed : {A : Type 0} → Option (Box Record A) → Option Record
 unboxed None = None
 unboxed (Some b) = Some b.value
 
+-- the content of a piece of the code as a plain value
 abbrev pub body_of : {A : Type 0} → OwnedBody A → Body
 body_of (Rows each) = rows each
 body_of (NoData soa) = no_data (unboxed soa)
 body_of (Denied soa) = denied (unboxed soa)
 
+-- the end of a walk of the code as a plain value
 abbrev pub end_of : {A : Type 0} → OwnedEnd A → End
 end_of ends.Found = found
 end_of ends.NoData = ends_no_data

@@ -1,5 +1,5 @@
--- The walk of a reply, from the asked name along its aliases: RFC 1034 3.6.2 and 5.3.3, RFC 2181 5.4.1 and 10.1, RFC
--- 2308 2.
+-- The walk of a reply, from the asked name along its aliases: RFC 1034 3.6.2 and 5.3.3, RFC 2181
+-- 5.4.1 and 10.1, RFC 2308 2.
 use Rattle.std.specs.Prelude.{ℕ, zero, suc, Bool, true, false, not, if◌then◌else◌, ◌==◌, ◌&&◌, nat_lt, List, [], ◌∷◌}
 use Rattle.std.specs.Prelude.{◌++◌, length, Option, Some, None, is_none}
 use Rattle.std.specs.List.{list_any}
@@ -17,8 +17,9 @@ use Rattle.trust_rank.specs.Denials.{soa_for, no_data_with, name_error_with}
 
 -- ---- one name of the walk
 
--- What a reply has at a name: nothing that counts, so that it has to be asked for; the asked set; a denial of the type
--- or of the name; an alias, and the name that it leads to; or what makes the whole reply lame.
+-- The finding of a reply at a name: nothing that counts, so that the name has to be asked for; the
+-- asked set; a denial of the type or of the name; an alias, and the name that it leads to; or
+-- something that makes the whole reply lame.
 pub data AtName : Type 0 where
   met_nothing : AtName
   met_set : Piece → AtName
@@ -27,6 +28,7 @@ pub data AtName : Type 0 where
   met_alias : Piece → List (List ℕ) → AtName
   met_lame : AtName
 
+-- the place is this route's
 abbrev pub is_place : Option ℕ → ℕ → Bool
 is_place None route = false
 is_place (Some place) route = place == route
@@ -35,7 +37,7 @@ is_place (Some place) route = place == route
 abbrev pub is_on_route : Reply → List (List ℕ) → Bool
 is_on_route r name = is_place (route_of r.config.routes name) r.route
 
--- what the asked name's own server tells of that name is believed most (RFC 2181 5.4.1)
+-- the asked name's own server is believed most about that name (RFC 2181 5.4.1)
 abbrev pub rank_at : Reply → List (List ℕ) → ℕ
 rank_at r name = if r.is_authoritative && same name r.question.name then 3 else 1
 
@@ -51,6 +53,7 @@ answer_set r kind name = set_of (rank_at r name) r.route (records_for (at_name r
 abbrev pub alias_set : Reply → List (List ℕ) → Option Piece
 alias_set r name = if r.question.kind == 5 then None else answer_set r 5 name
 
+-- a set has more than one record
 abbrev pub has_many : Body → Bool
 has_many (rows each) = nat_lt 1 (length each)
 has_many (no_data soa) = false
@@ -64,23 +67,28 @@ target_of (rows (octets ∷ other ∷ more)) = None
 target_of (no_data soa) = None
 target_of (denied soa) = None
 
+-- the record is of type NS (RFC 1035 3.3.11)
 abbrev pub is_name_server : Record → Bool
 is_name_server s = s.kind == 2
 
--- the authority section has name servers and the reply is not authoritative: others are to be asked (RFC 2308 2.2)
+-- the authority section has name servers and the reply is not authoritative: others are to be asked
+-- (RFC 2308 2.2)
 abbrev pub is_referral : Reply → Bool
 is_referral r = not r.is_authoritative && list_any is_name_server r.authority
 
+-- the name error that a reply carries for a name (RFC 2308 2.1)
 abbrev pub name_error_at : Reply → List (List ℕ) → Piece
 name_error_at r name = name_error_with (rank_at r name) r.route name r.question.class
     (soa_for name r.question.class r.authority)
 
+-- the NODATA that a reply carries for a name (RFC 2308 2.2)
 abbrev pub no_data_at : Reply → List (List ℕ) → Piece
 no_data_at r name = no_data_with (rank_at r name) r.route name r.question.class r.question.kind
     (soa_for name r.question.class r.authority)
 
--- where neither the asked set nor an alias stands at the name, which may be the first of the walk: a name error by the
--- response code; behind an alias with no SOA the name has to be asked for; a referral with no SOA is lame; else NODATA
+-- the finding where neither the asked set nor an alias is at the name, which may be the first of
+-- the walk: a name error by the response code; after an alias without SOA the name has to be asked
+-- for; a referral without SOA is lame; otherwise NODATA
 abbrev pub denial_met : Reply → Bool → List (List ℕ) → Bool → AtName
 denial_met r is_first name lacks_soa =
     if r.rcode == 3 then met_name_error (name_error_at r name)
@@ -88,6 +96,7 @@ denial_met r is_first name lacks_soa =
     else (if lacks_soa && is_referral r then met_lame
     else met_no_data (no_data_at r name)))
 
+-- what a reply without a set or alias at this name says of it
 abbrev pub denial_at : Reply → Bool → List (List ℕ) → AtName
 denial_at r is_first name = denial_met r is_first name (is_none (soa_for name r.question.class r.authority))
 
@@ -96,13 +105,16 @@ abbrev pub leads : Piece → Option (List (List ℕ)) → AtName
 leads p None = met_lame
 leads p (Some target) = met_alias p target
 
+-- the alias, if any, otherwise the other
 abbrev pub alias_or : Option Piece → AtName → AtName
 alias_or None other = other
 alias_or (Some p) other = leads p (target_of p.body)
 
+-- the set at a name; an alias set of more than one record is lame (RFC 2181 10.1)
 abbrev pub set_met : ℕ → Piece → AtName
 set_met kind p = if (kind == 5) && has_many p.body then met_lame else met_set p
 
+-- the set, if any, otherwise the other
 abbrev pub set_or : ℕ → Option Piece → AtName → AtName
 set_or kind None other = other
 set_or kind (Some p) other = set_met kind p
@@ -115,6 +127,7 @@ met_at r is_first name =
     (alias_or (alias_set r name) (denial_at r is_first name))
     else met_nothing
 
+-- what the code met at a name, as a plain value
 abbrev pub met_of : {A : Type 0} → OwnedAtName A → AtName
 met_of owned.Nothing = met_nothing
 met_of (owned.Set p) = met_set p
@@ -129,6 +142,7 @@ met_of owned.Lame = met_lame
 abbrev pub most_aliases : ℕ
 most_aliases = 8
 
+-- a walk that ends here, without name servers
 abbrev pub ending : List Piece → End → Walk
 ending pieces end = record { pieces = pieces; authority = []; end = end }
 
@@ -136,6 +150,7 @@ ending pieces end = record { pieces = pieces; authority = []; end = end }
 abbrev pub lame_walk : Walk
 lame_walk = ending [] lame
 
+-- the walk is lame
 abbrev pub is_lame : End → Bool
 is_lame lame = true
 is_lame found = false
@@ -151,6 +166,7 @@ behind alias w = if is_lame w.end then lame_walk else record {
   end = w.end;
 }
 
+-- the walk after what was met at a name
 abbrev pub go_on : (List (List ℕ) → Walk) → List (List ℕ) → AtName → Walk
 go_on rest name met_nothing = ending [] (elsewhere name)
 go_on rest name (met_set p) = ending (p ∷ []) found
@@ -159,7 +175,7 @@ go_on rest name (met_name_error p) = ending (p ∷ []) ends_denied
 go_on rest name (met_alias p target) = behind p (rest target)
 go_on rest name met_lame = lame_walk
 
--- the walk from a name on, which may be the first, and on which so many aliases may be taken
+-- the walk from a name on, which may be the first; at most `most` aliases may be taken
 unfoldable pub walk_from : Reply → ℕ → Bool → List (List ℕ) → Walk
 walk_from r zero is_first name = ending [] (elsewhere name)
 walk_from r (suc left) is_first name = go_on (λ target. walk_from r left false target) name (met_at r is_first name)
@@ -198,13 +214,15 @@ servers_from r carried (s ∷ records) =
 abbrev pub carries_servers : Reply → End → Bool
 carries_servers r end = r.is_authoritative && not (is_lame end)
 
+-- the walk with the name servers of the authority section, where the reply carries them
 abbrev pub with_servers : Reply → Walk → Walk
 with_servers r w =
     if carries_servers r w.end
     then record { pieces = w.pieces; authority = servers_from r w.pieces r.authority; end = w.end }
     else w
 
--- what a message carries as the reply to a question that was asked on a route, and how its walk ends
+-- what a message carries as the reply to a question that was asked on a route, and how its walk
+-- ends
 abbrev pub walk_of : Config → Message → Question → ℕ → Walk
 walk_of c m q route = with_servers (reply_of c m q route) (walk_from (reply_of c m q route) most_aliases true q.name)
 

@@ -1,4 +1,4 @@
--- What of a piece has to hold so that what is written of it can be read.
+-- The properties of a piece without which its text could not be read.
 use Rattle.std.specs.Prelude.{◌<◌}
 use Rattle.std.specs.Option.{IfSome}
 use Rattle.dns_name.specs.Labels.{IsName}

@@ -13,14 +13,12 @@ use crate::piece::{Body, Piece, boxed_copy};
 use crate::sets::{SetKey, Source, seconds_from};
 use byteorder::{BigEndian, ByteOrder};
 use dns_message::Record;
+use dns_message::types::SOA;
 use dns_name::Name;
 use std::alloc::{AllocError, Allocator};
 
 /// The longest lifetime of a denial, in seconds: three hours.
 const LONGEST_DENIAL: u32 = 10_800;
-
-/// The type SOA.
-const SOA: u16 = 6;
 
 /// The name is at or under the other, ASCII letter case aside.
 pub(crate) fn is_name_under<A: Allocator>(name: &Name<A>, suffix: &Name<A>) -> bool
@@ -78,8 +76,8 @@ fn minimum_from(rdata: &[u8]) -> u32
     BigEndian::read_u32(&rdata[rdata.len() - 4..])
 }
 
-/// How long a denial with this SOA lives, in seconds: the least of the SOA's TTL, its MINIMUM and three hours (RFC 2308
-/// 5).
+/// How long a denial with this SOA lives, in seconds: the least of the SOA's TTL, its MINIMUM and
+/// three hours (RFC 2308 5).
 fn lifetime_from<A: Allocator>(soa: &Record<A>) -> u32
     requires { IsSoa soa.now }
     ensures { result ≡ denial_lifetime (Some soa.now) }

@@ -1,4 +1,5 @@
-//! What one reply carries for a question: record sets and denials, each with how far it is to be believed.
+//! The record sets and denials that one reply carries for a question, each with its rank: how far
+//! it is to be believed.
 #![tactic(auto)]
 
 mod denials;
@@ -14,7 +15,7 @@ mod walking;
 
 pub use laws::{pieces_are_writable, servers_fit, walk_leads};
 pub use piece::{Body, Piece};
-pub use reply::{CNAME, NAME_ERROR, target_of};
+pub use reply::target_of;
 pub use rows::Rows;
 pub use slot::Slot;
 pub use walk::{End, Walk};

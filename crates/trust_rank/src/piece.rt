@@ -12,19 +12,20 @@ use std::alloc::{AllocError, Allocator, Global};
 use std::marker::Model;
 use suffix_routes::RouteId;
 
-/// What a piece tells. It is small, as most tell of a set: an SOA stands in a box.
+/// The content of a piece. It is small, since most are sets: an SOA is in a box.
 #[derive(Drop)]
 pub enum Body<A: Allocator = Global> {
     /// The data of a record set (RFC 2181 5), in the order of the reply, none of it twice.
     Rows(Rows<A>),
-    /// NODATA: the name has no records of the type (RFC 2308 2.2); and the SOA, where the reply had one.
+    /// The name has no records of the type, NODATA (RFC 2308 2.2); with the SOA, if the reply had
+    /// one.
     NoData(Option<Box<Record<A>, A>>),
     /// A name error: the name is not there (RFC 2308 2.1); and the SOA, where the reply had one.
     Denied(Option<Box<Record<A>, A>>),
 }
 
-/// A record set or a denial, which lives and dies as one. Contracts see its class and type as a slot, with the owner's
-/// key.
+/// A record set or a denial, which lives and dies as one. Contracts see its class and type as a
+/// slot, with the owner's key.
 #[derive(Drop)]
 pub struct Piece<A: Allocator = Global> {
     /// In seconds, a week at most.
@@ -39,7 +40,7 @@ pub struct Piece<A: Allocator = Global> {
     pub route: RouteId,
     /// The name, spelled as in the first record of a set.
     pub owner: Name<A>,
-    /// What it tells: `Denied` exactly where there is no type.
+    /// The content: `Denied` exactly where there is no type.
     pub body: Body<A>,
 }
 
@@ -74,7 +75,7 @@ impl<A: Allocator> Model for Piece<A> {
 }
 
 impl<A: Allocator> Piece<A> {
-    /// What it tells of. It takes no memory. `formed` says again what holds of each piece.
+    /// The slot that it fills. It does not allocate. `formed` repeats what holds of each piece.
     pub fn slot(&self) -> Slot
         ensures slot { result ≡ self.now.slot }
         ensures formed { IsPiece self.now }
@@ -117,7 +118,7 @@ impl<A: Allocator + Copy> Body<A> {
     }
 }
 
-/// A copy of the record, where there is one.
+/// A copy of the record, if any.
 fn copy_of_soa<A: Allocator + Copy>(
     alloc: A,
     soa: &Option<Box<Record<A>, A>>,

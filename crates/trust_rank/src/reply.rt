@@ -1,4 +1,5 @@
-//! A message as the reply to a question, and what it has at one name of the walk: RFC 1034 3.6.2, RFC 2308 2.
+//! A message as the reply to a question, and what it has at one name of the walk: RFC 1034 3.6.2,
+//! RFC 2308 2.
 
 ghost use Rattle.std.specs.Prelude.{◌≡◌, ◌≢◌, IfOk, OnErr, None, is_none};
 ghost use Rattle.std.specs.List.{list_any};
@@ -13,19 +14,12 @@ use crate::denials::{name_error, no_data, soa_for};
 use crate::piece::{Body, Piece};
 use crate::sets::{SetKey, Source, is_same_name, set_among};
 use dns_message::Record;
+use dns_message::codes::NXDOMAIN;
+use dns_message::types::{CNAME, NS};
 use dns_name::Name;
 use std::alloc::{AllocError, Allocator};
 use std::marker::Model;
 use suffix_routes::{Config, RouteId};
-
-/// The type NS.
-const NS: u16 = 2;
-
-/// The type CNAME.
-pub const CNAME: u16 = 5;
-
-/// The response code of a name error.
-pub const NAME_ERROR: u8 = 3;
 
 /// A reply, as far as the walk looks at it. The data of its records is of their shapes.
 #[derive(Drop)]
@@ -65,7 +59,7 @@ impl<'a, A: Allocator> Model for Reply<'a, A> {
     ghost invariant = { λ r. AreShapedSections r.answers.now r.authority.now };
 }
 
-/// What a reply has at a name.
+/// The finding of a reply at a name.
 #[derive(Drop)]
 pub(crate) enum AtName<A: Allocator> {
     /// Nothing that counts: the name has to be asked for.
@@ -78,7 +72,7 @@ pub(crate) enum AtName<A: Allocator> {
     NameError(Piece<A>),
     /// An alias, and the name that it leads to.
     Alias(Piece<A>, Name<A>),
-    /// What makes the whole reply lame.
+    /// A finding that makes the whole reply lame.
     Lame,
 }
 
@@ -93,7 +87,8 @@ impl<'a, A: Allocator + Copy> Reply<'a, A> {
         }
     }
 
-    /// How far a piece at the name is to be believed: what the asked name's own server tells of that name most.
+    /// How far a piece at the name is to be believed: most where it is the asked name, by its own
+    /// server.
     fn source_at(&self, name: &Name<A>) -> Source
         ensures rank { result.rank ≡ rank_at self.now name.now }
         ensures route { result.route ≡ self.now.route }
@@ -151,21 +146,22 @@ impl<'a, A: Allocator + Copy> Reply<'a, A> {
         soa_for(alloc, name, self.class, self.authority)
     }
 
-    /// The authority section has name servers, and the reply is not authoritative: others are to be asked.
+    /// The authority section has name servers, and the reply is not authoritative: others are to be
+    /// asked.
     fn is_referral(&self) -> bool
         ensures { result ≡ is_referral self.now }
     {
         !self.is_authoritative && has_name_servers(self.authority)
     }
 
-    /// What the reply has at a name where it has neither the asked set nor an alias.
+    /// The finding at a name where the reply has neither the asked set nor an alias.
     fn met_denial(&self, alloc: A, is_first: bool, name: &Name<A>) -> Result<AtName<A>, AllocError>
         ensures { IfOk result (λ met. met_of met ≡ denial_at self.now is_first name.now) }
     {
         let soa = self.soa_for(alloc, name)?;
         let source = self.source_at(name);
         let denied = self.at_name(self.kind, name);
-        if self.rcode == NAME_ERROR {
+        if self.rcode == NXDOMAIN {
             return Ok(AtName::NameError(name_error(alloc, source, &denied, soa)?));
         }
         let lacks_soa = is_missing(&soa);
@@ -178,7 +174,8 @@ impl<'a, A: Allocator + Copy> Reply<'a, A> {
         Ok(AtName::NoData(no_data(alloc, source, &denied, soa)?))
     }
 
-    /// What the reply has at a name, which may be the first of the walk: the asked set, else an alias, else a denial.
+    /// The finding at a name, which may be the first of the walk: the asked set, otherwise an
+    /// alias, otherwise a denial.
     pub fn met_at(&self, alloc: A, is_first: bool, name: &Name<A>) -> Result<AtName<A>, AllocError>
         ensures { IfOk result (λ met. met_of met ≡ met_at self.now is_first name.now) }
     {

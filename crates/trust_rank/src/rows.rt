@@ -8,14 +8,14 @@ use plain_list::PlainList;
 use std::alloc::{AllocError, Allocator, Global};
 use std::marker::Model;
 
-/// The data of a record set, in order: that of one record in place, so that it is met with no step to the heap, that of
-/// more in a list. Contracts see the list of the data.
+/// The data of a record set, in order: that of one record in place, so that it is met with no step
+/// to the heap, that of more in a list. Contracts see the list of the data.
 #[derive(Drop)]
 pub struct Rows<A: Allocator = Global> {
     place: Place<A>,
 }
 
-/// Where data stands.
+/// The place of the data.
 #[derive(Drop)]
 enum Place<A: Allocator> {
     One(Rdata<A>),
@@ -33,7 +33,7 @@ impl<A: Allocator> Model for Rows<A> {
 }
 
 impl<A: Allocator> Rows<A> {
-    /// The data of the list. It takes no memory, and a list of one gives its own up.
+    /// The data of the list. It does not allocate, and frees the memory of a list of one.
     pub fn from_list(list: PlainList<Rdata<A>, A>) -> Rows<A>
         ensures { result ≡ list }
     {

@@ -15,7 +15,8 @@ use dns_name::Name;
 use plain_list::PlainList;
 use std::alloc::{AllocError, Allocator};
 
-/// An NS record of the question's class, whose owner is at or above the asked name and on the route.
+/// An NS record of the question's class, whose owner is at or above the asked name and on the
+/// route.
 fn is_server_for<A: Allocator + Copy>(reply: &Reply<'_, A>, record: &Record<A>) -> bool
     ensures { result ≡ is_server_for reply.now record.now }
 {
@@ -45,8 +46,8 @@ fn has_piece<A: Allocator>(pieces: &[Piece<A>], sets: &[Piece<A>], name: &Name<A
     is_among(pieces, name) || is_among(sets, name)
 }
 
-/// An NS record that fits, and whose owner has no piece yet. That is asked first: of many records of one owner the
-/// route of the first alone is looked for.
+/// An NS record that fits, and whose owner has no piece yet. That is asked first: of many records
+/// of one owner the route of the first alone is looked for.
 #[tactic(auto, using(crate::proofs::ServerLaws::begins_none, crate::proofs::ServerLaws::begins_one))]
 fn begins_set<A: Allocator + Copy>(
     reply: &Reply<'_, A>,
@@ -85,7 +86,8 @@ fn servers_with<'a, A: Allocator + Copy>(
     set_with(alloc, source, first, others, &key)
 }
 
-/// Puts the set that begins with this record last, where the record fits and its owner has no piece yet.
+/// Puts the set that begins with this record last, where the record fits and its owner has no piece
+/// yet.
 fn put_servers<'a, A: Allocator + Copy>(
     alloc: A,
     reply: &Reply<'a, A>,
@@ -104,7 +106,8 @@ fn put_servers<'a, A: Allocator + Copy>(
     sets.push(servers_with(alloc, reply, first, others)?)
 }
 
-/// The sets of the fitting NS records of the authority section, each where its owner has no piece yet, in order.
+/// The sets of the fitting NS records of the authority section, each where its owner has no piece
+/// yet, in order.
 pub(crate) fn servers_beside<'a, A: Allocator + Copy>(
     alloc: A,
     reply: &Reply<'a, A>,

@@ -22,7 +22,7 @@ use suffix_routes::RouteId;
 /// The longest lifetime of a piece, in seconds: a week.
 const LONGEST: u32 = 604_800;
 
-/// So many data of a set are compared one by one; what comes behind them is found by an index.
+/// The number of data of a set that are compared one by one; further ones are found by an index.
 const FEW: usize = 16;
 
 /// Which records make a set.
@@ -77,7 +77,7 @@ pub(crate) fn seconds_from(ttl: u32) -> u32
 #[derive(Drop)]
 struct Gathered<'a, A: Allocator> {
     rows: PlainList<Rdata<A>, A>,
-    /// The data behind the first few.
+    /// The data after the first few.
     index: BTreeSet<&'a [u8], A>,
     lifetime: u32,
 }

@@ -1,10 +1,10 @@
-//! What a piece tells of.
+//! The slot of a piece.
 
 use dns_name::NameKey;
 use std::hash::{Hash, Hasher};
 
-/// What a piece tells of: a name and class with a type, or with none for the denial of a whole name. Class and type
-/// come first, so that they lie in memory beside the octets of a usual name.
+/// The key of a piece: a name and class with a type, or with none for the denial of a whole name.
+/// Class and type come first, so that in memory they are next to the octets of a usual name.
 #[derive(Clone, Copy, PartialEq, Eq)]
 pub struct Slot {
     /// 1 is IN.

@@ -1,4 +1,4 @@
-//! What a reply carries for a question, and how that ends.
+//! The walk of a reply: the pieces that it carries for a question, and its end.
 
 use crate::piece::Piece;
 use dns_name::Name;
@@ -21,13 +21,13 @@ pub enum End<A: Allocator = Global> {
     Lame,
 }
 
-/// What a reply carries for a question, and how its walk from the asked name ends.
+/// The pieces that a reply carries for a question, and how its walk from the asked name ends.
 #[derive(Drop)]
 pub struct Walk<A: Allocator = Global> {
     /// The aliases in order, at most eight, and the piece that ends the walk, if one does.
     pub pieces: PlainList<Piece<A>, A>,
-    /// The name servers of the authority section, where the reply is authoritative: NS sets whose owner has no other
-    /// piece, in the order of the section.
+    /// The name servers of the authority section, where the reply is authoritative: NS sets whose
+    /// owner has no other piece, in the order of the section.
     pub authority: PlainList<Piece<A>, A>,
     /// How the walk ends.
     pub end: End<A>,

@@ -1,4 +1,4 @@
--- What callers may use.
+-- Lemmas for callers.
 use Rattle.std.proofs.Common.{◌≡◌, List, Option, ap, ◌∙◌}
 use Rattle.std.specs.Prelude.{filter, map}
 use Rattle.dns_message.specs.Values.{Question}
@@ -7,6 +7,7 @@ use Rattle.waiting_questions.specs.Onward.{Onward}
 use Rattle.waiting_questions.specs.Settling.{settled, settled_by}
 use Rattle.waiting_questions.proofs.Settled.{settled_each}
 
--- where a function gives the fate of each that waits for the question, each gets it, and all others stay
+-- where a function gives the fate of each that waits for the question, each gets it, and all others
+-- stay
 pub settled_by_function : (q : Question) (f : Waiting → Option Onward) (fates : List (Option Onward)) (xs : List Waiting) → fates ≡ map f (filter (waits_for q) xs) → settled q fates xs ≡ settled_by q f xs
 settled_by_function q f fates xs are = ap (λ (fs : List (Option Onward)). settled q fs xs) are ∙ settled_each q f xs

@@ -1,4 +1,4 @@
--- What is found of indexed questions, and what one more or less leaves.
+-- Searches of indexed questions, and the indexes after one more or less.
 use Rattle.std.proofs.Common.{◌≡◌, ℕ, zero, suc, ◌+◌, ◌-◌, ◌<◌, ◌≤◌, List, [], ◌∷◌, ◌++◌, length, take, drop, slice_get, slice_index, slice_index_or, Bool, true, false, cond, not, nat_lt, Option, Some, None, IsSome, refl, sym, ap, ◌∙◌, subst, subst₂, arith, get_or-take, get_or-drop, length-take, length-drop, lt-ltb, ◌==◌}
 use Rattle.std.specs.Prelude.{filter}
 use Rattle.std.specs.List.{All, AllByRecursion, Contains, insert, remove, remove_range, between, list_any, cons_option}
@@ -69,7 +69,7 @@ module _ (s : Slab Waiting) (by_question in_turn : List ℕ) (indexed : AreIndex
     pub how_many : j - i ≡ length (filter (waits_for q) (waiting_under s in_turn))
     how_many = sym (length-between by_question i j range.high) ∙ sym (length_under s (between i j by_question) those_present) ∙ ap length those_wait
 
-    -- the first of all stands first of those that wait for the same
+    -- the first of all comes first of those that wait for the same
     pub first_stands : (x : Waiting) → 0 < length in_turn → get s (slice_index in_turn 0) ≡ Some x → waits_for q x ≡ true → (i < length by_question) × (slice_index by_question i ≡ slice_index in_turn 0)
     first_stands x some e waits = by in_turn some e in_range
       where
@@ -85,7 +85,7 @@ module _ (s : Slab Waiting) (by_question in_turn : List ℕ) (indexed : AreIndex
               ap (slice_index by_question) (sym here) ∙ sym (get_or-between by_question i j 0 0 less) ∙ sym (ap (λ ks. slice_index ks 0) front),
             )
 
-  -- a key that stands by question stands in the order of taking
+  -- a key in the order of questions is in the order of taking
   pub key_in_turn : (place : ℕ) → place < length by_question → Contains in_turn (slice_index by_question place)
   key_in_turn place within =
       let a = value_of (get s (slice_index by_question place)) (indexed.questions.present place 0 within) in
@@ -185,7 +185,7 @@ pub byte_is : (b : Bool) → bool_byte b ≡ cond b 1 0
 byte_is true = refl
 byte_is false = refl
 
--- whether any but the first passes, by how many do
+-- whether any but the first passes, by the number that do
 pub any_but_first : (p : Waiting → Bool) (x : Waiting) (xs : List Waiting) (count : ℕ) → count ≡ length (filter p (x ∷ xs)) → list_any p xs ≡ nat_lt (cond (p x) 1 0) count
 any_but_first p x xs count is = by (p x) is
   where
@@ -193,7 +193,7 @@ any_but_first p x xs count is = by (p x) is
     by true e = any_counts p xs ∙ one_more (length (filter p xs)) ∙ ap (λ n. nat_lt 1 n) (sym e)
     by false e = any_counts p xs ∙ ap (λ n. nat_lt 0 n) (sym e)
 
--- ---- as the functions tell it
+-- ---- by the functions
 
 module _ (s : Slab Waiting) (by_question in_turn : List ℕ) (indexed : AreIndexed s by_question in_turn) where
   -- the first of all, by the key of its question
@@ -226,8 +226,8 @@ module _ (s : Slab Waiting) (by_question in_turn : List ℕ) (indexed : AreIndex
 
 -- ---- those of a question go
 
--- The questions from one place up to an end have gone, though their keys still stand by question. Those that are left and wait for
--- the same question stand before them, from place i on.
+-- The questions from one place up to an end have gone, though their keys are still in the order of
+-- questions. Those that are left and wait for the same question come before them, from place i on.
 pub record IsEnding (q : Question) (left : List Waiting) (s : Slab Waiting) (by_question in_turn : List ℕ) (i place end : ℕ) : Type 0 where
   pub indexed : AreIndexed s (remove_range by_question place end) in_turn
   pub waiting : filter (λ x. not (waits_for q x)) (waiting_under s in_turn) ≡ left

@@ -1,4 +1,4 @@
--- What waits under keys, and one key more or less.
+-- The questions under keys, and one key more or less.
 use Rattle.std.proofs.Common.{◌≡◌, ◌≢◌, ℕ, zero, suc, ◌<◌, ◌≤◌, ◌==◌, List, [], ◌∷◌, ◌++◌, length, take, drop, slice_get, slice_index, Bool, true, false, cond, not, Option, Some, None, IsSome, refl, sym, ap, ◌∙◌, subst, arith}
 use Rattle.std.specs.Prelude.{filter}
 use Rattle.std.specs.List.{All, AllPairs, insert, remove, cons_option}

@@ -65,7 +65,7 @@ module _ {X : Type 0} where
       by false true e f rest = cond-false (p x) (x ∷ filter p (filter q xs)) (filter p (filter q xs)) e ∙ rest
       by false false e f rest = rest
 
-  -- one more, behind all that pass where it passes itself
+  -- one more, after all that pass if it passes itself
   pub filter_insert : (p : X → Bool) (xs : List X) (i : ℕ) (y : X) → i ≤ length xs → (p y ≡ true → All (λ x. p x ≡ false) (drop i xs)) → filter p (insert xs i y) ≡ filter p xs ++ filter p (y ∷ [])
   filter_insert p xs zero y within none = by (p y) refl
     where
@@ -79,7 +79,7 @@ module _ {X : Type 0} where
       by true rest = ap (λ ys. x ∷ ys) rest
       by false rest = rest
 
-  -- what passes stands from place i up to place j
+  -- those that pass are from place i up to place j
   pub filter_between : (p : X → Bool) (xs : List X) (i j : ℕ) (d : X) → i ≤ j → j ≤ length xs → ((k : ℕ) → k < i → p (slice_index_or xs k d) ≡ false) → ((k : ℕ) → i ≤ k → k < j → p (slice_index_or xs k d) ≡ true)
       → ((k : ℕ) → j ≤ k → k < length xs → p (slice_index_or xs k d) ≡ false) → filter p xs ≡ between i j xs
   filter_between p xs i j d low high before among behind =
@@ -97,7 +97,7 @@ module _ {X : Type 0} where
       ∙ append-nil (filter p (between i j xs))
       ∙ middle
 
-  -- whether one passes, and how many do
+  -- whether one passes, and the number that do
   pub any_counts : (p : X → Bool) (xs : List X) → list_any p xs ≡ nat_lt 0 (length (filter p xs))
   any_counts p [] = refl
   any_counts p (x ∷ xs) = by (p x) (any_counts p xs)
@@ -155,7 +155,7 @@ module _ {X : Type 0} where
       remove-append_left (take (suc p) xs) (drop j xs) p (omega (arith, length-take (suc p) xs))
       ∙ ap (λ ys. ys ++ drop j xs) (front_left xs p within)
 
-  -- what stands before the range stays
+  -- the items before the range stay
   pub before_range : (xs : List X) (i j k : ℕ) (d : X) → k < i → i ≤ length xs → slice_index_or (remove_range xs i j) k d ≡ slice_index_or xs k d
   before_range xs i j k d less within = get_or-append (take i xs) (drop j xs) d k (omega (arith, length-take i xs)) ∙ get_or-take i xs k d less
 

@@ -1,4 +1,4 @@
--- Keys with numbers: the keys alone, one more or less, and comparisons that the numbers tell.
+-- Keys with numbers: the keys alone, one more or less, and comparisons that the numbers decide.
 use Rattle.std.proofs.Common.{◌≡◌, ℕ, suc, ◌+◌, ◌<◌, ◌≤◌, ◌==◌, List, ◌∷◌, ◌++◌, length, take, drop, slice_get, slice_index, slice_index_or, Bool, true, false, if◌then◌else◌, Some, None, IsSome, Ordering, Less, Equal, Greater, nat_cmp, is_eq, refl, sym, ap, ap₂, ◌∙◌, subst, arith}
 use Rattle.std.specs.Ordering.{ordering_then}
 use Rattle.std.specs.List.{between, insert, remove, remove_range}
@@ -82,7 +82,7 @@ numbers_without s items i j numbered = All-append (IsNumber s) (take i items) (d
 
 -- ---- comparisons
 
--- what tells two apart tells it alone
+-- an order that distinguishes two decides alone
 then_alone : (o r : Ordering) → is_eq o ≡ false → ordering_then o r ≡ o
 then_alone Less r apart = refl
 then_alone Equal r apart = absurd (true≢false apart)
@@ -102,7 +102,7 @@ by_item s q item a here number = by (item.number == q.number) refl
         ∙ sym (then_alone (nat_cmp (question_key a.wanted).number q.number) _ (numbers_tell (question_key a.wanted).number q.number ∙ ap (λ n. n == q.number) number ∙ e))
 
 module _ (s : Slab Waiting) (items : List NumberedKey) (present : ArePresent s (keys_of items)) (numbered : AreNumbered s items) (q : QuestionKey) where
-  -- the number tells what the question would
+  -- the number decides as the question would
   pub told_alike : (k : ℕ) (d : NumberedKey) (e : ℕ) → k < length items → compared_item q s (slice_index_or items k d) ≡ compared (to_question q) (get s (slice_index_or (keys_of items) k e))
   told_alike k d e within =
       let v = value_of (get s (slice_index_or (keys_of items) k e)) (present k e (omega (arith, within, length_keys items))) in
@@ -129,7 +129,7 @@ module _ (s : Slab Waiting) (items : List NumberedKey) (present : ArePresent s (
 
 -- ---- places
 
--- those whose keys stand from place i up to place j
+-- those whose keys are from place i up to place j
 module _ (s : Slab Waiting) (items : List NumberedKey) (i j : ℕ) (are : ArePlaces s items i j) (those : List Waiting) (is : waiting_under s (between i j (keys_of items)) ≡ those) (place : ℕ) (within : place < length those) where
   among : place < length (between i j (keys_of items))
   among = place_under s (between i j (keys_of items)) those place are.present is within

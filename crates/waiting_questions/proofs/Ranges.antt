@@ -103,7 +103,7 @@ module _ (s : Slab Waiting) (keys : List ℕ) (are : AreKeys IsByQuestion s keys
       by (inr le) = le
       by (inl less) = absurd (false≢true (sym (upper.1 j 0 (omega arith) (omega (arith, i_in))) ∙ is_lt_le (told (slice_index keys j)) (lower.0 j 0 (omega arith) less)))
 
-  -- the first that comes behind what is sought
+  -- the first that comes after what is sought
   pub ends_at : (j : ℕ) → j < length keys → ((k : ℕ) → k < j → is_le (told (slice_index keys k)) ≡ true) → is_le (told (slice_index keys j)) ≡ false
       → IsPartitionPoint (λ key. is_le (told key) ≡ true) (λ key. is_le (told key) ≡ false) keys j
   ends_at j j_in before behind = (
@@ -178,7 +178,7 @@ module _ (s : Slab Waiting) (keys : List ℕ) (present : ArePresent s keys) (x :
           cc
       by (inr behind) = goes_before k a behind within e is
 
-  -- what waits for the same does not stand behind it
+  -- none that waits for the same comes after it
   pub none_behind : (q : Question) → waits_for q x ≡ true → (k : ℕ) → j ≤ k → k < length keys → waits_at s q (slice_index keys k) ≡ false
   none_behind q waits k from within =
       let a = value_of (get s (slice_index keys k)) (present k 0 within) in

@@ -1,4 +1,4 @@
--- A question that is sent on stands by its new question, and keeps its turn.
+-- A question that is sent on is sorted by its new question, and keeps its turn.
 use Rattle.std.proofs.Common.{◌≡◌, ◌≢◌, ℕ, zero, suc, ◌+◌, ◌-◌, ◌<◌, ◌≤◌, List, [], ◌∷◌, ◌++◌, length, take, drop, slice_get, slice_index, slice_index_or, Bool, true, false, Option, Some, None, IsSome, Ordering, Less, Equal, Greater, is_eq, refl, sym, ap, ◌∙◌, subst, arith, get_or-take, get_or-drop, length-take, length-drop}
 use Rattle.std.specs.Prelude.{filter}
 use Rattle.std.specs.List.{All, AllPairs, Contains, insert, remove, between, cons_option}
@@ -25,7 +25,7 @@ eq_from Less t = absurd (false≢true t)
 eq_from Equal t = refl
 eq_from Greater t = absurd (false≢true t)
 
--- what a question waits for, as its own key tells it
+-- the question that one waits for, by its own key
 same_waits : (q : Question) (y : Waiting) → waits_for q y ≡ true → (o : Option Waiting) → passes (waits_for q) o ≡ passes (waits_for y.wanted) o
 same_waits q y waits None = refl
 same_waits q y waits (Some a) =
@@ -44,7 +44,7 @@ module _ (s s' : Slab Waiting) (p t : List ℕ) (indexed : AreIndexed s p t) (ke
   at_within : at ≤ length p
   at_within = omega (arith, at_in, range.high)
 
-  -- so many of its question stand before it
+  -- the number of its question's keys before it
   before_it : earlier (waits_at s y.wanted) p at ≡ earlier (waits_at s y.wanted) t turn
   before_it =
       let long : length (take at p) ≡ at = omega (arith, length-take at p, at_within) in

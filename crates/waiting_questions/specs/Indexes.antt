@@ -1,5 +1,5 @@
--- Waiting questions under the keys of a slab, and two lists of those keys: one in the order of taking, one by question,
--- with numbers.
+-- Waiting questions under the keys of a slab, and two lists of those keys: one in the order of
+-- taking, one by question, with numbers.
 use Rattle.std.specs.Prelude.{◌≡◌, ◌≢◌, ℕ, ◌<◌, ◌≤◌, ◌+◌, ◌^◌, ◌==◌, ◌&&◌, Bool, true, false, nat_le, nat_lt}
 use Rattle.std.specs.Prelude.{if◌then◌else◌, List, length, filter, map, Option, Some, None, IsSome, slice_index}
 use Rattle.std.specs.List.{All, AllPairs, between, filter_map}
@@ -38,7 +38,7 @@ abbrev pub compared : (Waiting → Ordering) → Option Waiting → Ordering
 compared f None = Less
 compared f (Some x) = f x
 
--- the same under a key with a number, where numbers that differ tell it alone
+-- the same under a key with a number, where numbers that differ decide alone
 abbrev pub compared_item : QuestionKey → Slab Waiting → NumberedKey → Ordering
 compared_item key s item = if item.number == key.number then compared (to_question key) (get s item.key)
     else nat_cmp item.number key.number
@@ -62,20 +62,21 @@ abbrev pub AreNumbered : Slab Waiting → List NumberedKey → Type 0
 AreNumbered s items = All (λ item. (a : Waiting) → get s item.key ≡ Some a
     → (question_key a.wanted).number ≡ item.number) items
 
--- by question stand the same keys as in the order of taking, those for one question in that order too
+-- the keys in the order of questions are those in the order of taking; those for one question are
+-- in that order too
 pub record AreIndexed (s : Slab Waiting) (by_question in_turn : List ℕ) : Type 0 where
   pub questions : AreKeys IsByQuestion s by_question
   pub turns : AreKeys IsByTaken s in_turn
   pub same : (q : Question) → filter (λ key. passes (waits_for q) (get s key)) by_question
       ≡ filter (λ key. passes (waits_for q) (get s key)) in_turn
 
--- those that come before what is sought stand before place i
+-- those that come before what is sought are before place i
 abbrev pub BeginsAt : (Waiting → Ordering) → Slab Waiting → List ℕ → ℕ → Type 0
 BeginsAt f s keys i = (i ≤ length keys)
     × IsPartitionPoint (λ key. is_lt (compared f (get s key)) ≡ true) (λ key. is_lt (compared f (get s key))
     ≡ false) keys i
 
--- what is sought stands from place i up to place j
+-- what is sought is from place i up to place j
 pub record IsRange (f : Waiting → Ordering) (s : Slab Waiting) (keys : List ℕ) (i j : ℕ) : Type 0 where
   pub low : i ≤ j
   pub high : j ≤ length keys
@@ -98,7 +99,7 @@ pub record IsIndexed {A : Type 0} (t : Table A) : Type 0 where
   pub lists : AreIndexed t.waiting (keys_of t.by_question.items) t.in_turn.keys
   pub numbers : AreNumbered t.waiting t.by_question.items
 
--- one more takes no memory, and its key takes no more than 32 bits
+-- one more does not allocate, and its key takes no more than 32 bits
 abbrev pub has_room : {A : Type 0} → Table A → Bool
 has_room t =
     nat_le (slab_len t.waiting + 1) t.waiting.capacity

@@ -14,6 +14,7 @@ abbrev pub held_of : Option Onward → List Held
 held_of None = []
 held_of (Some s) = s.held
 
+-- the question that is wanted: its own, or that at the end of its aliases
 abbrev pub wanted_of : Question → Option Onward → Question
 wanted_of q None = q
 wanted_of q (Some s) = s.wanted

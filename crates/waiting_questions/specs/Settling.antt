@@ -6,12 +6,13 @@ use Rattle.dns_message.specs.Values.{Question}
 use Rattle.waiting_questions.specs.Values.{Waiting, waits_for}
 use Rattle.waiting_questions.specs.Onward.{Onward, sent_on}
 
--- what its fate leaves of a question: with aliases and another question it is sent on, with none it is gone
+-- what its fate leaves of a question: with aliases and another question it is sent on, with none it
+-- is gone
 abbrev pub left_by : Option Onward → Waiting → Option Waiting
 left_by fate x = option_map (λ s. sent_on s x) fate
 
--- those that wait for the question get the fates, in order; all others stay where they are, and so do those for whom no
--- fate is left
+-- those that wait for the question get the fates, in order; all others stay where they are, and so
+-- do those for whom no fate is left
 abbrev pub settled : Question → List (Option Onward) → List Waiting → List Waiting
 settled q fates [] = []
 settled q [] (x ∷ xs) = x ∷ xs
@@ -22,10 +23,10 @@ settled q (fate ∷ fates) (x ∷ xs) = if waits_for q x then cons_option (left_
 abbrev pub settled_by : Question → (Waiting → Option Onward) → List Waiting → List Waiting
 settled_by q f xs = filter_map (λ x. if waits_for q x then left_by (f x) x else Some x) xs
 
--- with this in the place of the one there, or without it
+-- with this in place of the one there, or without it
 abbrev pub with_at : {X : Type 0} → List X → ℕ → Option X → List X
 with_at xs place o = take place xs ++ cons_option o (drop (suc place) xs)
 
--- how many of those that pass stand before a place
+-- the number of passing keys before a place
 abbrev pub earlier : (ℕ → Bool) → List ℕ → ℕ → ℕ
 earlier p keys place = length (filter p (take place keys))

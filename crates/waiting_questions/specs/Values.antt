@@ -6,8 +6,8 @@ use Rattle.record_cache.specs.Values.{Held}
 use Rattle.answer_builder.specs.Values.{Asked}
 use Rattle.step_values.specs.declared.event.Client.{Client}
 
--- a question that waits: what its answer repeats of it, the aliases that it holds, and what it wants to know now, which
--- is its own question or the same at the name that its aliases lead to
+-- a question that waits: what its answer repeats of it, the aliases that it holds, and what it
+-- wants to know now, which is its own question or the same at the name that its aliases lead to
 pub record Waiting : Type 0 where
   pub client : Client
   pub asked : Asked
@@ -15,10 +15,11 @@ pub record Waiting : Type 0 where
   pub held : List Held
   pub wanted : Question
 
+-- the waiting question wants q
 abbrev pub waits_for : Question → Waiting → Bool
 waits_for q x = same_question x.wanted q
 
--- the questions that wait, in the order of taking, and whether one more takes no memory
+-- the questions that wait, in the order of taking, and whether one more fits without allocating
 pub record WaitingList : Type 0 where
   pub items : List Waiting
   pub has_room : Bool

@@ -11,8 +11,8 @@ use std::alloc::{Allocator, Global};
 use std::cmp::Ordering;
 use std::marker::Model;
 
-/// A waiting question, and the key of the question that it wants to know, which is made once. It is seen as the waiting
-/// question. The key stands first, where a search looks.
+/// A waiting question, and the key of the question that it wants to know, which is made once. It is
+/// seen as the waiting question. The key comes first, where a search looks.
 #[derive(Drop)]
 pub struct KeyedWaiting<A: Allocator = Global> {
     key: QuestionKey,
@@ -32,8 +32,8 @@ impl<A: Allocator> Model for KeyedWaiting<A> {
 }
 
 impl<A: Allocator> KeyedWaiting<A> {
-    /// A waiting question with the key of the question that it wants to know, which was made before. It takes no
-    /// memory.
+    /// A waiting question with the key of the question that it wants to know, which was made
+    /// before. It does not allocate.
     pub fn new(waiting: Waiting<A>, key: QuestionKey) -> KeyedWaiting<A>
         requires { key ≡ question_key waiting.wanted }
         ensures { result ≡ waiting }
@@ -41,7 +41,8 @@ impl<A: Allocator> KeyedWaiting<A> {
         KeyedWaiting { key, waiting }
     }
 
-    /// It holds these aliases from now on, and waits for the question that they lead to.
+    /// Replaces the aliases that it holds; from now on it waits for the question that the new ones
+    /// lead to.
     pub(crate) fn send_on(&mut self, onward: SentOn<A>)
         ensures { self.new ≡ sent_on onward self.old }
     {
@@ -62,7 +63,7 @@ impl<A: Allocator> KeyedWaiting<A> {
         &self.key
     }
 
-    /// How that question compares to another.
+    /// The order of that question and another.
     pub(crate) fn cmp_question(&self, key: &QuestionKey) -> Ordering
         ensures { result ≡ to_question key.now self.now }
     {

@@ -1,5 +1,5 @@
-//! The questions that wait for their replies, in the order in which they were taken. What waits for one question is
-//! found without a look at the others.
+//! The questions that wait for their replies, in the order in which they were taken. Those that
+//! wait for one question are found without a look at the others.
 #![tactic(auto)]
 
 mod keyed;

@@ -1,4 +1,4 @@
-//! Where keys stand, found by searches.
+//! The places of keys, found by searches.
 
 ghost use Rattle.std.specs.Prelude.{◌≡◌, ◌≢◌, ℕ, ◌+◌, ◌≤◌, Bool, filter, length};
 ghost use Rattle.std.specs.List.{between, All, AllPairs, Contains};
@@ -14,8 +14,9 @@ use std::alloc::Allocator;
 use std::cmp::Ordering;
 use std::collections::VecDeque;
 
-/// How the question under a key compares to another. Numbers that differ tell it alone: what waits stands far away in
-/// memory, and is looked at only where they are equal. A key without a question comes first then.
+/// How the question under a key compares to another. Numbers that differ decide alone: the
+/// questions are far away in memory, and are looked at only where numbers are equal. A key without
+/// a question comes first then.
 #[inline]
 fn compare<A: Allocator>(
     waiting: &Slab<KeyedWaiting<A>, A>,
@@ -34,10 +35,11 @@ fn compare<A: Allocator>(
     }
 }
 
-/// So many are looked at one by one: for most questions few wait.
+/// The number of keys that are looked at one by one: for most questions few wait.
 const FEW: usize = 4;
 
-/// From where up to where those stand that wait for a question, among keys in the order of their questions.
+/// The range of the keys of those that wait for a question, among keys in the order of their
+/// questions: its start and its end.
 pub(crate) fn range_of<A: Allocator>(
     waiting: &Slab<KeyedWaiting<A>, A>,
     keys: &VecDeque<NumberedKey, A>,
@@ -51,7 +53,7 @@ pub(crate) fn range_of<A: Allocator>(
     (start, end_from(waiting, keys, question, start))
 }
 
-/// Up to where those stand that wait for a question, where they begin at this place.
+/// The end of the range of those that wait for a question, where it begins at this place.
 fn end_from<A: Allocator>(
     waiting: &Slab<KeyedWaiting<A>, A>,
     keys: &VecDeque<NumberedKey, A>,
@@ -72,8 +74,8 @@ fn end_from<A: Allocator>(
     keys.partition_point(|item| compare(waiting, *item, question).is_le())
 }
 
-/// Where a key of this turn belongs among the keys from one place up to another, which stand in turn: behind those of
-/// an earlier turn. Found by halves.
+/// The place of a key of this turn among the keys from one place up to another, which are in turn:
+/// after those of an earlier turn. A binary search.
 pub(crate) fn place_by_turn<A: Allocator>(
     keys: &VecDeque<NumberedKey, A>,
     in_turn: &KeysInTurn<A>,

@@ -18,9 +18,10 @@ use slab::Slab;
 use std::alloc::{AllocError, Allocator};
 use std::collections::VecDeque;
 
-/// The waiting questions, each under a key that the slab picks, and the keys in the order of the questions, those for
-/// equal ones in the order of taking, and of all in the order of taking. Those by question have the numbers of the
-/// questions with them, so that a search seldom looks at what waits.
+/// The waiting questions, each under a key that the slab picks, and two lists of the keys: in the
+/// order of the questions, those for equal ones in the order of taking; and of all in the order of
+/// taking. The first has the numbers of the questions next to the keys, so that a search seldom
+/// looks at the questions themselves.
 #[derive(Drop)]
 pub(crate) struct Table<A: Allocator> {
     pub(crate) waiting: Slab<KeyedWaiting<A>, A>,
@@ -29,7 +30,7 @@ pub(crate) struct Table<A: Allocator> {
 }
 
 impl<A: Allocator> Table<A> {
-    /// None. It takes no memory.
+    /// None. It does not allocate.
     pub(crate) fn new(alloc: A) -> Table<A>
     where
         A: Copy,
@@ -43,7 +44,7 @@ impl<A: Allocator> Table<A> {
         }
     }
 
-    /// How many wait.
+    /// The number that wait.
     pub(crate) fn len(&self) -> usize
         requires { IsIndexed self.now }
         ensures { result ≡ length (items_of self.now) }
@@ -51,7 +52,7 @@ impl<A: Allocator> Table<A> {
         self.in_turn.len()
     }
 
-    /// What was taken first, with its key.
+    /// The question that was taken first, with its key.
     pub(crate) fn first(&self) -> Option<&KeyedWaiting<A>>
         requires { IsIndexed self.now }
         ensures { MatchOption result (items_of self.now ≡ []) (λ keyed. slice_get (items_of self.now) 0
@@ -61,7 +62,8 @@ impl<A: Allocator> Table<A> {
         Some(&self.waiting[key])
     }
 
-    /// From where up to where those stand by question that wait for this one.
+    /// The range of those that wait for this question, in the order of questions: its start and its
+    /// end.
     pub(crate) fn range(&self, question: &QuestionKey) -> (usize, usize)
         requires { IsIndexed self.now }
         ensures { IsRange (to_question question.now) self.now.waiting
@@ -70,7 +72,8 @@ impl<A: Allocator> Table<A> {
         range_of(&self.waiting, &self.by_question, question)
     }
 
-    /// Makes room for one more. `Err` where memory ran out. A key that takes more than 32 bits counts as that.
+    /// Makes room for one more. `Err` where memory ran out, or where its key takes more than 32
+    /// bits.
     pub(crate) fn reserve(&mut self) -> Result<(), AllocError>
         requires { IsIndexed self.old }
         ensures indexed { IsIndexed self.new }
@@ -105,7 +108,7 @@ impl<A: Allocator> Table<A> {
         self.in_turn.put(key);
     }
 
-    /// Lets the question go whose key stands at this place by question, and in this turn.
+    /// Removes the question whose key is at this place in the order of questions, and at this turn.
     pub(crate) fn take(&mut self, place: usize, turn: usize)
         requires indexed { IsIndexed self.old }
         requires place { place < length self.old.by_question.items }
@@ -121,7 +124,8 @@ impl<A: Allocator> Table<A> {
         self.waiting.remove(item.key());
     }
 
-    /// Sends the question on whose key stands at this place by question, and in this turn, which it keeps.
+    /// Sends the question on whose key is at this place in the order of questions, and at this
+    /// turn, which it keeps.
     fn send_on(&mut self, place: usize, turn: usize, onward: SentOn<A>)
         requires indexed { IsIndexed self.old }
         requires place { place < length self.old.by_question.items }
@@ -147,8 +151,8 @@ impl<A: Allocator> Table<A> {
         };
     }
 
-    /// Gives its fate to the question whose key stands at this place by question, and in this turn: it is sent on, or
-    /// goes.
+    /// Gives its fate to the question whose key is at this place in the order of questions, and at
+    /// this turn: it is sent on, or removed.
     fn settle_one(&mut self, place: usize, turn: usize, fate: Option<SentOn<A>>)
         requires indexed { IsIndexed self.old }
         requires place { place < length self.old.by_question.items }
@@ -164,8 +168,8 @@ impl<A: Allocator> Table<A> {
         }
     }
 
-    /// Gives their fates to those that wait for the question of this ask, the newest of them first, so that those
-    /// before it stay where they stand.
+    /// Gives their fates to those that wait for the question of this ask, the newest of them first,
+    /// so that the places of those before it stay.
     pub(crate) fn settle(&mut self, ask: &KeyedAsk<A>, mut fates: Vec<Option<SentOn<A>>, A>)
         requires indexed { IsIndexed self.old }
         requires one_each { length fates.items ≡ length (filter (waits_for ask.now.question) (items_of self.old)) }
@@ -181,8 +185,8 @@ impl<A: Allocator> Table<A> {
         }
     }
 
-    /// Lets those go that wait for the question of this ask, the newest of them first. Their keys leave those by question
-    /// at once, when all are gone.
+    /// Removes those that wait for the question of this ask, the newest of them first. Their keys
+    /// leave the list in the order of questions at once, when all are gone.
     pub(crate) fn end(&mut self, ask: &KeyedAsk<A>)
         requires { IsIndexed self.old }
         ensures indexed { IsIndexed self.new }
@@ -198,7 +202,7 @@ impl<A: Allocator> Table<A> {
         take_range(&mut self.by_question, start, end);
     }
 
-    /// Lets all go. It takes no memory.
+    /// Removes all. It does not allocate.
     pub(crate) fn clear(&mut self)
         ensures indexed { IsIndexed self.new }
         ensures list { items_of self.new ≡ [] }
@@ -209,7 +213,7 @@ impl<A: Allocator> Table<A> {
     }
 }
 
-/// Lets go what waits under a key.
+/// Removes the question under a key.
 fn let_go<A: Allocator>(waiting: &mut Slab<KeyedWaiting<A>, A>, key: usize)
     requires { ContainsKey waiting.old key }
     ensures { Updates waiting.old waiting.new key None }
@@ -217,8 +221,8 @@ fn let_go<A: Allocator>(waiting: &mut Slab<KeyedWaiting<A>, A>, key: usize)
     waiting.remove(key);
 }
 
-/// Takes the keys from one place up to another out. Those before them or those behind them move up, whichever are
-/// fewer: once where one key goes, and twice where more do.
+/// Takes the keys from one place up to another out. The keys on the shorter side move up: once
+/// where one key goes, and twice where more do.
 fn take_range<A: Allocator>(keys: &mut VecDeque<NumberedKey, A>, start: usize, end: usize)
     requires low { start ≤ end }
     requires high { end ≤ length keys.old.items }

@@ -1,4 +1,4 @@
-//! A question of a client, where it lies and where it waits.
+//! A question of a client, as it comes and as it waits.
 
 ghost use Rattle.std.specs.Prelude.{◌≡◌, ◌<◌, ◌≤◌, length, IfOk};
 ghost use Rattle.waiting_questions.specs.Onward.{waits_on};
@@ -10,7 +10,8 @@ use std::alloc::{AllocError, Allocator, Global};
 use std::marker::Model;
 use step_values::Client;
 
-/// What a client asked, with its question where it lies. Contracts see it as the question that waits for its reply.
+/// A client's request, with its question in place. Contracts see it as the question that waits for
+/// its reply.
 #[derive(Drop)]
 pub struct Request<'a> {
     pub client: Client,
@@ -40,7 +41,7 @@ impl<'a> Model for Request<'a> {
 }
 
 impl<'a> Request<'a> {
-    /// What its answer repeats of it: its opcode has 4 bits. It takes no memory.
+    /// The part of it that its answer repeats: its opcode has 4 bits. It does not allocate.
     pub fn asked(&self) -> AskedRef<'a>
         ensures asked { result ≡ self.now.asked }
         ensures opcode { self.now.asked.opcode < 16 }
@@ -53,8 +54,8 @@ impl<'a> Request<'a> {
         }
     }
 
-    /// The same as a question that waits, with the aliases that it holds and the question that it is sent on with, or
-    /// for its own question: its name is copied. `Err` where memory ran out.
+    /// The same as a question that waits, with the aliases that it holds and the question that it
+    /// is sent on with, or for its own question: its name is copied. `Err` where memory ran out.
     pub fn to_waiting<A: Allocator>(
         &self,
         alloc: A,
@@ -73,8 +74,8 @@ impl<'a> Request<'a> {
     }
 }
 
-/// The aliases that a question holds, at most eight, and the question that it wants to know now: its own at the name
-/// that they lead to.
+/// The aliases that a question holds, at most eight, and the question that it wants to know now:
+/// its own at the name that they lead to.
 #[derive(Drop)]
 pub struct SentOn<A: Allocator = Global> {
     pub aliases: Vec<Held<A>, A>,
@@ -125,7 +126,7 @@ impl<A: Allocator> Model for Waiting<A> {
 }
 
 impl<A: Allocator> Waiting<A> {
-    /// What the client asked, borrowed. It takes no memory.
+    /// The client's request, borrowed. It does not allocate.
     pub fn request(&self) -> Request<'_>
         ensures client { result.client ≡ self.now.client }
         ensures asked { result.asked ≡ self.now.asked }
@@ -139,7 +140,7 @@ impl<A: Allocator> Waiting<A> {
         }
     }
 
-    /// The aliases that it holds, in order: at most eight. It takes no memory.
+    /// The aliases that it holds, in order: at most eight. It does not allocate.
     pub fn aliases(&self) -> &[Held<A>]
         ensures aliases { result.now ≡ self.now.held }
         ensures few { length self.now.held ≤ 8 }
@@ -150,7 +151,7 @@ impl<A: Allocator> Waiting<A> {
         }
     }
 
-    /// The question that it wants to know now. It takes no memory.
+    /// The question that it wants to know now. It does not allocate.
     pub fn wanted(&self) -> &Question<A>
         ensures { result.now ≡ self.now.wanted }
     {
@@ -160,8 +161,8 @@ impl<A: Allocator> Waiting<A> {
         }
     }
 
-    /// It holds these aliases from now on, in the place of those that it held, and waits for the question that they
-    /// lead to. It takes no memory.
+    /// Replaces the aliases that it holds; from now on it waits for the question that the new ones
+    /// lead to. It does not allocate.
     pub fn send_on(&mut self, sent_on: SentOn<A>)
         ensures { self.new ≡ record self.old { held = sent_on.held; wanted = sent_on.wanted } }
     {

@@ -36,7 +36,7 @@ impl<A: Allocator> Model for WaitingQuestions<A> {
 }
 
 impl<A: Allocator> WaitingQuestions<A> {
-    /// None. It takes no memory; what `reserve_one` and `push` take later comes from `alloc`.
+    /// None. It does not allocate; `reserve_one` and `push` later allocate from `alloc`.
     pub fn new(alloc: A) -> WaitingQuestions<A>
     where
         A: Copy,
@@ -47,21 +47,22 @@ impl<A: Allocator> WaitingQuestions<A> {
         }
     }
 
-    /// How many wait. It takes no memory.
+    /// The number that wait. It does not allocate.
     pub fn len(&self) -> usize
         ensures { result ≡ length self.now.items }
     {
         self.table.len()
     }
 
-    /// The question that was taken first. `None` exactly where none waits. It takes no memory.
+    /// The question that was taken first. `None` exactly where none waits. It does not allocate.
     pub fn first(&self) -> Option<&Waiting<A>>
         ensures { MatchOption result (self.now.items ≡ []) (λ waiting. slice_get self.now.items 0 ≡ Some waiting.now) }
     {
         Some(self.table.first()?.waiting())
     }
 
-    /// Makes room for one more question. `Err` where memory ran out; the same questions wait in either case.
+    /// Makes room for one more question. `Err` where memory ran out; the same questions wait in
+    /// either case.
     pub fn reserve_one(&mut self) -> Result<(), AllocError>
         ensures same { self.new.items ≡ self.old.items }
         ensures room { OnOk result (self.new.has_room ≡ true) }
@@ -69,8 +70,8 @@ impl<A: Allocator> WaitingQuestions<A> {
         self.table.reserve()
     }
 
-    /// Puts a question last. It takes no memory. The caller sees to it that there is room for it (`reserve_one`) and
-    /// that no question was taken later.
+    /// Puts a question last. It does not allocate. The caller makes sure that there is room for it
+    /// (`reserve_one`) and that no question was taken later.
     pub fn push_reserved(&mut self, waiting: KeyedWaiting<A>)
         requires room { self.old.has_room ≡ true }
         requires later { AllByRecursion (λ x. x.taken ≤ waiting.taken) self.old.items }
@@ -79,8 +80,8 @@ impl<A: Allocator> WaitingQuestions<A> {
         self.table.put(waiting);
     }
 
-    /// Puts a question last. `Err` where memory ran out, and then the same questions wait. The caller sees to it that
-    /// no question was taken later.
+    /// Puts a question last. `Err` where memory ran out, and then the same questions wait. The
+    /// caller makes sure that no question was taken later.
     pub fn push(&mut self, waiting: KeyedWaiting<A>) -> Result<(), AllocError>
         requires { AllByRecursion (λ x. x.taken ≤ waiting.taken) self.old.items }
         ensures ok { OnOk result (self.new.items ≡ self.old.items ++ waiting ∷ []) }
@@ -91,7 +92,7 @@ impl<A: Allocator> WaitingQuestions<A> {
         Ok(())
     }
 
-    /// The question that was taken first waits no more. It takes no memory.
+    /// Removes the question that was taken first. It does not allocate.
     pub fn drop_first(&mut self)
         ensures { self.new.items ≡ drop 1 self.old.items }
     {
@@ -102,17 +103,17 @@ impl<A: Allocator> WaitingQuestions<A> {
         self.table.take(place, 0);
     }
 
-    /// Those that wait for the question of this ask wait no more, the newest of them first. It takes no memory, and
-    /// looks at no other question but those that the searches by halves meet.
+    /// Removes those that wait for the question of this ask, the newest of them first. It does not
+    /// allocate, and looks at no other question but those that the binary searches meet.
     pub fn end(&mut self, ask: &KeyedAsk<A>)
         ensures { self.new.items ≡ filter (λ x. not (waits_for ask.now.question x)) self.old.items }
     {
         self.table.end(ask);
     }
 
-    /// Those that wait for the question of this ask wait no more, or wait on: in the order of taking, each has a fate,
-    /// the aliases and the question that it is sent on with, or none. It takes no memory, and each keeps its place in
-    /// the order of taking.
+    /// Gives a fate to each that waits for the question of this ask, in the order of taking: the
+    /// aliases and the question that it is sent on with, or none, which removes it. It does not
+    /// allocate, and each keeps its place in the order of taking.
     pub fn send_on(&mut self, ask: &KeyedAsk<A>, fates: Vec<Option<SentOn<A>>, A>)
         requires { length fates.items ≡ length (filter (waits_for ask.now.question) self.old.items) }
         ensures { self.new.items ≡ settled ask.now.question fates.items self.old.items }
@@ -120,7 +121,7 @@ impl<A: Allocator> WaitingQuestions<A> {
         self.table.settle(ask, fates);
     }
 
-    /// Those that wait for the question of this ask, in the order of taking. It takes no memory.
+    /// Those that wait for the question of this ask, in the order of taking. It does not allocate.
     pub fn for_ask(&self, ask: &KeyedAsk<A>) -> WaitingFor<'_, A>
         ensures { result ≡ filter (waits_for ask.now.question) self.now.items }
     {
@@ -128,7 +129,7 @@ impl<A: Allocator> WaitingQuestions<A> {
         WaitingFor::new(&self.table.waiting, &self.table.by_question, start, end)
     }
 
-    /// Whether any but the question that was taken first waits for this one. It takes no memory.
+    /// Whether any but the question that was taken first waits for this one. It does not allocate.
     pub fn is_any_other_for(&self, question: &Question<A>) -> bool
         ensures { result ≡ list_any (waits_for question.now) (drop 1 self.now.items) }
     {
@@ -141,7 +142,7 @@ impl<A: Allocator> WaitingQuestions<A> {
         }
     }
 
-    /// No question waits any more. It takes no memory.
+    /// Removes all. It does not allocate.
     pub fn clear(&mut self)
         ensures { self.new.items ≡ [] }
     {
@@ -154,9 +155,9 @@ impl<A: Allocator> WaitingQuestions<A> {
 pub struct WaitingFor<'a, A: Allocator = Global> {
     waiting: &'a Slab<KeyedWaiting<A>, A>,
     keys: &'a VecDeque<NumberedKey, A>,
-    /// Their keys stand from here on.
+    /// The place of the first of their keys.
     start: usize,
-    /// They stand up to here.
+    /// The place after the last of their keys.
     end: usize,
 }
 
@@ -174,7 +175,7 @@ impl<'a, A: Allocator> Model for WaitingFor<'a, A> {
 }
 
 impl<'a, A: Allocator> WaitingFor<'a, A> {
-    /// What waits under the keys from one place up to another.
+    /// The questions under the keys from one place up to another.
     fn new(
         waiting: &'a Slab<KeyedWaiting<A>, A>,
         keys: &'a VecDeque<NumberedKey, A>,
@@ -192,14 +193,14 @@ impl<'a, A: Allocator> WaitingFor<'a, A> {
         }
     }
 
-    /// How many they are. It takes no memory.
+    /// The number of questions. It does not allocate.
     pub fn len(&self) -> usize
         ensures { result ≡ length self.now }
     {
         self.end - self.start
     }
 
-    /// The one at this place, from 0. It takes no memory.
+    /// The one at this place, from 0. It does not allocate.
     pub fn get(&self, place: usize) -> &'a Waiting<A>
         requires { place < length self.now }
         ensures { slice_get self.now place ≡ Some result.now }
@@ -208,7 +209,7 @@ impl<'a, A: Allocator> WaitingFor<'a, A> {
     }
 }
 
-/// What waits under the key at a place.
+/// The question under the key at a place.
 fn question_at<'a, A: Allocator>(
     waiting: &'a Slab<KeyedWaiting<A>, A>,
     keys: &VecDeque<NumberedKey, A>,

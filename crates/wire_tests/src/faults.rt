@@ -25,8 +25,8 @@ fn is_answered_by_the_second<A: Allocator>(puts: &[(Action<A>, bool)]) -> bool {
     }
 }
 
-/// The first call is the arrival of the question, the second one the ask. A refused ask is no refused put: its path has
-/// failed.
+/// The first call is the arrival of the question, the second one the ask. A refused ask is no
+/// refused put: its path has failed.
 #[test]
 fn behind_a_refused_ask_the_next_server_is_asked(rt: HostRuntime) -> Result<(), Fail> {
     let heap = Refusing::new(rt.alloc());
@@ -38,7 +38,8 @@ fn behind_a_refused_ask_the_next_server_is_asked(rt: HostRuntime) -> Result<(), 
     Ok(())
 }
 
-/// The actions of a turn of which every put is refused: of each try the ask and the close, in turn to both servers.
+/// The actions of a turn of which every put is refused: of each try the ask and the close, in turn
+/// to both servers.
 fn is_refused<A: Allocator>(place: usize, put: &(Action<A>, bool)) -> bool {
     match place {
         0 | 4 => asks_at(put, SERVER, false),
@@ -63,8 +64,9 @@ fn every_put_is_refused(rt: HostRuntime) -> Result<(), Fail> {
     Ok(())
 }
 
-/// Two turns in which the question comes in two pieces, while the readers of pieces are granted so many growths of this
-/// heap: whether the question was asked, and no more, or `None` where memory ran out.
+/// Serves two turns in which the question arrives in two pieces, while this heap grants the readers
+/// of pieces `count` allocations. Returns whether the question was asked, and no more; `None` where
+/// memory ran out.
 fn is_asked_with<'a>(
     ample: &'a Refusing<Global>,
     heap: &'a Refusing<Global>,
@@ -94,7 +96,7 @@ fn a_reader_without_memory_ends_the_call(rt: HostRuntime) -> Result<(), Fail> {
     Ok(())
 }
 
-/// One turn with the question, while this heap refuses every growth.
+/// Serves one turn with the question, while this heap refuses every allocation.
 fn serve_refused<'a>(
     own: &'a Refusing<Global>,
     of_wire: &'a Refusing<Global>,

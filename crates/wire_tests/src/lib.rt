@@ -1,5 +1,6 @@
-//! Tests of the loop over a wire in memory, of what no contract says: that memory is there, and what the wire's script
-//! gives and refuses. And over sockets: that what is sent reaches whom it should.
+//! Tests of the loop over a wire in memory, of what no contract says: that memory is there, and
+//! what the wire's script gives and refuses. And over sockets: that what is sent reaches whom it
+//! should.
 #![tactic(auto)]
 
 #[cfg(test)]

@@ -1,5 +1,5 @@
-//! Runs in which each call of a wire is refused in turn: as many turns are made, nothing is lost, and what was refused
-//! is counted. They have actions of every kind.
+//! Runs in which each call of a wire is refused in turn: as many turns are made, nothing is lost,
+//! and what was refused is counted. They have actions of every kind.
 
 ghost use Rattle.std.specs.Prelude.{◌<◌, ◌≤◌, length};
 
@@ -11,7 +11,7 @@ use std::test::Fail;
 use step_values::{Action, Path};
 use suffix_routes::Peer;
 
-/// What comes in a turn.
+/// The arrival of a turn.
 #[derive(Clone, Copy)]
 enum Comes {
     Nothing,
@@ -24,18 +24,18 @@ enum Comes {
     Gone(Path),
 }
 
-/// The moment of a turn, and what comes in it.
+/// The moment of a turn, in ms, and its arrival.
 type Turn = (u64, Comes);
 
 /// The reply to the ask of the third turn.
 const THIRD_REPLY: &[u8] =
     b"\x00\x18\x85\x00\x00\x01\x00\x01\x00\x00\x00\x00\x01a\x07example\x00\x00\x01\x00\x01\xc0\x0c\x00\x01\x00\x01\x00\x00\x01\x2c\x00\x04\xc6\x33\x64\x05";
 
-/// The reply with TC (RFC 1035 4.1.1), cut behind the type of its record.
+/// The reply with TC (RFC 1035 4.1.1), cut after the type of its record.
 const CUT_REPLY: &[u8] =
     b"\x00\x08\x87\x00\x00\x01\x00\x01\x00\x00\x00\x00\x01a\x07example\x00\x00\x01\x00\x01\xc0\x0c\x00\x01";
 
-/// The reply to the ask of the second turn, behind its length.
+/// The reply to the ask of the second turn, after its length.
 const FRAME: &[u8] =
     b"\x00\x2b\x00\x10\x85\x00\x00\x01\x00\x01\x00\x00\x00\x00\x01a\x07example\x00\x00\x01\x00\x01\xc0\x0c\x00\x01\x00\x01\x00\x00\x01\x2c\x00\x04\xc6\x33\x64\x05";
 
@@ -43,7 +43,8 @@ const FRAME: &[u8] =
 const FAILURE: &[u8] =
     b"\x00\x08\x81\x82\x00\x01\x00\x00\x00\x00\x00\x00\x01a\x07example\x00\x00\x01\x00\x01";
 
-/// A referral to the ask of the second turn: AA is clear, no answer, and a name server of example (RFC 1034 4.3.1).
+/// A referral to the ask of the second turn: AA is clear, no answer, and a name server of example
+/// (RFC 1034 4.3.1).
 const REFERRAL: &[u8] =
     b"\x00\x10\x81\x00\x00\x01\x00\x00\x00\x01\x00\x00\x01a\x07example\x00\x00\x01\x00\x01\xc0\x0e\x00\x02\x00\x01\x00\x00\x0e\x10\x00\x05\x02ns\xc0\x0e";
 
@@ -135,8 +136,8 @@ fn word(number: u16) -> u32 {
     u32::from(number) * 65_537
 }
 
-/// The words of the turn with this number, from 1: its first identifier is 8 times the number, and each further one the
-/// next.
+/// The words of the turn with this number, from 1: its first identifier is 8 times the number, and
+/// each further one the next.
 fn words_of(turn: u8) -> [u32; 8] {
     let first = 8 * u16::from(turn);
     [
@@ -185,7 +186,7 @@ fn closed(action: &Action) -> Option<Path> {
     }
 }
 
-/// Behind each ask that was not sent the next put closes its path.
+/// After each ask that was not sent the next put closes its path.
 fn are_given_up(puts: &[(Action, bool)]) -> bool {
     let mut failed = None;
     for (action, sent) in puts {
@@ -197,7 +198,7 @@ fn are_given_up(puts: &[(Action, bool)]) -> bool {
     failed.is_none()
 }
 
-/// How many puts were not sent, and how many of these are asks.
+/// Returns the number of puts that were not sent, and of the asks among them.
 fn unsent(puts: &[(Action, bool)]) -> (u64, u64) {
     let (mut all, mut asks) = (0u64, 0u64);
     for (action, sent) in puts {
@@ -211,17 +212,17 @@ fn unsent(puts: &[(Action, bool)]) -> (u64, u64) {
     (all, asks)
 }
 
-/// What came of a run.
+/// The result of a run.
 #[derive(Clone, Copy, PartialEq, Eq, Debug)]
 enum Fate {
-    /// It has no call with the number.
+    /// The run has no call with the number.
     NoCall,
     /// The call was refused, and the counts are those of one that is refused.
     Counted,
     Other,
 }
 
-/// The fate of a run over this wire of so many turns.
+/// The fate of a run of `turns` turns over this wire.
 fn fate_of(wire: &ScriptWire, served: Served, turns: u64) -> Fate {
     if wire.faults() == 0 {
         return Fate::NoCall;
@@ -239,7 +240,8 @@ fn fate_of(wire: &ScriptWire, served: Served, turns: u64) -> Fate {
     }
 }
 
-/// The fate of these turns, with a new forwarder that asks these servers, where the call with this number is refused.
+/// The fate of these turns, with a new forwarder that asks these servers, where the call with this
+/// number is refused.
 fn fate_without(
     alloc: Global,
     servers: &[Peer],
@@ -254,8 +256,9 @@ fn fate_without(
     Ok(fate_of(&wire, served, count))
 }
 
-/// The first call that is not counted where it is refused, and the fate of the run then: there is no such call, if all
-/// is as it has to be, and then so many calls were made.
+/// Returns the first call that is not counted where it is refused, and the fate of the run then.
+/// Where all is as it has to be, there is no such call, and the number is that of the calls that
+/// were made.
 fn first_uncounted(
     alloc: Global,
     servers: &[Peer],

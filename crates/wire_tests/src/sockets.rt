@@ -1,7 +1,9 @@
-//! A question and its answer over sockets of this machine, by UDP and over TCP. The server and the client are the
-//! test's own, and turns are made one after another, so there is one thread. Ports 15353 to 15356 have to be free.
+//! A question and its answer over sockets of this machine, by UDP and over TCP. The server and the
+//! client are the test's own, and turns are made one after another, so there is one thread. Ports
+//! 15353 to 15356 have to be free.
 //!
-//! A wire is forgotten, since each test has a process of its own: to let go of one would have to be proved here.
+//! A wire is forgotten, since each test has a process of its own: dropping one would have to be
+//! proved here.
 
 use crate::worked::{ANSWER, QUERY, QUESTION, REPLY};
 use forwarder_core::Forwarder;
@@ -16,11 +18,11 @@ use std::net::{Ipv4Addr, SocketAddr, SocketAddrV4};
 use std::test::Fail;
 use suffix_routes::{Config, Limits, Peer};
 
-/// How often `serve` is called at most until a packet has come.
+/// The most calls of `serve` until a packet has come.
 const CALLS: u32 = 400;
 
-/// The configuration where the question comes by UDP. On a slow machine too nothing times out: an ask and a question
-/// wait as long as a configuration can say.
+/// The configuration where the question comes by UDP. On a slow machine too nothing times out: an
+/// ask and a question wait as long as a configuration can say.
 const BY_UDP: &str = "version = 1
 listen = \"127.0.0.1:15353\"
 [limits]
@@ -67,7 +69,7 @@ fn limits() -> Limits {
     limits
 }
 
-/// What came or went is what it should be.
+/// Fails unless what came or went is as it should be.
 fn expected(is_so: bool) -> Result<(), Fail> {
     if is_so {
         Ok(())
@@ -76,7 +78,8 @@ fn expected(is_so: bool) -> Result<(), Fail> {
     }
 }
 
-/// Replies where the query has come: under its identifier, to whom it came from. The answer is whether it has come.
+/// Replies where the query has come: under its identifier, to whom it came from. Returns whether
+/// it has come.
 fn is_query_replied(server: &UdpSocket) -> Result<bool, Fail> {
     let mut query = [0u8; 64];
     let Ok((count, from)) = server.recv_from(&mut query) else {
@@ -90,7 +93,7 @@ fn is_query_replied(server: &UdpSocket) -> Result<bool, Fail> {
     Ok(true)
 }
 
-/// Calls of so many turns until the query has come, which gets its reply.
+/// Calls of `turns` turns until the query has come, which gets its reply.
 fn reply_to_query(
     alloc: Global,
     wire: &mut MioWire<'_, HostRuntime>,
@@ -142,7 +145,8 @@ fn a_question_by_udp(rt: HostRuntime) -> Result<(), Fail> {
     asked
 }
 
-/// What has come over TCP goes behind so many octets; the answer is how many more these are.
+/// Reads what has come over TCP into the answer, after its first `count` octets. Returns how many
+/// octets came.
 fn received(client: &mut TcpStream, answer: &mut [u8], count: usize) -> usize {
     match answer.get_mut(count..) {
         Some(room) => client.read(room).unwrap_or(0),

@@ -21,7 +21,7 @@ use std::{io, net};
 use step_values::Action;
 use suffix_routes::{Limits, Peer};
 
-/// How many turns are made at most until something has come.
+/// The most turns that are made until something has come.
 const TURNS: u32 = 400;
 
 /// The number of the error that says that no descriptor is left (EMFILE).
@@ -33,15 +33,15 @@ const TAKEN_PORT: i32 = 98;
 /// The number of the error that says that a network can't be reached (ENETUNREACH).
 const NO_NETWORK: i32 = 101;
 
-/// Calls of this machine's system, each of which can be made to answer otherwise.
+/// Calls of this machine's system. Each can be made to answer otherwise.
 #[derive(Drop)]
 struct System<'a> {
     host: &'a HostRuntime,
-    /// How many random octets were asked for, in all calls.
+    /// The number of random octets that were asked for, in all calls.
     octets: Cell<usize>,
     /// No random octets are given.
     has_no_octets: Cell<bool>,
-    /// What the clock reads.
+    /// The time of the clock.
     time: Cell<Duration>,
     /// The clock fails.
     has_no_clock: Cell<bool>,
@@ -123,7 +123,7 @@ fn address(ip: Ipv4Addr, port: u16) -> SocketAddr {
     SocketAddr::V4(SocketAddrV4::new(ip, port))
 }
 
-/// It is as it should be.
+/// Fails unless it is as it should be.
 fn expected(is_so: bool, what: &'static str) -> Result<(), Fail> {
     if is_so { Ok(()) } else { Err(Fail::from(what)) }
 }
@@ -232,8 +232,8 @@ fn client_that_came(wire: &mut MioWire<'_, System<'_>>) -> Option<u64> {
     None
 }
 
-/// Puts a query the bind of whose socket answers this error. The answer is whether the query was
-/// sent all the same, and whether a client was closed for it.
+/// Puts a query the bind of whose socket answers this error. Returns whether the query was sent all
+/// the same, and whether a client was closed for it.
 fn put_where_refused(
     system: &System<'_>,
     wire: &mut MioWire<'_, System<'_>>,
@@ -249,8 +249,8 @@ fn put_where_refused(
     (is_sent, is_closed)
 }
 
-/// What comes of queries where a port is taken, a network can't be reached and no descriptor is
-/// left, while a client's connection has been at rest for a second.
+/// The results of queries where a port is taken, a network can't be reached and no descriptor is
+/// left, while a client's connection has been idle for a second.
 fn puts_beside_a_resting_client(
     system: &System<'_>,
     wire: &mut MioWire<'_, System<'_>>,
@@ -280,8 +280,8 @@ fn a_resting_client_is_closed_for_a_descriptor_alone(rt: HostRuntime) -> Result<
     Ok(())
 }
 
-/// Whether calls of a turn end for want of memory for the frames of a client, while this heap has
-/// none for them.
+/// Whether calls of a turn run out of memory for the frames of a client, while this heap has none
+/// for them.
 fn ends_without_memory<'a>(
     rt: &HostRuntime,
     ample: &'a Refusing<Global>,

@@ -37,14 +37,15 @@ pub(crate) fn is_asked_alone<A: Allocator>(puts: &[(Action<A>, bool)]) -> bool {
     }
 }
 
-/// The question comes over a client's connection in two pieces, one in each turn: the second turn asks it.
+/// The question comes over a client's connection in two pieces, one in each turn: the second turn
+/// asks it.
 fn is_asked_in_the_second(heap: &Refusing<Global>) -> Result<bool, AllocError> {
     let mut wire = wire_of_two_pieces(heap)?;
     let served = serve_anew(heap, &mut wire, &[SERVER], 2)?;
     Ok(served == counted(2, 0) && is_asked_alone(wire.puts()))
 }
 
-/// A call of one turn over the same wire made anew puts nothing.
+/// A call of one turn over the same wire, made again, puts nothing.
 fn is_silent_in_the_first(heap: &Refusing<Global>) -> Result<bool, AllocError> {
     let mut wire = wire_of_two_pieces(heap)?;
     let served = serve_anew(heap, &mut wire, &[SERVER], 1)?;
@@ -61,8 +62,8 @@ fn a_frame_in_two_pieces_is_one_question(rt: HostRuntime) -> Result<(), Fail> {
     Ok(())
 }
 
-/// A wire of turns that are there is made, and its puts are seen, without memory: of one growth that is allowed, one is
-/// left.
+/// A wire is made of turns that exist already, and its puts are seen, without allocating: of one
+/// allocation that is allowed, one is left.
 fn is_made_without_memory(heap: &Refusing<Global>) -> Result<bool, AllocError> {
     let turns = turns(heap, question(heap)?, reply(heap, SERVER)?)?;
     let refuse = Vec::from_slice(heap, &[1u64])?;
@@ -74,7 +75,7 @@ fn is_made_without_memory(heap: &Refusing<Global>) -> Result<bool, AllocError> {
     Ok(is_silent && is_left)
 }
 
-/// The puts of a wire that was served are seen without memory.
+/// The puts of a wire that was served are seen without allocating.
 fn are_seen_without_memory(heap: &Refusing<Global>) -> Result<bool, AllocError> {
     let mut wire = wire_of_two_pieces(heap)?;
     let _served = serve_anew(heap, &mut wire, &[SERVER], 2)?;

@@ -27,7 +27,8 @@ pub(crate) const SECOND: Peer = Peer {
     port: 53,
 };
 
-/// The first word gives identifier 8 and port 1032, each further one the next identifier and the next port.
+/// The first word gives identifier 8 and port 1032, each further one the next identifier and the
+/// next port.
 const WORDS: [u32; 8] = [
     524_296, 589_833, 655_370, 720_907, 786_444, 851_981, 917_518, 983_055,
 ];
@@ -44,11 +45,11 @@ pub(crate) const QUERY: [u8; 27] =
 pub(crate) const REPLY: &[u8] =
     b"\x00\x08\x85\x00\x00\x01\x00\x01\x00\x00\x00\x00\x01a\x07example\x00\x00\x01\x00\x01\xc0\x0c\x00\x01\x00\x01\x00\x00\x01\x2c\x00\x04\xc6\x33\x64\x05";
 
-/// What the client gets.
+/// The answer to the client.
 pub(crate) const ANSWER: &[u8] =
     b"\x12\x34\x81\x80\x00\x01\x00\x01\x00\x00\x00\x00\x01a\x07example\x00\x00\x01\x00\x01\xc0\x0c\x00\x01\x00\x01\x00\x00\x01\x2c\x00\x04\xc6\x33\x64\x05";
 
-/// What the client gets where every try failed.
+/// The answer to the client where every try failed.
 const FAILED: [u8; 27] =
     *b"\x12\x34\x81\x82\x00\x01\x00\x00\x00\x00\x00\x00\x01a\x07example\x00\x00\x01\x00\x01";
 
@@ -130,7 +131,8 @@ pub(crate) fn turns<A: Allocator + Copy>(
     Ok(turns)
 }
 
-/// A wire on which these two arrive, at 1000 and at 1020, and that refuses the calls with these numbers.
+/// A wire on which these two arrive, at 1000 and at 1020, and that refuses the calls with these
+/// numbers.
 pub(crate) fn wire<A: Allocator + Copy>(
     alloc: A,
     first: Arrival<A>,
@@ -149,7 +151,7 @@ pub(crate) fn wire_of_two_pieces<A: Allocator + Copy>(
     wire(alloc, piece(alloc, 3, b"\x00\x1b\x12")?, rest, &[])
 }
 
-/// Serves so many turns over a wire with a new forwarder, as [`forwarder_to`].
+/// Serves `turns` turns over a wire with a new forwarder, as [`forwarder_to`].
 pub(crate) fn serve_anew<A: Allocator + Copy>(
     alloc: A,
     wire: &mut ScriptWire<A>,
@@ -221,7 +223,7 @@ fn replies<A: Allocator>(put: &(Action<A>, bool), text: &[u8], reason: Why, take
     }
 }
 
-/// So many turns, in which so many puts were refused and nothing was lost.
+/// The counts of `turns` turns, in which `refused_puts` puts were refused and nothing was lost.
 pub(crate) fn counted(turns: u64, refused_puts: u64) -> Served {
     Served {
         turns,

@@ -1,4 +1,5 @@
-//! What the loop asks of what carries its messages: arrivals, the doing of actions, the moment and random words.
+//! The interface of the loop to the carrier of its messages: arrivals, the doing of actions, the
+//! moment and random words.
 #![tactic(auto)]
 
 mod wire;

@@ -1,4 +1,4 @@
-//! What the loop asks of a wire.
+//! The calls of the loop to a wire.
 
 ghost use Rattle.std.specs.Prelude.{◌≡◌, ℕ, ◌<◌, Option, IfOk, OnErr, is_ok};
 ghost use Rattle.step_values.specs.Values.{action_of};
@@ -11,9 +11,10 @@ use step_values::{Action, Path};
 use suffix_routes::Peer;
 use thiserror::Error;
 
-/// What a wire gives.
+/// An arrival at a wire: octets of a client or of a server, or the end of a connection or a path.
 #[derive(Drop)]
 pub enum Arrival<A: Allocator = Global> {
+    /// Nothing arrived.
     Nothing,
     /// A client's datagram.
     ClientDatagram {
@@ -83,27 +84,31 @@ impl<A: Allocator + Copy> Arrival<A> {
 #[error("the wire refused the call")]
 pub struct WireFault;
 
-/// What carries messages to and from the forwarder, and knows the time.
+/// A carrier of messages to and from the forwarder, which knows the time.
 pub trait Wire<A: Allocator> {
-    /// What it gave and took so far; `None` claims nothing. What is told stays told while no fault is counted.
+    /// Its input and output so far; `None` claims nothing. A report stays while no fault is
+    /// counted.
     ghost told: { Self → Option Told };
 
-    /// How many faults it counted.
+    /// Its count of faults.
     ghost fault_count: { Self → ℕ };
 
-    /// What arrived next. `Err` only where the wire met a fault and counted it; what arrived is lost then.
+    /// The next arrival. `Err` only where the wire met a fault and counted it; the arrival is lost
+    /// then.
     fn arrival(&mut self) -> Result<Arrival<A>, WireFault>
         ensures tells { TellsMore (telling (told self.old) (fault_count self.old)) (arrived (given result))
             (telling (told self.new) (fault_count self.new)) }
         ensures faults { OnErr result (fault_count self.old < fault_count self.new) };
 
-    /// Does an action. `Err` only where the wire met a fault and counted it; the action is lost then.
+    /// Does an action. `Err` only where the wire met a fault and counted it; the action is lost
+    /// then.
     fn put(&mut self, action: &Action<A>) -> Result<(), WireFault>
         ensures tells { TellsMore (telling (told self.old) (fault_count self.old))
             (was_put (action_of action.now) (is_ok result)) (telling (told self.new) (fault_count self.new)) }
         ensures faults { OnErr result (fault_count self.old < fault_count self.new) };
 
-    /// May take the memory of octets back that it gave, once they are served: what arrives next may lie in it.
+    /// May take back the memory of octets that it gave, once they are served: the next arrival may
+    /// be in it.
     fn take_back(&mut self, octets: &mut Octets<A>)
         ensures tells { told self.new ≡ told self.old }
         ensures faults { fault_count self.new ≡ fault_count self.old };
@@ -113,12 +118,12 @@ pub trait Wire<A: Allocator> {
         ensures tells { TellsMore (telling (told self.old) (fault_count self.old)) (moment_was result)
             (telling (told self.new) (fault_count self.new)) };
 
-    /// Random words, of which nobody was sent any.
+    /// Random words, none of which was sent to anybody.
     fn words(&mut self) -> [u32; 8]
         ensures tells { TellsMore (telling (told self.old) (fault_count self.old)) (words_were result)
             (telling (told self.new) (fault_count self.new)) };
 
-    /// How many faults it counted; the count stays at its last value.
+    /// Its count of faults, which stays at its last value.
     fn faults(&self) -> u64
         ensures { result ≡ fault_count self.now };
 }

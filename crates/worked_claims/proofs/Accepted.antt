@@ -1,4 +1,5 @@
--- A worked reply, whole: what it matches, why it is accepted, and what it carried; and the answer that it justifies.
+-- A worked reply, whole: the ask that it matches, why it is accepted, and the pieces that it
+-- carried; and the answer that it justifies.
 use Rattle.std.proofs.Common.{◌≡◌, ℕ, List, [], ◌∷◌, Some, Ok, refl, inl, inr, arith}
 use Rattle.dns_message.specs.Names.{step as name_step, walk_in, name_within}
 use Rattle.dns_message.specs.Data.{octets_within, parts_at, data_at}
@@ -36,11 +37,11 @@ answer_with id high low ttl =
     0 ∷ id ∷ high ∷ low ∷ 0 ∷ 1 ∷ 0 ∷ 1 ∷ 0 ∷ 0 ∷ 0 ∷ 0 ∷ 1 ∷ 97 ∷ 1 ∷ 101 ∷ 0 ∷ 0 ∷ 1 ∷ 0 ∷ 1 ∷ 192 ∷ 12 ∷ 0 ∷ 1 ∷ 0
     ∷ 1 ∷ 0 ∷ 0 ∷ 0 ∷ ttl ∷ 0 ∷ 4 ∷ 198 ∷ 51 ∷ 100 ∷ 5 ∷ []
 
--- what the server says: authoritative, RD, and 60 seconds
+-- the server's reply: authoritative, RD, and 60 seconds
 abbrev pub reply_text : List ℕ
 reply_text = answer_with 8 133 0 60
 
--- what the client gets of it: RD and RA
+-- the client's answer from it: RD and RA
 abbrev pub client_text : List ℕ
 client_text = answer_with 7 129 128 60
 
@@ -92,7 +93,7 @@ piece = record {
   route = 0;
 }
 
--- a question may cost so many tries, and an answer be told for so many seconds past its end
+-- limits: tries for a question, and seconds of the window for expired data
 abbrev pub with_limits : ℕ → ℕ → Config
 with_limits tries stale_s = record config { limits = record config.limits { tries = tries; stale_s = stale_s } }
 
@@ -153,7 +154,7 @@ carried_now tries stale_s = inr (inr (refl, piece ∷ [], [], carries tries stal
 abbrev pub seen : Look
 seen = record { config = config; asked = asked; before = []; now = answered ∷ asked ∷ [] }
 
--- what came while the client waited may serve it
+-- a piece that came while the client waited may serve it
 pub justified : Justified seen a held
 unfolding route_of
 justified = record {

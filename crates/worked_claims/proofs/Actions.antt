@@ -1,5 +1,5 @@
--- What the words of the laws say of actions, computed: a step that gives up a path, replies and asks; and actions of no
--- step.
+-- The definitions of the laws about actions, computed: a step that gives up a path, replies and
+-- asks; and actions of no step.
 use Rattle.std.proofs.Common.{◌≡◌, ◌≤◌, List, [], ◌∷◌, length, refl, sym, arith}
 use Rattle.std.proofs.lemmas.Bool.{true≢false}
 use Rattle.outstanding.specs.declared.ask.Path.TheVariants.{Udp, Tcp}

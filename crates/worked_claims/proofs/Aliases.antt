@@ -1,6 +1,5 @@
--- How many aliases lead on, computed: by a reply that says a.e to be an alias of itself, eight lead to an answer or a
--- further
--- name, and nine are too many; a question for aliases follows none.
+-- How many aliases lead on, computed: by a reply that says a.e to be an alias of itself, eight lead
+-- to an answer or a further name, and nine are too many; a question for aliases follows none.
 use Rattle.std.proofs.Common.{◌≡◌, ◌≢◌, ℕ, ◌≤◌, zero, suc, List, [], ◌∷◌, length, Some, Ok, refl, sym, ap}
 use Rattle.std.proofs.Common.{◌∙◌, inl, inr, arith}
 use Rattle.dns_message.specs.Names.{step as name_step, walk_in, name_within}
@@ -101,7 +100,7 @@ carries tries stale_s = record {
   are = refl;
 }
 
--- it, so many times
+-- this many copies of it
 abbrev pub loops : ℕ → List Held
 loops zero = []
 loops (suc n) = loop ∷ loops n
@@ -165,7 +164,7 @@ eight_aliases_are_not_too_many : (l : Look) (octets : List ℕ) (h : FollowsTooM
 eight_aliases_are_not_too_many l octets h these = let many : 8 ≡ 9 = ap length (sym these) ∙ h.many in
     omega (arith, many)
 
--- ten are not told so either
+-- ten are not reported as nine either
 ten_aliases_are_not_told_as_nine : (l : Look) (octets : List ℕ) (h : FollowsTooMany l octets) → h.aliases ≡ loops 10 → ⊥
 ten_aliases_are_not_told_as_nine l octets h these = let many : 10 ≡ 9 = ap length (sym these) ∙ h.many in
     omega (arith, many)

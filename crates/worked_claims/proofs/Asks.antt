@@ -1,6 +1,6 @@
--- Which asks may be listed side by side, and what one has to say, computed: apart in path and question, no more than
--- may be open,
--- with the identifier and the port of the step's own word, and to a server of the name's route.
+-- Which asks may be listed side by side, and what one has to say, computed: apart in path and
+-- question, no more than may be open, with the identifier and the port of the step's own word, and
+-- to a server of the name's route.
 use Rattle.std.proofs.Common.{◌≡◌, ℕ, ◌≤◌, ◌%◌, List, [], ◌∷◌, get_or, Option, Some, None}
 use Rattle.std.proofs.Common.{refl, sym, ap, arith}
 use Rattle.std.proofs.lemmas.Bool.{true≢false}
@@ -85,13 +85,12 @@ nor_with_one_between h = true≢false (h.0.1.0.question (named 97) (named 97) re
 
 -- ---- as many as may be open
 
--- so many inquiries may be open
+-- this many inquiries may be open
 abbrev open_at_most : ℕ → Config
 open_at_most inquiries = record config { limits = record config.limits { inquiries = inquiries } }
 
--- a question for the address of a name, and its ask, by this word: 524296 gives identifier 8 and port 1032, 1048592
--- gives 16
--- and 1040
+-- a question for the address of a name, and its ask, by this word: 524296 gives identifier 8 and
+-- port 1032, 1048592 gives 16 and 1040
 abbrev asks_for : ℕ → ℕ → ℕ → ℕ → Step
 asks_for letter word id port =
     step_of 1000 (word ∷ []) (from_client client (at_name 7 letter)) (ask_udp port server (at_name id letter) ∷ [])

@@ -1,5 +1,5 @@
--- A history carried one list of pieces: so of a worked history it is known what any claim names as carried. Over a
--- restart nothing is carried.
+-- A history carried one list of pieces, so every claim about a worked history means the same list.
+-- After a restart it is empty.
 use Rattle.std.proofs.Common.{◌≡◌, ◌∙◌, ℕ, List, [], ◌∷◌, ◌++◌, length, Some, refl, sym, ap, subst, inl, inr, arith}
 use Rattle.std.proofs.lemmas.Bool.{true≢false}
 use Rattle.dns_message.specs.Messages.{Spells}
@@ -7,7 +7,7 @@ use Rattle.dns_message.specs.Questions.{one_question}
 use Rattle.dns_message.specs.Values.{Question}
 use Rattle.dns_message.proofs.CallerLemmas.{one_message_is_spelled}
 use Rattle.suffix_routes.specs.Values.{Config}
-use Rattle.suffix_routes.specs.Serving.{route_of}
+use Rattle.suffix_routes.specs.Serving.{serving_route_of}
 use Rattle.trust_rank.specs.Values.{Piece}
 use Rattle.trust_rank.specs.Walks.{walk_of}
 use Rattle.record_cache.specs.Values.{Held}
@@ -45,7 +45,7 @@ one_carriage c s past ps qs one other =
 
     routes : one.route ≡ other.route
     routes = some_is one.route other.route (sym one.accepts.route_is
-        ∙ ap (λ (q : Question). route_of c q.name) questions ∙ other.accepts.route_is)
+        ∙ ap (λ (q : Question). serving_route_of c q.name) questions ∙ other.accepts.route_is)
 
     messages : one.message ≡ other.message
     messages = one_message_is_spelled other.accepts.octets one.message other.message
@@ -69,7 +69,7 @@ one_era c (s ∷ past) os ps (inr (inr one)) (inr (inr other)) =
     let before : one.2 ≡ other.2 = one_era c past one.2 other.2 one.4 other.4 in
     one.5 ∙ (λ k. then_carried (moment_at (s ∷ past)) (pieces k) (before k)) ∙ sym other.5
 
--- ---- over a restart
+-- ---- after a restart
 
 abbrev restarted : Step
 restarted = step_of 2000 [] restart []
@@ -77,7 +77,7 @@ restarted = step_of 2000 [] restart []
 abbrev passes : Step
 passes = step_of 2001 [] tick []
 
--- what an era before it carried is not there any more, nor later
+-- the pieces of the era before it are gone, and stay so
 nothing_is_kept : CarriedInEra config (restarted ∷ answered ∷ asked ∷ []) []
     × CarriedInEra config (passes ∷ restarted ∷ answered ∷ asked ∷ []) []
 nothing_is_kept = (
@@ -97,6 +97,6 @@ what_came_before_comes_back carried =
     (held ∷ []) [] carried nothing_is_kept.1) in
     omega (arith, none)
 
--- without the restart it is
+-- without the restart they are there
 without_a_restart : CarriedInEra config (answered ∷ asked ∷ []) (held ∷ [])
 without_a_restart = carried_now 4 0

@@ -1,6 +1,6 @@
--- A worked denial by the configuration, whole: a.e is denied, which is told at once; a step later, for a name that is
--- not denied,
--- for another opcode and for what is not served, no such answer is right.
+-- A worked denial by the configuration, whole: a.e is denied, and the reply says so at once; a step
+-- later, for a name that is not denied, for another opcode and for a type that is not served, no
+-- such answer is right.
 use Rattle.std.proofs.Common.{◌≡◌, ℕ, List, [], ◌∷◌, length, Some, Ok, refl, sym, ap, ◌∙◌, arith}
 use Rattle.std.proofs.lemmas.Bool.{true≢false}
 use Rattle.dns_message.specs.Names.{step as name_step, walk_in, name_within}
@@ -10,7 +10,7 @@ use Rattle.dns_message.specs.Messages.{message_at, message_of, first_question}
 use Rattle.dns_message.specs.Values.{Question, Message}
 use Rattle.dns_message.specs.Writing.{◌▹◌, each, name_text, written}
 use Rattle.dns_message.proofs.CallerLemmas.{message_read_is_spelled}
-use Rattle.suffix_routes.specs.Routes.{route_of as route_there}
+use Rattle.suffix_routes.specs.Routes.{route_of}
 use Rattle.step_values.specs.declared.action.Why.TheVariants.{LocalDenied}
 use Rattle.step_values.specs.Values.{from_client, tick, send_reply, Step}
 use Rattle.suffix_routes.specs.Serving.{is_local}
@@ -23,7 +23,7 @@ use Rattle.worked_claims.proofs.Texts.{question_text, status_text, with_flags, c
 use Rattle.worked_claims.proofs.Reasons.{denies_a}
 use Rattle.worked_claims.proofs.Silent.{nothing_followed}
 
--- ---- told at once
+-- ---- denied at once
 
 -- RA and result code 3, and the question
 abbrev denial : List ℕ
@@ -43,7 +43,7 @@ unfolding message_at header_of counted question_at octets_end name_within walk_i
 is_read = refl
 
 chain : ChainToLocal at_once (address a) []
-unfolding route_there
+unfolding route_of
 chain = record {
   last = address a;
   leads = record { few = omega arith; follows = refl };
@@ -66,7 +66,7 @@ a_denial_at_once : RightReply at_once client (question_text 7 1) 0 LocalDenied d
 unfolding first_question question_at octets_end name_within walk_in name_step
 a_denial_at_once = record { opcode = refl; question = address a; reads = refl; served = refl; answers = answers }
 
--- ---- what is no such answer
+-- ---- no such answer
 
 abbrev later : Look
 later = record at_once { now = step_of 1001 [] tick [] ∷ told ∷ [] }
@@ -84,7 +84,7 @@ abbrev not_denied : Look
 not_denied = record at_once { config = config }
 
 of_a_name_that_is_not_denied : (octets : List ℕ) → RightLocalAnswer not_denied client (question_text 7 1) octets → ⊥
-unfolding first_question question_at octets_end name_within walk_in name_step route_there
+unfolding first_question question_at octets_end name_within walk_in name_step route_of
 of_a_name_that_is_not_denied octets h =
     let reads : Some (address a) ≡ Some h.question = h.reads in
     let own : address a ≡ h.question = cc in

@@ -1,6 +1,5 @@
--- Why a question fails in the end, computed: all tries, its deadline, and an answer that is too large; with neighbours
--- a try, a
--- step, a question, a millisecond or an octet away.
+-- Why a question fails in the end, computed: all tries, its deadline, and an answer that is too
+-- large; with neighbours a try, a step, a question, a millisecond or an octet away.
 use Rattle.std.proofs.Common.{◌≡◌, ℕ, ◌+◌, ◌<◌, ◌≤◌, List, [], ◌∷◌, ◌++◌, length, Bool, Some, true, false, refl, sym, ap, ◌∙◌, subst, inl, inr, arith, length-append}
 use Rattle.std.proofs.lemmas.Bool.{true≢false}
 use Rattle.dns_message.specs.Names.{step as name_step, walk_in, name_within}
@@ -64,7 +63,7 @@ one_try_failed = record {
   none_left = tt;
 }
 
--- where no server was heard, what was asked last is the client's own question
+-- where no server was heard, the last asked question is the client's own
 own_question : (l : Look) → IsSilent l.now → (h : AllTriesFailed l (question_text 7 1)) → h.last ≡ address a
 unfolding first_question question_at octets_end name_within walk_in name_step
 own_question l silent h =
@@ -94,7 +93,7 @@ one_of_two_tries_failed h =
       | inr none ↦ none.0 closes_it
     ]
 
--- what an accepted reply closes did not fail
+-- an ask that an accepted reply closes did not fail
 the_accepted_did_not_fail : LastFailed config (address a) (answered ∷ asked ∷ []) 1 → ⊥
 unfolding first_question question_at octets_end name_within walk_in name_step
 the_accepted_did_not_fail h = elim h.1 [
@@ -103,7 +102,7 @@ the_accepted_did_not_fail h = elim h.1 [
       (record { ask = ask; asked = address a; is_listed = refl; closed = refl; reads = refl; same = refl })
 ]
 
--- it is told in the step of the last failure
+-- the reply comes in the step of the last failure
 a_step_after_the_last_failure : Cause (after 1 (passes 2501 ∷ gave_up ∷ asked ∷ [])) client
     (question_text 7 1) 0 Exhausted
     → ⊥
@@ -137,7 +136,7 @@ at_the_deadline = record { passed = refl; late = omega arith }
 a_millisecond_early : Cause (after 4 (passes 8999 ∷ asked ∷ [])) client (question_text 7 1) 0 Deadline → ⊥
 a_millisecond_early h = let late : 9000 ≤ 8999 = h.late in omega (arith, late)
 
--- something came from a server at the same moment
+-- octets came from a server at the same moment
 abbrev hears : Step
 hears = step_of 9000 [] (delivery (Udp 1032) server reply_text) []
 
@@ -211,7 +210,7 @@ as_large_as_may_be l octets h none end many =
     let passes_it : 65535 < length (answer_of octets (moment_at l.now)) = subst (λ (n : ℕ). 65535 < n) text h.large in
     omega (arith, takes, many, passes_it)
 
--- so it is past its end, once all tries failed for it, where there is a window: the text takes as many octets
+-- an expired set takes as many octets, where it is sent once all tries failed, within the window
 stale_answer_takes : (octets : List ℕ) (t : ℕ)
     → length (full_text (asked_in (header_in text_of_1000) (Some of_1000)) (stale_sections t [] [] (large octets)))
     ≡ 33 + length octets
@@ -222,7 +221,7 @@ stale_answer_takes octets t =
     let three = length-append ((octets ++ []) ++ []) [] in
     omega (arith, one, two, three)
 
--- what is known of it, but its length
+-- all parts of the cause but the length of the answer
 pub record FailedAndEnded (l : Look) (octets : List ℕ) : Type 0 where
   pub tries : AllTriesFailed l text_of_1000
   pub question : tries.question ≡ of_1000
@@ -269,7 +268,7 @@ nothing_is_too_large_over_udp : (l : Look) (to : Peer) (octets : List ℕ) (wait
     → Cause l (FromUdp to) octets waiting TooLarge → ⊥
 nothing_is_too_large_over_udp l to octets waiting h = h
 
--- ---- what is no failure
+-- ---- no failure
 
 answers_are_no_failures : (l : Look) (to : Client) (octets : List ℕ) (waiting : ℕ)
     → (Cause l to octets waiting Answered → ⊥) × (Cause l to octets waiting Stale → ⊥)

@@ -1,4 +1,5 @@
--- Which fault is the first, computed: of names in messages, of names, numbers and texts in data, and of names in text.
+-- Which fault is the first, computed: of names in messages, of names, numbers and texts in data,
+-- and of names in text.
 use Rattle.std.proofs.Common.{◌≡◌, ℕ, List, [], ◌∷◌, ◌++◌, replicate, Some, None, Ok, Err, refl}
 use Rattle.dns_name.specs.declared.fault.NameFault.TheVariants as name_fault
 use Rattle.dns_name.specs.Text.{written_label_fault, name_in}
@@ -9,8 +10,8 @@ use Rattle.dns_message.specs.Shapes.{shape_of}
 
 -- ---- names in messages
 
--- a pointer's second octet is not there; where it is, the pointer leads nowhere; and one that leads back ends the
--- root's name
+-- a pointer's second octet is not there; where it is, the pointer leads nowhere; and one that leads
+-- back ends the root's name
 second_octet_absent : name_at (0 ∷ 192 ∷ []) 1 ≡ Err Short
 unfolding name_within walk_in name_step
 second_octet_absent = refl
@@ -23,7 +24,7 @@ pointer_back : name_at (0 ∷ 192 ∷ 0 ∷ []) 1 ≡ Ok ([], 3)
 unfolding name_within walk_in name_step
 pointer_back = refl
 
--- a label of so many octets
+-- a label of this many octets
 abbrev label : ℕ → List ℕ
 label n = n ∷ replicate n 97
 
@@ -34,7 +35,8 @@ three = label 63 ++ (label 63 ++ label 63)
 abbrev labels_of : ℕ → List (List ℕ)
 labels_of last = replicate 63 97 ∷ replicate 63 97 ∷ replicate 63 97 ∷ replicate last 97 ∷ []
 
--- a fourth one of 62 octets would make 256: but its last octet is not there, which is told first
+-- a fourth one of 62 octets would make 256: but its last octet is not there, and that fault comes
+-- first
 end_before_length : name_at (three ++ (62 ∷ replicate 61 97)) 0 ≡ Err Short
 unfolding name_within walk_in name_step
 end_before_length = refl
@@ -62,7 +64,8 @@ pointer_in_data : data_at 5 (0 ∷ 192 ∷ 0 ∷ []) 1 2 ≡ Ok (0 ∷ [], 3)
 unfolding data_at shape_of parts_at name_within walk_in name_step
 pointer_in_data = refl
 
--- a name of 255 octets stands at 0, and an alias leads to it; with a label before the pointer it is too long
+-- a name of 255 octets is at 0, and an alias leads to it; with a label before the pointer it is too
+-- long
 abbrev longest : List ℕ
 longest = three ++ (label 61 ++ 0 ∷ [])
 
@@ -74,7 +77,7 @@ longest_in_data : data_at 5 (longest ++ 192 ∷ 0 ∷ []) 255 2 ≡ Ok (longest,
 unfolding data_at shape_of parts_at name_within walk_in name_step
 longest_in_data = refl
 
--- a label that goes on behind the data is its fault, even where it is too long
+-- a label that goes on after the data is its fault, even where it is too long
 data_before_length : data_at 5 (longest ++ 1 ∷ 98 ∷ 62 ∷ []) 255 3 ≡ Err Rdata
 unfolding data_at shape_of parts_at name_within walk_in name_step
 data_before_length = refl
@@ -90,7 +93,7 @@ number_and_root : data_at 15 (0 ∷ 10 ∷ 0 ∷ []) 0 3 ≡ Ok (0 ∷ 10 ∷ 0 
 unfolding data_at shape_of parts_at octets_within name_within walk_in name_step
 number_and_root = refl
 
--- nothing stands behind the number; and an octet too many behind the name
+-- nothing follows the number; and an octet too many follows the name
 name_missing : data_at 15 (0 ∷ 10 ∷ 0 ∷ []) 0 2 ≡ Err Rdata
 unfolding data_at shape_of parts_at octets_within name_within walk_in name_step
 name_missing = refl
@@ -119,7 +122,7 @@ texts : data_at 35 (naptr 1) 0 9 ≡ Ok (naptr 1, 9)
 unfolding data_at shape_of parts_at octets_within text_within name_within walk_in name_step
 texts = refl
 
--- a text that would go on behind the data, and one that would begin there
+-- a text that would go on after the data, and one that would begin there
 text_too_long : data_at 35 (naptr 5) 0 9 ≡ Err Rdata
 unfolding data_at shape_of parts_at octets_within text_within name_within walk_in name_step
 text_too_long = refl
@@ -135,7 +138,7 @@ end_before_shape = refl
 
 -- ---- names in text
 
--- 64 characters, one of them no character of labels: that is told, and not the length
+-- 64 characters, one of them no character of labels: that is the fault, and not the length
 abbrev with_a_star : List ℕ
 with_a_star = replicate 63 97 ++ 42 ∷ []
 
@@ -151,7 +154,7 @@ long_enough = refl
 in_a_text : (name_in with_a_star ≡ Err name_fault.BadCharacter) × (name_in (replicate 64 97) ≡ Err name_fault.LabelLong)
 in_a_text = (refl, refl)
 
--- but the first label's fault comes before those of the labels behind it
+-- but the first label's fault comes before those of the labels after it
 the_first_label_first : (name_in (replicate 64 97 ++ (46 ∷ 42 ∷ [])) ≡ Err name_fault.LabelLong)
     × (name_in (42 ∷ 46 ∷ replicate 64 97) ≡ Err name_fault.BadCharacter)
 the_first_label_first = (refl, refl)

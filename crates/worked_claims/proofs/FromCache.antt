@@ -1,5 +1,5 @@
--- When an answer from cache is the same as an earlier one, computed: at the same moment and to an equal question it has
--- to be.
+-- When an answer from cache is the same as an earlier one, computed: at the same moment and to an
+-- equal question it has to be.
 use Rattle.std.proofs.Common.{◌≡◌, ℕ, List, [], ◌∷◌, Bool, Some, None, true, false, refl, sym, ap, subst, inl, inr}
 use Rattle.std.proofs.Common.{arith}
 use Rattle.std.proofs.lemmas.Bool.{true≢false}
@@ -24,7 +24,7 @@ is_from_cache : FromCache hit (address a) (answer 9 128 60 5 6)
 unfolding first_question question_at octets_end name_within walk_in name_step
 is_from_cache = (refl, inl (refl, refl))
 
--- what is told otherwise is no answer from cache
+-- a reply for another reason is no answer from cache
 abbrev denied : Step
 denied = step_of 2000 [] (from_client client (question_text 7 1))
     (send_reply client (answer 9 128 60 5 6) LocalDenied ∷ [])

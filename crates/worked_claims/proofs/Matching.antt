@@ -1,6 +1,6 @@
--- Which octets match a listed ask, and which match is accepted, computed: the reply that does, and neighbours that
--- differ in one
--- thing: server, path, identifier, flags, question, result code, and what they tell.
+-- Which octets match a listed ask, and which match is accepted, computed: the reply that does, and
+-- neighbours that differ in one thing: server, path, identifier, flags, question, result code, and
+-- pieces.
 use Rattle.std.proofs.Common.{◌≡◌, ℕ, ◌+◌, ◌<◌, ◌≤◌, List, [], ◌∷◌, length, get_or, Option, Some, None, Ok, true, false, Bool, refl, sym, ap, ◌∙◌, ◌⊎◌, inl, inr, arith}
 use Rattle.std.proofs.lemmas.Bool.{true≢false}
 use Rattle.dns_message.specs.Names.{step as name_step, walk_in, name_within}
@@ -13,18 +13,18 @@ use Rattle.dns_message.specs.Questions.{one_question, same_question}
 use Rattle.dns_message.specs.Values.{Question, Message}
 use Rattle.dns_message.proofs.CallerLemmas.{message_read_is_spelled, one_message_is_spelled}
 use Rattle.suffix_routes.specs.declared.peer.Peer.{Peer}
-use Rattle.suffix_routes.specs.Routes.{route_of as route_there}
+use Rattle.suffix_routes.specs.Routes.{route_of}
 use Rattle.trust_rank.specs.Walks.{walk_from, servers_from, walk_of, is_lame}
 use Rattle.outstanding.specs.declared.ask.Path.{Path}
 use Rattle.outstanding.specs.declared.ask.Path.TheVariants.{Udp, Tcp}
 use Rattle.step_values.specs.Values.{Delivered, delivery, close_udp, tick, Step}
-use Rattle.suffix_routes.specs.Serving.{route_of}
+use Rattle.suffix_routes.specs.Serving.{serving_route_of}
 use Rattle.step_history.specs.History.{ShownAsk, Matches, Accepts, moment_at}
 use Rattle.step_table.proofs.Played.{a, address, server, other_server, config}
 use Rattle.worked_claims.proofs.Texts.{with_flags, step_of, the_only_ask, none_listed}
 use Rattle.worked_claims.proofs.Accepted.{asked, ask, answer_with, reply_text, answered, says, matches, accepts}
 
--- ---- what comes, and to which ask
+-- ---- deliveries, and the ask that they match
 
 -- octets that come from a peer on a path
 abbrev comes : Path → Peer → List ℕ → Step
@@ -59,7 +59,7 @@ the_octets path from octets read x q h = sym (ap octets_in h.delivered)
 the_reply_matches : Matches config answered (asked ∷ []) ask reply_text (address a)
 the_reply_matches = matches 4 0
 
--- ---- what is no match
+-- ---- no match
 
 from_another_server : (x : ShownAsk) (q : Question)
     → Matches config (comes (Udp 1032) other_server reply_text) (asked ∷ []) x reply_text q → ⊥
@@ -163,7 +163,7 @@ too_late x q h =
     let at : x.moment ≡ 1000 = ap (λ (y : ShownAsk). y.moment) (the_ask _ x reply_text q h) in
     omega (arith, live, at)
 
--- ---- what is not accepted
+-- ---- not accepted
 
 the_reply_is_accepted : Accepts config answered (asked ∷ []) ask (address a) 0 (says 60)
 the_reply_is_accepted = accepts 4 0
@@ -176,7 +176,7 @@ abbrev is_cut : Option Header → Bool
 is_cut None = false
 is_cut (Some h) = h.tc
 
--- the header of what is accepted is that of what came
+-- the header of an accepted reply is that of the octets that came
 the_header : (octets : List ℕ) (x : ShownAsk) (q : Question) (route : ℕ) (m : Message)
     → Accepts config (comes (Udp 1032) server octets) (asked ∷ []) x q route m → header_of octets ≡ Some m.header
 the_header octets x q route m h =
@@ -219,7 +219,7 @@ referral_is_read = refl
 
 a_referral : (x : ShownAsk) (q : Question) (route : ℕ) (m : Message)
     → Accepts config (comes (Udp 1032) server referral) (asked ∷ []) x q route m → ⊥
-unfolding first_question question_at octets_end name_within walk_in name_step route_there walk_from servers_from
+unfolding first_question question_at octets_end name_within walk_in name_step route_of walk_from servers_from
 a_referral x q route m h =
     let own : Some (address a) ≡ Some q =
     ap (λ (y : ShownAsk). one_question y.octets) (sym (the_ask _ x _ q h.matches)) ∙ h.matches.ask_reads in
@@ -228,7 +228,7 @@ a_referral x q route m h =
     let message_is : refers ≡ m =
     one_message_is_spelled h.octets refers m
     (message_read_is_spelled h.octets refers (ap message_of octets_are ∙ referral_is_read)) h.spells in
-    let places : Some 0 ≡ Some route = ap (λ (y : Question). route_of config y.name) asked_is ∙ h.route_is in
+    let places : Some 0 ≡ Some route = ap (λ (y : Question). serving_route_of config y.name) asked_is ∙ h.route_is in
     let place : 0 ≡ route = cc in
     let is : is_lame (walk_of config refers (address a) 0).end ≡ false =
     (λ k. is_lame (walk_of config (message_is k) (asked_is k) (place k)).end) ∙ h.not_lame in

@@ -1,6 +1,5 @@
--- Which step may own a reply, computed: a question owns one reply, of the client that asked it, in its own era; and a
--- message
--- that is dropped owns none.
+-- Which step may own a reply, computed: a question owns one reply, of the client that asked it, in
+-- its own era; and a message that is dropped owns none.
 use Rattle.std.proofs.Common.{◌≡◌, ℕ, List, [], ◌∷◌, length, get_or, Option, Some, None, true, false, refl, sym, ap}
 use Rattle.std.proofs.Common.{◌∙◌, ◌⊎◌, inl, inr, arith}
 use Rattle.std.proofs.lemmas.Bool.{true≢false}
@@ -30,7 +29,7 @@ refusal = 0 ∷ 7 ∷ 145 ∷ 132 ∷ 0 ∷ 0 ∷ 0 ∷ 0 ∷ 0 ∷ 0 ∷ 0 ∷ 
 abbrev refuses : Action
 refuses = send_reply client refusal BadOpcode
 
--- a message of another opcode, told so at once in these replies
+-- a message of another opcode, with these replies at once
 abbrev told : List Action → Step
 told actions = step_of 1000 [] (from_client client (status_text 7)) actions
 
@@ -84,7 +83,7 @@ a_reply_has_an_owner h = h
 abbrev overdue_reply : Client → SentReply
 overdue_reply to = record { client = to; octets = failure_with 7 2; why = Deadline }
 
--- eight seconds later the client, or whoever, is told that it waited too long
+-- eight seconds later the client, or another one, gets the reply that it waited too long
 abbrev overdue : Client → Step
 overdue to = step_of 9000 [] tick (send_reply to (failure_with 7 2) Deadline ∷ [])
 
@@ -108,7 +107,7 @@ a_question_of_its_era_owns_its_reply = record {
 a_tick_owns_nothing : {r : Request} → request_in tick ≡ Some r → ⊥
 a_tick_owns_nothing is = absurd cc
 
--- over a restart no question owns a reply
+-- no question from before a restart owns a reply
 no_owner_before_a_restart : (i : ℕ) (r : SentReply) → Owns config (overdue client ∷ restarted ∷ asked ∷ []) [] i r → ⊥
 no_owner_before_a_restart i r h = by h.in_era
   where
@@ -124,7 +123,7 @@ no_owner_before_a_restart i r h = by h.in_era
     by (inl same) = let step : h.asked ≡ overdue client = cc in a_tick_owns_nothing (sent (overdue client) step)
     by (inr later) = behind later.1
 
--- what this step asked in a history of two, where the newer one is a tick
+-- the question of a history of two steps, where the newer one is a tick
 asked_before_a_tick : (to : Client) (s : Step) (owners : List ℕ) (i : ℕ) (r : SentReply)
     (h : Owns config (overdue to ∷ s ∷ []) owners i r)
     → h.asked ≡ s
@@ -167,7 +166,7 @@ who_waits = (refl, refl, refl, refl)
 abbrev for_one : Config
 for_one = record config { limits = record config.limits { questions = 1 } }
 
--- a second one comes, and is told that no more may
+-- a second one comes, and gets the reply that no more may wait
 abbrev is_full : SentReply
 is_full = record { client = other_client; octets = failure_with 9 2; why = QuestionsFull }
 
@@ -201,7 +200,7 @@ the_first_was_answered i h = by (in_two second asked h.asked h.before h.in_era)
     by (inl newest) = let few : 0 ≡ 1 = waiting (asked ∷ []) newest.1 in omega (arith, few)
     by (inr older) = let few : 0 ≡ 1 = waiting [] older.2 in omega (arith, few)
 
--- ---- what is dropped
+-- ---- messages that are dropped
 
 -- a message that is itself a reply, and one of 11 octets
 abbrev is_reply : Step

@@ -1,6 +1,6 @@
--- A worked answer past the end of a set, whole: the address of a.e was carried for 60 seconds, ended, and is told once
--- all tries
--- failed; without a window, for a message of another opcode, and while the tries go on, no such answer is right.
+-- A worked answer with an expired set, whole: the address of a.e was carried for 60 seconds,
+-- expired, and is sent once all tries failed (RFC 8767 5); without a window, for a message of
+-- another opcode, and while the tries go on, no such answer is right.
 use Rattle.std.proofs.Common.{◌≡◌, ℕ, ◌≤◌, List, [], ◌∷◌, Some, Ok, refl, sym, ap, ◌∙◌, subst}
 use Rattle.std.proofs.Common.{inl, inr, arith}
 use Rattle.std.proofs.lemmas.Bool.{true≢false}
@@ -31,13 +31,13 @@ use Rattle.worked_claims.proofs.Texts.{question_text, status_text, client, step_
 use Rattle.worked_claims.proofs.Silent.{nothing_heard, nothing_carried}
 use Rattle.worked_claims.proofs.Accepted.{asked, answered, answer_with, held, with_limits, carried_now}
 
--- ---- asked again when the set has ended
+-- ---- asked again when the set has expired
 
 abbrev again : Step
 again = step_of 70000 (1048592 ∷ []) (from_client client (question_text 7 1))
     (ask_udp 1040 server (question_text 16 1) ∷ [])
 
--- the only try fails, and this is told
+-- the only try fails, and this is sent
 abbrev stale_text : List ℕ
 stale_text = answer_with 7 129 128 30
 
@@ -47,7 +47,7 @@ gives_up = step_of 71500 [] tick (close_udp 1040 ∷ send_reply client stale_tex
 abbrev past : List Step
 past = answered ∷ asked ∷ []
 
--- so many tries, and so many seconds of a window
+-- limits: tries, and seconds of the window
 abbrev seen : ℕ → ℕ → Look
 seen tries stale_s =
     record { config = with_limits tries stale_s; asked = again; before = past; now = gives_up ∷ again ∷ past }
@@ -58,7 +58,7 @@ carried_before = inr (inl (refl, nothing_heard (with_limits 1 600) again past re
 carried_until_now : CarriedInEra (with_limits 1 600) (gives_up ∷ again ∷ past) (held ∷ [])
 carried_until_now = inr (inl (refl, nothing_heard (with_limits 1 600) gives_up (again ∷ past) refl, carried_before))
 
--- it ended at 61020, and the window at 661020
+-- it expired at 61020, and the window ended at 661020
 past_its_end : JustifiedPastItsEnd (seen 1 600) a held
 unfolding route_of
 past_its_end = record {
@@ -124,7 +124,7 @@ an_answer_past_its_end : RightReply (seen 1 600) client (question_text 7 1) 1 St
 unfolding tries
 an_answer_past_its_end = record { opcode = refl; tries = tries; served = refl; window = omega arith; answers = answers }
 
--- ---- what is no such answer
+-- ---- no such answer
 
 without_a_window : (n : ℕ) (request octets : List ℕ) → RightStaleAnswer (seen n 0) client request octets → ⊥
 without_a_window n request octets h = let some : 1 ≤ 0 = h.window in omega (arith, some)
@@ -132,7 +132,7 @@ without_a_window n request octets h = let some : 1 ≤ 0 = h.window in omega (ar
 for_another_opcode : (l : Look) (octets : List ℕ) → RightStaleAnswer l client (status_text 7) octets → ⊥
 for_another_opcode l octets h = let opcode : 2 ≡ 0 = h.opcode in omega (arith, opcode)
 
--- what is asked for every type at once is not served
+-- a question for every type at once is not served
 abbrev for_every_type : Question
 for_every_type = record (address a) { kind = 255 }
 
@@ -159,9 +159,9 @@ what_came_just_now j =
     subst (Among held)
     (nothing_carried (with_limits 1 600) (asked ∷ []) j.old (refl, tt) j.carried_before) j.came_before
 
--- ---- for how long it is told
+-- ---- for how many seconds it is sent
 
--- up to its last millisecond by what is left of it, and from then on for 30 seconds
+-- up to its last millisecond the seconds that are left of it, and from then on 30 seconds
 until_it_ends : (told_past 2000 held ≡ record { piece = held.piece; seconds = 59 })
     × (told_past 61019 held ≡ record { piece = held.piece; seconds = 0 })
 until_it_ends = (refl, refl)

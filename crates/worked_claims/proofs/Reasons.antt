@@ -1,6 +1,5 @@
--- Why a question gets no answer at once, computed: for each reason what the history shows, and neighbours a step, a
--- question, an
--- ask or a port away.
+-- Why a question gets no answer at once, computed: for each reason the history that shows it, and
+-- neighbours a step, a question, an ask or a port away.
 use Rattle.std.proofs.Common.{◌≡◌, ℕ, ◌-◌, ◌^◌, List, [], ◌∷◌, length, Option, Some, None, true, false, refl, sym, ap, ◌∙◌, inl, inr, arith}
 use Rattle.std.proofs.lemmas.Bool.{true≢false}
 use Rattle.dns_message.specs.Names.{step as name_step, walk_in, name_within}
@@ -8,10 +7,10 @@ use Rattle.dns_message.specs.Records.{octets_end, question_at}
 use Rattle.dns_message.specs.Messages.{first_question}
 use Rattle.dns_message.specs.Values.{Question}
 use Rattle.suffix_routes.specs.Values.{Config}
-use Rattle.suffix_routes.specs.Routes.{route_of as route_there}
+use Rattle.suffix_routes.specs.Routes.{route_of}
 use Rattle.step_values.specs.declared.action.Why.TheVariants.{BadOpcode, BadFormat, NotServed, NoRoute, QuestionsFull, InquiriesFull, NoPort}
 use Rattle.step_values.specs.Values.{from_client, tick, close_udp, Action, Step}
-use Rattle.suffix_routes.specs.Serving.{route_of, is_local}
+use Rattle.suffix_routes.specs.Serving.{serving_route_of, is_local}
 use Rattle.step_history.specs.History.{Look, before_newest, tcp_asks, listed}
 use Rattle.step_history.specs.Causes.{Cause, HasNoRoute, newest_words, newest_actions}
 use Rattle.dns_message.specs.Questions.{is_unserved}
@@ -113,7 +112,7 @@ abbrev pub denies_a : Config
 denies_a = record config { routes = record { suffix = a; deny = true; servers = [] } ∷ [] }
 
 a_has_no_route : Cause (at_once for_b (question_text 7 1)) client (question_text 7 1) 0 NoRoute
-unfolding first_question question_at octets_end name_within walk_in name_step route_there
+unfolding first_question question_at octets_end name_within walk_in name_step route_of
 a_has_no_route = record {
   opcode = refl;
   question = address a;
@@ -139,14 +138,14 @@ some_route : {k : ℕ} → ◌≡◌ {A = Option ℕ} (Some k) None → ⊥
 some_route is = absurd cc
 
 a_has_a_route : Cause (at_once config (question_text 7 1)) client (question_text 7 1) 0 NoRoute → ⊥
-unfolding route_there
+unfolding route_of
 a_has_a_route h =
-    some_route (ap (λ (q : Question). route_of config q.name)
+    some_route (ap (λ (q : Question). serving_route_of config q.name)
     (sym (own_name (at_once config (question_text 7 1)) (refl, tt) h)) ∙ h.none)
 
--- a name that is denied is told so
+-- a denied name does not fail as one without a route
 a_is_denied : Cause (at_once denies_a (question_text 7 1)) client (question_text 7 1) 0 NoRoute → ⊥
-unfolding route_there
+unfolding route_of
 a_is_denied h =
     true≢false (ap (λ (q : Question). is_local denies_a q.name)
     (sym (own_name (at_once denies_a (question_text 7 1)) (refl, tt) h)) ∙ h.not_denied)
@@ -183,7 +182,7 @@ for_one = record config { limits = record config.limits { inquiries = 1 } }
 abbrev text_of_b : List ℕ
 text_of_b = 0 ∷ 9 ∷ 1 ∷ 0 ∷ 0 ∷ 1 ∷ 0 ∷ 0 ∷ 0 ∷ 0 ∷ 0 ∷ 0 ∷ 1 ∷ 98 ∷ 1 ∷ 101 ∷ 0 ∷ 0 ∷ 1 ∷ 0 ∷ 1 ∷ []
 
--- it comes behind these steps, with these words and actions
+-- it comes after other steps, with these words and actions
 abbrev asks_for_b : List ℕ → List Action → Step
 asks_for_b words actions = step_of 1010 words (from_client client text_of_b) actions
 

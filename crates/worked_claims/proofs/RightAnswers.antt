@@ -1,4 +1,5 @@
--- When an answer is right, computed: the client's message has opcode 0, and asks for what is served.
+-- When an answer is right, computed: the client's message has opcode 0, and asks for a type and
+-- class that are served.
 use Rattle.std.proofs.Common.{◌≡◌, ℕ, List, Some, refl, ap, ◌∙◌, arith}
 use Rattle.std.proofs.lemmas.Bool.{true≢false}
 use Rattle.dns_message.specs.Names.{step as name_step, walk_in, name_within}

@@ -1,4 +1,5 @@
--- Each row asks and gives up once at most, and gives up what is listed: whatever a question gets is a reply.
+-- Each row asks once at most, and gives up one path at most, that of a listed ask; a question gets
+-- nothing but replies.
 use Rattle.std.proofs.Common.{◌≡◌, ℕ, ◌≤◌, List, [], ◌∷◌, ◌++◌, length, Bool, true, false, cond, refl, sym, ap, ◌∙◌, subst, arith, Option, Some, None, Result, Ok, Err, ◌⊎◌, inl, inr}
 use Rattle.std.specs.Prelude.{map, nat_le, nat_lt, ◌==◌, IsSome}
 use Rattle.std.specs.List.{find, list_any, filter, cons_option, AllByRecursion}
@@ -32,7 +33,7 @@ use Rattle.step_values.specs.declared.action.Why.{Why}
 use Rattle.step_values.specs.declared.action.Why.TheVariants.{NotServed, QuestionsFull, InquiriesFull, NoPort, Deadline}
 use Rattle.step_values.specs.Values.{Event, from_client, delivery, path_failed, tick, restart, Action, ask_udp, ask_tcp, close_udp, close_tcp, send_reply, SentAsk}
 use Rattle.step_values.specs.Requests.{is_taken}
-use Rattle.suffix_routes.specs.Serving.{route_of, is_local}
+use Rattle.suffix_routes.specs.Serving.{serving_route_of, is_local}
 use Rattle.step_table.specs.State.{State, turn}
 use Rattle.waiting_questions.specs.Values.{Waiting, waits_for}
 use Rattle.step_table.specs.Attempts.{first_ask_for, plan_of, next_ask}
@@ -51,7 +52,7 @@ both : {X : Type 0} (P : X → Type 0) (v : Bool) {x y : X} → P x → P y → 
 both P true px py = px
 both P false px py = py
 
--- ---- what a question gets is a reply
+-- ---- a question gets a reply
 
 abbrev IsReply : Action → Type 0
 IsReply (send_reply client octets why) = Unit {0}
@@ -80,7 +81,7 @@ missed_replies c n x l (Some route) = tt
 met_replies : (c : Config) (n : ℕ) (x : Waiting) (l : LookUp) (met : LookUpEnd) → Replies (fate_at c n x l met)
 met_replies c n x l (ends e) = sent _ x _
 met_replies c n x l too_long = tt
-met_replies c n x l missed = missed_replies c n x l (route_of c l.wanted.name)
+met_replies c n x l missed = missed_replies c n x l (serving_route_of c l.wanted.name)
 
 fate_replies : (c : Config) (n : ℕ) (x : Waiting) (l : LookUp) → Replies (fate_of c n x l)
 fate_replies c n x l = met_replies c n x l l.met
@@ -140,7 +141,7 @@ abbrev IsIn : Ask → List Ask → Type 0
 IsIn a [] = ⊥
 IsIn a (b ∷ others) = (b ≡ a) ⊎ IsIn a others
 
--- what comes of a search is in the list
+-- the result of a search is in the list
 abbrev IsInIfAny : List Ask → Option Ask → Type 0
 IsInIfAny listed None = Unit {0}
 IsInIfAny listed (Some a) = IsIn a listed
@@ -162,7 +163,7 @@ is_listed a (b ∷ others) (inl same) =
     by false is = absurd (true≢false (sym is))
 is_listed a (b ∷ others) (inr more) = both IsSome (same_path b.path a.path) refl (is_listed a others more)
 
--- ---- what the actions of a step keep to
+-- ---- the actions of a step
 
 record Keeps (listed : List Ask) (actions : List Action) : Type 0 where
   asks : length (asks_in actions) ≤ 1
@@ -273,7 +274,7 @@ module _ (c : Config) (n : ℕ) (words : List ℕ) (listed : List Ask) where
   service_kept : (x : Waiting) (s : State) → Kept (row_of_service (turn c n words s) x)
   service_kept x s =
       both Kept (is_unserved x.wanted) (reply_kept listed (gives_up NotServed x) tt)
-      (route_kept x s (route_of c x.wanted.name))
+      (route_kept x s (serving_route_of c x.wanted.name))
 
   question_kept : (client : Client) (h : Header) (s : State) (q : Option Question)
       → Kept (row_of_question (turn c n words s) client h q)

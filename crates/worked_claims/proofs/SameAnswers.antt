@@ -1,6 +1,5 @@
--- When two answers from cache have the same sections, computed: other identifiers make no difference, other TTLs,
--- another
--- order and another result code do.
+-- When two answers from cache have the same sections, computed: other identifiers make no
+-- difference, other TTLs, another order and another result code do.
 use Rattle.std.proofs.Common.{◌≡◌, ℕ, List, [], ◌∷◌, get_or, Ok, false, refl, sym, ap, ◌∙◌, arith}
 use Rattle.dns_message.specs.Names.{step as name_step, walk_in, name_within}
 use Rattle.dns_message.specs.Data.{octets_within, parts_at, data_at}
@@ -65,7 +64,7 @@ reads_other_code = refl
 
 -- ---- which are the same
 
--- what the octets spell is this message
+-- the octets spell this message
 is_this : (octets : List ℕ) (m n : Message) → message_of octets ≡ Ok m → Spells octets n → m ≡ n
 is_this octets m n reads spells = one_message_is_spelled octets m n (message_read_is_spelled octets m reads) spells
 
@@ -93,7 +92,7 @@ abbrev first_octet : List Record → ℕ
 first_octet [] = 0
 first_octet (r ∷ rs) = get_or r.rdata 3 0
 
--- what a second later would be told
+-- the answer of a second later
 pub other_ttls_are_not_the_same : SameSections (answer 7 ok 59 5 6) (answer 9 ok 60 5 6) → ⊥
 other_ttls_are_not_the_same same =
     let ttls : 59 ≡ 60 =

@@ -1,5 +1,6 @@
--- Denials by a server, whole: a.e has no address, or is not there; both are accepted, carried, and answer the client.
--- What ends a look-up, and what of another type, class or name does not.
+-- Denials by a server, whole: a.e has no address, or is not there; both are accepted, carried, and
+-- answer the client. Pieces that end a look-up, and pieces of another type, class or name that
+-- don't.
 use Rattle.std.proofs.Common.{◌≡◌, ℕ, List, [], ◌∷◌, Some, None, Ok, refl, sym, inl, inr, arith}
 use Rattle.std.proofs.lemmas.Bool.{true≢false}
 use Rattle.dns_message.specs.Names.{step as name_step, walk_in, name_within}
@@ -29,17 +30,18 @@ use Rattle.worked_claims.proofs.Accepted.{asked, ask, piece, carried_before}
 
 -- ---- a denial with e's SOA
 
--- the data of an SOA: the root twice, five numbers, the last of which, MINIMUM, is 30 (RFC 1035 3.3.13)
+-- SOA data: the root twice and five numbers, the last of which, MINIMUM, is 30 (RFC 1035 3.3.13)
 abbrev soa_data : List ℕ
 soa_data = 0 ∷ 0 ∷ 0 ∷ 0 ∷ 0 ∷ 1 ∷ 0 ∷ 0 ∷ 0 ∷ 2 ∷ 0 ∷ 0 ∷ 0 ∷ 3 ∷ 0 ∷ 0 ∷ 0 ∷ 4 ∷ 0 ∷ 0 ∷ 0 ∷ 30 ∷ []
 
--- a message with this identifier, these octets of flags, the question, and the SOA with this time to live
+-- a message with this identifier, these octets of flags, the question, and the SOA with this time
+-- to live
 abbrev denial_with : ℕ → ℕ → ℕ → ℕ → List ℕ
 denial_with id high low ttl =
     0 ∷ id ∷ high ∷ low ∷ 0 ∷ 1 ∷ 0 ∷ 0 ∷ 0 ∷ 1 ∷ 0 ∷ 0 ∷ 1 ∷ 97 ∷ 1 ∷ 101 ∷ 0 ∷ 0 ∷ 1 ∷ 0 ∷ 1 ∷ 192 ∷ 14 ∷ 0 ∷ 6 ∷ 0
     ∷ 1 ∷ 0 ∷ 0 ∷ 0 ∷ ttl ∷ 0 ∷ 22 ∷ soa_data
 
--- what the server says, authoritative, with this result code, and what the client gets of it
+-- the server's reply, authoritative, with this result code, and the client's answer from it
 abbrev pub server_text : ℕ → List ℕ
 server_text code = denial_with 8 133 code 60
 
@@ -122,7 +124,7 @@ error_is_accepted = record {
   not_lame = refl;
 }
 
--- ---- what they carried: for 30 seconds, the least of the SOA's TTL and its MINIMUM (RFC 2308 5)
+-- ---- their pieces, for 30 seconds: the least of the SOA's TTL and MINIMUM (RFC 2308 5)
 
 abbrev pub no_address : Held
 no_address = record {
@@ -267,7 +269,7 @@ unfolding first_question question_at octets_end name_within walk_in name_step
 error_is_right =
     record { opcode = refl; question = address a; reads = refl; served = refl; answers = answers_with_error }
 
--- ---- what ends no look-up
+-- ---- pieces that end no look-up
 
 abbrev of_type : ℕ → Question
 of_type kind = record (address a) { kind = kind }

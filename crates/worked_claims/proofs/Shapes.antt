@@ -1,6 +1,5 @@
--- Which types have names in their data, of all there are: these numbers, and no other one; so the data of any other
--- type is
--- octets as they stand (RFC 3597).
+-- Which types have names in their data, of all there are: these numbers, and no other one; so the
+-- data of any other type is opaque octets (RFC 3597).
 use Rattle.std.proofs.Common.{◌≡◌, ℕ, List, [], ◌∷◌, Bool, true, false, cond, Option, Some, None, Ok, refl}
 use Rattle.std.specs.Prelude.{◌==◌, ◌||◌, is_some, map}
 use Rattle.std.specs.List.{list_any}
@@ -62,7 +61,8 @@ cname_has_one : shape_of 5 ≡ None → ⊥
 unfolding shape_of
 cname_has_one = some_is_none
 
--- the name in an alias is written out, that in a DNAME stays as it stands: a.e at 0, and at 5 a pointer to it
+-- the name in an alias is written out, that in a DNAME stays as it is: a.e at 0, and at 5 a pointer
+-- to it
 abbrev octets : List ℕ
 octets = 1 ∷ 97 ∷ 1 ∷ 101 ∷ 0 ∷ 192 ∷ 0 ∷ []
 

@@ -1,5 +1,5 @@
--- Chains past their ends, computed: along an alias that has ended, and behind one that is held; eight aliases over both,
--- and not nine; and a set that another one replaced is not told.
+-- Expired chains, computed: along an alias that has expired, and after one that is held; eight
+-- aliases in all, and not nine; and a set that another one replaced is not sent.
 use Rattle.std.proofs.Common.{◌≡◌, ℕ, ◌+◌, ◌<◌, ◌≤◌, ◌++◌, zero, suc, List, [], ◌∷◌, Some, Ok, refl, sym, ap, ◌∙◌, subst}
 use Rattle.std.proofs.Common.{inl, inr, arith}
 use Rattle.std.proofs.lemmas.Bool.{true≢false}
@@ -40,7 +40,7 @@ c = with_limits 1 600
 
 -- ---- a.e is an alias of b.e for 200 seconds, and that has an address for 60
 
--- with this identifier and these octets of flags, and so many seconds for both
+-- with this identifier, these octets of flags, and these TTLs in seconds of alias and address
 abbrev aliased : ℕ → ℕ → ℕ → ℕ → ℕ → List ℕ
 aliased id high low alias_ttl set_ttl =
     0 ∷ id ∷ high ∷ low ∷ 0 ∷ 1 ∷ 0 ∷ 2 ∷ 0 ∷ 0 ∷ 0 ∷ 0 ∷ 1 ∷ 97 ∷ 1 ∷ 101 ∷ 0 ∷ 0 ∷ 1 ∷ 0 ∷ 1
@@ -137,9 +137,9 @@ past = heard ∷ asked ∷ []
 both_carried : CarriedInEra c past both
 both_carried = inr (inr (refl, alias.piece ∷ set.piece ∷ [], [], carries, carried_before 1 600, refl))
 
--- ---- along an alias that has ended
+-- ---- along an alias that has expired
 
--- it is asked for again when both have ended, the only try fails, and this is told
+-- it is asked for again when both have expired, the only try fails, and this is sent
 abbrev again : Step
 again = step_of 210000 (1048592 ∷ []) (from_client client (question_text 7 1))
     (ask_udp 1040 server (question_text 16 1) ∷ [])
@@ -224,7 +224,7 @@ unfolding message_at header_of counted question_at octets_end record_at data_at 
     name_within walk_in name_step
 stale_is_read = refl
 
--- both are told for 30 seconds
+-- both are sent with 30 seconds
 stale_answers : StaleAnswers seen client (header_in (question_text 7 1)) (address a) [] (address a) stale_text
 unfolding written ◌▹◌ each name_text data_text with_length fields_of first_field name_within walk_in name_step
     shape_of
@@ -260,7 +260,7 @@ of_another_type : (l : Look) → ChainPastEnds l [] (record (address b) { kind =
 of_another_type l h =
     true≢false (sym h.slot ∙ ap (λ (q : Question). has_slot set.piece q.name q.class (Some q.kind)) h.follows)
 
--- ---- behind an alias that is held
+-- ---- after an alias that is held
 
 -- it is asked for again while the alias lives, so b.e is asked for; the only try fails
 abbrev text_of_b : List ℕ
@@ -425,7 +425,7 @@ second_carries now asked_at before on live = record {
   are = refl;
 }
 
--- ---- eight aliases over both
+-- ---- eight aliases in all
 
 -- a.e was an alias of itself, and then has an address
 abbrev looped : List Step
@@ -528,7 +528,7 @@ five_behind_four_that_are_held l q o h = let few : 9 ≤ 8 = h.few in omega (ari
 
 -- ---- a set that another one replaced
 
--- the address ended, and came anew for 5 seconds; then all tries fail
+-- the address expired, and came again for 5 seconds; then all tries fail
 abbrev renews : Step
 renews = step_of 62000 (1048592 ∷ []) (from_client client (question_text 7 1))
     (ask_udp 1040 server (question_text 16 1) ∷ [])

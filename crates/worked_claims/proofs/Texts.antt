@@ -1,4 +1,5 @@
--- Shared by the worked histories: questions for what stands at a.e, steps, and which step of a short history is meant.
+-- Shared by the worked histories: questions for a.e, steps, and which step of a short history is
+-- meant.
 use Rattle.std.proofs.Common.{◌≡◌, ℕ, ◌+◌, List, [], ◌∷◌, Some, None, Bool, true, false, cond, Option, ◌⊎◌, inl, inr}
 use Rattle.suffix_routes.specs.declared.peer.Peer.{Peer}
 use Rattle.step_values.specs.declared.event.Client.{Client}
@@ -8,7 +9,8 @@ use Rattle.step_history.specs.History.{is_restart, InEra, ShownAsk}
 
 -- ---- texts
 
--- a message with this identifier, these octets of flags, and a question for this type at a.e (RFC 1035 4.1)
+-- a message with this identifier, these octets of flags, and a question for this type at a.e (RFC
+-- 1035 4.1)
 abbrev pub with_flags : ℕ → ℕ → ℕ → ℕ → List ℕ
 with_flags id high low kind =
     0 ∷ id ∷ high ∷ low ∷ 0 ∷ 1 ∷ 0 ∷ 0 ∷ 0 ∷ 0 ∷ 0 ∷ 0 ∷ 1 ∷ 97 ∷ 1 ∷ 101 ∷ 0 ∷ 0 ∷ kind ∷ 0 ∷ 1 ∷ []

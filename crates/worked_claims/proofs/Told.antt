@@ -1,5 +1,5 @@
--- What a step tells, computed: the texts of failures, whether more is due after it, and for how many steps there are
--- owners.
+-- The outcome of a step, computed: the texts of failures, whether more is due after it, and for how
+-- many steps there are owners.
 use Rattle.std.proofs.Common.{◌≡◌, ℕ, List, [], ◌∷◌, get_or, length, Some, refl, sym, ap, ◌∙◌, arith}
 use Rattle.std.proofs.lemmas.Bool.{true≢false}
 use Rattle.dns_message.specs.Header.{header_in}
@@ -73,7 +73,7 @@ passes now = step_of now [] tick []
 abbrev none_owned : List (List ℕ)
 none_owned = [] ∷ [] ∷ []
 
--- the ask is due from 2500 on, so a step that tells nothing of it is right until 2499
+-- the ask is due from 2500 on, so a step that reports nothing due is right until 2499
 nothing_due_before : TellsMore config (passes 2499 ∷ asked ∷ []) none_owned
 nothing_due_before = ((tt, refl), refl)
 

@@ -1,5 +1,5 @@
--- What is sent over which transport, computed: an answer of 512 octets whole over UDP and cut from 513 on, and over TCP
--- up to 65,535 (RFC 1035 4.2.1 and 4.2.2).
+-- Replies by transport, computed: over UDP an answer of 512 octets goes out whole, and one of 513
+-- or more is cut; over TCP up to 65,535 octets (RFC 1035 4.2.1 and 4.2.2).
 use Rattle.std.proofs.Common.{◌≡◌, ℕ, ◌+◌, ◌≤◌, List, [], ◌∷◌, length, false, Some, refl, sym, ap, ◌∙◌, arith}
 use Rattle.std.specs.Prelude.{nat_le}
 use Rattle.std.proofs.lemmas.Bool.{le-leb, lt-leb, cond-true, cond-false}

@@ -1,5 +1,5 @@
--- Which tries failed, computed: the last ones of a question, whatever failed of another one since; not one before an
--- accepted reply, nor one before a restart.
+-- Which tries failed, computed: the last ones of a question, whatever failed of another one since;
+-- not one before an accepted reply, nor one before a restart.
 use Rattle.std.proofs.Common.{◌≡◌, ℕ, ◌∙◌, List, [], ◌∷◌, Bool, true, false, cond, Some, None, refl, sym, ap}
 use Rattle.std.proofs.Common.{inl, inr, arith, ◌⊎◌}
 use Rattle.std.proofs.lemmas.Bool.{true≢false}
@@ -50,7 +50,7 @@ two_failed = (
   ),
 )
 
--- ---- an ask of another name beside it
+-- ---- an ask of another name next to it
 
 abbrev text_of_b : ℕ → List ℕ
 text_of_b id = 0 ∷ id ∷ 1 ∷ 0 ∷ 0 ∷ 1 ∷ 0 ∷ 0 ∷ 0 ∷ 0 ∷ 0 ∷ 0 ∷ 1 ∷ 98 ∷ 1 ∷ 101 ∷ 0 ∷ 0 ∷ 1 ∷ 0 ∷ 1 ∷ []
@@ -191,7 +191,7 @@ restarted = step_of 2600 [] restart []
 abbrev begun : List Step
 begun = restarted ∷ gives_up_a ∷ asked ∷ []
 
--- the third ask goes out behind it, and fails
+-- the third ask goes out after the restart, and fails
 the_only_one_is_closed : ClosesAsk (address a) third_fails (third ∷ begun)
 unfolding first_question question_at octets_end name_within walk_in name_step
 the_only_one_is_closed =

@@ -1,5 +1,6 @@
--- A history that serves truly, whole: a question, its ask, the reply with its answer, and the same question answered
--- from cache. And for each field of that claim a neighbour of which all else holds.
+-- A history that serves truly, whole: a question, its ask, the reply with its answer, and the same
+-- question answered from cache. And for each field of that claim a neighbour of which all else
+-- holds.
 use Rattle.std.proofs.Common.{◌≡◌, ℕ, ◌≤◌, List, [], ◌∷◌, Bool, true, false, Option, Some, None, Ok, refl, sym, ap, ◌∙◌, subst}
 use Rattle.std.proofs.Common.{inl, inr, arith}
 use Rattle.std.specs.Prelude.{suc, length, not, is_none}
@@ -52,7 +53,7 @@ word = 524296 ∷ []
 abbrev asks_it : List Action
 asks_it = ask_udp 1032 server (question_text 8 1) ∷ []
 
--- so many questions may wait
+-- this many questions may wait
 abbrev with_questions : ℕ → Config
 with_questions questions = record config { limits = record config.limits { questions = questions } }
 
@@ -293,7 +294,7 @@ but_for_soundness sound = record {
   uses = uses_nothing config false word (send_reply client [] Answered ∷ []) (0 ∷ []);
 }
 
--- ---- a step that tells that more is due, where nothing is
+-- ---- a step that reports more due, where nothing is
 
 abbrev tells_more : Step
 tells_more = first true word asks_it

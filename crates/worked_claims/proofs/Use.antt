@@ -1,5 +1,6 @@
--- What a question is answered with at once, computed: a denial that stands, of its type or of its whole name; until it
--- ends, and of nothing else. Where it is asked for again, what stands was not used.
+-- Answers at once, computed: from a denial that stands, of the question's type or of its whole
+-- name, until it expires, and from nothing else. Where the question is asked again, what stands was
+-- not used.
 use Rattle.std.proofs.Common.{ℕ, List, [], ◌∷◌, Bool, Some, false, refl, sym, ap, inl, inr, arith}
 use Rattle.std.specs.Prelude.{not, is_none}
 use Rattle.std.proofs.lemmas.Bool.{true≢false}
@@ -20,7 +21,7 @@ use Rattle.worked_claims.proofs.Accepted.{asked}
 use Rattle.worked_claims.proofs.ServerDenials.{there_is_none, is_not_there, no_address, name_error, none_carried}
 use Rattle.worked_claims.proofs.ServerDenials.{error_carried}
 
--- ---- at which pieces a look-up in what stands ends
+-- ---- the pieces at which a look-up among those that stand ends
 
 abbrev Known : ℕ → List Held → Question → Type 0
 Known n carried q = LeadsToEnd config.routes n (standing n carried) 8 q
@@ -67,7 +68,7 @@ an_error_of_a_sibling : Known 2000 (name_error ∷ []) (address b) → ⊥
 unfolding route_of
 an_error_of_a_sibling known = known
 
--- behind an alias of b.e too
+-- after an alias of b.e too
 abbrev alias : Held
 alias = record {
   piece = record {

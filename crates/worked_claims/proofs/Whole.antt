@@ -1,5 +1,5 @@
--- A worked history, whole: a question, its ask, and the reply with its answer. It is sound, asks well, and tells
--- whether more is due; with other owners it is not sound.
+-- A worked history, whole: a question, its ask, and the reply with its answer. It is sound, asks
+-- well, and reports whether more is due; with other owners it is not sound.
 use Rattle.std.proofs.Common.{◌≡◌, ℕ, List, [], ◌∷◌, length, false, refl, ap, ◌∙◌, ◌⊎◌, inl, inr, arith}
 use Rattle.dns_message.specs.Names.{step as name_step, walk_in, name_within}
 use Rattle.dns_message.specs.Records.{octets_end, question_at}

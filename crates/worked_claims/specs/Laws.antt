@@ -1,4 +1,4 @@
--- What each row of the table keeps to in its actions, as statements.
+-- Statements about the actions of each row of the table.
 use Rattle.std.specs.Prelude.{◌≤◌, List, length, IsSome}
 use Rattle.std.specs.List.{filter_map, AllByRecursion}
 use Rattle.suffix_routes.specs.Values.{Config}

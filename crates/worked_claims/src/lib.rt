@@ -1,5 +1,5 @@
-//! What is claimed of histories, tried on worked ones: for each part of a claim one that holds, and a neighbour that
-//! fails.
+//! The claims about histories, tried on worked ones: for each part of a claim one that holds, and a
+//! neighbour that fails.
 #![tactic(auto)]
 
 mod laws;

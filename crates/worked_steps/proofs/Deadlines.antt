@@ -7,7 +7,7 @@ use Rattle.step_values.specs.Values.{Action, close_udp}
 use Rattle.step_table.proofs.Played.{Told, ticking, played, a, b, address, server, other_server, config, asks_for}
 use Rattle.step_table.proofs.Played.{sends_query, fails_with}
 
--- a question waits so many milliseconds
+-- a question waits this many milliseconds
 abbrev waits : ℕ → Config
 waits milliseconds = record config { limits = record default_limits { deadline_ms = milliseconds } }
 
@@ -19,7 +19,7 @@ asks_a = sends_query 1032 server 8 (address a) ∷ []
 
 -- ---- when a deadline is served
 
--- at its moment the question is told, its ask is closed, and nothing is left
+-- at its deadline the question gets its reply, its ask is closed, and nothing is left
 on_time : played (waits 2000) (first ∷ (2500, ticking) ∷ (2999, ticking) ∷ (3000, ticking) ∷ (3000, ticking) ∷ [])
     ≡ asks_a ∷ (close_udp 1032 ∷ sends_query 1040 other_server 16 (address a) ∷ []) ∷ []
     ∷ (close_udp 1040 ∷ fails_with Deadline 2 1 (address a) ∷ []) ∷ [] ∷ []
@@ -35,14 +35,16 @@ a_millisecond_later = refl
 
 -- ---- at one moment a deadline comes first, before an ask that is older too
 
--- the ask of 1000 and the second question, of 1100, are both due at 2500; with that question the ask is closed
+-- the ask of 1000 and the second question, of 1100, are both due at 2500; with that question the
+-- ask is closed
 deadline_first : played (waits 1400) (first ∷ (1100, asks_for 2 (address a)) ∷ (2400, ticking) ∷ (2500, ticking) ∷ (2500, ticking) ∷ [])
     ≡ asks_a ∷ [] ∷ (fails_with Deadline 2 1 (address a) ∷ []) ∷ (close_udp 1032 ∷ fails_with Deadline 2 2 (address a) ∷ [])
     ∷ [] ∷ []
 unfolding route_of
 deadline_first = refl
 
--- a question that came one millisecond later is due behind the ask, which goes on to the next server first
+-- a question that came one millisecond later is due after the ask, which goes on to the next server
+-- first
 ask_first : played (waits 1400) (first ∷ (1101, asks_for 2 (address a)) ∷ (2400, ticking) ∷ (2500, ticking) ∷ (2501, ticking) ∷ [])
     ≡ asks_a ∷ [] ∷ (fails_with Deadline 2 1 (address a) ∷ [])
     ∷ (close_udp 1032 ∷ sends_query 1056 other_server 32 (address a) ∷ [])
@@ -84,7 +86,7 @@ earlier_ask_first : played (waits 1501) (first ∷ (3000, ticking) ∷ (3000, ti
 unfolding route_of
 earlier_ask_first = refl
 
--- and behind a deadline of 2500
+-- and after a deadline of 2500
 earlier_deadline_first : played (waits 1500) (first ∷ (3000, ticking) ∷ (3000, ticking) ∷ [])
     ≡ asks_a ∷ (close_udp 1032 ∷ fails_with Deadline 2 1 (address a) ∷ []) ∷ [] ∷ []
 unfolding route_of

@@ -1,4 +1,5 @@
--- What is told past its end, and what is not, computed: at a deadline, without a port, and of a denied name.
+-- Expired data that is sent, and that is not, computed: at a deadline, without a port, and for a
+-- denied name.
 use Rattle.std.proofs.Common.{◌≡◌, ℕ, List, [], ◌∷◌, true, false, refl}
 use Rattle.suffix_routes.specs.Values.{Config, default_limits}
 use Rattle.suffix_routes.specs.Routes.{route_of}
@@ -13,7 +14,7 @@ use Rattle.step_table.proofs.Played.{Told, ticking, next, words_of, played, afte
 use Rattle.step_table.proofs.Played.{other_server, config, asks_for, rr, host, reply, hears, one_host, sends_query}
 use Rattle.step_table.proofs.Played.{shows_as, answers, fails_with}
 
--- so many tries, a window of 600 seconds, and a question waits so many milliseconds
+-- limits: tries, a window of 600 seconds, and the deadline in milliseconds
 abbrev windowed : ℕ → ℕ → Config
 windowed tries milliseconds =
     record config { limits = record default_limits { tries = tries; deadline_ms = milliseconds; stale_s = 600 } }
@@ -33,7 +34,8 @@ again = (301020, asks_for 2 (address a))
 
 -- ---- no window at the deadline
 
--- the deadline comes a millisecond before the only try fails: it is told, and the set is not
+-- the deadline comes a millisecond before the only try fails: the question fails, and the set is
+-- not sent
 at_the_deadline : played (windowed 1 1499) (first ∷ good ∷ again ∷ (302519, ticking) ∷ [])
     ≡ (sends_query 1032 server 8 (address a) ∷ []) ∷ (close_udp 1032 ∷ answers 1 (address a) (host a 300 5 ∷ []) ∷ [])
     ∷ (sends_query 1048 server 24 (address a) ∷ []) ∷ (close_udp 1048 ∷ fails_with Deadline 2 2 (address a) ∷ []) ∷ []
@@ -47,7 +49,7 @@ at_one_moment : played (windowed 1 1500) (first ∷ good ∷ again ∷ (302520, 
 unfolding walk_from servers_from route_of
 at_one_moment = refl
 
--- where the try fails a millisecond before the deadline, the set is told
+-- where the try fails a millisecond before the deadline, the set is sent
 before_the_deadline : played (windowed 1 1501) (first ∷ good ∷ again ∷ (302520, ticking) ∷ [])
     ≡ (sends_query 1032 server 8 (address a) ∷ []) ∷ (close_udp 1032 ∷ answers 1 (address a) (host a 300 5 ∷ []) ∷ [])
     ∷ (sends_query 1048 server 24 (address a) ∷ [])
@@ -57,7 +59,7 @@ before_the_deadline = refl
 
 -- ---- no window without a port
 
--- asks of a.e and of b.e are open, from the ports 1048 and 1056, and the set of a.e has ended
+-- asks of a.e and of b.e are open, from the ports 1048 and 1056, and the set of a.e has expired
 abbrev two_open : ℕ → State
 two_open tries = after (windowed tries 8000) (first ∷ good ∷ again ∷ (301021, asks_for 3 (address b)) ∷ [])
 
@@ -65,7 +67,8 @@ two_open tries = after (windowed tries 8000) (first ∷ good ∷ again ∷ (3010
 abbrev fails_at : ℕ → List ℕ → List Action
 fails_at tries words = (next (windowed tries 8000) 302520 words (two_open tries) ticking).actions
 
--- of a word with the port 1056 alone no second try can be made: that is told, and the set is not
+-- with a word of the port 1056 alone no second try can be made: the question fails, and the set is
+-- not sent
 without_a_port : fails_at 2 (2097184 ∷ []) ≡ close_udp 1048 ∷ fails_with NoPort 2 2 (address a) ∷ []
 unfolding walk_from servers_from route_of
 without_a_port = refl
@@ -75,12 +78,12 @@ with_a_port : fails_at 2 (words_of 5) ≡ close_udp 1048 ∷ sends_query 1064 ot
 unfolding walk_from servers_from route_of
 with_a_port = refl
 
--- with no try left no port is wanted, and the set is told
+-- with no try left no port is wanted, and the set is sent
 without_a_try : fails_at 1 (2097184 ∷ []) ≡ close_udp 1048 ∷ past_end 2 (address a) (host a 30 5 ∷ []) ∷ []
 unfolding walk_from servers_from route_of
 without_a_try = refl
 
--- ---- an alias past its end leads to a denied name
+-- ---- an expired alias leads to a denied name
 
 -- names under d.e are denied
 abbrev denying : Config
@@ -101,7 +104,7 @@ alias_of_b ttl letter = rr b 5 ttl (name_data letter)
 abbrev leads_to : ℕ → List Record → Message
 leads_to letter records = reply true 0 (alias_of_b 60 letter ∷ records) []
 
--- in its last millisecond the alias leads there; past its end it leads nowhere, once all tries failed
+-- in its last millisecond the alias leads there; expired, it leads nowhere, once all tries failed
 to_a_denied_name : played denying ((1000, asks_for 1 (address b)) ∷ (1020, hears 1032 (leads_to 100 [])) ∷ (61019, asks_for 2 (address b)) ∷ (61020, asks_for 3 (address b)) ∷ (62520, ticking) ∷ [])
     ≡ (sends_query 1032 server 8 (address b) ∷ []) ∷ (close_udp 1032 ∷ denied_here 1 (address b) (alias_of_b 60 100 ∷ []) ∷ [])
     ∷ (denied_here 2 (address b) (alias_of_b 0 100 ∷ []) ∷ []) ∷ (sends_query 1056 server 32 (address b) ∷ [])
@@ -109,7 +112,7 @@ to_a_denied_name : played denying ((1000, asks_for 1 (address b)) ∷ (1020, hea
 unfolding walk_from servers_from route_of name_of_rdata name_within walk_in name_step
 to_a_denied_name = refl
 
--- to a name that is served it leads past its end, too
+-- to a name that is served it leads when expired, too
 to_a_name_that_is_served : played denying ((1000, asks_for 1 (address b)) ∷ (1020, hears 1032 (leads_to 97 (host a 60 5 ∷ []))) ∷ (61020, asks_for 2 (address b)) ∷ (62520, ticking) ∷ [])
     ≡ (sends_query 1032 server 8 (address b) ∷ [])
     ∷ (close_udp 1032 ∷ answers 1 (address b) (alias_of_b 60 97 ∷ host a 60 5 ∷ []) ∷ [])

@@ -1,4 +1,4 @@
-//! What was decided is put in place. All memory is taken before anything changes.
+//! Puts a decision in place. All memory is allocated before anything changes.
 
 ghost use Rattle.outstanding.specs.Lists.{MayBegin, on_path as ask_on, without_path};
 ghost use Rattle.std.specs.Prelude.{◌≡◌, ◌^◌, ◌<◌, ◌≤◌, ◌+◌, ◌∷◌, ◌++◌, [], Bool, List, drop, slice_set, length};
@@ -36,7 +36,7 @@ fn count_tcp(count: u64, path: Path) -> u64
     }
 }
 
-/// One more ask by TCP, where there is one and its path is a connection.
+/// The count, one more if there is an ask and its path is a connection.
 fn count_next<A: Allocator>(count: u64, ask: &Option<Ask<A>>) -> u64
     requires { count + tcp_count ask.now < 2 ^ 64 }
     ensures { result ≡ count + tcp_count ask.now }
@@ -56,7 +56,7 @@ fn prefer(places: &mut [usize], preferred: Option<Preferred>)
     }
 }
 
-/// Puts a place where there is one.
+/// Sets the server of a route, if there is such a route.
 fn put_place(places: &mut [usize], route: usize, server: usize)
     ensures { places.new ≡ slice_set places.old route server }
 {
@@ -142,8 +142,8 @@ impl<H: BuildHasher + Drop, A: Allocator + Copy> Forwarder<H, A> {
         self.moment = moment;
     }
 
-    /// The ask on a path is closed, and the first ask for what those want that are sent on is listed, where there is
-    /// one.
+    /// The ask on a path is closed, and the first ask for what those want that are sent on is
+    /// listed, where there is one.
     fn send_all_on(&mut self, moment: u64, sending: Sending<A>)
         requires later { self.old.state.moment ≤ moment }
         requires in_time { moment ≤ 2 ^ 62 }
@@ -194,7 +194,7 @@ impl<H: BuildHasher + Drop, A: Allocator + Copy> Forwarder<H, A> {
         self.moment = moment;
     }
 
-    /// The oldest question waits no more, and the ask on the path, where there is one, is closed.
+    /// The oldest question waits no more, and the ask on the path, if any, is closed.
     fn expire_first(&mut self, moment: u64, closed: Option<Path>)
         requires later { self.old.state.moment ≤ moment }
         requires in_time { moment ≤ 2 ^ 62 }
@@ -212,8 +212,8 @@ impl<H: BuildHasher + Drop, A: Allocator + Copy> Forwarder<H, A> {
         self.moment = moment;
     }
 
-    /// Puts a change in place. An `Err` changes nothing. A step that changes no list does without the room on the stack
-    /// that what is listed takes, which is cleared before it is used.
+    /// Puts a change in place. An `Err` changes nothing. A step that changes no list does without
+    /// the room on the stack that what is listed takes, which is cleared before it is used.
     fn apply(&mut self, moment: u64, change: Change<A>) -> Result<(), AllocError>
         requires later { self.old.state.moment ≤ moment }
         requires in_time { moment ≤ 2 ^ 62 }
@@ -272,8 +272,8 @@ impl<H: BuildHasher + Drop, A: Allocator + Copy> Forwarder<H, A> {
         }
     }
 
-    /// Promotes the entries that a look-up used, then offers what an accepted reply carries, and tells how many of
-    /// its pieces found no memory.
+    /// Promotes the entries that a look-up used, then offers what an accepted reply carries.
+    /// Returns how many of its pieces found no memory.
     fn keep(&mut self, used: &Slots<'_, A>, carried: Vec<Held<A>, A>) -> u32
         requires few { length (pieces_of carried.items) < 2 ^ 32 }
         requires routed { AllByRecursion (IsRouted self.old.config) (pieces_of carried.items) }
@@ -289,7 +289,8 @@ impl<H: BuildHasher + Drop, A: Allocator + Copy> Forwarder<H, A> {
         offer_all(&mut self.cache, carried, self.moment)
     }
 
-    /// A question has waited as long as it may: the list is in the order of time, so the first one tells.
+    /// Whether a question has waited as long as it may. The list is in the order of time, so the
+    /// first one decides.
     fn is_question_due(&self, moment: u64) -> bool
         ensures { result ≡ list_any (λ x. nat_le (deadline_of self.now.config x) moment) self.now.state.waiting }
     {
@@ -299,7 +300,7 @@ impl<H: BuildHasher + Drop, A: Allocator + Copy> Forwarder<H, A> {
         }
     }
 
-    /// An ask is past its time: the list is in the order of time, so the first one tells.
+    /// Whether an ask is past its time. The list is in the order of time, so the first one decides.
     fn is_ask_due(&self, moment: u64) -> bool
         ensures { result ≡ list_any (λ a. nat_le (timeout_of self.now.config a) moment) self.now.state.asks }
     {

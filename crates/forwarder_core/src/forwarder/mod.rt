@@ -31,7 +31,8 @@ use waiting_questions::WaitingQuestions;
 /// The greatest effective moment, in milliseconds.
 const LATEST: u64 = 1 << 62;
 
-/// For each route the place of the server that is asked first: at the beginning the first of its group.
+/// For each route the place of the server that is asked first: at the beginning the first of its
+/// group.
 fn first_places<A: Allocator>(alloc: A, routes: &[Route<A>]) -> Result<Vec<usize, A>, AllocError>
     ensures { IfOk result (λ places. places.items ≡ map (λ r. 0) routes.now) }
 {
@@ -51,8 +52,9 @@ fn forget_places(places: &mut [usize])
     }
 }
 
-/// A forwarder: its configuration, what it keeps of replies, the asks that are under way, the questions that wait, the
-/// server of each group that is asked first, its effective moment, and how many asks went by TCP.
+/// A forwarder: its configuration, what it keeps of replies, the asks that are under way, the
+/// questions that wait, the server of each group that is asked first, its effective moment, and how
+/// many asks went by TCP.
 #[derive(Drop)]
 pub struct Forwarder<H: BuildHasher, A: Allocator = Global> {
     alloc: A,
@@ -88,8 +90,8 @@ impl<H: BuildHasher, A: Allocator> Model for Forwarder<H, A> {
 }
 
 impl<H: BuildHasher + Drop, A: Allocator + Copy> Forwarder<H, A> {
-    /// The greatest moment handed in so far, at most 2^62. `in_order` says what holds of each forwarder: both lists are
-    /// in the order of time and within their limits.
+    /// The greatest moment passed in so far, at most 2^62 ms. `in_order` repeats what holds of each
+    /// forwarder: both lists are in the order of time and within their limits.
     fn effective(&self, now: u64) -> u64
         ensures value { result ≡ effective now self.now.state }
         ensures later { self.now.state.moment ≤ result }
@@ -99,7 +101,7 @@ impl<H: BuildHasher + Drop, A: Allocator + Copy> Forwarder<H, A> {
         now.min(LATEST).max(self.moment)
     }
 
-    /// The forwarder as a step finds it, lent, with what the step is handed.
+    /// The forwarder as a step finds it, borrowed, with the moment and the words of the step.
     fn turn(&self, now: u64, words: [u32; 8]) -> TurnRef<'_, H, A>
         ensures { result ≡ turn self.now.config (effective now self.now.state) words self.now.state }
     {
@@ -128,8 +130,8 @@ impl<H: BuildHasher + Drop, A: Allocator + Copy> Forwarder<H, A> {
         }
     }
 
-    /// What an event calls for is decided and put in place. A tick that finds nothing due does without it, and
-    /// without the room on the stack that it takes: so it stands by itself.
+    /// Decides what an event calls for, and puts it in place. Out of line: a tick that finds
+    /// nothing due needs neither it nor its room on the stack.
     #[inline(never)]
     fn act_on(
         &mut self,
@@ -162,7 +164,7 @@ impl<H: BuildHasher + Drop, A: Allocator + Copy> Forwarder<H, A> {
         self.carry_out(moment, actions, &used, change, carried)
     }
 
-    /// One step over an event that is lent.
+    /// One step over a borrowed event.
     fn take(
         &mut self,
         now: u64,
@@ -207,7 +209,8 @@ impl<H: BuildHasher + Drop, A: Allocator + Copy> Forwarder<H, A> {
         })
     }
 
-    /// Forgets all but the configuration: the state is that of a new forwarder. It takes no memory.
+    /// Forgets all but the configuration: the state is that of a new forwarder. It does not
+    /// allocate.
     pub fn restart(&mut self)
         ensures { self.new ≡ record { config = self.old.config; state = start self.old.config } }
     {
@@ -217,9 +220,10 @@ impl<H: BuildHasher + Drop, A: Allocator + Copy> Forwarder<H, A> {
         self.tcp_asks = 0;
     }
 
-    /// One step: what is to be done about the event, at this moment in milliseconds and with these random words. A
-    /// moment below an earlier one counts as that one. `Err` where memory ran out, and then nothing has changed. A
-    /// piece of a reply that finds no memory in the cache refuses no step: `unkept` counts it.
+    /// One step: what is to be done about the event, at this moment in milliseconds and with these
+    /// random words. A moment below an earlier one counts as that one. `Err` where memory ran out,
+    /// and then nothing has changed. A piece of a reply that finds no memory in the cache refuses
+    /// no step: `unkept` counts it.
     pub fn step(
         &mut self,
         now: u64,
@@ -228,40 +232,44 @@ impl<H: BuildHasher + Drop, A: Allocator + Copy> Forwarder<H, A> {
     ) -> Result<Outcome<A>, AllocError>
         ensures row { IfOk result (λ outcome. Row self.old.config self.old.state
             (record { now = now; words = words; event = event_of event.now }) outcome self.new.state) }
-        // What explains the state before explains, with this step and an owner for each of its replies, the state
-        // after.
+        // A history that explains the state before explains the state after, with this step and an
+        // owner for each of its replies.
         ensures explained { IfOk result (λ outcome. StaysExplained self.old.config self.old.state
             (record { now = now; words = words; event = event_of event.now }) outcome self.new.state) }
-        // So it is of what stands of that history and is mirrored in the state, and of asks and those who wait, which
-        // serve each other: a question of which enough stands is answered by its own step, where the cache has room.
+        // The stronger invariant is kept too: the cache mirrors what is still valid, and each
+        // outstanding ask has a waiting question and each waiting question an ask. So a question
+        // that valid data answers is answered by its own step, if the cache has room.
         ensures whole { IfOk result (λ outcome. StaysFullyExplained self.old.config self.old.state
             (record { now = now; words = words; event = event_of event.now }) outcome self.new.state) }
-        // Behind whatever steps led a new forwarder to the state before, this one serves truly: with one list of owners
-        // each claim holds of the whole run.
+        // After whatever steps led a new forwarder to the state before, this one serves truly: with
+        // one list of owners each claim holds of the whole run.
         ensures truly { IfOk result (λ outcome. ServesOnTruly self.old.config self.old.state (record {
           handed = record { now = now; words = words; event = event_of event.now };
           outcome = outcome;
         } ∷ [])) }
         ensures config { self.new.config ≡ self.old.config }
-        // A message that is dropped, a delivery that matches nothing, the failure of a path without an ask, a tick with
-        // nothing due and a restart never want memory.
+        // A message that is dropped, a delivery that matches nothing, the failure of a path without
+        // an ask, a tick with nothing due and a restart never run out of memory.
         ensures no_memory { TakesNoMemory self.old.config (effective now self.old.state) self.old.state
             (event_of event.now) → IsOk result }
         ensures err { OnErr result (self.new ≡ self.old) }
-        // What is left to do is bounded, and falls with each step that serves something: so ticks, while more is due,
-        // come to an end.
-        ensures bounded { left_to_do self.old.config self.old.state ≤ self.old.config.limits.questions +
-            self.old.config.limits.inquiries * self.old.config.limits.tries }
-        ensures less { ServesSomething self.old.config (effective now self.old.state) self.old.state (event_of event.now)
-            → IfOk result (λ outcome. left_to_do self.old.config self.new.state < left_to_do self.old.config
-            self.old.state) }
+        // The work that is left is bounded, and falls with each step that serves something. So a
+        // loop of ticks while more is due ends.
+        ensures bounded { left_to_do self.old.config self.old.state
+            ≤ self.old.config.limits.questions
+            + self.old.config.limits.inquiries * self.old.config.limits.tries }
+        ensures less { ServesSomething self.old.config (effective now self.old.state) self.old.state
+            (event_of event.now)
+            → IfOk result (λ outcome. left_to_do self.old.config self.new.state
+            < left_to_do self.old.config self.old.state) }
     {
         self.take(now, words, event)
     }
 
-    /// The least moment, in milliseconds, at which a tick serves something: the deadline of a waiting question, or the
-    /// moment from which an ask is past its time. `None` exactly where nothing waits and no ask is listed. It takes no
-    /// memory, and looks at the oldest of each list alone.
+    /// The least moment, in milliseconds, at which a tick serves something: the deadline of a
+    /// waiting question, or the moment from which an ask is past its time. `None` exactly where
+    /// nothing waits and no ask is listed. It takes no memory, and looks at the oldest of each list
+    /// alone.
     pub fn next_due(&self) -> Option<u64>
         ensures { result ≡ next_due self.now.config self.now.state }
     {

@@ -1,4 +1,4 @@
-//! What is due, and when something is: the oldest question and the oldest ask tell.
+//! Whether something is due, and when it will be: the oldest question and the oldest ask decide.
 
 ghost use Rattle.std.specs.Prelude.{◌≡◌, false, map, IsTrue};
 ghost use Rattle.step_table.specs.Row.{is_due_at};

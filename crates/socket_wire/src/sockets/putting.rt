@@ -1,16 +1,17 @@
-//! Actions that a wire does.
+//! The actions of a wire.
 
 ghost use Rattle.std.specs.Prelude.{◌≡◌, Err, IfErr, IfOk, OnOk, is_ok};
 ghost use Rattle.stream_connections.specs.Queries.{IsBegunWith};
-ghost use Rattle.socket_wire.specs.Putting.{AnswersOn, ListsPort, ListsThis, MayMakeRoom, PutsAction, PutsQuery};
+ghost use Rattle.socket_wire.specs.Putting.{AnswersOn, ListsPort, ListsThis, MayMakeRoom};
+ghost use Rattle.socket_wire.specs.Putting.{PutsAction, PutsQuery};
 ghost use Rattle.socket_wire.specs.Putting.{with_spent};
 
 use super::Sockets;
 use crate::address::address_of;
 use crate::answers::{kept_if, sent};
 use crate::asks::ask_socket;
-use crate::origin::Origin;
 use mio::net::{TcpStream, UdpSocket};
+use ready_sockets::Origin;
 use std::alloc::Allocator;
 use std::io;
 use std::io::ErrorKind;
@@ -20,10 +21,11 @@ use stream_connections::{ServerStream, unsent_query};
 use suffix_routes::Peer;
 
 impl<R: Net, A: Allocator + Copy> Sockets<'_, R, A> {
-    /// Does an action. `Err` where the system refuses, or memory ran out. With an ask the random words are spent that
-    /// its identifier and port came from, whatever becomes of it.
+    /// Does an action. `Err` where the system refuses, or memory ran out. With an ask the random
+    /// words are spent that its identifier and port came from, whatever becomes of it.
     pub fn put(&mut self, action: &Action<A>, now: u64) -> io::Result<()>
-        ensures { PutsAction action.now now (is_ok result) (with_spent action.now self.old) self.new }
+        ensures { PutsAction action.now now (is_ok result) (with_spent action.now self.old)
+            self.new }
     {
         match action {
             Action::AskUdp { .. } | Action::AskTcp { .. } => self.words.spend(),
@@ -64,12 +66,15 @@ impl<R: Net, A: Allocator + Copy> Sockets<'_, R, A> {
         }
     }
 
-    /// Sends a query from this port. Where no descriptor is left for it, the oldest connection of a client that has
-    /// waited for nothing for a while is closed.
+    /// Sends a query from this port. Where no descriptor is left for it, the oldest connection of a
+    /// client that has waited for nothing for a while is closed.
     fn ask_udp(&mut self, port: u16, server: Peer, query: &[u8], now: u64) -> io::Result<()>
         ensures lists { ListsPort port (is_ok result) self.old.asks.entries self.new.asks.entries }
         ensures room { MayMakeRoom now self.old.connections self.new.connections }
-        ensures rest { self.new ≡ record self.old { asks = self.new.asks; connections = self.new.connections } }
+        ensures rest { self.new ≡ record self.old {
+          asks = self.new.asks;
+          connections = self.new.connections;
+        } }
     {
         let mut opened = ask_socket(self.rt, &self.readiness, port, server);
         if self.frees_for(&opened, now) {
@@ -80,15 +85,16 @@ impl<R: Net, A: Allocator + Copy> Sockets<'_, R, A> {
         self.list_ask(port, socket, answer)
     }
 
-    /// Lists the socket of an ask, by its answer to the query that was sent: one that refused it
-    /// goes. `Err` there, and where memory ran out.
+    /// Lists the socket of an ask, by its answer to the query that was sent: one that refused it is
+    /// dropped. `Err` where it refused, and where memory ran out.
     fn list_ask(
         &mut self,
         port: u16,
         socket: UdpSocket,
         answer: io::Result<usize>,
     ) -> io::Result<()>
-        ensures sent { OnOk answer (ListsThis port socket (is_ok result) self.old.asks.entries self.new.asks.entries) }
+        ensures sent { OnOk answer (ListsThis port socket (is_ok result)
+            self.old.asks.entries self.new.asks.entries) }
         ensures refused { IfErr answer (λ error. (result ≡ Err error) × (self.new ≡ self.old)) }
         ensures lists { ListsPort port (is_ok result) self.old.asks.entries self.new.asks.entries }
         ensures rest { self.new ≡ record self.old { asks = self.new.asks } }
@@ -98,7 +104,7 @@ impl<R: Net, A: Allocator + Copy> Sockets<'_, R, A> {
         Ok(())
     }
 
-    /// Begins a connection, and sends a query as soon as it stands.
+    /// Begins a connection, and sends a query as soon as it is open.
     fn ask_tcp(&mut self, conn: u64, server: Peer, query: &[u8], now: u64) -> io::Result<()>
         ensures { PutsQuery conn server query.now now (is_ok result) self.old self.new }
     {
@@ -109,8 +115,8 @@ impl<R: Net, A: Allocator + Copy> Sockets<'_, R, A> {
         Ok(())
     }
 
-    /// A connection that is begun, with a query for it. Where no descriptor is left for it, the oldest connection of a
-    /// client that has waited for nothing for a while is closed.
+    /// Begins a connection with a query. Where no descriptor is left for it, the oldest connection
+    /// of a client that has waited for nothing for a while is closed.
     fn begin_with_room(
         &mut self,
         conn: u64,
@@ -130,7 +136,8 @@ impl<R: Net, A: Allocator + Copy> Sockets<'_, R, A> {
         begun
     }
 
-    /// Begins to connect, with the query behind its length. `Err` where the system refuses, or memory ran out.
+    /// Begins to connect, with the query after its length. `Err` where the system refuses, or
+    /// memory ran out.
     fn begin(&self, conn: u64, server: Peer, query: &[u8]) -> io::Result<ServerStream<A>>
         ensures { IfOk result (λ stream. IsBegunWith server query.now stream) }
     {
@@ -140,9 +147,11 @@ impl<R: Net, A: Allocator + Copy> Sockets<'_, R, A> {
         Ok(ServerStream::new(kept_if(stream, watched)?, server, unsent))
     }
 
-    /// Replies on a client's connection. `Err` where the reply is lost. A connection that is over is closed.
+    /// Replies on a client's connection. `Err` where the reply is lost. A connection that is over
+    /// is closed.
     fn reply(&mut self, conn: u64, reply: &[u8], now: u64) -> io::Result<()>
-        ensures answers { AnswersOn conn reply.now now (is_ok result) self.old.connections self.new.connections }
+        ensures answers { AnswersOn conn reply.now now (is_ok result)
+            self.old.connections self.new.connections }
         ensures rest { self.new ≡ record self.old { connections = self.new.connections } }
     {
         match self.connections.reply(self.alloc, conn, reply, now) {

@@ -1,19 +1,21 @@
-//! What is taken of a socket.
+//! Reads what a socket has received.
 
 ghost use Rattle.std.specs.Prelude.{◌≡◌, Ok, IfOk};
 ghost use Rattle.std.specs.Counts.{IsPrefixLen};
-ghost use Rattle.socket_wire.specs.Arriving.{AcceptsBy, FreesBy, FreesFor, MayCloseResting, TakesConnection, TakesIn};
+ghost use Rattle.socket_wire.specs.Arriving.{AcceptsBy, FreesBy, FreesFor, MayCloseResting};
+ghost use Rattle.socket_wire.specs.Arriving.{TakesConnection, TakesIn};
 ghost use Rattle.socket_wire.specs.Attempting.{Attempts};
-ghost use Rattle.socket_wire.specs.Taking.{HearsAsk, HearsDatagram, IsPiece, TakesAsk, TakesClient, TakesDatagram};
+ghost use Rattle.socket_wire.specs.Taking.{HearsAsk, HearsDatagram, IsPiece, TakesAsk, TakesClient};
+ghost use Rattle.socket_wire.specs.Taking.{TakesDatagram};
 ghost use Rattle.socket_wire.specs.Taking.{LosesAsk, TakesServer};
 
 use super::{LARGEST, Sockets};
 use crate::address::peer_of;
 use crate::answers::kept_if;
-use crate::origin::Origin;
 use crate::spare::Spare;
 use mio::net::TcpStream;
 use plain_list::Octets;
+use ready_sockets::Origin;
 use std::alloc::{AllocError, Allocator};
 use std::io;
 use std::net::{Net, SocketAddr};
@@ -21,10 +23,10 @@ use step_values::Path;
 use stream_connections::{Heard, Refusal};
 use wires::Arrival;
 
-/// What came of trying a socket.
+/// The result of trying a socket.
 pub(super) enum Tried<A: Allocator> {
     Arrived(Arrival<A>),
-    /// There may be more, but nothing arrives.
+    /// Nothing arrives now, but there may be more.
     Served,
     /// Nothing is there.
     Nothing,
@@ -52,8 +54,8 @@ impl<R: Net, A: Allocator + Copy> Sockets<'_, R, A> {
         self.hear_datagram(answer)
     }
 
-    /// A client's datagram, by the answer of its socket: nothing is there where it refuses,
-    /// whatever the reason.
+    /// A client's datagram, by the answer of its socket: nothing where it refuses, whatever the
+    /// reason.
     fn hear_datagram(
         &mut self,
         answer: io::Result<(usize, SocketAddr)>,
@@ -73,8 +75,8 @@ impl<R: Net, A: Allocator + Copy> Sockets<'_, R, A> {
         Ok(Tried::Arrived(Arrival::ClientDatagram { from, bytes }))
     }
 
-    /// A client's connection. Where no descriptor is left for it, the oldest of a client that has waited for nothing
-    /// for a while is closed, so that the next turn has one.
+    /// A client's connection. Where no descriptor is left for it, the oldest of a client that has
+    /// waited for nothing for a while is closed, so that the next turn has one.
     fn take_connection(&mut self, now: u64) -> Tried<A>
         ensures { TakesConnection now result self.old self.new }
     {
@@ -127,8 +129,9 @@ impl<R: Net, A: Allocator + Copy> Sockets<'_, R, A> {
         }
     }
 
-    /// Lists a client's connection under the next number. Where there are as many as may be, the oldest that waits for
-    /// nothing goes, else this one. `Err` where it goes since the system refuses or memory ran out.
+    /// Lists a client's connection under the next number. Where there are as many as may be, the
+    /// oldest that waits for nothing goes, otherwise this one. `Err` where this one goes because
+    /// the system refuses or memory ran out.
     fn admit(&mut self, stream: TcpStream, now: u64) -> io::Result<()>
         ensures { TakesIn now self.old self.new }
     {
@@ -175,7 +178,7 @@ impl<R: Net, A: Allocator + Copy> Sockets<'_, R, A> {
         }
     }
 
-    /// A datagram at the port of an ask. A socket that fails is let go, and its end is told.
+    /// A datagram at the port of an ask. A socket that fails is dropped, and its end is reported.
     fn take_ask(&mut self, port: u16) -> Result<Tried<A>, AllocError>
         ensures { TakesAsk port result self.old self.new }
     {
@@ -194,7 +197,8 @@ impl<R: Net, A: Allocator + Copy> Sockets<'_, R, A> {
         answer: io::Result<(usize, SocketAddr)>,
     ) -> Result<Tried<A>, AllocError>
         requires within { IfOk answer (λ received. IsPrefixLen received.0 self.old.buffer.value) }
-        ensures hears { HearsAsk port answer self.old.buffer.value result self.old.asks.entries self.new.asks.entries }
+        ensures hears { HearsAsk port answer self.old.buffer.value result
+            self.old.asks.entries self.new.asks.entries }
         ensures takes { TakesAsk port result self.old self.new }
     {
         match answer {
@@ -209,8 +213,8 @@ impl<R: Net, A: Allocator + Copy> Sockets<'_, R, A> {
         }
     }
 
-    /// Nothing of the socket of an ask that would block. One that refuses to be read for another
-    /// reason is dropped, and its end reported.
+    /// The result for the socket of an ask that refused to be read: nothing where it would block.
+    /// For any other reason it is dropped, and its end reported.
     fn lose_ask(&mut self, port: u16, refusal: Refusal) -> Tried<A>
         ensures loses { LosesAsk port refusal result self.old.asks.entries self.new.asks.entries }
         ensures takes { TakesAsk port (Ok result) self.old self.new }
@@ -249,7 +253,7 @@ impl<R: Net, A: Allocator + Copy> Sockets<'_, R, A> {
     }
 }
 
-/// So many octets of the buffer, in the memory that is spare.
+/// Copies the first `count` octets of the buffer into the spare memory.
 fn piece<A: Allocator + Copy>(
     alloc: A,
     spare: &mut Spare<A>,

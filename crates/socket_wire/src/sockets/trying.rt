@@ -1,22 +1,23 @@
-//! Sockets that are tried in turn, whatever events told.
+//! Sockets that are tried in turn, whatever the events reported.
 
-ghost use Rattle.socket_wire.specs.Trying.{BeginsRound, TriesAsk, TriesClient, TriesOthers, TriesServer, TriesUpTo};
+ghost use Rattle.socket_wire.specs.Trying.{BeginsRound, TriesAsk, TriesClient, TriesOthers};
+ghost use Rattle.socket_wire.specs.Trying.{TriesServer, TriesUpTo};
 
 use super::Sockets;
-use crate::origin::Origin;
+use ready_sockets::Origin;
 use std::alloc::Allocator;
 use std::net::Net;
 
-/// How many sockets of each kind are tried in a round.
+/// The most sockets of each kind that are tried in a round.
 const AT_ONCE: u8 = 20;
 
-/// In how many rounds the listener for connections is tried once: the system makes a socket before it finds that no
-/// client is there, which takes as long as all else of a round.
+/// The listener for connections is tried once in this number of rounds. The system makes a socket
+/// before it finds that no client is there, which takes as long as the rest of a round.
 const ROUNDS: u8 = 8;
 
 impl<R: Net, A: Allocator + Copy> Sockets<'_, R, A> {
-    /// Has the socket for datagrams, the listener in every eighth round, and some of the other sockets tried in turn,
-    /// whatever events told.
+    /// Has the socket for datagrams, the listener in every eighth round, and some of the other
+    /// sockets tried in turn, whatever the events reported.
     pub(super) fn try_others(&mut self, now: u64)
         ensures { TriesOthers now self.old self.new }
     {
@@ -70,7 +71,8 @@ impl<R: Net, A: Allocator + Copy> Sockets<'_, R, A> {
         }
     }
 
-    /// Has the next client tried, or closes it where it has been silent for too long. False behind the last one.
+    /// Has the next client tried, or closes it where it has been silent for too long. False after
+    /// the last one.
     fn try_client(&mut self, now: u64) -> bool
         ensures { TriesClient now result self.old self.new }
     {
@@ -94,7 +96,7 @@ impl<R: Net, A: Allocator + Copy> Sockets<'_, R, A> {
         }
     }
 
-    /// Has the socket of the next ask tried. False behind the last one.
+    /// Has the socket of the next ask tried. False after the last one.
     fn try_ask(&mut self) -> bool
         ensures { TriesAsk result self.old self.new }
     {
@@ -111,7 +113,7 @@ impl<R: Net, A: Allocator + Copy> Sockets<'_, R, A> {
         }
     }
 
-    /// Has the connection of the next ask tried. False behind the last one.
+    /// Has the connection of the next ask tried. False after the last one.
     fn try_server(&mut self) -> bool
         ensures { TriesServer result self.old self.new }
     {

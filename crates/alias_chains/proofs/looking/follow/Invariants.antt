@@ -6,8 +6,8 @@ use Rattle.alias_chains.proofs.looking.follow.Given as goal
 
 abbrev pub invariant-loop-target : goal.invariant-loop-target
 invariant-loop-target g l =
-    IsOnWay l.config.routes l.moment l.cache.entries l.class l.kind l.most l.used.items (alias l.alias)
-    (seen_from l.config.routes l.moment l.cache.entries l.class l.kind l.most [] (alias l.fn.first))
+    IsOnWay l.at.config.routes l.at.moment l.at.cache.entries l.question.class l.question.kind l.most l.used.items (alias l.alias)
+    (seen_from l.at.config.routes l.at.moment l.at.cache.entries l.question.class l.question.kind l.most [] (alias l.fn.first))
 
 abbrev pub decreases-loop-target : goal.decreases-loop-target
 decreases-loop-target g l = suc l.most - length l.used.items

@@ -7,8 +7,8 @@ use Rattle.alias_chains.proofs.past_ends.look_up_past.Given as goal
 abbrev pub invariant-loop-held : goal.invariant-loop-held
 invariant-loop-held g l = record {
   laid : IsLaidOut l.rest;
-  way : IsOnPast l.window l.moment l.cache.entries l.class l.kind l.most l.found.items (labels_of l.rest)
-      (look_up_past l.window l.moment l.cache.entries l.most (record { name = labels_of l.octets; kind = l.kind; class = l.class }));
+  way : IsOnPast l.window l.at.moment l.at.cache.entries l.question.class l.question.kind l.most l.found.items (labels_of l.rest)
+      (look_up_past l.window l.at.moment l.at.cache.entries l.most l.question);
 }
 
 abbrev pub decreases-loop-held : goal.decreases-loop-held

@@ -5,7 +5,7 @@ use Rattle.std.proofs.lemmas.List.Sorted.{IsPartitionPoint-from_clause, IsPartit
 use Rattle.arrival_order.proofs.Turns.{numbers_rise, among, not_before, turn_found}
 use Rattle.arrival_order.proofs.arrival_order.place_in.Goals as goal
 
--- the key stands nowhere: no
+-- the key is nowhere: impossible
 pub unreachable-requires : goal.unreachable-requires
 unreachable-requires g c =
     let point =

@@ -3,7 +3,7 @@ use Rattle.std.specs.Prelude.{nat_le}
 use Rattle.std.proofs.lemmas.Bool.{cond-true, le-leb}
 use Rattle.outstanding.specs.Lists.{of_question}
 use Rattle.step_values.specs.declared.action.Why.TheVariants.{InquiriesFull, NoPort}
-use Rattle.suffix_routes.specs.Serving.{route_of}
+use Rattle.suffix_routes.specs.Serving.{serving_route_of}
 use Rattle.dns_message.specs.Values.{Question}
 use Rattle.step_table.specs.State.{Turn, turn}
 use Rattle.step_table.specs.Attempts.{first_ask}
@@ -56,8 +56,8 @@ open-requires-clause-follows g c =
       tcp_asks = c.turn.inside.tcp_asks;
     }) c.turn.inside.inquiries.now c.turn.inside.preferred.now c.in-Some.ask
     c.turn.invariant.0 refl
-    (subst (λ (q : Question). route_of c.turn.inside.config.now q.name ≡ Some c.args.wanted.now.route) (sym c.wanted.ensures)
-    (subst (λ (r : Turn). route_of r.config c.args.waiting.wanted.name ≡ Some c.args.wanted.now.route)
+    (subst (λ (q : Question). serving_route_of c.turn.inside.config.now q.name ≡ Some c.args.wanted.now.route) (sym c.wanted.ensures)
+    (subst (λ (r : Turn). serving_route_of r.config c.args.waiting.wanted.name ≡ Some c.args.wanted.now.route)
     (sym c.turn.view_is) c.requires.on))
     c.turn.invariant.1 c.turn.invariant.2
     (subst (λ (q : Question). of_question q c.turn.inside.inquiries.now.asks ≡ None) (sym c.wanted.ensures)

@@ -1,10 +1,9 @@
 use Rattle.std.proofs.Common.{◌≡◌, ◌∙◌, [], ap, sym, subst}
 use Rattle.std.specs.List.{AllByRecursion}
 use Rattle.answer_builder.specs.Answers.{IsEarlier}
-use Rattle.dns_name.specs.Labels.{labels_of}
-use Rattle.dns_message.specs.Values.{Question}
+use Rattle.negative_cache.specs.Moments.{CacheAt}
 use Rattle.step_table.specs.State.{Turn}
-use Rattle.waiting_questions.specs.Values.{Waiting}
+use Rattle.step_actions.specs.LookUps.{cache_at}
 use Rattle.step_table.specs.Progress.{IsOnRoute}
 use Rattle.alias_chains.specs.LookingUp.{look_up}
 use Rattle.trust_rank.specs.Walks.{most_aliases}
@@ -15,24 +14,18 @@ use Rattle.client_decisions.proofs.client.look.Goals as goal
 
 pub decide_look_up-requires-clause-found : goal.decide_look_up-requires-clause-found
 decide_look_up-requires-clause-found g c =
-    (subst (λ (r : Turn). c.in_ok-looked.looked ≡ seen_of
-    (look_up r.config.routes r.moment r.state.cache.entries most_aliases [] c.args.request.now.wanted)) c.turn.view_is
-    (subst (λ (q : Question). c.in_ok-looked.looked ≡ seen_of
-    (look_up c.turn.inside.config.now.routes c.turn.inside.moment c.turn.inside.cache.now.entries most_aliases [] q))
-    ((λ i. record { name = c.name.ensures.labels i; kind = c.kind.ensures i; class = c.class.ensures i })
-    ∙ ap (λ (x : Waiting). x.wanted) c.request.view_is)
-    c.in_ok-looked.ensures.exact))
+    c.in_ok-looked.ensures.exact
+    ∙ (λ i. seen_of (look_up (c.cache_at.ensures i).config.routes (c.cache_at.ensures i).moment
+    (c.cache_at.ensures i).cache.entries most_aliases [] (c.request.view_is i).wanted))
 
 pub decide_look_up-requires-clause-earlier : goal.decide_look_up-requires-clause-earlier
 decide_look_up-requires-clause-earlier g c =
     subst (λ (r : Turn). AllByRecursion (IsEarlier r.moment) c.in_ok-looked.looked.used) c.turn.view_is
-    (subst (λ (v : Seen). AllByRecursion (IsEarlier c.turn.inside.moment) v.used) (sym c.in_ok-looked.ensures.exact)
+    (subst (λ (v : Seen). AllByRecursion (IsEarlier c.turn.inside.moment) v.used)
+    (sym (c.in_ok-looked.ensures.exact ∙ ap (λ (a : CacheAt). seen_of (look_up a.config.routes a.moment a.cache.entries
+    most_aliases [] c.request.inside.question)) (c.cache_at.ensures ∙ ap cache_at (sym c.turn.view_is))))
     (earlier_used c.turn.inside.config.now.routes c.turn.inside.before c.turn.inside.moment
-    c.turn.inside.cache.now.entries (record {
-      name = labels_of c.name.result.now;
-      kind = c.kind.result;
-      class = c.class.result;
-    }) c.turn.invariant.0.accepted c.turn.invariant.1))
+    c.turn.inside.cache.now.entries c.request.inside.question c.turn.invariant.0.accepted c.turn.invariant.1))
 
 pub returns : goal.returns
 returns g c = record {

@@ -11,7 +11,7 @@ use Rattle.suffix_routes.proofs.CallerLemmas.{routes_above_same, routes_above_di
 use Rattle.negative_cache.proofs.Options.{option_decides, option_differs}
 use Rattle.negative_cache.proofs.errors.has_route_of.Goals as goal
 
--- no suffix before a place that the name is under has more octets than so many
+-- no suffix before a place that the name is under has more octets than this
 abbrev NoneLonger : List Route → List (List ℕ) → ℕ → ℕ → Type 0
 NoneLonger routes name size i = (k : ℕ) (other : Route) → k < i → slice_get routes k ≡ Some other → IsUnder name other.suffix → size_of other.suffix ≤ size
 

@@ -12,10 +12,10 @@ returns-then-not-has_name_error-clause-found g c =
     let name = labels_of c.args.octets.now in
     let key = lowered name in
     let size : length c.args.octets.now ≡ length (octets_of key) = sym (size_same key name (lowered_is_same name) ∙ ap length c.requires.whole) in
-    sym (no_name_error c.args.moment c.args.class key c.args.cache.now.entries
-    (subst (λ (n : ℕ). has_name_error n c.args.cache.now.entries ≡ false) size (sym c.has_name_error.ensures.told ∙ c.if-not-has_name_error.true)))
+    rw (← c.at.view_is) (sym (no_name_error c.at.inside.moment c.args.class key c.at.inside.cache.now.entries
+    (subst (λ (n : ℕ). has_name_error n c.at.inside.cache.now.entries ≡ false) size (sym c.has_name_error.ensures.told ∙ c.if-not-has_name_error.true))))
 
 pub returns-clause-found : goal.returns-clause-found
 returns-clause-found g c =
     c.living_entry.ensures.found
-    ∙ ap (λ (key : List (List ℕ)). living_entry c.args.moment (slots_of c.args.cache.now.entries) (record { key = key; class = c.args.class; kind = None })) c.set_octets.ensures
+    ∙ ap (λ (key : List (List ℕ)). living_entry c.args.at.now.moment (slots_of c.args.at.now.cache.entries) (record { key = key; class = c.args.class; kind = None })) c.set_octets.ensures

@@ -7,9 +7,9 @@ use Rattle.negative_cache.proofs.errors.nearest_above.Given as goal
 abbrev pub invariant-loop-higher : goal.invariant-loop-higher
 invariant-loop-higher g l = record {
   laid : IsLaidOut l.rest;
-  under : IsUnder (labels_of l.octets) (labels_of l.rest);
-  left : above (name_error_on l.config.routes (route_of l.config.routes (lowered (labels_of l.octets))) l.moment (slots_of l.cache.entries) l.class) (lowered (labels_of l.rest))
-      ≡ above (name_error_on l.config.routes (route_of l.config.routes (lowered (labels_of l.octets))) l.moment (slots_of l.cache.entries) l.class) (lowered (labels_of l.octets));
+  under : IsUnder l.question.name (labels_of l.rest);
+  left : above (name_error_on l.at.config.routes (route_of l.at.config.routes (lowered l.question.name)) l.at.moment (slots_of l.at.cache.entries) l.question.class) (lowered (labels_of l.rest))
+      ≡ above (name_error_on l.at.config.routes (route_of l.at.config.routes (lowered l.question.name)) l.at.moment (slots_of l.at.cache.entries) l.question.class) (lowered l.question.name);
 }
 
 abbrev pub decreases-loop-higher : goal.decreases-loop-higher

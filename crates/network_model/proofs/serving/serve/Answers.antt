@@ -1,6 +1,7 @@
 use Rattle.std.proofs.Common.{◌≡◌, ℕ, arith, refl, subst}
 use Rattle.std.proofs.lemmas.Result.{err_from_is_err_and}
 use Rattle.wires.specs.Wire.{telling}
+use Rattle.tcp_frames.proofs.CallerLemmas.{pieces_continue}
 use Rattle.network_model.specs.declared.counts.Served.{Served}
 use Rattle.network_model.specs.Serving.{standing}
 use Rattle.network_model.proofs.Turns.{TurnsSoFar, turns_none, turns_more, turns_end, turns_cut}
@@ -10,10 +11,10 @@ pub loop-turn-init : goal.loop-turn-init
 loop-turn-init g c = turns_none _ _ c.new.ensures.empty c.new-2.ensures.empty
 
 pub loop-turn-preserved : goal.loop-turn-preserved
-loop-turn-preserved g c = turns_more c.pieces_continue.ensures _ _ _ _ _ _ c.loop-turn.invariant c.in_ok-take_turn.ensures
+loop-turn-preserved g c = turns_more pieces_continue _ _ _ _ _ _ c.loop-turn.invariant c.in_ok-take_turn.ensures
 
 pub returns-in_err-take_turn : goal.returns-in_err-take_turn
-returns-in_err-take_turn g c = let p = err_from_is_err_and c.from_residual.result c.from_residual.ensures.1 in rw p.1 (turns_cut c.pieces_continue.ensures _ _ _ _ _ _ _ _ c.loop-turn-test.true c.loop-turn.invariant c.in_err-take_turn.ensures)
+returns-in_err-take_turn g c = let p = err_from_is_err_and c.from_residual.result c.from_residual.ensures.1 in rw p.1 (turns_cut pieces_continue _ _ _ _ _ _ _ _ c.loop-turn-test.true c.loop-turn.invariant c.in_err-take_turn.ensures)
 
 pub returns : goal.returns
 returns g c =

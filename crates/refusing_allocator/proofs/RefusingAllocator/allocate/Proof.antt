@@ -1,4 +1,5 @@
--- Where a growth is left it answers what the allocator within answers, and else `Err`. Assumes `Logic`.
+-- While an allocation is left it returns the result of the allocator within, otherwise `Err`.
+-- Assumes `Logic`.
 use Rattle.std.proofs.Common.{◌≡◌, ℕ, ◌^◌, ◌<◌, Bool, true, false, List, [], ◌∷◌, Ok, Err, refl, w64, Bor}
 use seplogic.Ra.Ura.{Ura}
 use mir.Syntax.{Ty, Fn}

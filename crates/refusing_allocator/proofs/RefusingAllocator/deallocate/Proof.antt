@@ -87,7 +87,8 @@ module _ (Z : Al) {M : Type 1} {𝓤 : Ura M} (𝓛 : Logic 𝓤) (at_mem : Memo
         -- [two tokens; nothing; the parameters; the block; the right to free it]
         move ! (3 ∷ []) $ fsplit ! $ fsplit ! $ move ! (1 ∷ []) $
         use1 𝓛 (‵ (seen Z κ₁ p inner) ⊛ ‵ (hidden_shr Count κ₁ r.now.growths c.0 c.1)) (parts Z 𝓛 κ₁ r) $ split ! $
-        -- [the allocator within; the count; ..; the tokens at 4 and 5; the block at 7; the right to free it at 8]
+        -- [the allocator within; the count; ..; the tokens at 4 and 5; the block at 7; the right to
+        -- free it at 8]
         keep ! (7 ∷ 8 ∷ 0 ∷ 4 ∷ 5 ∷ []) $ group ! 4 $
         use1 𝓛 (raw ((Gives Z 𝓛 at_mem run).pre y)) (Gives-goes Z 𝓛 at_mem run κ₁ q₁ p inner (⊑_trans κ₁ κ₂ Z.row.lives shorter lives) b o n a τ fits.0 fits.1 small_n small_a) $
         enter ! 𝓣.C 𝓣.Λ (here Z) (passed block) _ $ alloc_all ! (λ l.

@@ -7,7 +7,7 @@ use Rattle.answer_builder.specs.Answers.{IsEarlier}
 use Rattle.trust_rank.specs.Values.{Piece, Walk}
 use Rattle.outstanding.specs.Values.{Ask}
 use Rattle.outstanding.specs.Lists.{on_path as ask_on}
-use Rattle.suffix_routes.specs.Serving.{route_of}
+use Rattle.suffix_routes.specs.Serving.{serving_route_of}
 use Rattle.step_table.specs.State.{Turn}
 use Rattle.step_table.specs.Attempts.{servers_in, group_of}
 use Rattle.step_table.specs.Steps.{closes}
@@ -38,8 +38,8 @@ returns g c = record {
   decides =
       let on : ask_on c.args.path c.turn.inside.inquiries.now.asks ≡ Some c.args.ask.now = subst
       (λ (r : Turn). ask_on c.args.path r.state.asks ≡ Some c.args.ask.now) (sym c.turn.view_is) c.requires.on in
-      let routed : route_of c.args.turn.now.config c.args.ask.now.question.name ≡ Some c.args.ask.now.route = subst
-      (λ (r : Turn). route_of r.config c.args.ask.now.question.name ≡ Some c.args.ask.now.route) c.turn.view_is
+      let routed : serving_route_of c.args.turn.now.config c.args.ask.now.question.name ≡ Some c.args.ask.now.route = subst
+      (λ (r : Turn). serving_route_of r.config c.args.ask.now.question.name ≡ Some c.args.ask.now.route) c.turn.view_is
       (kept_of c.turn.inside.config.now c.turn.inside.before c.turn.inside.tcp_asks c.args.path
       c.turn.inside.inquiries.now.asks c.args.ask.now on c.turn.invariant.0.asks).on_route in
       let pieces : map (λ h. h.piece) c.in_ok-held.held.items ≡ c.args.walk.pieces ++ c.args.walk.authority =

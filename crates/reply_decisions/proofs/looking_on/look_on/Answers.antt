@@ -1,24 +1,28 @@
-use Rattle.std.proofs.Common.{◌≡◌, ◌∙◌, ℕ, List, [], length, ap, arith}
+use Rattle.std.proofs.Common.{◌≡◌, ◌∙◌, ℕ, List, [], length, ap, subst, arith}
+use Rattle.std.specs.List.{AllByRecursion}
 use Rattle.std.proofs.lemmas.List.{length-append}
 use Rattle.record_cache.specs.Values.{Held}
-use Rattle.dns_name.specs.Labels.{labels_of}
+use Rattle.record_cache.specs.Laws.{Among}
+use Rattle.negative_cache.specs.Moments.{CacheAt}
 use Rattle.dns_message.specs.Values.{Question}
-use Rattle.dns_message.specs.Questions.{asked_at}
 use Rattle.alias_chains.specs.LookingUp.{look_up}
 use Rattle.alias_chains.specs.Seen.{seen_of}
 use Rattle.reply_decisions.proofs.looking_on.look_on.Goals as goal
 
 pub returns : goal.returns
-returns g c = record {
-  more = c.in-Some.more;
-  count =
-      let both = length-append c.args.waiting.now.held c.args.lead.now.aliases.now in
-      let own : length c.aliases.result.now ≡ length c.args.waiting.now.held = ap (λ (hs : List Held). length hs) c.aliases.ensures.aliases in
-      let sum = c.saturating_add-count.ensures in let left = c.in-Some.ensures in omega (arith, both, own, sum, left);
-  is =
-      c.in_ok-looked.ensures.exact
-      ∙ ap (λ (q : Question). seen_of (look_up c.args.config.now.routes c.args.moment c.args.cache.now.entries c.in-Some.more [] (asked_at q (labels_of c.octets.result.now)))) (c.question.view_is ∙ c.wanted-question.ensures)
-      ∙ ap (λ (name : List (List ℕ)). seen_of (look_up c.args.config.now.routes c.args.moment c.args.cache.now.entries c.in-Some.more [] (asked_at c.args.waiting.now.wanted name))) c.octets.ensures.labels;
-  few = c.in_ok-looked.ensures.few;
-  from_cache = c.in_ok-looked.ensures.from_cache;
-}
+returns g c =
+    let own = c.own.view_is ∙ c.wanted-own.ensures in
+    record {
+      more = c.in-Some.more;
+      count =
+          let both = length-append c.args.waiting.now.held c.args.lead.now.aliases.now in
+          let own : length c.aliases.result.now ≡ length c.args.waiting.now.held = ap (λ (hs : List Held). length hs) c.aliases.ensures.aliases in
+          let sum = c.saturating_add-count.ensures in let left = c.in-Some.ensures in omega (arith, both, own, sum, left);
+      is =
+          c.in_ok-looked.ensures.exact
+          ∙ ap (λ (a : CacheAt). seen_of (look_up a.config.routes a.moment a.cache.entries c.in-Some.more [] c.from_octets-question.result)) c.cache_at.ensures
+          ∙ ap (λ (q : Question). seen_of (look_up c.args.turn.now.config.routes c.args.turn.now.moment c.args.turn.now.state.cache.entries c.in-Some.more [] q))
+          (c.from_octets-question.ensures ∙ (λ i. record { name = c.octets.ensures.labels i; kind = (own i).kind; class = (own i).class }));
+      few = c.in_ok-looked.ensures.few;
+      from_cache = subst (λ (a : CacheAt). AllByRecursion (λ h. Among h a.cache.entries) c.in_ok-looked.looked.used) c.cache_at.ensures c.in_ok-looked.ensures.from_cache;
+    }

@@ -3,7 +3,7 @@ use Rattle.std.proofs.lemmas.Result.{IfOk-weaker}
 use Rattle.outstanding.specs.Draws.{udp_draw}
 use Rattle.outstanding.specs.Lists.{without_path}
 use Rattle.outstanding.specs.Values.{Ask}
-use Rattle.suffix_routes.specs.Serving.{route_of}
+use Rattle.suffix_routes.specs.Serving.{serving_route_of}
 use Rattle.step_table.specs.Attempts.{ask_by, first_ask_on, freed_by, over_udp, peer_at}
 use Rattle.step_table.proofs.CallerLemmas.{draws_left}
 use Rattle.reply_decisions.specs.Sending.{closing_state}
@@ -20,13 +20,13 @@ returns g c =
     ∙ (λ i. udp_draw (c.turn.view_is i).words (c.turn.view_is i).state.asks
     ((c.freed_port.ensures ∙ ap (λ (a : Ask). freed_by a.path) (c.ask.view_is ∙ c.ask-ask.ensures)) i))
     ∙ sym (draws_left c.args.turn.now.words c.args.answered.now.path c.args.turn.now.state.asks)) in
-    let on : route_of c.args.turn.now.config c.args.question.now.name ≡ Some c.in-Some.route =
-    sym (c.serving_route_of.ensures ∙ (λ i. route_of (c.turn.view_is i).config (c.question.view_is i).name))
-    ∙ c.in-Some.is in
+    let on : serving_route_of c.args.turn.now.config c.args.question.now.name ≡ Some c.in-Served.route =
+    sym (c.in-Served.ensures.served
+    ∙ (λ i. serving_route_of (c.turn.view_is i).config (c.question.view_is i).name)) in
     IfOk-weaker c.new_ask.result _ _ (λ ask is.
     is
-    ∙ (λ i. ask_by (c.turn.view_is i).moment c.args.question.now c.in-Some.route (c.preferred_then.ensures i) 1
-    (peer_at (c.turn.view_is i).config c.in-Some.route (c.preferred_then.ensures i)) (drawn i))
+    ∙ (λ i. ask_by (c.turn.view_is i).moment c.args.question.now c.in-Served.route (c.preferred_then.ensures i) 1
+    (peer_at (c.turn.view_is i).config c.in-Served.route (c.preferred_then.ensures i)) (drawn i))
     ∙ sym (ap (first_ask_on (from_state (closing_state c.args.answered.now c.args.turn.now.state) c.args.turn.now)
     c.args.question.now) on))
     c.new_ask.ensures

@@ -2,11 +2,11 @@ use Rattle.std.proofs.Common.{◌≡◌, ◌∙◌, ◌^◌, ◌<◌, List, leng
 use Rattle.std.specs.Prelude.{map, filter}
 use Rattle.std.specs.List.{AllByRecursion}
 use Rattle.std.proofs.lemmas.List.{length-map}
-use Rattle.trust_rank.specs.Values.{Piece, elsewhere, end_of, Walk}
+use Rattle.trust_rank.specs.Values.{Piece}
 use Rattle.record_cache.specs.Values.{Held}
 use Rattle.answer_builder.specs.Answers.{IsEarlier}
 use Rattle.outstanding.specs.Lists.{on_path as ask_on, without_path}
-use Rattle.suffix_routes.specs.Serving.{route_of}
+use Rattle.suffix_routes.specs.Serving.{serving_route_of}
 use Rattle.step_table.specs.State.{Turn, turn}
 use Rattle.waiting_questions.specs.Values.{Waiting, waits_for}
 use Rattle.step_table.specs.Steps.{Fate}
@@ -15,45 +15,41 @@ use Rattle.step_actions.specs.Kept.{HoldsEarlier}
 use Rattle.step_actions.specs.Decision.{IfFollows, IsRouted, IsSentEarlier}
 use Rattle.alias_chains.proofs.CallerLemmas.{walk_first, held_now}
 use Rattle.step_table.proofs.CallerLemmas.{All-filter}
-use Rattle.reply_decisions.specs.Fates.{fates_in, fate_behind, looked_behind, onward_in}
+use Rattle.reply_decisions.specs.Fates.{fates_in, fate_behind, onward_in}
 use Rattle.reply_decisions.proofs.Earlier.{behind_fate_holds}
-use Rattle.reply_decisions.specs.Walked.{leads_on}
+use Rattle.reply_decisions.specs.Walked.{walk_on}
 use Rattle.reply_decisions.specs.Sending.{ask_for, asked_for, closing_state, fates_then}
-use Rattle.reply_decisions.proofs.Accepting.{carried_few, carried_routed, carried_is, leads_there}
+use Rattle.reply_decisions.proofs.Accepting.{carried_few, carried_routed, carried_is}
 use Rattle.step_actions.proofs.CallerLemmas.{later_entries, later_held, kept_of, decides_by}
 use Rattle.reply_decisions.proofs.SendingOn.{sent_become, sent_row, sent_earlier, next_follows}
 use Rattle.reply_decisions.proofs.sending.send_on.Goals as goal
-
-pub unreachable-requires : goal.unreachable-requires
-unreachable-requires g c = leads_there c.walk.inside.end
-    (ap (λ (w : Walk). leads_on w.end) c.walk.view_is ∙ c.requires.leads) c.in_default.not-Elsewhere
 
 pub slice_bounds-lead-end : goal.slice_bounds-lead-end
 slice_bounds-lead-end g c =
     ap (λ (ps : List Piece). length ps) c.as_slice-walked.ensures
     ∙ sym (ap (λ (es : List Held). length es) (ap (take (length c.as_slice-walked.result.now)) c.deref.ensures.value
-    ∙ walk_first c.turn.inside.moment c.in_ok-held.held.items c.walk.inside.pieces c.walk.inside.authority _
+    ∙ walk_first c.turn.inside.moment c.in_ok-held.held.items c.args.pieces c.args.authority _
     c.in_ok-held.ensures.held (ap (λ (ps : List Piece). length ps) c.as_slice-walked.ensures))
-    ∙ length-map c.walk.inside.pieces (held_at c.turn.inside.moment))
-
-pub fates_behind-requires-clause-entries : goal.fates_behind-requires-clause-entries
-fates_behind-requires-clause-entries g c = later_entries c.turn.inside.before c.turn.inside.moment
-    c.turn.inside.cache.now.entries c.turn.invariant.1 c.turn.invariant.0.accepted
+    ∙ length-map c.args.pieces (held_at c.turn.inside.moment))
 
 pub fates_behind-requires-clause-aliases : goal.fates_behind-requires-clause-aliases
-fates_behind-requires-clause-aliases g c = subst (AllByRecursion (IsEarlier c.turn.inside.moment))
+fates_behind-requires-clause-aliases g c =
+    subst (λ (r : Turn). AllByRecursion (IsEarlier r.moment)
+    (take (length c.as_slice-walked.result.now) c.deref.result.now)) c.turn.view_is
+    (subst (AllByRecursion (IsEarlier c.turn.inside.moment))
     (sym (ap (take (length c.as_slice-walked.result.now)) c.deref.ensures.value
-    ∙ walk_first c.turn.inside.moment c.in_ok-held.held.items c.walk.inside.pieces c.walk.inside.authority _
+    ∙ walk_first c.turn.inside.moment c.in_ok-held.held.items c.args.pieces c.args.authority _
     c.in_ok-held.ensures.held (ap (λ (ps : List Piece). length ps) c.as_slice-walked.ensures)))
-    (held_now c.turn.inside.moment c.walk.inside.pieces)
+    (held_now c.turn.inside.moment c.args.pieces))
 
 pub fates_behind-requires-clause-own : goal.fates_behind-requires-clause-own
 fates_behind-requires-clause-own g c =
-    subst (AllByRecursion (HoldsEarlier c.turn.inside.moment)) (sym c.for_ask-those.ensures)
+    subst (λ (r : Turn). AllByRecursion (HoldsEarlier r.moment) c.for_ask-those.result) c.turn.view_is
+    (subst (AllByRecursion (HoldsEarlier c.turn.inside.moment)) (sym c.for_ask-those.ensures)
     (All-filter (HoldsEarlier c.turn.inside.moment) (waits_for c.args.answered.now.question)
     c.turn.inside.waiting.now.items
     (later_held c.turn.inside.before c.turn.inside.moment c.turn.inside.waiting.now.items c.turn.invariant.1
-    c.turn.invariant.0.aliases))
+    c.turn.invariant.0.aliases)))
 
 pub close_and_send_on-requires-clause-count : goal.close_and_send_on-requires-clause-count
 close_and_send_on-requires-clause-count g c =
@@ -67,14 +63,14 @@ close_and_send_on-requires-clause-earlier g c =
     c.turn.view_is
     (sent_earlier c.turn.inside.moment _
     (behind_fate_holds (IsEarlier c.turn.inside.moment) c.turn.inside.config.now c.turn.inside.moment
-    c.turn.inside.cache.now.entries _ c.in-Elsewhere.name
+    c.turn.inside.cache.now.entries _ c.args.name
     (later_entries c.turn.inside.before c.turn.inside.moment c.turn.inside.cache.now.entries c.turn.invariant.1
     c.turn.invariant.0.accepted)
     (subst (AllByRecursion (IsEarlier c.turn.inside.moment))
     (sym (ap (take (length c.as_slice-walked.result.now)) c.deref.ensures.value
-    ∙ walk_first c.turn.inside.moment c.in_ok-held.held.items c.walk.inside.pieces c.walk.inside.authority _
+    ∙ walk_first c.turn.inside.moment c.in_ok-held.held.items c.args.pieces c.args.authority _
     c.in_ok-held.ensures.held (ap (λ (ps : List Piece). length ps) c.as_slice-walked.ensures)))
-    (held_now c.turn.inside.moment c.walk.inside.pieces)))
+    (held_now c.turn.inside.moment c.args.pieces)))
     c.for_ask-those.result c.in_ok-fates-2.fates.each c.in_ok-fates-2.ensures.count
     (subst (AllByRecursion (HoldsEarlier c.turn.inside.moment)) (sym c.for_ask-those.ensures)
     (All-filter (HoldsEarlier c.turn.inside.moment) (waits_for c.args.answered.now.question)
@@ -82,7 +78,11 @@ close_and_send_on-requires-clause-earlier g c =
     c.turn.inside.waiting.now.items c.turn.invariant.1 c.turn.invariant.0.aliases)))
     _ c.in_ok-fates-2.next
     (c.in_ok-fates-2.ensures.fates ∙ ap (λ (fs : List Fate). fates_then
-    (asked_for c.args.answered.now c.args.turn.now.state fs) c.in_ok-fates-2.next fs) c.in_ok-fates.ensures.fates))
+    (asked_for c.args.answered.now c.args.turn.now.state fs) c.in_ok-fates-2.next fs)
+    (subst (λ (r : Turn). fates_in c.for_ask-those.result c.in_ok-fates.fates.each ≡ map
+    (fate_behind r.config r.moment r.state.cache.entries
+    (take (length c.as_slice-walked.result.now) c.deref.result.now) c.args.name) c.for_ask-those.result)
+    (sym c.turn.view_is) c.in_ok-fates.ensures.fates)))
 
 pub close_and_send_on-requires-clause-follows : goal.close_and_send_on-requires-clause-follows
 close_and_send_on-requires-clause-follows g c =
@@ -102,81 +102,73 @@ close_and_send_on-requires-clause-follows g c =
 
 pub close_and_send_on-requires-clause-few : goal.close_and_send_on-requires-clause-few
 close_and_send_on-requires-clause-few g c =
-    let routed : route_of c.args.turn.now.config c.args.answered.now.question.name ≡ Some c.args.answered.now.route =
-    subst (λ (r : Turn). route_of r.config c.args.answered.now.question.name ≡ Some c.args.answered.now.route)
+    let routed : serving_route_of c.args.turn.now.config c.args.answered.now.question.name ≡ Some c.args.answered.now.route =
+    subst (λ (r : Turn). serving_route_of r.config c.args.answered.now.question.name ≡ Some c.args.answered.now.route)
     c.turn.view_is
     (kept_of c.turn.inside.config.now c.turn.inside.before c.turn.inside.tcp_asks c.args.answered.now.path
     c.turn.inside.inquiries.now.asks c.args.answered.now
     (subst (λ (r : Turn). ask_on c.args.answered.now.path r.state.asks ≡ Some c.args.answered.now)
     (sym c.turn.view_is) c.requires.on) c.turn.invariant.0.asks).on_route in
     subst (λ (ps : List Piece). length ps < 2 ^ 32)
-    (sym (carried_is c.args.turn.now.config c.turn.inside.moment c.args.answered.now c.args.walk c.requires.carried
-    routed c.in_ok-held.held.items c.walk.inside.pieces c.walk.inside.authority c.in_ok-held.ensures.held
-    (ap (λ (v : Walk). v.pieces) c.walk.view_is) (ap (λ (v : Walk). v.authority) c.walk.view_is)))
-    (carried_few c.args.turn.now.config c.args.turn.now.moment c.args.answered.now c.args.walk c.requires.carried
+    (sym (carried_is c.args.turn.now.config c.turn.inside.moment c.args.answered.now (walk_on c.args.pieces c.args.authority c.args.name) c.requires.carried
+    routed c.in_ok-held.held.items c.args.pieces c.args.authority c.in_ok-held.ensures.held
+    refl refl))
+    (carried_few c.args.turn.now.config c.args.turn.now.moment c.args.answered.now (walk_on c.args.pieces c.args.authority c.args.name) c.requires.carried
     routed)
 
 pub close_and_send_on-requires-clause-routed : goal.close_and_send_on-requires-clause-routed
 close_and_send_on-requires-clause-routed g c =
-    let routed : route_of c.args.turn.now.config c.args.answered.now.question.name ≡ Some c.args.answered.now.route =
-    subst (λ (r : Turn). route_of r.config c.args.answered.now.question.name ≡ Some c.args.answered.now.route)
+    let routed : serving_route_of c.args.turn.now.config c.args.answered.now.question.name ≡ Some c.args.answered.now.route =
+    subst (λ (r : Turn). serving_route_of r.config c.args.answered.now.question.name ≡ Some c.args.answered.now.route)
     c.turn.view_is
     (kept_of c.turn.inside.config.now c.turn.inside.before c.turn.inside.tcp_asks c.args.answered.now.path
     c.turn.inside.inquiries.now.asks c.args.answered.now
     (subst (λ (r : Turn). ask_on c.args.answered.now.path r.state.asks ≡ Some c.args.answered.now)
     (sym c.turn.view_is) c.requires.on) c.turn.invariant.0.asks).on_route in
     subst (AllByRecursion (IsRouted c.args.turn.now.config))
-    (sym (carried_is c.args.turn.now.config c.turn.inside.moment c.args.answered.now c.args.walk c.requires.carried
-    routed c.in_ok-held.held.items c.walk.inside.pieces c.walk.inside.authority c.in_ok-held.ensures.held
-    (ap (λ (v : Walk). v.pieces) c.walk.view_is) (ap (λ (v : Walk). v.authority) c.walk.view_is)))
-    (carried_routed c.args.turn.now.config c.args.turn.now.moment c.args.answered.now c.args.walk c.requires.carried
+    (sym (carried_is c.args.turn.now.config c.turn.inside.moment c.args.answered.now (walk_on c.args.pieces c.args.authority c.args.name) c.requires.carried
+    routed c.in_ok-held.held.items c.args.pieces c.args.authority c.in_ok-held.ensures.held
+    refl refl))
+    (carried_routed c.args.turn.now.config c.args.turn.now.moment c.args.answered.now (walk_on c.args.pieces c.args.authority c.args.name) c.requires.carried
     routed)
 
 pub returns : goal.returns
 returns g c = record {
   decides =
-      let routed : route_of c.args.turn.now.config c.args.answered.now.question.name ≡ Some c.args.answered.now.route =
-      subst (λ (r : Turn). route_of r.config c.args.answered.now.question.name ≡ Some c.args.answered.now.route)
+      let routed : serving_route_of c.args.turn.now.config c.args.answered.now.question.name ≡ Some c.args.answered.now.route =
+      subst (λ (r : Turn). serving_route_of r.config c.args.answered.now.question.name ≡ Some c.args.answered.now.route)
       c.turn.view_is
       (kept_of c.turn.inside.config.now c.turn.inside.before c.turn.inside.tcp_asks c.args.answered.now.path
       c.turn.inside.inquiries.now.asks c.args.answered.now
       (subst (λ (r : Turn). ask_on c.args.answered.now.path r.state.asks ≡ Some c.args.answered.now)
       (sym c.turn.view_is) c.requires.on) c.turn.invariant.0.asks).on_route in
-      let leads : c.args.walk.end ≡ elsewhere c.in-Elsewhere.name = ap (λ (w : Walk). w.end) (sym c.walk.view_is)
-      ∙ ap (λ e. end_of {A = g.row.A.Denot} e) c.in-Elsewhere.is in
       let aliases : take (length c.as_slice-walked.result.now) c.deref.result.now ≡ map
-      (held_at c.args.turn.now.moment) c.args.walk.pieces =
+      (held_at c.args.turn.now.moment) c.args.pieces =
       ap (take (length c.as_slice-walked.result.now)) c.deref.ensures.value
-      ∙ walk_first c.turn.inside.moment c.in_ok-held.held.items c.walk.inside.pieces c.walk.inside.authority _
+      ∙ walk_first c.turn.inside.moment c.in_ok-held.held.items c.args.pieces c.args.authority _
       c.in_ok-held.ensures.held (ap (λ (ps : List Piece). length ps) c.as_slice-walked.ensures)
-      ∙ (λ i. map (held_at (c.turn.view_is i).moment) (c.walk.view_is i).pieces) in
+      ∙ (λ i. map (held_at (c.turn.view_is i).moment) c.args.pieces) in
       let those : c.for_ask-those.result ≡ filter (waits_for c.args.answered.now.question)
       c.args.turn.now.state.waiting =
       c.for_ask-those.ensures ∙ (λ i. filter (waits_for c.args.answered.now.question)
       (c.turn.view_is i).state.waiting) in
       let each : fates_in c.for_ask-those.result c.in_ok-fates.fates.each ≡ map
       (fate_behind c.args.turn.now.config c.args.turn.now.moment c.args.turn.now.state.cache.entries
-      (take (length c.as_slice-walked.result.now) c.deref.result.now) c.in-Elsewhere.name) c.for_ask-those.result =
-      subst (λ (r : Turn). fates_in c.for_ask-those.result c.in_ok-fates.fates.each ≡ map
-      (fate_behind r.config r.moment r.state.cache.entries
-      (take (length c.as_slice-walked.result.now) c.deref.result.now) c.in-Elsewhere.name) c.for_ask-those.result)
-      c.turn.view_is c.in_ok-fates.ensures.fates in
+      (take (length c.as_slice-walked.result.now) c.deref.result.now) c.args.name) c.for_ask-those.result =
+      c.in_ok-fates.ensures.fates in
       decides_by c.close_and_send_on.result _ _ _ (c.close_and_send_on.ensures.decides _
-      (sent_become c.args.turn.now.config c.args.turn.now.moment c.args.turn.now.words c.args.answered.now c.args.walk
-      c.args.turn.now.state c.in-Elsewhere.name leads _ c.for_ask-those.result c.in_ok-fates.fates.each
+      (sent_become c.args.turn.now.config c.args.turn.now.moment c.args.turn.now.words c.args.answered.now (walk_on c.args.pieces c.args.authority c.args.name)
+      c.args.turn.now.state c.args.name refl _ c.for_ask-those.result c.in_ok-fates.fates.each
       c.in_ok-fates-2.next aliases those each
       c.in_ok-fates-2.fates.each c.in_ok-fates-2.ensures.count c.in_ok-fates-2.ensures.fates)) (λ rooms.
-      sent_row c.args.turn.now.config c.args.turn.now.moment c.args.turn.now.words c.args.answered.now c.args.walk
-      c.args.turn.now.state c.in-Elsewhere.name leads _ c.for_ask-those.result c.in_ok-fates.fates.each
+      sent_row c.args.turn.now.config c.args.turn.now.moment c.args.turn.now.words c.args.answered.now (walk_on c.args.pieces c.args.authority c.args.name)
+      c.args.turn.now.state c.args.name refl _ c.for_ask-those.result c.in_ok-fates.fates.each
       c.in_ok-fates-2.next aliases those each
       rooms c.in_ok-fates.fates.used c.in_ok-fates-2.fates.used _ _ c.in_ok-fates-2.ensures.ask
-      (subst (λ (r : Turn). map (λ (h : Held). h.piece.slot) c.in_ok-fates.fates.used ≡ Rattle.std.specs.List.flat_map
-      (λ x. (looked_behind r.config r.moment r.state.cache.entries
-      (take (length c.as_slice-walked.result.now) c.deref.result.now) c.in-Elsewhere.name x).used)
-      c.for_ask-those.result) c.turn.view_is c.in_ok-fates.ensures.used)
+      c.in_ok-fates.ensures.used
       c.in_ok-fates-2.ensures.used
-      (carried_is c.args.turn.now.config c.turn.inside.moment c.args.answered.now c.args.walk c.requires.carried routed
-      c.in_ok-held.held.items c.walk.inside.pieces c.walk.inside.authority c.in_ok-held.ensures.held
-      (ap (λ (v : Walk). v.pieces) c.walk.view_is) (ap (λ (v : Walk). v.authority) c.walk.view_is))
+      (carried_is c.args.turn.now.config c.turn.inside.moment c.args.answered.now (walk_on c.args.pieces c.args.authority c.args.name) c.requires.carried routed
+      c.in_ok-held.held.items c.args.pieces c.args.authority c.in_ok-held.ensures.held
+      refl refl)
       refl);
 }

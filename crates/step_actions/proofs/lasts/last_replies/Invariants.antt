@@ -7,5 +7,5 @@ use Rattle.step_actions.proofs.lasts.last_replies.Given as goal
 
 abbrev pub invariant-loop-place : goal.invariant-loop-place
 invariant-loop-place g l =
-    with_replies (runs_out l.config l.moment l.cache.entries l.ask.question) (actions_of l.actions) (drop l.place l.those)
-    ≡ with_replies (runs_out l.config l.moment l.cache.entries l.ask.question) (closes l.ask.path ∷ []) l.those
+    with_replies (runs_out l.turn.config l.turn.moment l.turn.state.cache.entries l.ask.question) (actions_of l.actions) (drop l.place l.those)
+    ≡ with_replies (runs_out l.turn.config l.turn.moment l.turn.state.cache.entries l.ask.question) (closes l.ask.path ∷ []) l.those

@@ -30,4 +30,4 @@ returns g c =
 pub put_answer-requires-clause-earlier : goal.put_answer-requires-clause-earlier
 put_answer-requires-clause-earlier g c =
     subst (λ (d : Source). HoldsEarlier d.moment c.get.result.now) (sym c.loop-place.invariant.same)
-    (one_of_those (HoldsEarlier c.args.answers.now.moment) c.args.ask.now.question c.args.waiting.now.items c.for_ask-those.result c.loop-place.place c.get.result.now c.requires.earlier c.for_ask-those.ensures c.get.ensures)
+    (one_of_those (HoldsEarlier c.args.answers.now.moment) c.args.ask.now.question c.args.waiting.now.items c.for_ask-those.result c.loop-place.place c.get.result.now c.requires c.for_ask-those.ensures c.get.ensures)

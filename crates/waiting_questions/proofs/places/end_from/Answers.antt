@@ -8,13 +8,13 @@ use Rattle.waiting_questions.proofs.Ranges.{upper_parted, range_from, ends_at}
 use Rattle.waiting_questions.proofs.Numbered.{length_keys, told_by_item, parted_items, point_of_keys}
 use Rattle.waiting_questions.proofs.places.end_from.Goals as goal
 
--- what comes behind is not sought any more
+-- one that comes after is not sought any more
 not_le : (o : Ordering) → is_gt o ≡ true → is_le o ≡ false
 not_le Less t = absurd (false≢true t)
 not_le Equal t = absurd (false≢true t)
 not_le Greater t = refl
 
--- what does not come behind is sought, or comes before
+-- one that does not come after is sought, or comes before
 le_from : (o : Ordering) → is_gt o ≡ false → is_le o ≡ true
 le_from Less t = refl
 le_from Equal t = refl

@@ -1,7 +1,7 @@
 use Rattle.std.proofs.Common.{◌≡◌, refl, rules, subst, ap, ◌∙◌}
 use Rattle.std.specs.Prelude.{Ok, Err}
 use Rattle.socket_wire.specs.Attempting.{TriesReady}
-use Rattle.socket_wire.specs.Rounds.{IsNothing}
+use Rattle.ready_sockets.specs.Rounds.{IsNothing}
 use Rattle.socket_wire.proofs.Looks.{given_is}
 use Rattle.socket_wire.proofs.sockets.Sockets.end_turn.Goals as goal
 
@@ -18,7 +18,8 @@ returns-in_err-try_ready g c =
         between = woken;
         came = Err c.in_err-try_ready.field-0.0;
         events = record { stay = c.wait.ensures.stay; turn = c.wait.ensures.turn; rest = refl };
-        tries = subst (λ came. TriesReady 64 c.args.now came woken c.try_ready.new.self) came c.try_ready.ensures;
+        tries = subst (λ came. TriesReady 64 c.args.now came woken c.try_ready.new.self) came
+            c.try_ready.ensures;
         gives = told;
       };
     }
@@ -35,7 +36,8 @@ returns g c =
         between = woken;
         came = Ok c.in_ok-try_ready.field-0;
         events = record { stay = c.wait.ensures.stay; turn = c.wait.ensures.turn; rest = refl };
-        tries = subst (λ came. TriesReady 64 c.args.now came woken c.try_ready.new.self) came c.try_ready.ensures;
+        tries = subst (λ came. TriesReady 64 c.args.now came woken c.try_ready.new.self) came
+            c.try_ready.ensures;
         gives = ap Ok c.unwrap_or.ensures ∙ given_is c.in_ok-try_ready.field-0;
       };
     }

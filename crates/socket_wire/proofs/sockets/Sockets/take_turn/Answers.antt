@@ -13,7 +13,8 @@ returns-in_err-arrival g c =
       looked = c.look-has_waited.new.self;
       behind = c.try_ready.new.self;
       looks = c.look-has_waited.ensures;
-      tries = subst (λ came. TriesReady 64 c.args.now came c.look-has_waited.new.self c.try_ready.new.self) came
+      tries = subst (λ came. TriesReady 64 c.args.now came c.look-has_waited.new.self
+          c.try_ready.new.self) came
           c.try_ready.ensures;
       ends = (told, refl);
     }
@@ -27,7 +28,8 @@ returns-in-Some g c =
       looked = c.look-has_waited.new.self;
       behind = c.try_ready.new.self;
       looks = c.look-has_waited.ensures;
-      tries = subst (λ came. TriesReady 64 c.args.now came c.look-has_waited.new.self c.try_ready.new.self) came
+      tries = subst (λ came. TriesReady 64 c.args.now came c.look-has_waited.new.self
+          c.try_ready.new.self) came
           c.try_ready.ensures;
       ends = (refl, refl);
     }
@@ -41,7 +43,8 @@ returns-in-None g c =
       looked = c.look-has_waited.new.self;
       behind = c.try_ready.new.self;
       looks = c.look-has_waited.ensures;
-      tries = subst (λ came. TriesReady 64 c.args.now came c.look-has_waited.new.self c.try_ready.new.self) came
+      tries = subst (λ came. TriesReady 64 c.args.now came c.look-has_waited.new.self
+          c.try_ready.new.self) came
           c.try_ready.ensures;
       ends = c.end_turn.ensures;
     }

@@ -24,4 +24,5 @@ pub returns : goal.returns
 returns g c =
     let all : c.loop-tried._tried ≡ 20 = omega arith in
     tries_over TriesAsk 20 c.args.self.now c.loop-tried.self
-    (subst (λ n. TriesAll TriesAsk 20 n c.args.self.now c.loop-tried.self) all c.loop-tried.invariant)
+    (subst (λ n. TriesAll TriesAsk 20 n c.args.self.now c.loop-tried.self) all
+    c.loop-tried.invariant)

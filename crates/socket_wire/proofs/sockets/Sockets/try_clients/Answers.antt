@@ -9,19 +9,24 @@ loop-tried-init g c = tries_begun (TriesClient c.args.now) 20 c.args.self.now
 pub loop-tried-preserved : goal.loop-tried-preserved
 loop-tried-preserved g c =
     let found : c.try_client.result ≡ true = search rules in
-    tries_more (TriesClient c.args.now) 20 c.loop-tried._tried c.args.self.now c.loop-tried.self c.try_client.new.self
+    tries_more (TriesClient c.args.now) 20 c.loop-tried._tried c.args.self.now c.loop-tried.self
+    c.try_client.new.self
     (omega arith) c.loop-tried.invariant
-    (subst (λ tried. TriesClient c.args.now tried c.loop-tried.self c.try_client.new.self) found c.try_client.ensures)
+    (subst (λ tried. TriesClient c.args.now tried c.loop-tried.self c.try_client.new.self) found
+    c.try_client.ensures)
 
 pub returns-then-not-try_client : goal.returns-then-not-try_client
 returns-then-not-try_client g c =
     let none : c.try_client.result ≡ false = search rules in
-    tries_end (TriesClient c.args.now) 20 c.loop-tried._tried c.args.self.now c.loop-tried.self c.try_client.new.self
+    tries_end (TriesClient c.args.now) 20 c.loop-tried._tried c.args.self.now c.loop-tried.self
+    c.try_client.new.self
     (omega arith) c.loop-tried.invariant
-    (subst (λ tried. TriesClient c.args.now tried c.loop-tried.self c.try_client.new.self) none c.try_client.ensures)
+    (subst (λ tried. TriesClient c.args.now tried c.loop-tried.self c.try_client.new.self) none
+    c.try_client.ensures)
 
 pub returns : goal.returns
 returns g c =
     let all : c.loop-tried._tried ≡ 20 = omega arith in
     tries_over (TriesClient c.args.now) 20 c.args.self.now c.loop-tried.self
-    (subst (λ n. TriesAll (TriesClient c.args.now) 20 n c.args.self.now c.loop-tried.self) all c.loop-tried.invariant)
+    (subst (λ n. TriesAll (TriesClient c.args.now) 20 n c.args.self.now c.loop-tried.self) all
+    c.loop-tried.invariant)

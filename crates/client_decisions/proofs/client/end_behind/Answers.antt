@@ -1,8 +1,0 @@
-use Rattle.std.proofs.Common.{rules}
-use Rattle.step_actions.proofs.CallerLemmas.{decides_by}
-use Rattle.client_decisions.proofs.client.end_behind.Goals as goal
-
-pub returns : goal.returns
-returns g c = record {
-  decides = decides_by c.reply.result _ _ _ c.reply.ensures.decides (λ rooms. search rules);
-}

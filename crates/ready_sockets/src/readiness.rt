@@ -1,0 +1,275 @@
+//! Sockets that may be ready, and which of them is tried next.
+
+ghost use Rattle.std.specs.Prelude.{◌≡◌, ◌≤◌, ◌+◌, ◌*◌, ◌%◌, [], true, IsTrue, IfOk, OnErr};
+ghost use Rattle.std.specs.Prelude.{IsSomeAnd, ◌↔◌};
+ghost use Rattle.std.specs.Duration.{as_nanos};
+ghost use Rattle.mio.specs.Interest.{is_readable, is_writable};
+ghost use Rattle.std.specs.BTreeSet.{btree_set_len};
+ghost use Rattle.ready_sockets.specs.Rounds.{Dropped, Finds, Gives, GivesOnTurn, HasDatagramsAlone};
+ghost use Rattle.ready_sockets.specs.Rounds.{IsBegun, IsNothing, Noted, NotedStay};
+
+use crate::origin::Origin;
+use mio::event::Source;
+use mio::{Events, Interest, Poll, Token};
+use std::alloc::Allocator;
+use std::collections::BTreeSet;
+use std::io;
+use std::marker::Model;
+use std::net::Net;
+use std::time::Duration;
+
+/// How many events of the system are taken at once.
+const EVENTS: usize = 64;
+
+/// Sockets that may be ready, by their tokens; they are tried in turn.
+#[derive(Drop)]
+struct Round<A: Allocator> {
+    tokens: BTreeSet<usize, A>,
+    /// The token of the socket that was tried last.
+    last: usize,
+}
+
+impl<A: Allocator> Round<A> {
+    /// No socket. It does not allocate.
+    fn new(alloc: A) -> Round<A>
+        ensures { (result.tokens.keys ≡ []) × (result.last ≡ 0) }
+    {
+        Round {
+            tokens: BTreeSet::new(alloc),
+            last: 0,
+        }
+    }
+
+    /// The next socket after the one that was tried last; after the last of them the first.
+    fn next(&mut self) -> Option<Origin>
+        ensures { Gives result self.old self.new }
+    {
+        if self.tokens.is_empty() {
+            return None;
+        }
+        let after = self.last.saturating_add(1);
+        let next = match self.tokens.range(after..).next() {
+            Some(token) => *token,
+            None => *self.tokens.first()?,
+        };
+        self.last = next;
+        Origin::of(Token(next))
+    }
+}
+
+/// The sockets that may be ready.
+#[derive(Drop)]
+struct Ready<A: Allocator> {
+    /// The socket for datagrams of clients.
+    datagrams: bool,
+    /// The listener and the connections of clients.
+    streams: Round<A>,
+    /// The sockets and connections of asks.
+    servers: Round<A>,
+}
+
+impl<A: Allocator + Copy> Ready<A> {
+    /// Notes the socket, unless memory ran out.
+    fn add(&mut self, origin: Origin)
+        ensures { Noted origin self.old self.new }
+    {
+        let Token(number) = origin.token();
+        match origin {
+            Origin::Datagrams => self.datagrams = true,
+            Origin::Connections | Origin::Client(_) => {
+                let _ = self.streams.tokens.insert(number);
+            }
+            Origin::Ask(_) | Origin::Server(_) => {
+                let _ = self.servers.tokens.insert(number);
+            }
+        }
+    }
+
+    /// Notes the sockets that the events report.
+    fn add_each(&mut self, events: &Events<A>)
+        ensures { NotedStay self.old self.new }
+    {
+        for event in events {
+            if let Some(origin) = Origin::of(event.token()) {
+                self.add(origin);
+            }
+        }
+    }
+
+    /// The socket for datagrams may be ready, and nothing else.
+    fn has_datagrams_alone(&self) -> bool
+        ensures { IsTrue result ↔ HasDatagramsAlone self.now }
+    {
+        self.datagrams && self.streams.tokens.is_empty() && self.servers.tokens.is_empty()
+    }
+
+    /// Notes the socket no longer.
+    fn remove(&mut self, origin: Origin)
+        ensures { Dropped origin self.old self.new }
+    {
+        let Token(number) = origin.token();
+        match origin {
+            Origin::Datagrams => self.datagrams = false,
+            Origin::Connections | Origin::Client(_) => {
+                let _was = self.streams.tokens.remove(&number);
+            }
+            Origin::Ask(_) | Origin::Server(_) => {
+                let _was = self.servers.tokens.remove(&number);
+            }
+        }
+    }
+}
+
+/// The pause of a poll, of `millis` milliseconds.
+fn pause_of(millis: u64) -> Option<Duration>
+    ensures { IsSomeAnd result (λ pause. as_nanos pause ≡ millis * 1_000_000) }
+{
+    Some(Duration::from_millis(millis))
+}
+
+/// A socket that is read from and written to.
+fn both_ways() -> Interest
+    ensures reads { is_readable result ≡ true }
+    ensures writes { is_writable result ≡ true }
+{
+    Interest::READABLE | Interest::WRITABLE
+}
+
+/// The sockets that may be ready: reported by the system, or to be tried all the same. Each socket
+/// stays until it said that it would block. Contracts see which sockets may be ready, and whose
+/// turn was last.
+#[derive(Drop)]
+pub struct Readiness<A: Allocator> {
+    poll: Poll,
+    events: Events<A>,
+    ready: Ready<A>,
+    turn: u8,
+}
+
+impl<A: Allocator> Model for Readiness<A> {
+    ghost use Rattle.ready_sockets.specs.Seen.{SeenReadiness};
+
+    ghost Value = { SeenReadiness A };
+
+    ghost view = { λ r. record { ready = r.ready; turn = r.turn } };
+}
+
+impl<A: Allocator + Copy> Readiness<A> {
+    /// Only the socket for datagrams may be ready. `Err` where the system refuses, or memory ran
+    /// out.
+    pub fn new(net: &impl Net, alloc: A) -> io::Result<Readiness<A>>
+        ensures { IfOk result (λ readiness. IsBegun readiness.ready × (readiness.turn ≡ 0)) }
+    {
+        Ok(Readiness {
+            poll: Poll::new(net)?,
+            events: Events::with_capacity(alloc, EVENTS)?,
+            ready: Ready {
+                datagrams: true,
+                streams: Round::new(alloc),
+                servers: Round::new(alloc),
+            },
+            turn: 0,
+        })
+    }
+
+    /// Has the system report when the socket can be read. `Err` where the system refuses.
+    pub fn watch_reads<S: Source>(&self, socket: &mut S, origin: Origin) -> io::Result<()> {
+        let registry = self.poll.registry();
+        registry.register(socket, origin.token(), Interest::READABLE)
+    }
+
+    /// Has the system report when the socket can be read or written. `Err` where the system
+    /// refuses.
+    pub fn watch<S: Source>(&self, socket: &mut S, origin: Origin) -> io::Result<()> {
+        let registry = self.poll.registry();
+        registry.register(socket, origin.token(), both_ways())
+    }
+
+    /// Waits until a socket is ready, for `pause` milliseconds at most, and notes the sockets that
+    /// the system reports. Those that were noted stay noted.
+    pub fn wait(&mut self, pause: u64)
+        requires { pause ≤ 5 }
+        ensures stay { NotedStay self.old.ready self.new.ready }
+        ensures turn { self.new.turn ≡ self.old.turn }
+    {
+        let polled = self.poll.poll(&mut self.events, pause_of(pause));
+        self.note_events(polled);
+    }
+
+    /// Notes the sockets that the events report, unless the poll failed that gave them.
+    fn note_events(&mut self, polled: io::Result<()>)
+        ensures stay { NotedStay self.old.ready self.new.ready }
+        ensures err { OnErr polled (self.new.ready ≡ self.old.ready) }
+        ensures turn { self.new.turn ≡ self.old.turn }
+    {
+        if polled.is_ok() {
+            self.ready.add_each(&self.events);
+        }
+    }
+
+    /// Notes that the socket may be ready. Where memory ran out nothing changes.
+    pub fn add(&mut self, origin: Origin)
+        ensures noted { Noted origin self.old.ready self.new.ready }
+        ensures rest { self.new ≡ record self.old { ready = self.new.ready } }
+    {
+        self.ready.add(origin);
+    }
+
+    /// Notes the socket no longer: it said that it would block.
+    pub fn remove(&mut self, origin: Origin)
+        ensures dropped { Dropped origin self.old.ready self.new.ready }
+        ensures rest { self.new ≡ record self.old { ready = self.new.ready } }
+    {
+        self.ready.remove(origin);
+    }
+
+    /// Nothing may be ready.
+    pub fn is_empty(&self) -> bool
+        ensures { IsTrue result ↔ IsNothing self.now.ready }
+    {
+        !self.ready.datagrams
+            && self.ready.streams.tokens.is_empty()
+            && self.ready.servers.tokens.is_empty()
+    }
+
+    /// No socket of an ask may be ready.
+    pub fn has_no_server(&self) -> bool
+        ensures { IsTrue result ↔ (btree_set_len self.now.ready.servers.tokens ≡ 0) }
+    {
+        self.ready.servers.tokens.is_empty()
+    }
+
+    /// The next socket that is tried: of clients and of asks alternately, and of clients' datagrams
+    /// and streams alternately. `None` where none may be ready. Mostly only datagrams may be ready,
+    /// and then no turn of the others is gone through.
+    pub fn next(&mut self) -> Option<Origin>
+        ensures finds { Finds 4 result self.old.turn self.new.turn self.old.ready self.new.ready }
+        ensures rest { self.new ≡ record self.old { turn = self.new.turn; ready = self.new.ready } }
+    {
+        if self.ready.has_datagrams_alone() {
+            self.turn = 1;
+            return Some(Origin::Datagrams);
+        }
+        for _tried in 0..4u8 {
+            let next = self.next_on_turn();
+            if next.is_some() {
+                return next;
+            }
+        }
+        None
+    }
+
+    /// The next socket of those whose turn it is.
+    fn next_on_turn(&mut self) -> Option<Origin>
+        ensures turn { self.new.turn ≡ self.old.turn % 4 + 1 }
+        ensures gives { GivesOnTurn self.new.turn result self.old.ready self.new.ready }
+        ensures rest { self.new ≡ record self.old { turn = self.new.turn; ready = self.new.ready } }
+    {
+        self.turn = self.turn % 4 + 1;
+        match self.turn {
+            1 => self.ready.datagrams.then_some(Origin::Datagrams),
+            3 => self.ready.streams.next(),
+            _ => self.ready.servers.next(),
+        }
+    }
+}

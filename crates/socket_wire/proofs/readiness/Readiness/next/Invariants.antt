@@ -1,8 +1,0 @@
-use Rattle.std.proofs.Common.{◌≡◌}
-use Rattle.socket_wire.proofs.Turns.{FindsAll}
-use Rattle.socket_wire.proofs.readiness.Readiness.next.Given as goal
-
--- what the turns that are left find is what all of them find
-abbrev pub invariant-loop-tried : goal.invariant-loop-tried
-invariant-loop-tried g l =
-    FindsAll l._tried l.fn.self.turn l.self.turn l.fn.self.ready l.self.ready × (l.self ≡ record l.fn.self { turn = l.self.turn; ready = l.self.ready })

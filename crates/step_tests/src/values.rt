@@ -1,0 +1,285 @@
+//! Events, actions and what a step takes are copied whole, and each refused allocation is reported.
+
+use plain_list::PlainList;
+use refusing_allocator::Refusing;
+use std::alloc::{AllocError, Allocator, Global};
+use std::test::Fail;
+use step_values::{Action, Actions, Client, Event, Handed, Path, Why};
+use suffix_routes::Peer;
+
+type Heap<'a> = &'a Refusing<Global>;
+
+const PEER: Peer = Peer {
+    ip: [192, 0, 2, 1],
+    port: 53,
+};
+
+const OCTETS: &[u8] = b"\x00\x08";
+
+/// The places of the events that `event` makes, and whether each has octets.
+const EVENTS: [(u8, bool); 8] = [
+    (0, true),
+    (1, true),
+    (2, true),
+    (3, true),
+    (4, false),
+    (5, false),
+    (6, false),
+    (7, false),
+];
+
+/// The same of `action`.
+const ACTIONS: [(u8, bool); 6] = [
+    (0, true),
+    (1, true),
+    (2, false),
+    (3, false),
+    (4, true),
+    (5, true),
+];
+
+/// The event at a place: one of each kind, by UDP and over TCP.
+fn event<A: Allocator + Copy>(alloc: A, place: u8) -> Result<Event<A>, AllocError> {
+    match place {
+        0 => client_event(alloc, Client::Udp(PEER)),
+        1 => client_event(alloc, Client::Tcp(7)),
+        2 => delivery(alloc, Path::Udp(1032)),
+        3 => delivery(alloc, Path::Tcp(7)),
+        4 => Ok(Event::PathFailed {
+            path: Path::Udp(1032),
+        }),
+        5 => Ok(Event::PathFailed { path: Path::Tcp(7) }),
+        6 => Ok(Event::Tick),
+        _ => Ok(Event::Restart),
+    }
+}
+
+fn client_event<A: Allocator>(alloc: A, client: Client) -> Result<Event<A>, AllocError> {
+    Ok(Event::Client {
+        client,
+        bytes: PlainList::copied(alloc, OCTETS)?,
+    })
+}
+
+fn delivery<A: Allocator>(alloc: A, path: Path) -> Result<Event<A>, AllocError> {
+    Ok(Event::Delivery {
+        path,
+        from: PEER,
+        bytes: PlainList::copied(alloc, OCTETS)?,
+    })
+}
+
+/// The action at a place: one of each kind, a reply by UDP and over TCP.
+fn action<A: Allocator + Copy>(alloc: A, place: u8) -> Result<Action<A>, AllocError> {
+    match place {
+        0 => Ok(Action::AskUdp {
+            port: 1032,
+            server: PEER,
+            bytes: PlainList::copied(alloc, OCTETS)?,
+        }),
+        1 => Ok(Action::AskTcp {
+            conn: 7,
+            server: PEER,
+            bytes: PlainList::copied(alloc, OCTETS)?,
+        }),
+        2 => Ok(Action::CloseUdp { port: 1032 }),
+        3 => Ok(Action::CloseTcp { conn: 7 }),
+        4 => reply(alloc, Client::Udp(PEER), Why::Answered),
+        _ => reply(alloc, Client::Tcp(7), Why::NoRoute),
+    }
+}
+
+fn reply<A: Allocator>(alloc: A, client: Client, why: Why) -> Result<Action<A>, AllocError> {
+    Ok(Action::Reply {
+        client,
+        bytes: PlainList::copied(alloc, OCTETS)?,
+        why,
+    })
+}
+
+/// Whether two events are equal.
+fn is_equal_event<A: Allocator>(one: &Event<A>, other: &Event<A>) -> bool {
+    match (one, other) {
+        (
+            Event::Client { client, bytes },
+            Event::Client {
+                client: asker,
+                bytes: octets,
+            },
+        ) => *client == *asker && bytes.as_slice() == octets.as_slice(),
+        (
+            Event::Delivery { path, from, bytes },
+            Event::Delivery {
+                path: way,
+                from: server,
+                bytes: octets,
+            },
+        ) => *path == *way && *from == *server && bytes.as_slice() == octets.as_slice(),
+        (Event::PathFailed { path }, Event::PathFailed { path: way }) => *path == *way,
+        (Event::Tick, Event::Tick) | (Event::Restart, Event::Restart) => true,
+        _ => false,
+    }
+}
+
+/// Whether two actions are equal.
+fn is_equal_action<A: Allocator>(one: &Action<A>, other: &Action<A>) -> bool {
+    match (one, other) {
+        (
+            Action::AskUdp {
+                port,
+                server,
+                bytes,
+            },
+            Action::AskUdp {
+                port: from,
+                server: to,
+                bytes: octets,
+            },
+        ) => *port == *from && *server == *to && bytes.as_slice() == octets.as_slice(),
+        (
+            Action::AskTcp {
+                conn,
+                server,
+                bytes,
+            },
+            Action::AskTcp {
+                conn: from,
+                server: to,
+                bytes: octets,
+            },
+        ) => *conn == *from && *server == *to && bytes.as_slice() == octets.as_slice(),
+        (Action::CloseUdp { port }, Action::CloseUdp { port: from }) => *port == *from,
+        (Action::CloseTcp { conn }, Action::CloseTcp { conn: from }) => *conn == *from,
+        (
+            Action::Reply { client, bytes, why },
+            Action::Reply {
+                client: asker,
+                bytes: octets,
+                why: cause,
+            },
+        ) => *client == *asker && *why == *cause && bytes.as_slice() == octets.as_slice(),
+        _ => false,
+    }
+}
+
+/// Refuses the next allocation: alone, or with each one after it.
+fn refuse(heap: &Refusing<Global>, is_alone: bool) {
+    if is_alone {
+        heap.refuse_one(0);
+    } else {
+        heap.allow(0);
+    }
+}
+
+/// Whether the copy of an event is equal to it, and is refused out of memory where it has octets.
+fn is_event_copied(
+    heap: &Refusing<Global>,
+    place: u8,
+    has_octets: bool,
+    is_alone: bool,
+) -> Result<bool, AllocError> {
+    heap.allow(u64::MAX);
+    let event = event(heap, place)?;
+    refuse(heap, is_alone);
+    let is_refused = event.copy(heap).is_err();
+    heap.allow(u64::from(has_octets));
+    let copy = event.copy(heap)?;
+    Ok(is_refused == has_octets && is_equal_event(&event, &copy))
+}
+
+/// The same of an action.
+fn is_action_copied(
+    heap: &Refusing<Global>,
+    place: u8,
+    has_octets: bool,
+    is_alone: bool,
+) -> Result<bool, AllocError> {
+    heap.allow(u64::MAX);
+    let action = action(heap, place)?;
+    refuse(heap, is_alone);
+    let is_refused = action.copy(heap).is_err();
+    heap.allow(u64::from(has_octets));
+    let copy = action.copy(heap)?;
+    Ok(is_refused == has_octets && is_equal_action(&action, &copy))
+}
+
+#[test]
+fn copies_of_events_are_equal(rt: HostRuntime) -> Result<(), Fail> {
+    let heap = Refusing::new(rt.alloc());
+    for (place, has_octets) in &EVENTS {
+        assert!(rt;
+            is_event_copied(&heap, *place, *has_octets, false)?,
+            "event {place}"
+        );
+        assert!(rt;
+            is_event_copied(&heap, *place, *has_octets, true)?,
+            "event {place}"
+        );
+    }
+    Ok(())
+}
+
+#[test]
+fn copies_of_actions_are_equal(rt: HostRuntime) -> Result<(), Fail> {
+    let heap = Refusing::new(rt.alloc());
+    for (place, has_octets) in &ACTIONS {
+        assert!(rt;
+            is_action_copied(&heap, *place, *has_octets, false)?,
+            "action {place}"
+        );
+        assert!(rt;
+            is_action_copied(&heap, *place, *has_octets, true)?,
+            "action {place}"
+        );
+    }
+    Ok(())
+}
+
+/// Whether the input of a step is copied whole, and a refused allocation of that is reported.
+fn is_handed_copied(heap: Heap<'_>) -> Result<bool, AllocError> {
+    let handed = Handed {
+        now: 1020,
+        words: [7; 8],
+        event: event(heap, 2)?,
+    };
+    heap.allow(0);
+    let is_refused = handed.copy(heap).is_err();
+    heap.allow(1);
+    let copy = handed.copy(heap)?;
+    let is_equal = copy.now == 1020 && copy.words == [7; 8];
+    Ok(is_refused && is_equal && is_equal_event(&handed.event, &copy.event))
+}
+
+#[test]
+fn copies_of_inputs_are_equal(rt: HostRuntime) -> Result<(), Fail> {
+    let heap = Refusing::new(rt.alloc());
+    assert!(rt; is_handed_copied(&heap)?);
+    Ok(())
+}
+
+/// Whether actions are listed in their order, the first without an allocation, and a refused
+/// allocation changes nothing.
+fn are_listed(heap: Heap<'_>) -> Result<bool, AllocError> {
+    heap.allow(0);
+    let mut actions = Actions::new(heap);
+    let is_empty = actions.is_empty() && actions.get(0).is_none();
+    actions.push(Action::CloseUdp { port: 1032 })?;
+    let is_refused = actions.push(Action::CloseTcp { conn: 7 }).is_err();
+    let is_left = actions.len() == 1
+        && matches!(actions.get(0), Some(Action::CloseUdp { port: 1032 }))
+        && actions.get(1).is_none();
+    heap.allow(1);
+    actions.push(Action::CloseTcp { conn: 7 })?;
+    let are_both = actions.len() == 2
+        && matches!(actions.get(0), Some(Action::CloseUdp { port: 1032 }))
+        && matches!(actions.get(1), Some(Action::CloseTcp { conn: 7 }))
+        && actions.get(2).is_none();
+    Ok(is_empty && is_refused && is_left && are_both)
+}
+
+#[test]
+fn actions_are_listed_in_order(rt: HostRuntime) -> Result<(), Fail> {
+    let heap = Refusing::new(rt.alloc());
+    assert!(rt; are_listed(&heap)?);
+    Ok(())
+}
