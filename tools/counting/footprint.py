@@ -14,10 +14,14 @@ from counting.served import ask_all
 
 # Octets of a line of the processor's caches.
 LINE = 64
+# The instructions at a function's head among which its frame is made.
+PROLOGUE = 40
 # Where valgrind puts the stack of the first thread, and a program that may lie anywhere.
 STACK, BASE = range(0x1FFE000000, 0x1FFF001000), 0x108000
 # Waiting for readiness is not part of an answer.
 WAITS = {"epoll_wait", "epoll_pwait", "poll"}
+# A round that looks for new clients, as it comes every few milliseconds, is in no usual answer.
+ROUND = "accept4"
 
 
 @dataclass
@@ -41,8 +45,8 @@ def parts_of(trace):
     part = None
     for line in trace:
         if line.startswith("SYSCALL"):
-            called = re.search(r"sys_(\w+)|\) (\w+) ?\(", line)
-            call = called and (called[1] or called[2])
+            called = re.search(r"\) (?:sys_)?(\w+) ?\(", line)
+            call = called and called[1]
             if call == "recvfrom":
                 if part:
                     yield part
@@ -62,12 +66,12 @@ def parts_of(trace):
 
 
 def kinds_of(parts, count):
-    """The parts of an answer, by their calls, in the order in which they first come: those that most questions have."""
+    """The parts of an answer, by their calls, in the order in which they first come: those that many questions have."""
     kinds = {}
     for part in parts:
-        if "sendto" in part.calls:
+        if "sendto" in part.calls and ROUND not in part.calls:
             kinds.setdefault(part.kind(), []).append(part)
-    return [found for found in kinds.values() if len(found) >= count // 2]
+    return [found for found in kinds.values() if len(found) >= count // 5]
 
 
 def middle(values):
@@ -103,17 +107,32 @@ def frames(program, touched):
     """The functions of the program that an answer passes, with the octets of each one's frame, the largest first."""
     listing = subprocess.run(["objdump", "-d", "-C", "--no-show-raw-insn", program], capture_output=True, text=True)
     is_fixed = b"EXEC" in subprocess.run(["readelf", "-h", program], capture_output=True).stdout
-    base, found, name, frame, is_passed = 0 if is_fixed else BASE, {}, None, 0, False
+    base, found, name, is_passed = 0 if is_fixed else BASE, {}, None, False
     for line in [*listing.stdout.splitlines(), "0000000000000000 <>:"]:
         head = re.match(r"[0-9a-f]{16} <(.*)>:$", line)
         if head:
             if name and is_passed:
-                found[name] = max(frame, found.get(name, 0))
-            name, frame, is_passed = head[1], 0, False
+                found[name] = max(frame_of(steps), found.get(name, 0))
+            name, is_passed, steps = head[1], False, []
             continue
         step = re.match(r" +([0-9a-f]+):\t(.*)", line)
         if step:
             is_passed = is_passed or base + int(step[1], 16) in touched
-            room = re.match(r"sub +\$0x([0-9a-f]+),%rsp", step[2])
-            frame = max(frame, int(room[1], 16) if room else 0)
+            steps.append(step[2])
     return sorted(found.items(), key=lambda it: -it[1])
+
+
+def frame_of(steps):
+    """The octets that a function's first instructions take off the stack. A large frame is taken page by page, in turn
+    or in a loop up to an address that is computed before."""
+    frame, is_looped = 0, False
+    for step in steps[:PROLOGUE]:
+        end = re.match(r"(?:sub +\$0x([0-9a-f]+),|lea +-0x([0-9a-f]+)\(%rsp\),)%r11", step)
+        room = re.match(r"sub +\$0x([0-9a-f]+),%rsp", step)
+        if end:
+            frame, is_looped = frame + int(end[1] or end[2], 16), True
+        elif room and is_looped:
+            is_looped = False
+        elif room:
+            frame += int(room[1], 16)
+    return frame
