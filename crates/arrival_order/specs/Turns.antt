@@ -2,7 +2,7 @@
 use Rattle.std.specs.Prelude.{ℕ, ◌<◌, ◌≤◌, Bool, List, length, slice_index}
 
 -- The keys; whether there is room for one more; the keys below `known` have room for their numbers.
-pub record KeysInTurn : Type 0 where
+pub record ArrivalOrder : Type 0 where
   pub keys : List ℕ
   pub has_room : Bool
   pub known : ℕ

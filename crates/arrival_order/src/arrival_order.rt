@@ -13,18 +13,18 @@ use std::marker::Model;
 /// below those of the keys before it, so a key is found by binary search. Keys are small numbers,
 /// such as a slab gives: the numbers of all keys up to the highest one that was put are kept.
 #[derive(Drop)]
-pub struct KeysInTurn<A: Allocator = Global> {
+pub struct ArrivalOrder<A: Allocator = Global> {
     keys: VecDeque<usize, A>,
     /// The number of each key, at the key.
     numbers: Vec<u64, A>,
 }
 
-impl<A: Allocator> Model for KeysInTurn<A> {
+impl<A: Allocator> Model for ArrivalOrder<A> {
     ghost use Rattle.std.specs.Prelude.{length, nat_lt};
     ghost use Rattle.std.specs.VecDeque.{deque_len, deque_capacity};
-    ghost use Rattle.arrival_order.specs.Turns.{AreNumbered, KeysInTurn};
+    ghost use Rattle.arrival_order.specs.Turns.{AreNumbered, ArrivalOrder};
 
-    ghost Value = { KeysInTurn };
+    ghost Value = { ArrivalOrder };
 
     ghost view = { λ k. record {
       keys = k.keys.items;
@@ -35,14 +35,14 @@ impl<A: Allocator> Model for KeysInTurn<A> {
     ghost invariant = { λ k. AreNumbered k.numbers.items k.keys.items };
 }
 
-impl<A: Allocator> KeysInTurn<A> {
+impl<A: Allocator> ArrivalOrder<A> {
     /// No keys. It does not allocate; `reserve` later allocates from `alloc`.
-    pub fn new(alloc: A) -> KeysInTurn<A>
+    pub fn new(alloc: A) -> ArrivalOrder<A>
     where
         A: Copy,
         ensures { result.keys ≡ [] }
     {
-        KeysInTurn {
+        ArrivalOrder {
             keys: VecDeque::new(alloc),
             numbers: Vec::new(alloc),
         }

@@ -3,4 +3,4 @@
 
 mod arrival_order;
 
-pub use arrival_order::KeysInTurn;
+pub use arrival_order::ArrivalOrder;

@@ -74,7 +74,7 @@ kept_later c e i ws ps m n k kept le small = record {
   listed = kept.listed;
   asks = later_same c m n k i.asks le kept.asks;
   few = kept.few;
-  in_turn = kept.in_turn;
+  by_arrival = kept.by_arrival;
   taken = later_taken m n ws le kept.taken;
   aliases = later_held m n ws le kept.aliases;
   places = kept.places;
@@ -92,7 +92,7 @@ kept_joined c e i ws ws' ps m n k x kept le small room at earlier is = subst (λ
   listed = kept.listed;
   asks = later_same c m n k i.asks le kept.asks;
   few = let longer = length-append ws (x ∷ []) in omega (arith, longer, room);
-  in_turn = in_turn_put m ws x kept.in_turn kept.taken (omega (arith, at, le));
+  by_arrival = in_turn_put m ws x kept.by_arrival kept.taken (omega (arith, at, le));
   taken = All-append (λ (y : Waiting). y.taken ≤ n) ws (x ∷ []) (later_taken m n ws le kept.taken) (omega (arith, at), tt);
   aliases = All-append (HoldsEarlier n) ws (x ∷ []) (later_held m n ws le kept.aliases) (earlier, tt);
   places = kept.places;
@@ -111,7 +111,7 @@ kept_asked c e i i' ws ps m n k j listed a kept le small all one fits is are = s
   listed = subst AreListed is are;
   asks = All-append (IsKeptAsk c n (k + j)) listed (a ∷ []) (later_asks c m n k j listed le all) (one, tt);
   few = kept.few;
-  in_turn = kept.in_turn;
+  by_arrival = kept.by_arrival;
   taken = later_taken m n ws le kept.taken;
   aliases = later_held m n ws le kept.aliases;
   places = kept.places;
@@ -133,7 +133,7 @@ kept_left c e i ws ws' ps m k r kept is = subst (λ (xs : List Waiting). IsKeptF
       listed = kept.listed;
       asks = kept.asks;
       few = let less = fewer (λ (x : Waiting). not (waits_for a.question x)) ws in let few = kept.few in omega (arith, less, few);
-      in_turn = in_turn_left (λ x. not (waits_for a.question x)) ws kept.in_turn;
+      by_arrival = in_turn_left (λ x. not (waits_for a.question x)) ws kept.by_arrival;
       taken = All-filter (λ (x : Waiting). x.taken ≤ m) (λ x. not (waits_for a.question x)) ws kept.taken;
       aliases = All-filter (HoldsEarlier m) (λ x. not (waits_for a.question x)) ws kept.aliases;
       places = kept.places;
@@ -203,7 +203,7 @@ kept_sent c e i ws ws' ps m k r onward kept earlier is = subst (λ (xs : List Wa
       listed = kept.listed;
       asks = kept.asks;
       few = let less = no_more_settled a.question onward ws in let few = kept.few in omega (arith, less, few);
-      in_turn = in_turn_settled a.question onward ws kept.in_turn;
+      by_arrival = in_turn_settled a.question onward ws kept.by_arrival;
       taken = same_taken (λ t. t ≤ m) a.question onward ws kept.taken;
       aliases = all_settled (HoldsEarlier m) (IsSentEarlier m) (λ s x h was. h) a.question onward ws earlier kept.aliases;
       places = kept.places;
@@ -244,7 +244,7 @@ kept_dropped c e i (x ∷ ws) ws' ps m k kept is = subst (λ (xs : List Waiting)
   listed = kept.listed;
   asks = kept.asks;
   few = let few = kept.few in omega (arith, few);
-  in_turn = kept.in_turn.1;
+  by_arrival = kept.by_arrival.1;
   taken = kept.taken.1;
   aliases = kept.aliases.1;
   places = kept.places;
@@ -266,7 +266,7 @@ kept_preferred c e i ws ps ps' m k preferred kept served is = subst (λ (qs : Li
       listed = kept.listed;
       asks = kept.asks;
       few = kept.few;
-      in_turn = kept.in_turn;
+      by_arrival = kept.by_arrival;
       taken = kept.taken;
       aliases = kept.aliases;
       places = preferred_put c.routes ps p.route p.server kept.places (λ r there. subst (λ (o : Option Route). p.server < length (servers_in o)) there h);
@@ -285,7 +285,7 @@ kept_entries c e e' entries i ws ps m k kept on earlier is = subst (λ (q : Cach
   listed = kept.listed;
   asks = kept.asks;
   few = kept.few;
-  in_turn = kept.in_turn;
+  by_arrival = kept.by_arrival;
   taken = kept.taken;
   aliases = kept.aliases;
   places = kept.places;
@@ -303,10 +303,10 @@ kept_first c e i ws ps config empty is none places =
       cache = record { capacity = refl; on_routes = tt };
       accepted = tt;
       capacity = refl;
-      listed = record { few = omega arith; in_turn = tt; in_time = tt };
+      listed = record { few = omega arith; by_arrival = tt; in_time = tt };
       asks = tt;
       few = omega arith;
-      in_turn = tt;
+      by_arrival = tt;
       taken = tt;
       aliases = tt;
       places = subst (ArePreferred c.routes) (sym places) (preferred_first c.routes config.each);
@@ -344,10 +344,10 @@ timeouts_least c (a ∷ asks) = sooner_one (due.due_of c.limits.ask_ms a) (due.n
 pub kept_in_order : (c : Config) (e : Cache) (i : Inquiries) (ws : List Waiting) (ps : List ℕ) (m k : ℕ) → IsKeptForwarder c e i ws ps m k → IsInOrder c (record { cache = e; asks = i.asks; waiting = ws; preferred = ps; moment = m; tcp_asks = k })
 kept_in_order c e i ws ps m k kept = record {
   cache = kept.cache;
-  asks = kept.listed.in_turn;
+  asks = kept.listed.by_arrival;
   tries = All-weaker (IsKeptAsk c m k) (IsTry c) (λ a h. h.tries) i.asks kept.asks;
   few_asks = let few = kept.listed.few in let room = kept.capacity in omega (arith, few, room);
-  waiting = kept.in_turn;
+  waiting = kept.by_arrival;
   few_waiting = kept.few;
 }
 

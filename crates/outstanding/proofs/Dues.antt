@@ -14,14 +14,14 @@ no_earlier ask_ms first None all = refl
 no_earlier ask_ms first (Some later) all = cond-true (nat_le first.0 later.0) _ _ (le-leb first.0 later.0 (all later refl))
 
 pub oldest_first : (ask_ms : ℕ) (asks : List Ask) (a : Ask) → AreInTurn (a ∷ asks) → next_due ask_ms (a ∷ asks) ≡ Some (due_of ask_ms a)
-oldest_first ask_ms [] a in_turn = refl
-oldest_first ask_ms (b ∷ asks) a in_turn =
-    let rest : next_due ask_ms (b ∷ asks) ≡ Some (due_of ask_ms b) = oldest_first ask_ms asks b in_turn.1 in
+oldest_first ask_ms [] a by_arrival = refl
+oldest_first ask_ms (b ∷ asks) a by_arrival =
+    let rest : next_due ask_ms (b ∷ asks) ≡ Some (due_of ask_ms b) = oldest_first ask_ms asks b by_arrival.1 in
     no_earlier ask_ms (due_of ask_ms a) (next_due ask_ms (b ∷ asks)) (λ later e.
     let same : due_of ask_ms b ≡ later = same_Some (due_of ask_ms b) later (sym rest ∙ e) in
     let moment : b.asked + ask_ms ≡ later.0 = ap (λ (d : ℕ × Path). d.0) same in
-    omega (arith, moment, in_turn.0.0.asked))
+    omega (arith, moment, by_arrival.0.0.asked))
 
 pub first_due : (ask_ms : ℕ) (asks : List Ask) (a : Ask) → Some a ≡ slice_get asks 0 → AreInTurn asks → Some (due_of ask_ms a) ≡ next_due ask_ms asks
-first_due ask_ms [] a is in_turn = absurd (none-some a (sym is))
-first_due ask_ms (b ∷ asks) a is in_turn = ap (λ (x : Ask). Some (due_of ask_ms x)) (same_Some a b is) ∙ sym (oldest_first ask_ms asks b in_turn)
+first_due ask_ms [] a is by_arrival = absurd (none-some a (sym is))
+first_due ask_ms (b ∷ asks) a is by_arrival = ap (λ (x : Ask). Some (due_of ask_ms x)) (same_Some a b is) ∙ sym (oldest_first ask_ms asks b by_arrival)

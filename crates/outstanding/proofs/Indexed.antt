@@ -21,7 +21,7 @@ use Rattle.outstanding.proofs.SameOrders.{path_total, key_total, equal_from, sam
 
 -- a test that holds just of what is sought
 module _ {K : Type 0} (R : K → K → Ordering) (total : IsTotalOrder R) (read : Ask → K) (x : K) (p : Ask → Bool) (tests : (a : Ask) → p a ≡ is_eq (R (read a) x))
-    (s : Slab Ask) (keys turns : List ℕ) (covers : Covers s keys) (rises : Rises R read s keys) (in_turn : Covers s turns) where
+    (s : Slab Ask) (keys turns : List ℕ) (covers : Covers s keys) (rises : Rises R read s keys) (by_arrival : Covers s turns) where
   module _ (i : ℕ) (at : IsAt (λ a. R (read a) x) s keys i) (a : Ask) (here : get s (slice_index keys i) ≡ Some a) where
     passes : p a ≡ true
     passes = tests a ∙ ap is_eq (at.equal a here)
@@ -31,34 +31,34 @@ module _ {K : Type 0} (R : K → K → Ordering) (total : IsTotalOrder R) (read 
 
     pub found_in : find p (asks_under s turns) ≡ Some a
     found_in =
-        let v = in_turn.complete (slice_index keys i) (is_some_of (get s (slice_index keys i)) a here) in
+        let v = by_arrival.complete (slice_index keys i) (is_some_of (get s (slice_index keys i)) a here) in
         found p s (slice_index keys i) a here passes only turns v.0 v.1 v.2
 
     pub without_in : (t : ℕ) → t < length turns → slice_index turns t ≡ slice_index keys i → asks_under s (remove turns t) ≡ filter (λ b. not (p b)) (asks_under s turns)
-    without_in t within is = without p s (slice_index keys i) a here passes only turns t within is in_turn.apart
+    without_in t within is = without p s (slice_index keys i) a here passes only turns t within is by_arrival.apart
 
   pub absent_in : (i : ℕ) → IsGap (λ a. R (read a) x) s keys i → find p (asks_under s turns) ≡ None
   absent_in i gap = unfound p s turns (λ key b e passed. none_at (λ a. R (read a) x) s keys covers i gap key b e (equal_from (R (read b) x) (sym (tests b) ∙ passed)))
 
 -- ---- by path and by question
 
-module _ (s : Slab Ask) (by_path by_question in_turn : List ℕ) (indexed : AreIndexed s by_path by_question in_turn) where
-  pub path_found : (path : Path) (i : ℕ) → IsAt (to_path path) s by_path i → (a : Ask) → get s (slice_index by_path i) ≡ Some a → on_path path (asks_under s in_turn) ≡ Some a
-  path_found path = found_in path_cmp path_total (λ a. a.path) path (λ a. same_path a.path path) (λ a. same_path_is a.path path) s by_path in_turn indexed.paths indexed.paths_rise indexed.turns
+module _ (s : Slab Ask) (by_path by_question by_arrival : List ℕ) (indexed : AreIndexed s by_path by_question by_arrival) where
+  pub path_found : (path : Path) (i : ℕ) → IsAt (to_path path) s by_path i → (a : Ask) → get s (slice_index by_path i) ≡ Some a → on_path path (asks_under s by_arrival) ≡ Some a
+  path_found path = found_in path_cmp path_total (λ a. a.path) path (λ a. same_path a.path path) (λ a. same_path_is a.path path) s by_path by_arrival indexed.paths indexed.paths_rise indexed.turns
 
-  pub path_absent : (path : Path) (i : ℕ) → IsGap (to_path path) s by_path i → on_path path (asks_under s in_turn) ≡ None
-  path_absent path = absent_in path_cmp path_total (λ a. a.path) path (λ a. same_path a.path path) (λ a. same_path_is a.path path) s by_path in_turn indexed.paths indexed.paths_rise indexed.turns
+  pub path_absent : (path : Path) (i : ℕ) → IsGap (to_path path) s by_path i → on_path path (asks_under s by_arrival) ≡ None
+  path_absent path = absent_in path_cmp path_total (λ a. a.path) path (λ a. same_path a.path path) (λ a. same_path_is a.path path) s by_path by_arrival indexed.paths indexed.paths_rise indexed.turns
 
-  pub question_found : (q : Question) (i : ℕ) → IsAt (to_question (question_key q)) s by_question i → (a : Ask) → get s (slice_index by_question i) ≡ Some a → of_question q (asks_under s in_turn) ≡ Some a
-  question_found q = found_in key_cmp key_total (λ a. question_key a.question) (question_key q) (λ a. same_question a.question q) (λ a. same_question_is a.question q) s by_question in_turn indexed.questions indexed.questions_rise indexed.turns
+  pub question_found : (q : Question) (i : ℕ) → IsAt (to_question (question_key q)) s by_question i → (a : Ask) → get s (slice_index by_question i) ≡ Some a → of_question q (asks_under s by_arrival) ≡ Some a
+  question_found q = found_in key_cmp key_total (λ a. question_key a.question) (question_key q) (λ a. same_question a.question q) (λ a. same_question_is a.question q) s by_question by_arrival indexed.questions indexed.questions_rise indexed.turns
 
-  pub question_absent : (q : Question) (i : ℕ) → IsGap (to_question (question_key q)) s by_question i → of_question q (asks_under s in_turn) ≡ None
-  question_absent q = absent_in key_cmp key_total (λ a. question_key a.question) (question_key q) (λ a. same_question a.question q) (λ a. same_question_is a.question q) s by_question in_turn indexed.questions indexed.questions_rise indexed.turns
+  pub question_absent : (q : Question) (i : ℕ) → IsGap (to_question (question_key q)) s by_question i → of_question q (asks_under s by_arrival) ≡ None
+  question_absent q = absent_in key_cmp key_total (λ a. question_key a.question) (question_key q) (λ a. same_question a.question q) (λ a. same_question_is a.question q) s by_question by_arrival indexed.questions indexed.questions_rise indexed.turns
 
 -- ---- none
 
-pub none_indexed : (s : Slab Ask) (by_path by_question in_turn : List ℕ) → s.slots ≡ [] → by_path ≡ [] → by_question ≡ [] → in_turn ≡ [] → AreIndexed s by_path by_question in_turn
-none_indexed s by_path by_question in_turn slots paths questions turns =
+pub none_indexed : (s : Slab Ask) (by_path by_question by_arrival : List ℕ) → s.slots ≡ [] → by_path ≡ [] → by_question ≡ [] → by_arrival ≡ [] → AreIndexed s by_path by_question by_arrival
+none_indexed s by_path by_question by_arrival slots paths questions turns =
     let none : (key : ℕ) → get s key ≡ None = λ key. ap (λ (xs : List (Option Ask)). get_or xs key None) slots in
     let covers : (keys : List ℕ) → keys ≡ [] → Covers s keys = λ keys empty. subst (Covers s) (sym empty) (no_keys s none) in
     record {
@@ -66,68 +66,68 @@ none_indexed s by_path by_question in_turn slots paths questions turns =
       paths_rise = subst (Rises path_cmp (λ a. a.path) s) (sym paths) (rises_none path_cmp (λ a. a.path) s);
       questions = covers by_question questions;
       questions_rise = subst (Rises key_cmp (λ a. question_key a.question) s) (sym questions) (rises_none key_cmp (λ a. question_key a.question) s);
-      turns = covers in_turn turns;
+      turns = covers by_arrival turns;
     }
 
 -- ---- one more
 
-module _ (s s' : Slab Ask) (by_path by_question in_turn : List ℕ) (indexed : AreIndexed s by_path by_question in_turn) (key : ℕ) (a : Ask) (was : get s key ≡ None) (updates : Updates s s' key (Some a)) where
+module _ (s s' : Slab Ask) (by_path by_question by_arrival : List ℕ) (indexed : AreIndexed s by_path by_question by_arrival) (key : ℕ) (a : Ask) (was : get s key ≡ None) (updates : Updates s s' key (Some a)) where
   pub put_indexed : (i j : ℕ) → IsGap (to_path a.path) s by_path i → IsGap (to_question (question_key a.question)) s by_question j
-      → AreIndexed s' (insert by_path i key) (insert by_question j key) (in_turn ++ key ∷ [])
+      → AreIndexed s' (insert by_path i key) (insert by_question j key) (by_arrival ++ key ∷ [])
   put_indexed i j path question = record {
     paths = covers_put by_path i key path.in_range s s' (Some a) indexed.paths was updates refl;
     paths_rise = rises_put path_cmp path_total (λ a. a.path) s s' by_path i key a indexed.paths indexed.paths_rise was updates path;
     questions = covers_put by_question j key question.in_range s s' (Some a) indexed.questions was updates refl;
     questions_rise = rises_put key_cmp key_total (λ a. question_key a.question) s s' by_question j key a indexed.questions indexed.questions_rise was updates question;
-    turns = subst (Covers s') (insert_end in_turn key) (covers_put in_turn (length in_turn) key (omega arith) s s' (Some a) indexed.turns was updates refl);
+    turns = subst (Covers s') (insert_end by_arrival key) (covers_put by_arrival (length by_arrival) key (omega arith) s s' (Some a) indexed.turns was updates refl);
   }
 
-  pub put_asks : asks_under s' (in_turn ++ key ∷ []) ≡ asks_under s in_turn ++ a ∷ []
-  put_asks = put_under s s' in_turn key a (same_under s s' in_turn (same_value in_turn (length in_turn) key (omega arith) s s' (Some a) indexed.turns was updates)) updates.changed
+  pub put_asks : asks_under s' (by_arrival ++ key ∷ []) ≡ asks_under s by_arrival ++ a ∷ []
+  put_asks = put_under s s' by_arrival key a (same_under s s' by_arrival (same_value by_arrival (length by_arrival) key (omega arith) s s' (Some a) indexed.turns was updates)) updates.changed
 
 -- ---- one less
 
 -- the places of an ask's key
-pub record Placed (s : Slab Ask) (by_path by_question in_turn : List ℕ) (path : Path) (key i j t : ℕ) (a : Ask) : Type 0 where
+pub record Placed (s : Slab Ask) (by_path by_question by_arrival : List ℕ) (path : Path) (key i j t : ℕ) (a : Ask) : Type 0 where
   pub here : get s key ≡ Some a
   pub at_path : IsAt (to_path path) s by_path i
   pub path_is : slice_index by_path i ≡ key
   pub at_question : IsAt (to_question (question_key a.question)) s by_question j
-  pub turn_in : t < length in_turn
-  pub turn_is : slice_index in_turn t ≡ key
+  pub turn_in : t < length by_arrival
+  pub turn_is : slice_index by_arrival t ≡ key
 
-module _ (s : Slab Ask) (by_path by_question in_turn : List ℕ) (indexed : AreIndexed s by_path by_question in_turn) where
+module _ (s : Slab Ask) (by_path by_question by_arrival : List ℕ) (indexed : AreIndexed s by_path by_question by_arrival) where
   pub has_question : (key : ℕ) (a : Ask) → get s key ≡ Some a → (j : ℕ) → IsGap (to_question (question_key a.question)) s by_question j → ⊥
   has_question key a here j gap = none_at (to_question (question_key a.question)) s by_question indexed.questions j gap key a here (tied_itself key_total (question_key a.question))
 
-  module _ (path : Path) (key i j t : ℕ) (a : Ask) (placed : Placed s by_path by_question in_turn path key i j t a) where
+  module _ (path : Path) (key i j t : ℕ) (a : Ask) (placed : Placed s by_path by_question by_arrival path key i j t a) where
     first : get s (slice_index by_path i) ≡ Some a
     first = ap (get s) placed.path_is ∙ placed.here
 
     pub question_place : slice_index by_question j ≡ key
     question_place = sym (one_at key_cmp key_total (λ a. question_key a.question) s by_question indexed.questions indexed.questions_rise (question_key a.question) j placed.at_question key a placed.here (tied_itself key_total (question_key a.question)))
 
-    pub take_ended : on_path path (asks_under s in_turn) ≡ Some a
-    take_ended = path_found s by_path by_question in_turn indexed path i placed.at_path a first
+    pub take_ended : on_path path (asks_under s by_arrival) ≡ Some a
+    take_ended = path_found s by_path by_question by_arrival indexed path i placed.at_path a first
 
     module _ (s' : Slab Ask) (updates : Updates s s' key None) where
-      pub take_indexed : AreIndexed s' (remove by_path i) (remove by_question j) (remove in_turn t)
+      pub take_indexed : AreIndexed s' (remove by_path i) (remove by_question j) (remove by_arrival t)
       take_indexed = record {
         paths = covers_left by_path i key placed.at_path.in_range placed.path_is s s' indexed.paths updates;
         paths_rise = rises_left by_path i key placed.at_path.in_range placed.path_is s s' indexed.paths updates path_cmp (λ a. a.path) indexed.paths_rise;
         questions = covers_left by_question j key placed.at_question.in_range question_place s s' indexed.questions updates;
         questions_rise = rises_left by_question j key placed.at_question.in_range question_place s s' indexed.questions updates key_cmp (λ a. question_key a.question) indexed.questions_rise;
-        turns = covers_left in_turn t key placed.turn_in placed.turn_is s s' indexed.turns updates;
+        turns = covers_left by_arrival t key placed.turn_in placed.turn_is s s' indexed.turns updates;
       }
 
-      pub take_asks : asks_under s' (remove in_turn t) ≡ without_path path (asks_under s in_turn)
+      pub take_asks : asks_under s' (remove by_arrival t) ≡ without_path path (asks_under s by_arrival)
       take_asks =
-          same_under s s' (remove in_turn t) (same_left in_turn t key placed.turn_in placed.turn_is s s' indexed.turns updates)
-          ∙ without_in path_cmp path_total (λ a. a.path) path (λ a. same_path a.path path) (λ a. same_path_is a.path path) s by_path in_turn indexed.paths indexed.paths_rise indexed.turns
+          same_under s s' (remove by_arrival t) (same_left by_arrival t key placed.turn_in placed.turn_is s s' indexed.turns updates)
+          ∙ without_in path_cmp path_total (λ a. a.path) path (λ a. same_path a.path path) (λ a. same_path_is a.path path) s by_path by_arrival indexed.paths indexed.paths_rise indexed.turns
           i placed.at_path a first t placed.turn_in (placed.turn_is ∙ sym placed.path_is)
 
-      pub take_len : length (asks_under s' (remove in_turn t)) + 1 ≡ length (asks_under s in_turn)
-      take_len = omega (arith, length_under s' (remove in_turn t) take_indexed.turns.present, length_under s in_turn indexed.turns.present, length-remove in_turn t placed.turn_in)
+      pub take_len : length (asks_under s' (remove by_arrival t)) + 1 ≡ length (asks_under s by_arrival)
+      take_len = omega (arith, length_under s' (remove by_arrival t) take_indexed.turns.present, length_under s by_arrival indexed.turns.present, length-remove by_arrival t placed.turn_in)
 
 -- ---- by lists of keys
 
@@ -136,13 +136,13 @@ indexed_same s p q t p' q' t' paths questions turns indexed =
     subst (λ (ks : List ℕ). AreIndexed s ks q' t') (sym paths) (subst (λ (ks : List ℕ). AreIndexed s p ks t') (sym questions) (subst (λ (ks : List ℕ). AreIndexed s p q ks) (sym turns) indexed))
 
 -- what is sought is listed
-module _ (s : Slab Ask) (by_path by_question in_turn : List ℕ) (indexed : AreIndexed s by_path by_question in_turn) where
-  pub path_listed : (path : Path) (i : ℕ) → IsAt (to_path path) s by_path i → on_path path (asks_under s in_turn) ≡ None → ⊥
+module _ (s : Slab Ask) (by_path by_question by_arrival : List ℕ) (indexed : AreIndexed s by_path by_question by_arrival) where
+  pub path_listed : (path : Path) (i : ℕ) → IsAt (to_path path) s by_path i → on_path path (asks_under s by_arrival) ≡ None → ⊥
   path_listed path i at none =
       let a = value_of (get s (slice_index by_path i)) (indexed.paths.present i at.in_range) in
-      none-some a.0 (sym none ∙ path_found s by_path by_question in_turn indexed path i at a.0 a.1)
+      none-some a.0 (sym none ∙ path_found s by_path by_question by_arrival indexed path i at a.0 a.1)
 
-  pub question_listed : (q : Question) (i : ℕ) → IsAt (to_question (question_key q)) s by_question i → of_question q (asks_under s in_turn) ≡ None → ⊥
+  pub question_listed : (q : Question) (i : ℕ) → IsAt (to_question (question_key q)) s by_question i → of_question q (asks_under s by_arrival) ≡ None → ⊥
   question_listed q i at none =
       let a = value_of (get s (slice_index by_question i)) (indexed.questions.present i at.in_range) in
-      none-some a.0 (sym none ∙ question_found s by_path by_question in_turn indexed q i at a.0 a.1)
+      none-some a.0 (sym none ∙ question_found s by_path by_question by_arrival indexed q i at a.0 a.1)

@@ -26,8 +26,8 @@ all_put P [] y all last = (last, tt)
 all_put P (x ∷ xs) y all last = (all.0, all_put P xs y all.1 last)
 
 in_turn_put : (asks : List Ask) (b : Ask) → AreInTurn asks → AllByRecursion (λ a. Follows a b) asks → AreInTurn (asks ++ b ∷ [])
-in_turn_put [] b in_turn all = (tt, tt)
-in_turn_put (a ∷ asks) b in_turn all = (all_put (Follows a) asks b in_turn.0 all.0, in_turn_put asks b in_turn.1 all.1)
+in_turn_put [] b by_arrival all = (tt, tt)
+in_turn_put (a ∷ asks) b by_arrival all = (all_put (Follows a) asks b by_arrival.0 all.0, in_turn_put asks b by_arrival.1 all.1)
 
 pub missed : {X : Type 0} (p : X → Bool) (x : X) (xs : List X) → find p (x ∷ xs) ≡ None → (p x ≡ false) × (find p xs ≡ None)
 missed {X} p x xs none = by (p x) none
@@ -45,9 +45,9 @@ followed (a ∷ asks) b path question later =
 
 pub put : (capacity : ℕ) (asks : List Ask) (ask : Ask) → AreInTurn asks → AllByRecursion IsInTime asks → MayBegin ask asks → length asks < capacity
     → AreListed (record { capacity = capacity; asks = asks ++ ask ∷ [] })
-put capacity asks ask in_turn in_time may room = record {
+put capacity asks ask by_arrival in_time may room = record {
   few = omega (arith, length-append asks (ask ∷ []));
-  in_turn = in_turn_put asks ask in_turn (followed asks ask may.path may.question may.later);
+  by_arrival = in_turn_put asks ask by_arrival (followed asks ask may.path may.question may.later);
   in_time = all_put IsInTime asks ask in_time may.in_time;
 }
 
@@ -62,11 +62,11 @@ all_kept {X} P q (x ∷ xs) all = by (q x) (all_kept P q xs all.1)
     by false rest = rest
 
 in_turn_kept : (q : Ask → Bool) (asks : List Ask) → AreInTurn asks → AreInTurn (filter q asks)
-in_turn_kept q [] in_turn = tt
-in_turn_kept q (a ∷ asks) in_turn = by (q a) (in_turn_kept q asks in_turn.1)
+in_turn_kept q [] by_arrival = tt
+in_turn_kept q (a ∷ asks) by_arrival = by (q a) (in_turn_kept q asks by_arrival.1)
   where
     by : (b : Bool) → AreInTurn (filter q asks) → AreInTurn (cond b (a ∷ filter q asks) (filter q asks))
-    by true rest = (all_kept (Follows a) q asks in_turn.0, rest)
+    by true rest = (all_kept (Follows a) q asks by_arrival.0, rest)
     by false rest = rest
 
 fewer : {X : Type 0} (q : X → Bool) (xs : List X) → length (filter q xs) ≤ length xs
@@ -80,7 +80,7 @@ fewer {X} q (x ∷ xs) = by (q x) (fewer q xs)
 pub left : (path : Path) (capacity : ℕ) (asks : List Ask) → AreListed (record { capacity = capacity; asks = asks }) → AreListed (record { capacity = capacity; asks = without_path path asks })
 left path capacity asks listed = record {
   few = omega (arith, listed.few, fewer (λ (a : Ask). not (same_path a.path path)) asks);
-  in_turn = in_turn_kept (λ a. not (same_path a.path path)) asks listed.in_turn;
+  by_arrival = in_turn_kept (λ a. not (same_path a.path path)) asks listed.by_arrival;
   in_time = all_kept IsInTime (λ a. not (same_path a.path path)) asks listed.in_time;
 }
 
@@ -92,7 +92,7 @@ replaced path capacity asks after ask is long listed may =
     let rest = left path capacity asks listed in
     let size : length after ≡ length (without_path path asks ++ ask ∷ []) = ap length is in
     subst (λ (xs : List Ask). AreListed (record { capacity = capacity; asks = xs })) (sym is)
-    (put capacity (without_path path asks) ask rest.in_turn rest.in_time may (omega (arith, long, size, listed.few, length-append (without_path path asks) (ask ∷ []))))
+    (put capacity (without_path path asks) ask rest.by_arrival rest.in_time may (omega (arith, long, size, listed.few, length-append (without_path path asks) (ask ∷ []))))
 
 -- where none is, nothing is left out
 pub none_left_out : (path : Path) (asks : List Ask) → find (λ (a : Ask). same_path a.path path) asks ≡ None → asks ≡ without_path path asks

@@ -80,16 +80,16 @@ none_behind x q (y ∷ asks) one all = cond-false (same_question y.question q) _
 
 -- without the ask on a path, the question of that ask is not asked
 pub question_free : (path : Path) (q : Question) (asks : List Ask) (a : Ask) → AreInTurn asks → on_path path asks ≡ Some a → same_question a.question q ≡ true → of_question q (without_path path asks) ≡ None
-question_free path q [] a in_turn on one = absurd (none-some a on)
-question_free path q (x ∷ asks) a in_turn on one = by (same_path x.path path) on (λ here. question_free path q asks a in_turn.1 here one)
+question_free path q [] a by_arrival on one = absurd (none-some a on)
+question_free path q (x ∷ asks) a by_arrival on one = by (same_path x.path path) on (λ here. question_free path q asks a by_arrival.1 here one)
   where
     by : (b : Bool) → cond b (Some x) (on_path path asks) ≡ Some a → (on_path path asks ≡ Some a → of_question q (without_path path asks) ≡ None)
         → of_question q (cond (not b) (x ∷ without_path path asks) (without_path path asks)) ≡ None
     by true here rest =
         none_kept (λ (y : Ask). same_question y.question q) (λ y. not (same_path y.path path)) asks
-        (none_behind x q asks (subst (λ (y : Ask). same_question y.question q ≡ true) (sym (same_Some x a here)) one) in_turn.0)
+        (none_behind x q asks (subst (λ (y : Ask). same_question y.question q ≡ true) (sym (same_Some x a here)) one) by_arrival.0)
     by false here rest =
-        let follows : Follows x a = found_has (Follows x) (λ (y : Ask). same_path y.path path) asks a in_turn.0 here in
+        let follows : Follows x a = found_has (Follows x) (λ (y : Ask). same_path y.path path) asks a by_arrival.0 here in
         cond-false (same_question x.question q) _ _ (differs_too x.question a.question q one follows.question) ∙ rest here
 
 pub all_left : (P : Ask → Type 0) (path : Path) (asks : List Ask) → AllByRecursion P asks → AllByRecursion P (without_path path asks)
@@ -101,9 +101,9 @@ all_left P path (x ∷ asks) all = by (same_path x.path path) (all_left P path a
     by false rest = (all.0, rest)
 
 pub next_begins : NextMayBegin
-next_begins asks path ended next in_turn on one free later in_time = record {
+next_begins asks path ended next by_arrival on one free later in_time = record {
   path = free;
-  question = question_free path next.question asks ended in_turn on one;
+  question = question_free path next.question asks ended by_arrival on one;
   later = all_left (λ a. a.asked ≤ next.asked) path asks later;
   in_time = in_time;
 }

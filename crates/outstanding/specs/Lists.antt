@@ -46,7 +46,7 @@ AreInTurn (a ∷ asks) = AllByRecursion (Follows a) asks × AreInTurn asks
 -- what holds of the listed asks at all times
 pub record AreListed (inquiries : Inquiries) : Type 0 where
   pub few : length inquiries.asks ≤ inquiries.capacity
-  pub in_turn : AreInTurn inquiries.asks
+  pub by_arrival : AreInTurn inquiries.asks
   pub in_time : AllByRecursion IsInTime inquiries.asks
 
 -- an ask may be put after these: its path and its question are not listed, and it was asked no

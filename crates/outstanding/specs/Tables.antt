@@ -75,19 +75,19 @@ to_question key a = key_cmp (question_key a.question) key
 
 -- the asks of a table, in the order of asking
 abbrev pub asks_of : {A : Type 0} → Table A → List Ask
-asks_of t = asks_under t.asks t.in_turn.keys
+asks_of t = asks_under t.asks t.by_arrival.keys
 
 -- the three lists of keys cover the asks, and two of them rise
-pub record AreIndexed (s : Slab Ask) (by_path by_question in_turn : List ℕ) : Type 0 where
+pub record AreIndexed (s : Slab Ask) (by_path by_question by_arrival : List ℕ) : Type 0 where
   pub paths : Covers s by_path
   pub paths_rise : Rises path_cmp (λ a. a.path) s by_path
   pub questions : Covers s by_question
   pub questions_rise : Rises key_cmp (λ a. question_key a.question) s by_question
-  pub turns : Covers s in_turn
+  pub turns : Covers s by_arrival
 
 -- and those two have the numbers of their asks
 pub record IsIndexed {A : Type 0} (t : Table A) : Type 0 where
-  pub keys : AreIndexed t.asks (keys_of t.by_path.items) (keys_of t.by_question.items) t.in_turn.keys
+  pub keys : AreIndexed t.asks (keys_of t.by_path.items) (keys_of t.by_question.items) t.by_arrival.keys
   pub path_numbers : AreNumbered (λ a. path_number a.path) t.asks t.by_path.items
   pub question_numbers : AreNumbered (λ a. (question_key a.question).number) t.asks t.by_question.items
 
@@ -96,6 +96,6 @@ pub record HasRoom {A : Type 0} (t : Table A) : Type 0 where
   pub asks : HasRoomFor t.asks 1
   pub by_path : deque_len t.by_path < deque_capacity t.by_path
   pub by_question : deque_len t.by_question < deque_capacity t.by_question
-  pub in_turn : t.in_turn.has_room ≡ true
-  pub known : t.asks.vacant_key < t.in_turn.known
+  pub by_arrival : t.by_arrival.has_room ≡ true
+  pub known : t.asks.vacant_key < t.by_arrival.known
   pub small : t.asks.vacant_key < 2 ^ 32

@@ -13,7 +13,7 @@ use crate::ask::{Ask, Path};
 use crate::keyed::{KeyedAsk, QuestionKey};
 use crate::numbered::NumberedKey;
 use crate::places::{place_of, place_on};
-use arrival_order::KeysInTurn;
+use arrival_order::ArrivalOrder;
 use slab::Slab;
 use std::alloc::{AllocError, Allocator};
 use std::collections::VecDeque;
@@ -27,7 +27,7 @@ pub(crate) struct Table<A: Allocator> {
     asks: Slab<KeyedAsk<A>, A>,
     by_path: VecDeque<NumberedKey, A>,
     by_question: VecDeque<NumberedKey, A>,
-    in_turn: KeysInTurn<A>,
+    by_arrival: ArrivalOrder<A>,
 }
 
 impl<A: Allocator> Table<A> {
@@ -42,7 +42,7 @@ impl<A: Allocator> Table<A> {
             asks: Slab::new(alloc),
             by_path: VecDeque::new(alloc),
             by_question: VecDeque::new(alloc),
-            in_turn: KeysInTurn::new(alloc),
+            by_arrival: ArrivalOrder::new(alloc),
         }
     }
 
@@ -51,7 +51,7 @@ impl<A: Allocator> Table<A> {
         requires { IsIndexed self.now }
         ensures { result ≡ length (asks_of self.now) }
     {
-        self.in_turn.len()
+        self.by_arrival.len()
     }
 
     /// The ask that was asked first.
@@ -59,7 +59,7 @@ impl<A: Allocator> Table<A> {
         requires { IsIndexed self.now }
         ensures { MatchOption result (asks_of self.now ≡ []) (λ ask. slice_get (asks_of self.now) 0 ≡ Some ask.now) }
     {
-        let key = self.in_turn.first()?;
+        let key = self.by_arrival.first()?;
         Some(&self.asks[key])
     }
 
@@ -103,7 +103,7 @@ impl<A: Allocator> Table<A> {
         if key > u32::MAX as usize {
             return Err(AllocError);
         }
-        self.in_turn.reserve(key)
+        self.by_arrival.reserve(key)
     }
 
     /// Puts an ask last, whose path and question no other has, where there is room.
@@ -130,7 +130,7 @@ impl<A: Allocator> Table<A> {
             question,
             NumberedKey::new(question_number, key),
         );
-        self.in_turn.put(key);
+        self.by_arrival.put(key);
     }
 
     /// Takes the ask on a path out, which leaves room for another one.
@@ -149,10 +149,10 @@ impl<A: Allocator> Table<A> {
         let Ok(question) = place_of(&self.asks, &self.by_question, self.asks[key].key()) else {
             unreachable!();
         };
-        let turn = self.in_turn.place_of(key);
+        let turn = self.by_arrival.place_of(key);
         take_key(&mut self.by_path, place);
         take_key(&mut self.by_question, question);
-        self.in_turn.take(turn);
+        self.by_arrival.take(turn);
         Some(self.asks.remove(key))
     }
 
@@ -164,7 +164,7 @@ impl<A: Allocator> Table<A> {
         self.asks.clear();
         self.by_path.clear();
         self.by_question.clear();
-        self.in_turn.clear();
+        self.by_arrival.clear();
     }
 }
 

@@ -81,7 +81,7 @@ module _ (c : Config) (n : ℕ) (words : List ℕ) (path : Path) (a : Ask) (s : 
   follows : (next : Ask) (server : ℕ) (draw : Option (ℕ × Path)) → IsAskBy n a.question a.route server (a.used + 1) (peer_at c a.route server) draw next → ask_on next.path (without_path path s.asks) ≡ None
       → IsBelow (s.tcp_asks + tcp_count_of next.path) next.path → s.tcp_asks + tcp_count_of next.path < 2 ^ 64 → CanFollow c n s (without_path path s.asks) next
   follows next server draw facts free new_below counted = record {
-    begins = next_begins s.asks path a next are.in_turn on (same next facts.question) free
+    begins = next_begins s.asks path a next are.by_arrival on (same next facts.question) free
         (still_earlier s.moment next.asked s.asks (let at : next.asked ≡ n = facts.asked in omega (arith, at, later)) (earlier c s.moment s.tcp_asks s.asks kept))
         (let at : next.asked ≡ n = facts.asked in omega (arith, at, small));
     room = let fewer = without_shorter path s.asks a on in let few = are.few in omega (arith, fewer, few);

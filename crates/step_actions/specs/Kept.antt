@@ -37,7 +37,7 @@ pub record IsKeptForwarder (c : Config) (store : Cache) (inquiries : Inquiries) 
   pub listed : AreListed inquiries
   pub asks : AllByRecursion (IsKeptAsk c moment count) inquiries.asks
   pub few : length waiting ≤ c.limits.questions
-  pub in_turn : AreTakenInTurn waiting
+  pub by_arrival : AreTakenInTurn waiting
   pub taken : AllByRecursion (λ x. x.taken ≤ moment) waiting
   pub aliases : AllByRecursion (HoldsEarlier moment) waiting
   pub places : ArePreferred c.routes preferred

@@ -135,16 +135,16 @@ drawn_last words count e = ⊎_elim
 
 -- the ask of a question is the one on its own path
 pub own_on : (q : Question) (asks : List Ask) (a : Ask) → AreInTurn asks → of_question q asks ≡ Some a → ask_on a.path asks ≡ Some a
-own_on q [] a in_turn e = absurd (cc)
-own_on q (b ∷ asks) a in_turn e = ⊎_elim
+own_on q [] a by_arrival e = absurd (cc)
+own_on q (b ∷ asks) a by_arrival e = ⊎_elim
     (λ (t : same_question b.question q ≡ true).
     let is : Some b ≡ Some a = sym (cond-true (same_question b.question q) _ _ t) ∙ e in
     let same : b ≡ a = cc in
     subst (λ (z : Ask). ask_on z.path (b ∷ asks) ≡ Some z) same (cond-true (same_path b.path b.path) _ _ (same_path_reflexive b.path)))
     (λ (f : same_question b.question q ≡ false).
     let there : of_question q asks ≡ Some a = sym (cond-false (same_question b.question q) _ _ f) ∙ e in
-    let follows = (of_question-is (Follows b) q asks a there in_turn.0).0 in
-    cond-false (same_path b.path a.path) _ _ follows.path ∙ own_on q asks a in_turn.1 there)
+    let follows = (of_question-is (Follows b) q asks a there by_arrival.0).0 in
+    cond-false (same_path b.path a.path) _ _ follows.path ∙ own_on q asks a by_arrival.1 there)
     (cases_Bool (same_question b.question q))
 
 pub still_earlier : (m n : ℕ) (asks : List Ask) → m ≤ n → AllByRecursion (λ a. a.asked ≤ m) asks → AllByRecursion (λ a. a.asked ≤ n) asks

@@ -36,8 +36,8 @@ all_differ c now a [] one others follow = tt
 all_differ c now a (b ∷ asks) one others follow = (differs c now a b one others.0 follow.0, all_differ c now a asks one others.1 follow.1)
 
 apart : (c : Config) (now : List Step) (asks : List Ask) → AllByRecursion (Tried c now) asks → AreInTurn asks → AreApart (map shown asks)
-apart c now [] tried in_turn = tt
-apart c now (a ∷ asks) tried in_turn = (all_differ c now a asks tried.0 tried.1 in_turn.0, apart c now asks tried.1 in_turn.1)
+apart c now [] tried by_arrival = tt
+apart c now (a ∷ asks) tried by_arrival = (all_differ c now a asks tried.0 tried.1 by_arrival.0, apart c now asks tried.1 by_arrival.1)
 
 pub asked_more : (c : Config) (s : Step) (past : List Step) (asks : List Ask) → AsksWell c past → map shown asks ≡ listed (s ∷ past)
     → AreListed (record { capacity = c.limits.inquiries; asks = asks }) → AllByRecursion (Tried c (s ∷ past)) asks
@@ -45,7 +45,7 @@ pub asked_more : (c : Config) (s : Step) (past : List Step) (asks : List Ask) �
 asked_more c s past asks before shown_is are tried right =
     let size : length (map shown asks) ≡ length (listed (s ∷ past)) = ap length shown_is in
     let few = are.few in
-    (before, subst AreApart shown_is (apart c (s ∷ past) asks tried are.in_turn), omega (arith, size, length-map asks shown, few), right)
+    (before, subst AreApart shown_is (apart c (s ∷ past) asks tried are.by_arrival), omega (arith, size, length-map asks shown, few), right)
 
 -- ---- tries
 

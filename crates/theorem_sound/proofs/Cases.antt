@@ -373,4 +373,4 @@ module _ (c : Config) (past : List Step) (w : List (List ℕ)) (s : State) (x : 
       step = step_of h [] unkept more
 
       none_listed : AreListed (record { capacity = c.limits.inquiries; asks = [] })
-      none_listed = record { few = omega arith; in_turn = tt; in_time = tt }
+      none_listed = record { few = omega arith; by_arrival = tt; in_time = tt }

@@ -140,7 +140,7 @@ module _ (c : Config) (past : List Step) (w : List (List ℕ)) (s : State) (x : 
     shown_on = ap (on_path a.path) (sym x.asks) ∙ on_path-shown a.path s.asks ∙ ap (Rattle.std.specs.Prelude.option_map shown) on
 
     others_left : AllByRecursion (λ b. same_question b.question a.question ≡ false) (without_path a.path s.asks)
-    others_left = none_same a.question (without_path a.path s.asks) (question_free a.path a.question s.asks a x.asks_are.in_turn on (same_question-refl a.question))
+    others_left = none_same a.question (without_path a.path s.asks) (question_free a.path a.question s.asks a x.asks_are.by_arrival on (same_question-refl a.question))
       where
         same_question-refl : (q : Question) → same_question q q ≡ true
         same_question-refl q = (Rattle.dns_message.proofs.CallerLemmas.same_question_decides q q).1 (record { name = refl; kind = refl; class = refl })
@@ -257,7 +257,7 @@ module _ (c : Config) (past : List Step) (w : List (List ℕ)) (s : State) (x : 
 
         none : NoneAsks y.wanted (listed now_of)
         none = subst (NoneAsks y.wanted) left_listed (none_asks c past y.wanted (without_path a.path s.asks) (All-filter (Tried c past) (λ b. Rattle.std.specs.Prelude.not (same_path b.path a.path)) s.asks x.tried)
-            (none_same y.wanted (without_path a.path s.asks) (question_free a.path y.wanted s.asks a x.asks_are.in_turn on (same_question-sym y.wanted a.question t))))
+            (none_same y.wanted (without_path a.path s.asks) (question_free a.path y.wanted s.asks a x.asks_are.by_arrival on (same_question-sym y.wanted a.question t))))
 
         held_told : AllByRecursion (CanBeTold n) y.held
         held_told = All-weaker (CanBeTold (moment_at past)) (CanBeTold n) (λ o k. told_later (moment_at past) n o (let le = later_moment in let was_at : s.moment ≡ moment_at past = x.moment in omega (arith, le, was_at)) k) y.held was.told
@@ -301,7 +301,7 @@ module _ (c : Config) (past : List Step) (w : List (List ℕ)) (s : State) (x : 
       next_row next server peer draw facts there small free below drawn_so = closed_row (λ y. waits y) (Some next) s.preferred s.cache 0 (waits_speak s.waiting)
           (λ y i was. waits_later c (step (actions_by (map (λ y. waits y) s.waiting) (Some next))) past y i (on_now (actions_by (map (λ z. waits z) s.waiting) (Some next))) was)
           facts.asked
-          (next_begins s.asks a.path a next x.asks_are.in_turn on same free later in_time, let fewer = without_shorter a.path s.asks a on in let few = x.asks_are.few in omega (arith, fewer, few))
+          (next_begins s.asks a.path a next x.asks_are.by_arrival on same free later in_time, let fewer = without_shorter a.path s.asks a on in let few = x.asks_are.few in omega (arith, fewer, few))
           (next_tried c (step (actions_by (map (λ y. waits y) s.waiting) (Some next)) ∷ past) a.question next is_next, tt)
           (below, tt)
           (next_right c (step (actions_by (map (λ y. waits y) s.waiting) (Some next))) past (step (actions_by (map (λ y. waits y) s.waiting) (Some next)) ∷ past) a.question next is_next drawn_so)

@@ -75,7 +75,7 @@ MayFollow c listed (Some a) = MayBegin a listed × (length listed < c.limits.inq
 
 pub listed_next : (c : Config) (listed : List Ask) (next : Option Ask) → AreListed (record { capacity = c.limits.inquiries; asks = listed }) → MayFollow c listed next → AreListed (record { capacity = c.limits.inquiries; asks = listed ++ ask_list next })
 listed_next c listed None are may = subst (λ (xs : List Ask). AreListed (record { capacity = c.limits.inquiries; asks = xs })) (sym (append-nil listed)) are
-listed_next c listed (Some a) are may = put c.limits.inquiries listed a are.in_turn are.in_time may.0 may.1
+listed_next c listed (Some a) are may = put c.limits.inquiries listed a are.by_arrival are.in_time may.0 may.1
 
 below_more : (count k : ℕ) (p : Path) → IsBelow count p → IsBelow (count + k) p
 below_more count k (Udp port) below = tt

@@ -42,7 +42,7 @@ start_explained c config = record {
   moment = refl;
   tcp = refl;
   asks = refl;
-  asks_are = record { few = omega arith; in_turn = tt; in_time = tt };
+  asks_are = record { few = omega arith; by_arrival = tt; in_time = tt };
   earlier = tt;
   tried = tt;
   connections = tt;

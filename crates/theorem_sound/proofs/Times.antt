@@ -156,7 +156,7 @@ module _ (c : Config) (past : List Step) (w : List (List ℕ)) (s : State) (x : 
     alone_listed : (r : Option Ask) → of_question y.wanted s.asks ≡ r → (b : Bool) → IsListed (cond b None r)
     alone_listed r e true = tt
     alone_listed None e false = tt
-    alone_listed (Some a) e false = own_on y.wanted s.asks a x.asks_are.in_turn e
+    alone_listed (Some a) e false = own_on y.wanted s.asks a x.asks_are.by_arrival e
 
     expired_row : T (expiry_step n y others (left_alone y.wanted others s.asks) s)
     expired_row = expired_by (left_alone y.wanted others s.asks) (alone_listed (of_question y.wanted s.asks) refl (list_any (waits_for y.wanted) others)) x.numbers_of refl

@@ -274,7 +274,7 @@ full = record {
   moment = refl;
   tcp = refl;
   asks = refl;
-  asks_are = record { few = omega arith; in_turn = (tt, tt); in_time = (omega arith, tt) };
+  asks_are = record { few = omega arith; by_arrival = (tt, tt); in_time = (omega arith, tt) };
   earlier = (omega arith, tt);
   tried = (tried, tt);
   connections = (tt, tt);
@@ -296,8 +296,8 @@ one_more past w h = let few : 2 ≤ 1 = h.few in omega (arith, few)
 -- ---- which step was first
 
 -- the first of a run is the oldest of its history
-in_turn : RunsAreSound → AsksWell for_one (second ∷ first ∷ [])
-in_turn law =
+by_arrival : RunsAreSound → AsksWell for_one (second ∷ first ∷ [])
+by_arrival law =
     (law for_one (first ∷ second ∷ []) asked_twice is_config
     (asked_once, first_row, (asked_twice, second_row, refl))).1
 

@@ -151,7 +151,7 @@ nothing_any (x ∷ xs) (inr later) = nothing_any xs later
 -- ---- each row
 
 module _ (c : Config) (n : ℕ) (words : List ℕ) (s : State) (served : AreServed s.asks s.waiting)
-    (in_turn : AreInTurn s.asks) (Accepted : Type 0) where
+    (by_arrival : AreInTurn s.asks) (Accepted : Type 0) where
   -- after the step those who wait and the asks serve each other
   abbrev pub K : Done → Type 0
   K d = AreServedOn Accepted d.actions s.asks d.state.asks d.state.waiting
@@ -171,7 +171,7 @@ module _ (c : Config) (n : ℕ) (words : List ℕ) (s : State) (served : AreServ
     -- all that wait for it get a reply
     given_up : {actions : List Action} (given : Waiting → Action) → AreServedOn Accepted actions s.asks (others ++ [])
         (still_waiting (map (λ x. cond (waits_for a.question x) (gets (given x)) (waits x)) s.waiting))
-    given_up {actions} given = closed_on s.asks s.waiting served in_turn a on Accepted actions
+    given_up {actions} given = closed_on s.asks s.waiting served by_arrival a on Accepted actions
         (λ x. cond (waits_for a.question x) (gets (given x)) (waits x)) None
         (λ x f. cond-false (waits_for a.question x) _ _ f)
         (all_of (λ x. waits_for a.question x ≡ true
@@ -189,7 +189,7 @@ module _ (c : Config) (n : ℕ) (words : List ℕ) (s : State) (served : AreServ
     asked_again : {more : List Action} (d : Ask) → d.question ≡ a.question → d.used ≡ a.used + 1
         → AreServedOn Accepted (closes a.path ∷ more) s.asks (others ++ d ∷ [])
         (still_waiting (map (λ x. waits x) s.waiting))
-    asked_again {more} d same_question_is used_is = closed_on s.asks s.waiting served in_turn a on Accepted
+    asked_again {more} d same_question_is used_is = closed_on s.asks s.waiting served by_arrival a on Accepted
         (closes a.path ∷ more) (λ x. waits x) (Some d)
         (λ x f. refl)
         (all_of (λ x. waits_for a.question x ≡ true → FateHas (Asked (Some d)) (waits x))
@@ -289,7 +289,7 @@ module _ (c : Config) (n : ℕ) (words : List ℕ) (s : State) (served : AreServ
         → AllByRecursion (λ z. waits_for y.wanted z ≡ false) behind
         → AreServedOn Accepted actions s.asks (without_path a.path s.asks ++ []) behind
     alone actions a is none = subst (AreServedOn Accepted actions s.asks (without_path a.path s.asks ++ [])) waiting_is
-        (given_up a (own_on y.wanted s.asks a in_turn is) (gives_up Deadline))
+        (given_up a (own_on y.wanted s.asks a by_arrival is) (gives_up Deadline))
       where
         fate : Waiting → Fate
         fate x = cond (waits_for a.question x) (gets (gives_up Deadline x)) (waits x)
@@ -400,7 +400,7 @@ module _ (c : Config) (n : ℕ) (words : List ℕ) (s : State) (served : AreServ
 
     last_row : {actions : List Action} → has_last w.end ≡ true → 1 ≤ length w.pieces
         → AreServedOn Accepted actions s.asks (next_others ++ []) (still_waiting (map fate s.waiting))
-    last_row {actions} fine some = closed_on s.asks s.waiting served in_turn a on Accepted actions fate None keeps
+    last_row {actions} fine some = closed_on s.asks s.waiting served by_arrival a on Accepted actions fate None keeps
         (all_of (λ x. waits_for a.question x ≡ true → FateHas (Asked a on None) (fate x))
         (λ x t. subst (FateHas (Asked a on None))
         (sym (cond-true (waits_for a.question x) _ _ t
@@ -433,7 +433,7 @@ module _ (c : Config) (n : ℕ) (words : List ℕ) (s : State) (served : AreServ
         → NextHas (λ b. AnyByRecursion (λ y. waits_for b.question y ≡ true) (still_waiting (map fate s.waiting))) next
         → NextHas (Spelled Accepted actions s.asks (still_waiting (map fate s.waiting))) next
         → AreServedOn Accepted actions s.asks (next_others ++ ask_list next) (still_waiting (map fate s.waiting))
-    sent_closed {actions} next all wants spells = closed_on s.asks s.waiting served in_turn a on Accepted actions fate
+    sent_closed {actions} next all wants spells = closed_on s.asks s.waiting served by_arrival a on Accepted actions fate
         next keeps (each_fate (Asked a on next) (waits_for a.question) fate s.waiting all) wants spells
 
     module _ (accepted : Accepted) (used : List Slot) (name : List (List ℕ)) (is : w.end ≡ elsewhere name) where
@@ -463,7 +463,7 @@ module _ (c : Config) (n : ℕ) (words : List ℕ) (s : State) (served : AreServ
         -- no port is free
         without_one : {actions : List Action} → AreServedOn Accepted actions s.asks (next_others ++ [])
             (still_waiting (map (unless_no_port fate a.question) s.waiting))
-        without_one {actions} = closed_on s.asks s.waiting served in_turn a on Accepted actions
+        without_one {actions} = closed_on s.asks s.waiting served by_arrival a on Accepted actions
             (unless_no_port fate a.question) None
             (λ x f. cond-false (waits_for a.question x) _ _ f)
             (all_of (λ x. waits_for a.question x ≡ true → FateHas (Asked a on None) (unless_no_port fate a.question x))

@@ -84,8 +84,8 @@ of_question_any x (b ∷ asks) a e = by (of_question_any x asks a) (same_questio
 -- no other is on the path of one
 only_on_path : (asks : List Ask) (a : Ask) → AreInTurn asks → ask_on a.path asks ≡ Some a
     → AllByRecursion (λ b. same_path b.path a.path ≡ true → b ≡ a) asks
-only_on_path [] a in_turn on = tt
-only_on_path (b ∷ asks) a in_turn on = by (only_on_path asks a in_turn.1) (same_path b.path a.path) refl on
+only_on_path [] a by_arrival on = tt
+only_on_path (b ∷ asks) a by_arrival on = by (only_on_path asks a by_arrival.1) (same_path b.path a.path) refl on
   where
     by : (ask_on a.path asks ≡ Some a → AllByRecursion (λ d. same_path d.path a.path ≡ true → d ≡ a) asks) → (v : Bool)
         → same_path b.path a.path ≡ v → cond v (Some b) (ask_on a.path asks) ≡ Some a
@@ -96,7 +96,7 @@ only_on_path (b ∷ asks) a in_turn on = by (only_on_path asks a in_turn.1) (sam
           All-weaker (Follows b) (λ d. same_path d.path a.path ≡ true → d ≡ a)
               (λ d follows t. absurd (false≢true (sym (ap (λ (p : Path). same_path b.path p)
               (sym (same_path_equal d.path a.path t)) ∙ follows.path) ∙ same)))
-              asks in_turn.0,
+              asks by_arrival.0,
         )
     by behind false other e = (λ t. absurd (true≢false (sym t ∙ other)), behind e)
 
@@ -299,14 +299,14 @@ taken_on Accepted actions asks waiting x next served none own wanted = record {
       wanted = any_last (λ y. y.wanted ≡ a.question) waiting (x ∷ []) (inl (sym has));
     }))
 
-module _ (asks : List Ask) (waiting : List Waiting) (served : AreServed asks waiting) (in_turn : AreInTurn asks)
+module _ (asks : List Ask) (waiting : List Waiting) (served : AreServed asks waiting) (by_arrival : AreInTurn asks)
     (a : Ask) (on : ask_on a.path asks ≡ Some a) where
   abbrev others : List Ask
   others = without_path a.path asks
 
   -- no other ask has the question of the closed one
   apart : AllByRecursion (λ b. same_question b.question a.question ≡ false) others
-  apart = none_same a.question others (question_free_without_path a.path a.question asks a in_turn on
+  apart = none_same a.question others (question_free_without_path a.path a.question asks a by_arrival on
       (same_as_itself a.question))
 
   -- An ask is closed. Who doesn't wait for it waits on as before; who does gets a reply, or waits
@@ -343,7 +343,7 @@ module _ (asks : List Ask) (waiting : List Waiting) (served : AreServed asks wai
           by true t = then t
           by false f = subst (FateHas Asked) (sym (keeps x f))
               (any_first (λ b. waits_for b.question x ≡ true) others (ask_list next)
-              (still_asked x a asks (only_on_path asks a in_turn on) f any))
+              (still_asked x a asks (only_on_path asks a by_arrival on) f any))
 
       each : (xs : List Waiting) → AllByRecursion (λ x. AnyByRecursion (λ b. waits_for b.question x ≡ true) asks) xs
           → AllByRecursion (λ x. waits_for a.question x ≡ true → FateHas Asked (fate x)) xs

@@ -371,7 +371,7 @@ row_fully_explained c past w s h o s' both r = (
     gives restart are = tt
 
     on : AreServedOn (NothingAccepted c t past → ⊥) o.actions s.asks s'.asks s'.waiting
-    on = event_row c (effective h.now s) h.words s both.served both.explained.asks_are.in_turn
+    on = event_row c (effective h.now s) h.words s both.served both.explained.asks_are.by_arrival
         (NothingAccepted c t past → ⊥) past both.explained.tried h.event d (gives h.event r.octets) r.happens
 
 pub row_stays_fully_explained : (c : Config) (s : State) (h : Handed) (o : Outcome) (s' : State) → Row c s h o s'

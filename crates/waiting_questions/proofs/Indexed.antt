@@ -32,8 +32,8 @@ under_all P s (key ∷ keys) all = by (get s key) refl all (under_all P s keys)
 
 -- ---- none
 
-pub none_indexed : (s : Slab Waiting) (by_question in_turn : List ℕ) → by_question ≡ [] → in_turn ≡ [] → AreIndexed s by_question in_turn
-none_indexed s by_question in_turn questions turns =
+pub none_indexed : (s : Slab Waiting) (by_question by_arrival : List ℕ) → by_question ≡ [] → by_arrival ≡ [] → AreIndexed s by_question by_arrival
+none_indexed s by_question by_arrival questions turns =
     subst₂ (AreIndexed s) (sym questions) (sym turns) (record { questions = no_keys IsByQuestion s; turns = no_keys IsByTaken s; same = λ q. refl })
 
 -- more room changes nothing
@@ -47,31 +47,31 @@ room_indexed s s' p t p' t' slab questions turns indexed =
     } in
     subst (λ (z : Slab Waiting). AreIndexed z p' t') (sym slab) (subst₂ (AreIndexed roomy) (sym questions) (sym turns) more)
 
-pub table_room : {A : Type 0} (t t' : Table A) → t'.waiting ≡ record t.waiting { capacity = t'.waiting.capacity } → t'.by_question.items ≡ t.by_question.items → t'.in_turn.keys ≡ t.in_turn.keys → IsIndexed t → IsIndexed t'
+pub table_room : {A : Type 0} (t t' : Table A) → t'.waiting ≡ record t.waiting { capacity = t'.waiting.capacity } → t'.by_question.items ≡ t.by_question.items → t'.by_arrival.keys ≡ t.by_arrival.keys → IsIndexed t → IsIndexed t'
 table_room t t' slab questions turns indexed = record {
   lists = room_indexed t.waiting t'.waiting _ _ _ _ slab (ap keys_of questions) turns indexed.lists;
   numbers = room_numbered t.waiting t'.waiting _ _ slab questions indexed.numbers;
 }
 
-module _ (s : Slab Waiting) (by_question in_turn : List ℕ) (indexed : AreIndexed s by_question in_turn) where
+module _ (s : Slab Waiting) (by_question by_arrival : List ℕ) (indexed : AreIndexed s by_question by_arrival) where
   -- ---- what waits for a question
 
   module _ (q : Question) (i j : ℕ) (range : IsRange (to_question (question_key q)) s by_question i j) where
-    pub in_range : filter (waits_at s q) in_turn ≡ between i j by_question
+    pub in_range : filter (waits_at s q) by_arrival ≡ between i j by_question
     in_range = sym (indexed.same q) ∙ passes_between s by_question indexed.questions.present q i j range
 
-    pub those_wait : waiting_under s (between i j by_question) ≡ filter (waits_for q) (waiting_under s in_turn)
-    those_wait = ap (waiting_under s) (sym in_range) ∙ sym (filter_under (waits_for q) s in_turn)
+    pub those_wait : waiting_under s (between i j by_question) ≡ filter (waits_for q) (waiting_under s by_arrival)
+    those_wait = ap (waiting_under s) (sym in_range) ∙ sym (filter_under (waits_for q) s by_arrival)
 
     pub those_present : ArePresent s (between i j by_question)
-    those_present = subst (ArePresent s) in_range (All-filter (waits_at s q) (λ key. IsSome (get s key)) in_turn indexed.turns.present)
+    those_present = subst (ArePresent s) in_range (All-filter (waits_at s q) (λ key. IsSome (get s key)) by_arrival indexed.turns.present)
 
-    pub how_many : j - i ≡ length (filter (waits_for q) (waiting_under s in_turn))
+    pub how_many : j - i ≡ length (filter (waits_for q) (waiting_under s by_arrival))
     how_many = sym (length-between by_question i j range.high) ∙ sym (length_under s (between i j by_question) those_present) ∙ ap length those_wait
 
     -- the first of all comes first of those that wait for the same
-    pub first_stands : (x : Waiting) → 0 < length in_turn → get s (slice_index in_turn 0) ≡ Some x → waits_for q x ≡ true → (i < length by_question) × (slice_index by_question i ≡ slice_index in_turn 0)
-    first_stands x some e waits = by in_turn some e in_range
+    pub first_stands : (x : Waiting) → 0 < length by_arrival → get s (slice_index by_arrival 0) ≡ Some x → waits_for q x ≡ true → (i < length by_question) × (slice_index by_question i ≡ slice_index by_arrival 0)
+    first_stands x some e waits = by by_arrival some e in_range
       where
         by : (keys : List ℕ) → 0 < length keys → get s (slice_index keys 0) ≡ Some x → filter (waits_at s q) keys ≡ between i j by_question → (i < length by_question) × (slice_index by_question i ≡ slice_index keys 0)
         by [] some e is = absurd (omega arith)
@@ -86,25 +86,25 @@ module _ (s : Slab Waiting) (by_question in_turn : List ℕ) (indexed : AreIndex
             )
 
   -- a key in the order of questions is in the order of taking
-  pub key_in_turn : (place : ℕ) → place < length by_question → Contains in_turn (slice_index by_question place)
+  pub key_in_turn : (place : ℕ) → place < length by_question → Contains by_arrival (slice_index by_question place)
   key_in_turn place within =
       let a = value_of (get s (slice_index by_question place)) (indexed.questions.present place 0 within) in
       let q = a.0.wanted in
-      from_filter (waits_at s q) in_turn (slice_index by_question place)
+      from_filter (waits_at s q) by_arrival (slice_index by_question place)
       (subst (λ ks. Contains ks (slice_index by_question place)) (indexed.same q)
       (in_filter (waits_at s q) by_question (slice_index by_question place) (Contains-get_or by_question place 0 within) (ap (passes (waits_for q)) a.1 ∙ waits_itself a.0)))
 
   -- none waits for the question
-  pub none_wait : (q : Question) (i : ℕ) → IsRange (to_question (question_key q)) s by_question i i → filter (λ x. not (waits_for q x)) (waiting_under s in_turn) ≡ waiting_under s in_turn
-  none_wait q i range = filter_fails (waits_for q) (waiting_under s in_turn) (sym (those_wait q i i range) ∙ ap (waiting_under s) (between_none by_question i))
+  pub none_wait : (q : Question) (i : ℕ) → IsRange (to_question (question_key q)) s by_question i i → filter (λ x. not (waits_for q x)) (waiting_under s by_arrival) ≡ waiting_under s by_arrival
+  none_wait q i range = filter_fails (waits_for q) (waiting_under s by_arrival) (sym (those_wait q i i range) ∙ ap (waiting_under s) (between_none by_question i))
 
   -- ---- one more
 
   module _ (s' : Slab Waiting) (key : ℕ) (x : Waiting) (was : get s key ≡ None) (updates : Updates s s' key (Some x)) where
-    pub put_items : waiting_under s' (in_turn ++ key ∷ []) ≡ waiting_under s in_turn ++ x ∷ []
-    put_items = put_under s s' in_turn key x (same_under s s' in_turn (stay IsByTaken s s' in_turn indexed.turns key x was updates)) updates.changed
+    pub put_items : waiting_under s' (by_arrival ++ key ∷ []) ≡ waiting_under s by_arrival ++ x ∷ []
+    put_items = put_under s s' by_arrival key x (same_under s s' by_arrival (stay IsByTaken s s' by_arrival indexed.turns key x was updates)) updates.changed
 
-    module _ (i j : ℕ) (range : IsRange (to_question (question_key x.wanted)) s by_question i j) (later : AllByRecursion (λ y. y.taken ≤ x.taken) (waiting_under s in_turn)) where
+    module _ (i j : ℕ) (range : IsRange (to_question (question_key x.wanted)) s by_question i j) (later : AllByRecursion (λ y. y.taken ≤ x.taken) (waiting_under s by_arrival)) where
       put_questions : AreKeys IsByQuestion s' (insert by_question j key)
       put_questions =
           keys_put IsByQuestion s s' by_question indexed.questions key x was updates j range.high
@@ -114,14 +114,14 @@ module _ (s : Slab Waiting) (by_question in_turn : List ℕ) (indexed : AreIndex
           (All-from_get_or (λ n. (a : Waiting) → get s n ≡ Some a → IsByQuestion x a) (drop j by_question) 0 (λ k within a e.
           goes_before s by_question indexed.questions.present x i j range (j + k) a (omega arith) (omega (arith, length-drop j by_question)) (sym (ap (get s) (get_or-drop j by_question k 0)) ∙ e)))
 
-      put_turns : AreKeys IsByTaken s' (in_turn ++ key ∷ [])
+      put_turns : AreKeys IsByTaken s' (by_arrival ++ key ∷ [])
       put_turns =
-          subst (AreKeys IsByTaken s') (insert_end in_turn key)
-          (keys_put IsByTaken s s' in_turn indexed.turns key x was updates (length in_turn) (omega arith)
-          (All-take (λ n. (a : Waiting) → get s n ≡ Some a → a.taken ≤ x.taken) (length in_turn) in_turn (under_all (λ y. y.taken ≤ x.taken) s in_turn later))
-          (λ k d within. absurd (omega (arith, length-drop (length in_turn) in_turn))))
+          subst (AreKeys IsByTaken s') (insert_end by_arrival key)
+          (keys_put IsByTaken s s' by_arrival indexed.turns key x was updates (length by_arrival) (omega arith)
+          (All-take (λ n. (a : Waiting) → get s n ≡ Some a → a.taken ≤ x.taken) (length by_arrival) by_arrival (under_all (λ y. y.taken ≤ x.taken) s by_arrival later))
+          (λ k d within. absurd (omega (arith, length-drop (length by_arrival) by_arrival))))
 
-      put_same : (q : Question) → filter (waits_at s' q) (insert by_question j key) ≡ filter (waits_at s' q) (in_turn ++ key ∷ [])
+      put_same : (q : Question) → filter (waits_at s' q) (insert by_question j key) ≡ filter (waits_at s' q) (by_arrival ++ key ∷ [])
       put_same q =
           let alike : (keys : List ℕ) → All (λ n. get s' n ≡ get s n) keys → filter (waits_at s' q) keys ≡ filter (waits_at s q) keys =
           λ keys stays. filter_alike (waits_at s' q) (waits_at s q) keys (λ k d less. ap (passes (waits_for q)) (stays k d less)) in
@@ -131,50 +131,50 @@ module _ (s : Slab Waiting) (by_question in_turn : List ℕ) (indexed : AreIndex
           let inside : j + k < length by_question = omega (arith, length-drop j by_question) in
           ap (waits_at s' q) (get_or-drop j by_question k 0) ∙ ap (passes (waits_for q)) (stays (j + k) 0 inside)
           ∙ none_behind s by_question indexed.questions.present x i j range q (sym (ap (passes (waits_for q)) updates.changed) ∙ waits) (j + k) (omega arith) inside))
-          ∙ ap (λ ks. ks ++ filter (waits_at s' q) (key ∷ [])) (alike by_question stays ∙ indexed.same q ∙ sym (alike in_turn (stay IsByTaken s s' in_turn indexed.turns key x was updates)))
-          ∙ sym (filter-append (waits_at s' q) in_turn (key ∷ []))
+          ∙ ap (λ ks. ks ++ filter (waits_at s' q) (key ∷ [])) (alike by_question stays ∙ indexed.same q ∙ sym (alike by_arrival (stay IsByTaken s s' by_arrival indexed.turns key x was updates)))
+          ∙ sym (filter-append (waits_at s' q) by_arrival (key ∷ []))
 
-      pub put_indexed : AreIndexed s' (insert by_question j key) (in_turn ++ key ∷ [])
+      pub put_indexed : AreIndexed s' (insert by_question j key) (by_arrival ++ key ∷ [])
       put_indexed = record { questions = put_questions; turns = put_turns; same = put_same }
 
   -- ---- one less
 
   module _ (s' : Slab Waiting) (key : ℕ) (updates : Updates s s' key None) where
-    left_same : (q : Question) → filter (waits_at s' q) (others key by_question) ≡ filter (waits_at s' q) (others key in_turn)
+    left_same : (q : Question) → filter (waits_at s' q) (others key by_question) ≡ filter (waits_at s' q) (others key by_arrival)
     left_same q =
         let alike : (keys : List ℕ) → All (λ n. get s' n ≡ get s n) keys → filter (waits_at s' q) keys ≡ filter (waits_at s q) keys =
         λ keys stays. filter_alike (waits_at s' q) (waits_at s q) keys (λ k d less. ap (passes (waits_for q)) (stays k d less)) in
         alike (others key by_question) (stay_others IsByQuestion s s' by_question indexed.questions key updates)
         ∙ filter_filter (waits_at s q) (λ n. not (n == key)) by_question
         ∙ ap (others key) (indexed.same q)
-        ∙ sym (filter_filter (waits_at s q) (λ n. not (n == key)) in_turn)
-        ∙ sym (alike (others key in_turn) (stay_others IsByTaken s s' in_turn indexed.turns key updates))
+        ∙ sym (filter_filter (waits_at s q) (λ n. not (n == key)) by_arrival)
+        ∙ sym (alike (others key by_arrival) (stay_others IsByTaken s s' by_arrival indexed.turns key updates))
 
-    left_indexed : AreIndexed s' (others key by_question) (others key in_turn)
+    left_indexed : AreIndexed s' (others key by_question) (others key by_arrival)
     left_indexed = record {
       questions = keys_left IsByQuestion s s' by_question indexed.questions key updates;
-      turns = keys_left IsByTaken s s' in_turn indexed.turns key updates;
+      turns = keys_left IsByTaken s s' by_arrival indexed.turns key updates;
       same = left_same;
     }
 
-    module _ (place turn : ℕ) (p_in : place < length by_question) (t_in : turn < length in_turn) (p_is : slice_index by_question place ≡ key) (t_is : slice_index in_turn turn ≡ key) where
-      pub take_indexed : AreIndexed s' (remove by_question place) (remove in_turn turn)
-      take_indexed = subst₂ (AreIndexed s') (sym (removed by_question place key p_in p_is indexed.questions.apart)) (sym (removed in_turn turn key t_in t_is indexed.turns.apart)) left_indexed
+    module _ (place turn : ℕ) (p_in : place < length by_question) (t_in : turn < length by_arrival) (p_is : slice_index by_question place ≡ key) (t_is : slice_index by_arrival turn ≡ key) where
+      pub take_indexed : AreIndexed s' (remove by_question place) (remove by_arrival turn)
+      take_indexed = subst₂ (AreIndexed s') (sym (removed by_question place key p_in p_is indexed.questions.apart)) (sym (removed by_arrival turn key t_in t_is indexed.turns.apart)) left_indexed
 
-      pub take_items : waiting_under s' (remove in_turn turn) ≡ remove (waiting_under s in_turn) turn
+      pub take_items : waiting_under s' (remove by_arrival turn) ≡ remove (waiting_under s by_arrival) turn
       take_items =
-          same_under s s' (remove in_turn turn) (subst (λ ks. All (λ n. get s' n ≡ get s n) ks) (sym (removed in_turn turn key t_in t_is indexed.turns.apart)) (stay_others IsByTaken s s' in_turn indexed.turns key updates))
-          ∙ remove_under s in_turn turn indexed.turns.present t_in
+          same_under s s' (remove by_arrival turn) (subst (λ ks. All (λ n. get s' n ≡ get s n) ks) (sym (removed by_arrival turn key t_in t_is indexed.turns.apart)) (stay_others IsByTaken s s' by_arrival indexed.turns key updates))
+          ∙ remove_under s by_arrival turn indexed.turns.present t_in
 
   -- one that waits for the question goes: the others are the same
-  pub others_stay : (q : Question) (i p turn : ℕ) → IsRange (to_question (question_key q)) s by_question i (suc p) → i ≤ p → turn < length in_turn → slice_index by_question p ≡ slice_index in_turn turn
-      → filter (λ x. not (waits_for q x)) (remove (waiting_under s in_turn) turn) ≡ filter (λ x. not (waits_for q x)) (waiting_under s in_turn)
+  pub others_stay : (q : Question) (i p turn : ℕ) → IsRange (to_question (question_key q)) s by_question i (suc p) → i ≤ p → turn < length by_arrival → slice_index by_question p ≡ slice_index by_arrival turn
+      → filter (λ x. not (waits_for q x)) (remove (waiting_under s by_arrival) turn) ≡ filter (λ x. not (waits_for q x)) (waiting_under s by_arrival)
   others_stay q i p turn range le t_in one =
-      let a = value_of (get s (slice_index in_turn turn)) (indexed.turns.present turn 0 t_in) in
+      let a = value_of (get s (slice_index by_arrival turn)) (indexed.turns.present turn 0 t_in) in
       let waits : waits_for q a.0 ≡ true =
       sym (ap (passes (waits_for q)) a.1) ∙ ap (waits_at s q) (sym one) ∙ waits_among s by_question indexed.questions.present q i (suc p) range p le (omega arith) in
-      filter_remove (λ x. not (waits_for q x)) (waiting_under s in_turn) turn a.0 (omega (arith, length_under s in_turn indexed.turns.present))
-      (at_under s in_turn turn indexed.turns.present t_in ∙ a.1) (ap not waits)
+      filter_remove (λ x. not (waits_for q x)) (waiting_under s by_arrival) turn a.0 (omega (arith, length_under s by_arrival indexed.turns.present))
+      (at_under s by_arrival turn indexed.turns.present t_in ∙ a.1) (ap not waits)
 
 one_more : (n : ℕ) → nat_lt 0 n ≡ nat_lt 1 (suc n)
 one_more zero = refl
@@ -195,14 +195,14 @@ any_but_first p x xs count is = by (p x) is
 
 -- ---- by the functions
 
-module _ (s : Slab Waiting) (by_question in_turn : List ℕ) (indexed : AreIndexed s by_question in_turn) where
+module _ (s : Slab Waiting) (by_question by_arrival : List ℕ) (indexed : AreIndexed s by_question by_arrival) where
   -- the first of all, by the key of its question
-  pub first_stands_at : (x : Waiting) → slice_get (waiting_under s in_turn) 0 ≡ Some x → (key : QuestionKey) → key ≡ question_key x.wanted → (i j : ℕ) → IsRange (to_question key) s by_question i j
-      → (i < length by_question) × (slice_index by_question i ≡ slice_index in_turn 0)
+  pub first_stands_at : (x : Waiting) → slice_get (waiting_under s by_arrival) 0 ≡ Some x → (key : QuestionKey) → key ≡ question_key x.wanted → (i j : ℕ) → IsRange (to_question key) s by_question i j
+      → (i < length by_question) × (slice_index by_question i ≡ slice_index by_arrival 0)
   first_stands_at x first key is i j range =
-      let some : 0 < length in_turn = by in_turn first in
-      first_stands s by_question in_turn indexed x.wanted i j (subst (λ (k : QuestionKey). IsRange (to_question k) s by_question i j) is range) x some
-      (sym (at_under s in_turn 0 indexed.turns.present some) ∙ first) (waits_itself x)
+      let some : 0 < length by_arrival = by by_arrival first in
+      first_stands s by_question by_arrival indexed x.wanted i j (subst (λ (k : QuestionKey). IsRange (to_question k) s by_question i j) is range) x some
+      (sym (at_under s by_arrival 0 indexed.turns.present some) ∙ first) (waits_itself x)
     where
       by : (keys : List ℕ) → slice_get (waiting_under s keys) 0 ≡ Some x → 0 < length keys
       by [] e = absurd (none-some x e)
@@ -210,15 +210,15 @@ module _ (s : Slab Waiting) (by_question in_turn : List ℕ) (indexed : AreIndex
 
   -- those of a question, by its key
   pub those_at : (q : Question) (key : QuestionKey) → key ≡ question_key q → (i j : ℕ) → IsRange (to_question key) s by_question i j
-      → ArePresent s (between i j by_question) × (waiting_under s (between i j by_question) ≡ filter (waits_for q) (waiting_under s in_turn))
+      → ArePresent s (between i j by_question) × (waiting_under s (between i j by_question) ≡ filter (waits_for q) (waiting_under s by_arrival))
   those_at q key is i j range =
       let own = subst (λ (k : QuestionKey). IsRange (to_question k) s by_question i j) is range in
-      (those_present s by_question in_turn indexed q i j own, those_wait s by_question in_turn indexed q i j own)
+      (those_present s by_question by_arrival indexed q i j own, those_wait s by_question by_arrival indexed q i j own)
 
-  pub any_other : (q : Question) (key : QuestionKey) → key ≡ question_key q → (i j : ℕ) → IsRange (to_question key) s by_question i j → (items : List Waiting) → waiting_under s in_turn ≡ items
+  pub any_other : (q : Question) (key : QuestionKey) → key ≡ question_key q → (i j : ℕ) → IsRange (to_question key) s by_question i j → (items : List Waiting) → waiting_under s by_arrival ≡ items
       → (x : Waiting) → slice_get items 0 ≡ Some x → nat_lt (cond (waits_for q x) 1 0) (j - i) ≡ list_any (waits_for q) (drop 1 items)
   any_other q key is i j range items are x first =
-      by items (how_many s by_question in_turn indexed q i j (subst (λ (k : QuestionKey). IsRange (to_question k) s by_question i j) is range) ∙ ap (λ xs. length (filter (waits_for q) xs)) are) first
+      by items (how_many s by_question by_arrival indexed q i j (subst (λ (k : QuestionKey). IsRange (to_question k) s by_question i j) is range) ∙ ap (λ xs. length (filter (waits_for q) xs)) are) first
     where
       by : (xs : List Waiting) → j - i ≡ length (filter (waits_for q) xs) → slice_get xs 0 ≡ Some x → nat_lt (cond (waits_for q x) 1 0) (j - i) ≡ list_any (waits_for q) (drop 1 xs)
       by [] count e = absurd (none-some x e)
@@ -228,14 +228,14 @@ module _ (s : Slab Waiting) (by_question in_turn : List ℕ) (indexed : AreIndex
 
 -- The questions from one place up to an end have gone, though their keys are still in the order of
 -- questions. Those that are left and wait for the same question come before them, from place i on.
-pub record IsEnding (q : Question) (left : List Waiting) (s : Slab Waiting) (by_question in_turn : List ℕ) (i place end : ℕ) : Type 0 where
-  pub indexed : AreIndexed s (remove_range by_question place end) in_turn
-  pub waiting : filter (λ x. not (waits_for q x)) (waiting_under s in_turn) ≡ left
+pub record IsEnding (q : Question) (left : List Waiting) (s : Slab Waiting) (by_question by_arrival : List ℕ) (i place end : ℕ) : Type 0 where
+  pub indexed : AreIndexed s (remove_range by_question place end) by_arrival
+  pub waiting : filter (λ x. not (waits_for q x)) (waiting_under s by_arrival) ≡ left
   pub range : IsRange (to_question (question_key q)) s (remove_range by_question place end) i place
   pub low : place ≤ end
   pub high : end ≤ length by_question
 
-module _ (q : Question) (left : List Waiting) (s : Slab Waiting) (by_question in_turn : List ℕ) (i place end : ℕ) (ending : IsEnding q left s by_question in_turn i place end) where
+module _ (q : Question) (left : List Waiting) (s : Slab Waiting) (by_question by_arrival : List ℕ) (i place end : ℕ) (ending : IsEnding q left s by_question by_arrival i place end) where
   -- the newest of those that are left
   module _ (key : ℕ) (some : i < place) (read : key ≡ slice_index_or by_question (place - 1) key) where
     abbrev keys : List ℕ
@@ -249,10 +249,10 @@ module _ (q : Question) (left : List Waiting) (s : Slab Waiting) (by_question in
     within : place - 1 < length keys
     within = omega (arith, some, ending.range.high)
 
-    pub newest_in_turn : Contains in_turn key
-    newest_in_turn = subst (Contains in_turn) stands (key_in_turn s keys in_turn ending.indexed (place - 1) within)
+    pub newest_in_turn : Contains by_arrival key
+    newest_in_turn = subst (Contains by_arrival) stands (key_in_turn s keys by_arrival ending.indexed (place - 1) within)
 
-    pub newest_ends : (s' : Slab Waiting) → Updates s s' key None → (turn : ℕ) → turn < length in_turn → slice_index in_turn turn ≡ key → (turns : List ℕ) → turns ≡ remove in_turn turn → IsEnding q left s' by_question turns i (place - 1) end
+    pub newest_ends : (s' : Slab Waiting) → Updates s s' key None → (turn : ℕ) → turn < length by_arrival → slice_index by_arrival turn ≡ key → (turns : List ℕ) → turns ≡ remove by_arrival turn → IsEnding q left s' by_question turns i (place - 1) end
     newest_ends s' updates turn t_in t_is turns are =
         let last : place ≡ suc (place - 1) = omega (arith, some) in
         let le : i ≤ place - 1 = omega (arith, some) in
@@ -261,10 +261,10 @@ module _ (q : Question) (left : List Waiting) (s : Slab Waiting) (by_question in
         ap (λ (n : ℕ). remove (remove_range by_question n end) (place - 1)) last ∙ range_grows by_question (place - 1) end (omega (arith, some, ending.low, ending.high)) in
         let gone : Updates s s' (slice_index keys (place - 1)) None = subst (λ (k : ℕ). Updates s s' k None) (sym stands) updates in
         record {
-          indexed = subst₂ (AreIndexed s') shorter (sym are) (take_indexed s keys in_turn ending.indexed s' key updates (place - 1) turn within t_in stands t_is);
+          indexed = subst₂ (AreIndexed s') shorter (sym are) (take_indexed s keys by_arrival ending.indexed s' key updates (place - 1) turn within t_in stands t_is);
           waiting = ap (λ (ks : List ℕ). filter (λ x. not (waits_for q x)) (waiting_under s' ks)) are
-              ∙ ap (filter (λ x. not (waits_for q x))) (take_items s keys in_turn ending.indexed s' key updates (place - 1) turn within t_in stands t_is)
-              ∙ others_stay s keys in_turn ending.indexed q i (place - 1) turn range le t_in (stands ∙ sym t_is) ∙ ending.waiting;
+              ∙ ap (filter (λ x. not (waits_for q x))) (take_items s keys by_arrival ending.indexed s' key updates (place - 1) turn within t_in stands t_is)
+              ∙ others_stay s keys by_arrival ending.indexed q i (place - 1) turn range le t_in (stands ∙ sym t_is) ∙ ending.waiting;
           range = subst (λ (ks : List ℕ). IsRange (to_question (question_key q)) s' ks i (place - 1)) shorter (range_left IsByQuestion s s' keys (to_question (question_key q)) i (place - 1) ending.indexed.questions le range gone);
           low = omega (arith, ending.low);
           high = ending.high;
@@ -275,10 +275,10 @@ module _ (q : Question) (left : List Waiting) (s : Slab Waiting) (by_question in
     at_start : place ≡ i
     at_start = omega (arith, none, ending.range.low)
 
-    pub ended_indexed : AreIndexed s rest in_turn
-    ended_indexed = subst (λ (ks : List ℕ). AreIndexed s ks in_turn) (ap (λ (n : ℕ). remove_range by_question n end) at_start ∙ sym are) ending.indexed
+    pub ended_indexed : AreIndexed s rest by_arrival
+    ended_indexed = subst (λ (ks : List ℕ). AreIndexed s ks by_arrival) (ap (λ (n : ℕ). remove_range by_question n end) at_start ∙ sym are) ending.indexed
 
-    pub ended_items : waiting_under s in_turn ≡ left
+    pub ended_items : waiting_under s by_arrival ≡ left
     ended_items =
         let range : IsRange (to_question (question_key q)) s (remove_range by_question place end) i i = subst (λ (n : ℕ). IsRange (to_question (question_key q)) s (remove_range by_question place end) i n) at_start ending.range in
-        sym (none_wait s (remove_range by_question place end) in_turn ending.indexed q i range) ∙ ending.waiting
+        sym (none_wait s (remove_range by_question place end) by_arrival ending.indexed q i range) ∙ ending.waiting

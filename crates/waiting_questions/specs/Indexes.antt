@@ -64,11 +64,11 @@ AreNumbered s items = All (λ item. (a : Waiting) → get s item.key ≡ Some a
 
 -- the keys in the order of questions are those in the order of taking; those for one question are
 -- in that order too
-pub record AreIndexed (s : Slab Waiting) (by_question in_turn : List ℕ) : Type 0 where
+pub record AreIndexed (s : Slab Waiting) (by_question by_arrival : List ℕ) : Type 0 where
   pub questions : AreKeys IsByQuestion s by_question
-  pub turns : AreKeys IsByTaken s in_turn
+  pub turns : AreKeys IsByTaken s by_arrival
   pub same : (q : Question) → filter (λ key. passes (waits_for q) (get s key)) by_question
-      ≡ filter (λ key. passes (waits_for q) (get s key)) in_turn
+      ≡ filter (λ key. passes (waits_for q) (get s key)) by_arrival
 
 -- those that come before what is sought are before place i
 abbrev pub BeginsAt : (Waiting → Ordering) → Slab Waiting → List ℕ → ℕ → Type 0
@@ -92,11 +92,11 @@ pub record ArePlaces (s : Slab Waiting) (items : List NumberedKey) (start end : 
 
 -- those of a table, in the order of taking
 abbrev pub items_of : {A : Type 0} → Table A → List Waiting
-items_of t = waiting_under t.waiting t.in_turn.keys
+items_of t = waiting_under t.waiting t.by_arrival.keys
 
 -- both lists are in order, and have the keys and the numbers of what waits
 pub record IsIndexed {A : Type 0} (t : Table A) : Type 0 where
-  pub lists : AreIndexed t.waiting (keys_of t.by_question.items) t.in_turn.keys
+  pub lists : AreIndexed t.waiting (keys_of t.by_question.items) t.by_arrival.keys
   pub numbers : AreNumbered t.waiting t.by_question.items
 
 -- one more does not allocate, and its key takes no more than 32 bits
@@ -104,4 +104,4 @@ abbrev pub has_room : {A : Type 0} → Table A → Bool
 has_room t =
     nat_le (slab_len t.waiting + 1) t.waiting.capacity
     && (nat_lt (deque_len t.by_question) (deque_capacity t.by_question)
-    && (t.in_turn.has_room && (nat_lt t.waiting.vacant_key t.in_turn.known && nat_lt t.waiting.vacant_key (2 ^ 32))))
+    && (t.by_arrival.has_room && (nat_lt t.waiting.vacant_key t.by_arrival.known && nat_lt t.waiting.vacant_key (2 ^ 32))))

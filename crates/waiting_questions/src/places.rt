@@ -7,7 +7,7 @@ ghost use Rattle.waiting_questions.specs.Indexes.{IsByQuestion, IsRange};
 ghost use Rattle.waiting_questions.specs.Settling.{earlier};
 
 use crate::keyed::KeyedWaiting;
-use arrival_order::KeysInTurn;
+use arrival_order::ArrivalOrder;
 use outstanding::{NumberedKey, QuestionKey};
 use slab::Slab;
 use std::alloc::Allocator;
@@ -78,23 +78,23 @@ fn end_from<A: Allocator>(
 /// after those of an earlier turn. A binary search.
 pub(crate) fn place_by_turn<A: Allocator>(
     keys: &VecDeque<NumberedKey, A>,
-    in_turn: &KeysInTurn<A>,
+    by_arrival: &ArrivalOrder<A>,
     start: usize,
     end: usize,
     turn: usize,
 ) -> usize
     requires low { start ≤ end }
     requires high { end ≤ length keys.now.items }
-    requires listed { All (Contains in_turn.now.keys) (between start end (keys_of keys.now.items)) }
-    requires apart { AllPairs (λ j k. j ≢ k) in_turn.now.keys }
-    ensures { (p : ℕ → Bool) → filter p in_turn.now.keys ≡ between start end (keys_of keys.now.items)
-        → result ≡ start + earlier p in_turn.now.keys turn }
+    requires listed { All (Contains by_arrival.now.keys) (between start end (keys_of keys.now.items)) }
+    requires apart { AllPairs (λ j k. j ≢ k) by_arrival.now.keys }
+    ensures { (p : ℕ → Bool) → filter p by_arrival.now.keys ≡ between start end (keys_of keys.now.items)
+        → result ≡ start + earlier p by_arrival.now.keys turn }
 {
     let mut low = start;
     let mut high = end;
     while low < high {
         let middle = low + (high - low) / 2;
-        if in_turn.place_of(keys[middle].key()) < turn {
+        if by_arrival.place_of(keys[middle].key()) < turn {
             low = middle + 1;
         } else {
             high = middle;

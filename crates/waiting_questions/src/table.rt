@@ -12,7 +12,7 @@ ghost use Rattle.waiting_questions.specs.Settling.{left_by, settled, with_at};
 use crate::keyed::KeyedWaiting;
 use crate::places::{place_by_turn, range_of};
 use crate::waiting::SentOn;
-use arrival_order::KeysInTurn;
+use arrival_order::ArrivalOrder;
 use outstanding::{KeyedAsk, NumberedKey, QuestionKey};
 use slab::Slab;
 use std::alloc::{AllocError, Allocator};
@@ -26,7 +26,7 @@ use std::collections::VecDeque;
 pub(crate) struct Table<A: Allocator> {
     pub(crate) waiting: Slab<KeyedWaiting<A>, A>,
     pub(crate) by_question: VecDeque<NumberedKey, A>,
-    pub(crate) in_turn: KeysInTurn<A>,
+    pub(crate) by_arrival: ArrivalOrder<A>,
 }
 
 impl<A: Allocator> Table<A> {
@@ -40,7 +40,7 @@ impl<A: Allocator> Table<A> {
         Table {
             waiting: Slab::new(alloc),
             by_question: VecDeque::new(alloc),
-            in_turn: KeysInTurn::new(alloc),
+            by_arrival: ArrivalOrder::new(alloc),
         }
     }
 
@@ -49,7 +49,7 @@ impl<A: Allocator> Table<A> {
         requires { IsIndexed self.now }
         ensures { result ≡ length (items_of self.now) }
     {
-        self.in_turn.len()
+        self.by_arrival.len()
     }
 
     /// The question that was taken first, with its key.
@@ -58,7 +58,7 @@ impl<A: Allocator> Table<A> {
         ensures { MatchOption result (items_of self.now ≡ []) (λ keyed. slice_get (items_of self.now) 0
             ≡ Some keyed.now) }
     {
-        let key = self.in_turn.first()?;
+        let key = self.by_arrival.first()?;
         Some(&self.waiting[key])
     }
 
@@ -86,7 +86,7 @@ impl<A: Allocator> Table<A> {
             return Err(AllocError);
         };
         self.by_question.reserve(1)?;
-        self.in_turn.reserve(key)
+        self.by_arrival.reserve(key)
     }
 
     /// Puts a question last, which was taken no earlier than the others, where there is room.
@@ -105,22 +105,22 @@ impl<A: Allocator> Table<A> {
         let Ok(()) = self.by_question.insert(end, item) else {
             unreachable!();
         };
-        self.in_turn.put(key);
+        self.by_arrival.put(key);
     }
 
     /// Removes the question whose key is at this place in the order of questions, and at this turn.
     pub(crate) fn take(&mut self, place: usize, turn: usize)
         requires indexed { IsIndexed self.old }
         requires place { place < length self.old.by_question.items }
-        requires turn { turn < length self.old.in_turn.keys }
-        requires one { slice_index (keys_of self.old.by_question.items) place ≡ slice_index self.old.in_turn.keys turn }
+        requires turn { turn < length self.old.by_arrival.keys }
+        requires one { slice_index (keys_of self.old.by_question.items) place ≡ slice_index self.old.by_arrival.keys turn }
         ensures indexed { IsIndexed self.new }
         ensures list { items_of self.new ≡ remove (items_of self.old) turn }
     {
         let Some(item) = self.by_question.remove(place) else {
             unreachable!();
         };
-        self.in_turn.take(turn);
+        self.by_arrival.take(turn);
         self.waiting.remove(item.key());
     }
 
@@ -129,8 +129,8 @@ impl<A: Allocator> Table<A> {
     fn send_on(&mut self, place: usize, turn: usize, onward: SentOn<A>)
         requires indexed { IsIndexed self.old }
         requires place { place < length self.old.by_question.items }
-        requires turn { turn < length self.old.in_turn.keys }
-        requires one { slice_index (keys_of self.old.by_question.items) place ≡ slice_index self.old.in_turn.keys turn }
+        requires turn { turn < length self.old.by_arrival.keys }
+        requires one { slice_index (keys_of self.old.by_question.items) place ≡ slice_index self.old.by_arrival.keys turn }
         ensures indexed { IsIndexed self.new }
         ensures list { (x : Asking) → slice_get (items_of self.old) turn ≡ Some x
             → items_of self.new ≡ with_at (items_of self.old) turn (Some (sent_on onward x)) }
@@ -143,7 +143,7 @@ impl<A: Allocator> Table<A> {
         let question = keyed.key();
         let number = question.number();
         let (start, end) = range_of(&self.waiting, &self.by_question, question);
-        let at = place_by_turn(&self.by_question, &self.in_turn, start, end, turn);
+        let at = place_by_turn(&self.by_question, &self.by_arrival, start, end, turn);
         self.waiting.insert_reserved(keyed);
         let item = NumberedKey::new(number, old.key());
         let Ok(()) = self.by_question.insert(at, item) else {
@@ -156,8 +156,8 @@ impl<A: Allocator> Table<A> {
     fn settle_one(&mut self, place: usize, turn: usize, fate: Option<SentOn<A>>)
         requires indexed { IsIndexed self.old }
         requires place { place < length self.old.by_question.items }
-        requires turn { turn < length self.old.in_turn.keys }
-        requires one { slice_index (keys_of self.old.by_question.items) place ≡ slice_index self.old.in_turn.keys turn }
+        requires turn { turn < length self.old.by_arrival.keys }
+        requires one { slice_index (keys_of self.old.by_question.items) place ≡ slice_index self.old.by_arrival.keys turn }
         ensures indexed { IsIndexed self.new }
         ensures list { (x : Asking) → slice_get (items_of self.old) turn ≡ Some x
             → items_of self.new ≡ with_at (items_of self.old) turn (left_by fate x) }
@@ -180,7 +180,7 @@ impl<A: Allocator> Table<A> {
         while let Some(fate) = fates.pop() {
             let (start, _) = self.range(question);
             let place = start + fates.len();
-            let turn = self.in_turn.place_of(self.by_question[place].key());
+            let turn = self.by_arrival.place_of(self.by_question[place].key());
             self.settle_one(place, turn, fate);
         }
     }
@@ -195,8 +195,8 @@ impl<A: Allocator> Table<A> {
         let (start, end) = self.range(ask.key());
         for place in (start..end).rev() {
             let key = self.by_question[place].key();
-            let turn = self.in_turn.place_of(key);
-            self.in_turn.take(turn);
+            let turn = self.by_arrival.place_of(key);
+            self.by_arrival.take(turn);
             let_go(&mut self.waiting, key);
         }
         take_range(&mut self.by_question, start, end);
@@ -209,7 +209,7 @@ impl<A: Allocator> Table<A> {
     {
         self.waiting.clear();
         self.by_question.clear();
-        self.in_turn.clear();
+        self.by_arrival.clear();
     }
 }
 

@@ -13,7 +13,7 @@ loop-low-init g c =
       c.requires.low,
       omega arith,
       (λ p are.
-          (omega arith, omega (arith, c.requires.low, no_more p c.args.in_turn.now.keys c.args.turn, total p c.args.in_turn.now.keys keys c.args.start c.args.end c.requires.low high c.requires.apart are))),
+          (omega arith, omega (arith, c.requires.low, no_more p c.args.by_arrival.now.keys c.args.turn, total p c.args.by_arrival.now.keys keys c.args.start c.args.end c.requires.low high c.requires.apart are))),
     )
 
 pub place_of-requires : goal.place_of-requires
@@ -24,7 +24,7 @@ place_of-requires g c =
     let inv = c.loop-low.invariant in
     let within : middle < length items = omega (arith, c.loop-low-test.true, inv.2, c.requires.high) in
     let read : c.key.result ≡ slice_index (keys_of items) middle = c.key.ensures.key ∙ ap (λ (n : NumberedKey). n.key) c.index.ensures ∙ sym (key_at items middle item 0 within) in
-    listed_at c.args.in_turn.now.keys (keys_of items) c.args.start c.args.end middle c.key.result (omega (arith, c.requires.high, length_keys items)) c.requires.listed
+    listed_at c.args.by_arrival.now.keys (keys_of items) c.args.start c.args.end middle c.key.result (omega (arith, c.requires.high, length_keys items)) c.requires.listed
     (omega (arith, inv.0)) (omega (arith, c.loop-low-test.true, inv.2)) read
 
 pub loop-low-preserved-then-place_of-turn : goal.loop-low-preserved-then-place_of-turn
@@ -40,7 +40,7 @@ loop-low-preserved-then-place_of-turn g c =
       omega (arith, c.loop-low-test.true),
       inv.2,
       (λ p are. (
-        before_turn p c.args.in_turn.now.keys (keys_of items) c.args.start c.args.end c.requires.low (omega (arith, c.requires.high, length_keys items)) c.requires.apart are
+        before_turn p c.args.by_arrival.now.keys (keys_of items) c.args.start c.args.end c.requires.low (omega (arith, c.requires.high, length_keys items)) c.requires.apart are
             middle c.place_of.result c.args.turn (omega (arith, inv.0)) less c.place_of.ensures.within (c.place_of.ensures.stands ∙ read) c.if-place_of-turn.true,
         (inv.3 p are).1,
       )),
@@ -60,7 +60,7 @@ loop-low-preserved g c =
       omega (arith, less),
       (λ p are. (
         (inv.3 p are).0,
-        behind_turn p c.args.in_turn.now.keys (keys_of items) c.args.start c.args.end c.requires.low (omega (arith, c.requires.high, length_keys items)) c.requires.apart are
+        behind_turn p c.args.by_arrival.now.keys (keys_of items) c.args.start c.args.end c.requires.low (omega (arith, c.requires.high, length_keys items)) c.requires.apart are
             middle c.place_of.result c.args.turn (omega (arith, inv.0)) less c.place_of.ensures.within (c.place_of.ensures.stands ∙ read) c.if-place_of-turn.false,
       )),
     )

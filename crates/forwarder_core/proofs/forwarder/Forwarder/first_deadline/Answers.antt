@@ -24,5 +24,5 @@ pub returns : goal.returns
 returns g c =
     (λ i. Some (c.oldest.inside.taken + (c.self-inside.view_is i).config.limits.deadline_ms))
     ∙ ap (λ (x : Waiting). Some (deadline_of c.self.inside.config x)) c.oldest.view_is
-    ∙ sym (oldest_deadline c.self.inside.config c.in_ok-oldest.oldest.now (drop 1 c.self.inside.waiting.items) c.self.inside.waiting.items (rest_is c.self.inside.waiting.items c.in_ok-oldest.oldest.now ((λ i. slice_get (sym c.self-inside.view_is i).waiting.items 0) ∙ c.in_ok-oldest.ensures)) c.self.invariant.in_turn)
+    ∙ sym (oldest_deadline c.self.inside.config c.in_ok-oldest.oldest.now (drop 1 c.self.inside.waiting.items) c.self.inside.waiting.items (rest_is c.self.inside.waiting.items c.in_ok-oldest.oldest.now ((λ i. slice_get (sym c.self-inside.view_is i).waiting.items 0) ∙ c.in_ok-oldest.ensures)) c.self.invariant.by_arrival)
     ∙ ap (λ (r : Running). least (map (deadline_of r.config) r.state.waiting)) c.self.view_is

@@ -11,5 +11,5 @@ pub returns-in-Some : goal.returns-in-Some
 returns-in-Some g c =
     c.is_late.ensures
     ∙ ap (λ (a : Ask). nat_le (timeout_of c.self.inside.config a) c.args.moment) c.ask.ensures
-    ∙ oldest_late c.self.inside.config.limits.ask_ms c.args.moment c.in-Some.oldest.now c.self.inside.inquiries.asks c.in-Some.ensures.first c.in-Some.ensures.listed.in_turn
+    ∙ oldest_late c.self.inside.config.limits.ask_ms c.args.moment c.in-Some.oldest.now c.self.inside.inquiries.asks c.in-Some.ensures.first c.in-Some.ensures.listed.by_arrival
     ∙ ap (λ (r : Running). list_any (λ (a : Ask). nat_le (timeout_of r.config a) c.args.moment) r.state.asks) c.self.view_is

@@ -11,7 +11,7 @@ use Rattle.forwarder_core.proofs.forwarder.Forwarder.is_question_due.Goals as go
 pub returns-in-Some : goal.returns-in-Some
 returns-in-Some g c =
     c.is_overdue.ensures
-    ∙ oldest_due c.self.inside.config.limits.deadline_ms c.args.moment c.in-Some.oldest.now (drop 1 c.self.inside.waiting.items) c.self.inside.waiting.items (rest_is c.self.inside.waiting.items c.in-Some.oldest.now c.in-Some.ensures) c.self.invariant.in_turn
+    ∙ oldest_due c.self.inside.config.limits.deadline_ms c.args.moment c.in-Some.oldest.now (drop 1 c.self.inside.waiting.items) c.self.inside.waiting.items (rest_is c.self.inside.waiting.items c.in-Some.oldest.now c.in-Some.ensures) c.self.invariant.by_arrival
     ∙ ap (λ (r : Running). list_any (λ (x : Waiting). nat_le (deadline_of r.config x) c.args.moment) r.state.waiting) c.self.view_is
 
 pub returns-in-None : goal.returns-in-None

@@ -13,7 +13,7 @@ invariant_of-self-2 g c =
     let room : length old < c.self.inside.capacity = search rules in (
       c.put.ensures.indexed,
       subst (λ (xs : List Ask). AreListed (record { capacity = c.self.inside.capacity; asks = xs })) (sym list)
-          (put c.self.inside.capacity old c.args.ask c.self.invariant.1.in_turn c.self.invariant.1.in_time may room),
+          (put c.self.inside.capacity old c.args.ask c.self.invariant.1.by_arrival c.self.invariant.1.in_time may room),
     )
 
 pub returns-clause-listed : goal.returns-clause-listed

@@ -13,12 +13,12 @@ index-requires-in-Ok g c =
 pub returns-in-Ok : goal.returns-in-Ok
 returns-in-Ok g c question same =
     let is = read_at c.args.self.now.by_question.items c.in-Ok.place c.key.result c.index.result.now c.in-Ok.ensures.found.in_range c.index.ensures c.key.ensures.key in
-    question_found c.args.self.now.asks (keys_of c.args.self.now.by_path.items) (keys_of c.args.self.now.by_question.items) c.args.self.now.in_turn.keys c.requires.keys question c.in-Ok.place
+    question_found c.args.self.now.asks (keys_of c.args.self.now.by_path.items) (keys_of c.args.self.now.by_question.items) c.args.self.now.by_arrival.keys c.requires.keys question c.in-Ok.place
     (subst (λ (k : QuestionKey). IsAt (to_question k) c.args.self.now.asks (keys_of c.args.self.now.by_question.items) c.in-Ok.place) same c.in-Ok.ensures.found)
     c.index-in-Ok.result.now (ap (get c.args.self.now.asks) is ∙ c.index-in-Ok.ensures)
     ∙ ap Some (sym c.ask.ensures)
 
 pub returns-in-Err : goal.returns-in-Err
 returns-in-Err g c question same =
-    question_absent c.args.self.now.asks (keys_of c.args.self.now.by_path.items) (keys_of c.args.self.now.by_question.items) c.args.self.now.in_turn.keys c.requires.keys question c.in-Err.field-0
+    question_absent c.args.self.now.asks (keys_of c.args.self.now.by_path.items) (keys_of c.args.self.now.by_question.items) c.args.self.now.by_arrival.keys c.requires.keys question c.in-Err.field-0
     (subst (λ (k : QuestionKey). IsGap (to_question k) c.args.self.now.asks (keys_of c.args.self.now.by_question.items) c.in-Err.field-0) same c.in-Err.ensures.absent)

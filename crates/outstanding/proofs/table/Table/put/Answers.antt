@@ -14,7 +14,7 @@ use Rattle.outstanding.proofs.table.Table.put.Goals as goal
 pub unreachable-requires : goal.unreachable-requires
 unreachable-requires g c =
     let is : c.behind-ask.inside.path ≡ c.args.ask.path = ap (λ (a : Ask). a.path) (c.behind-ask.view_is ∙ c.ask.ensures) in
-    path_listed c.args.self.now.asks (keys_of c.args.self.now.by_path.items) (keys_of c.args.self.now.by_question.items) c.args.self.now.in_turn.keys c.requires.indexed.keys c.args.ask.path c.in_default.field-0
+    path_listed c.args.self.now.asks (keys_of c.args.self.now.by_path.items) (keys_of c.args.self.now.by_question.items) c.args.self.now.by_arrival.keys c.requires.indexed.keys c.args.ask.path c.in_default.field-0
     (subst (λ (p : Path). IsAt (to_path p) c.args.self.now.asks (keys_of c.args.self.now.by_path.items) c.in_default.field-0) is c.in_default.ensures.found)
     c.requires.path
 
@@ -22,7 +22,7 @@ unreachable-requires g c =
 pub unreachable-requires-in_default-place_of : goal.unreachable-requires-in_default-place_of
 unreachable-requires-in_default-place_of g c =
     let is : c.key.result.now ≡ question_key c.args.ask.question = c.key.ensures in
-    question_listed c.args.self.now.asks (keys_of c.args.self.now.by_path.items) (keys_of c.args.self.now.by_question.items) c.args.self.now.in_turn.keys c.requires.indexed.keys c.args.ask.question c.in_default-place_of.field-0
+    question_listed c.args.self.now.asks (keys_of c.args.self.now.by_path.items) (keys_of c.args.self.now.by_question.items) c.args.self.now.by_arrival.keys c.requires.indexed.keys c.args.ask.question c.in_default-place_of.field-0
     (subst (λ (k : QuestionKey). IsAt (to_question k) c.args.self.now.asks (keys_of c.args.self.now.by_question.items) c.in_default-place_of.field-0) is c.in_default-place_of.ensures.found)
     c.requires.question
 
@@ -41,7 +41,7 @@ returns-clause-indexed g c =
           (keys_put old.by_path.items c.put_key.new.keys.items c.in-Err.path c.number-path_number.result key c.new.result c.put_key.ensures c.new.ensures)
           (keys_put old.by_question.items c.put_key-2.new.keys.items c.in-Err-place_of.question c.number-question_number.result key c.new-2.result c.put_key-2.ensures c.new-2.ensures)
           c.put.ensures.keys
-          (put_indexed old.asks c.insert_reserved-key.new.self (keys_of old.by_path.items) (keys_of old.by_question.items) old.in_turn.keys c.requires.indexed.keys key a
+          (put_indexed old.asks c.insert_reserved-key.new.self (keys_of old.by_path.items) (keys_of old.by_question.items) old.by_arrival.keys c.requires.indexed.keys key a
           c.insert_reserved-key.ensures.was_vacant c.insert_reserved-key.ensures.updates c.in-Err.path c.in-Err-place_of.question path_gap question_gap);
       path_numbers =
           numbered_put old.by_path.items c.put_key.new.keys.items c.in-Err.path c.number-path_number.result key c.new.result c.put_key.ensures c.new.ensures
@@ -57,12 +57,12 @@ pub returns-clause-list : goal.returns-clause-list
 returns-clause-list g c =
     let key : ℕ = c.insert_reserved-key.result in
     ap (λ (ks : List ℕ). asks_under c.insert_reserved-key.new.self ks) c.put.ensures.keys
-    ∙ put_asks c.args.self.now.asks c.insert_reserved-key.new.self (keys_of c.args.self.now.by_path.items) (keys_of c.args.self.now.by_question.items) c.args.self.now.in_turn.keys c.requires.indexed.keys key c.args.ask
+    ∙ put_asks c.args.self.now.asks c.insert_reserved-key.new.self (keys_of c.args.self.now.by_path.items) (keys_of c.args.self.now.by_question.items) c.args.self.now.by_arrival.keys c.requires.indexed.keys key c.args.ask
     c.insert_reserved-key.ensures.was_vacant c.insert_reserved-key.ensures.updates
 
 -- the key is new
 pub put-requires-clause-other : goal.put-requires-clause-other
 put-requires-clause-other g c =
-    All-from_get_or (λ k. k ≢ c.insert_reserved-key.result) c.args.self.now.in_turn.keys 0
-    (not_among c.args.self.now.in_turn.keys (length c.args.self.now.in_turn.keys) c.insert_reserved-key.result (omega arith) c.args.self.now.asks c.insert_reserved-key.new.self (Some c.args.ask) c.requires.indexed.keys.turns
+    All-from_get_or (λ k. k ≢ c.insert_reserved-key.result) c.args.self.now.by_arrival.keys 0
+    (not_among c.args.self.now.by_arrival.keys (length c.args.self.now.by_arrival.keys) c.insert_reserved-key.result (omega arith) c.args.self.now.asks c.insert_reserved-key.new.self (Some c.args.ask) c.requires.indexed.keys.turns
     c.insert_reserved-key.ensures.was_vacant c.insert_reserved-key.ensures.updates)

@@ -15,7 +15,7 @@ returns-clause-indexed g c =
     let s = c.args.self.now.waiting in
     let s' = c.insert_reserved-key.new.self in
     let items : List NumberedKey = c.args.self.now.by_question.items in
-    let in_turn : List ℕ = c.args.self.now.in_turn.keys in
+    let by_arrival : List ℕ = c.args.self.now.by_arrival.keys in
     let lists = c.requires.indexed.lists in
     let x : Waiting = c.args.waiting in
     let key : ℕ = c.insert_reserved-key.result in
@@ -25,7 +25,7 @@ returns-clause-indexed g c =
     subst (λ (k : QuestionKey). IsRange (to_question k) s (keys_of items) c.range-end.result.0 c.range-end.result.1) c.key-question.ensures c.range-end.ensures in
     record {
       lists = subst₂ (AreIndexed s') (sym (ap keys_of put ∙ keys_insert items c.range-end.result.1 item)) (sym c.put.ensures.keys)
-          (put_indexed s (keys_of items) in_turn lists s' key x c.insert_reserved-key.ensures.was_vacant c.insert_reserved-key.ensures.updates c.range-end.result.0 c.range-end.result.1 range c.requires.later);
+          (put_indexed s (keys_of items) by_arrival lists s' key x c.insert_reserved-key.ensures.was_vacant c.insert_reserved-key.ensures.updates c.range-end.result.0 c.range-end.result.1 range c.requires.later);
       numbers = subst (AreNumbered s') (sym put)
           (numbers_put s s' items lists.questions.present c.requires.indexed.numbers x item c.insert_reserved-key.ensures.was_vacant c.insert_reserved-key.ensures.updates
           (c.number-number.ensures ∙ ap (λ (k : QuestionKey). k.number) c.key-question.ensures) c.range-end.result.1);
@@ -34,10 +34,10 @@ returns-clause-indexed g c =
 pub returns-clause-list : goal.returns-clause-list
 returns-clause-list g c =
     ap (λ (ks : List ℕ). waiting_under c.insert_reserved-key.new.self ks) c.put.ensures.keys
-    ∙ put_items c.args.self.now.waiting (keys_of c.args.self.now.by_question.items) c.args.self.now.in_turn.keys c.requires.indexed.lists c.insert_reserved-key.new.self c.insert_reserved-key.result c.args.waiting
+    ∙ put_items c.args.self.now.waiting (keys_of c.args.self.now.by_question.items) c.args.self.now.by_arrival.keys c.requires.indexed.lists c.insert_reserved-key.new.self c.insert_reserved-key.result c.args.waiting
     c.insert_reserved-key.ensures.was_vacant c.insert_reserved-key.ensures.updates
 
 -- the key is new
 pub put-requires-clause-other : goal.put-requires-clause-other
 put-requires-clause-other g c =
-    not_among IsByTaken c.args.self.now.waiting c.insert_reserved-key.new.self c.args.self.now.in_turn.keys c.requires.indexed.lists.turns c.insert_reserved-key.result c.args.waiting c.insert_reserved-key.ensures.was_vacant c.insert_reserved-key.ensures.updates
+    not_among IsByTaken c.args.self.now.waiting c.insert_reserved-key.new.self c.args.self.now.by_arrival.keys c.requires.indexed.lists.turns c.insert_reserved-key.result c.args.waiting c.insert_reserved-key.ensures.was_vacant c.insert_reserved-key.ensures.updates

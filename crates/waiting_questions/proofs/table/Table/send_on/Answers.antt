@@ -34,7 +34,7 @@ range_of-start-requires-clause-keys g c =
     let item : NumberedKey = c.in-Some.old in
     let read : slice_index (keys_of items) c.args.place ≡ c.key.result = key_at items c.args.place item 0 c.requires.place ∙ ap (λ (n : NumberedKey). n.key) (sym c.in-Some.ensures.value) ∙ sym c.key.ensures.key in
     subst (AreKeys IsByQuestion c.remove-keyed.new.self) (sym (ap keys_of c.in-Some.ensures.items ∙ keys_remove items c.args.place))
-    (out_questions c.args.self.now.waiting c.remove-keyed.new.self (keys_of items) c.args.self.now.in_turn.keys c.requires.indexed.lists c.key.result c.remove-keyed.result c.remove-keyed.result c.args.place c.args.turn
+    (out_questions c.args.self.now.waiting c.remove-keyed.new.self (keys_of items) c.args.self.now.by_arrival.keys c.requires.indexed.lists c.key.result c.remove-keyed.result c.remove-keyed.result c.args.place c.args.turn
     (omega (arith, c.requires.place, length_keys items)) c.requires.turn read (sym c.requires.one ∙ read) c.remove-keyed.ensures.value c.remove-keyed.ensures.updates)
 
 pub range_of-start-requires-clause-numbers : goal.range_of-start-requires-clause-numbers
@@ -54,8 +54,8 @@ place_by_turn-at-requires-clause-listed g c =
     let out : keys_of c.remove.new.self.items ≡ remove (keys_of items) c.args.place = ap keys_of c.in-Some.ensures.items ∙ keys_remove items c.args.place in
     let range : IsRange (to_question (question_key y.wanted)) c.remove-keyed.new.self (remove (keys_of items) c.args.place) i j =
     subst₂ (λ (k : QuestionKey) (ks : List ℕ). IsRange (to_question k) c.remove-keyed.new.self ks i j) c.key-question.ensures out c.range_of-start.ensures in
-    subst (λ (ks : List ℕ). All (Contains c.args.self.now.in_turn.keys) (between i j ks)) (sym out)
-    (all_listed c.args.self.now.waiting c.remove-keyed.new.self (keys_of items) c.args.self.now.in_turn.keys c.requires.indexed.lists c.key.result c.remove-keyed.result y c.args.place c.args.turn
+    subst (λ (ks : List ℕ). All (Contains c.args.self.now.by_arrival.keys) (between i j ks)) (sym out)
+    (all_listed c.args.self.now.waiting c.remove-keyed.new.self (keys_of items) c.args.self.now.by_arrival.keys c.requires.indexed.lists c.key.result c.remove-keyed.result y c.args.place c.args.turn
     (omega (arith, c.requires.place, length_keys items)) c.requires.turn read (sym c.requires.one ∙ read) c.remove-keyed.ensures.value c.remove-keyed.ensures.updates i j range)
 
 pub insert-requires : goal.insert-requires
@@ -64,7 +64,7 @@ insert-requires g c =
     let s1 = c.remove-keyed.new.self in
     let s' = c.insert_reserved.new.self in
     let items : List NumberedKey = c.args.self.now.by_question.items in
-    let t : List ℕ = c.args.self.now.in_turn.keys in
+    let t : List ℕ = c.args.self.now.by_arrival.keys in
     let key : ℕ = c.key.result in
     let x : Waiting = c.remove-keyed.result in
     let y : Waiting = c.send_on.new.self in
@@ -90,7 +90,7 @@ returns-clause-indexed g c =
     let s1 = c.remove-keyed.new.self in
     let s' = c.insert_reserved.new.self in
     let items : List NumberedKey = c.args.self.now.by_question.items in
-    let t : List ℕ = c.args.self.now.in_turn.keys in
+    let t : List ℕ = c.args.self.now.by_arrival.keys in
     let key : ℕ = c.key.result in
     let x : Waiting = c.remove-keyed.result in
     let y : Waiting = c.send_on.new.self in
@@ -128,7 +128,7 @@ returns-clause-list g c = λ z is.
     let s1 = c.remove-keyed.new.self in
     let s' = c.insert_reserved.new.self in
     let items : List NumberedKey = c.args.self.now.by_question.items in
-    let t : List ℕ = c.args.self.now.in_turn.keys in
+    let t : List ℕ = c.args.self.now.by_arrival.keys in
     let key : ℕ = c.key.result in
     let x : Waiting = c.remove-keyed.result in
     let y : Waiting = c.send_on.new.self in

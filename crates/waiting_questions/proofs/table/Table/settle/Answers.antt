@@ -21,7 +21,7 @@ index-requires g c =
     let left : List (Option Onward) = c.pop.new.self.items in
     let are : c.loop-fate.fates.items ≡ left ++ c.in-Some.fate ∷ [] = c.in-Some.ensures.items in
     let long : c.len.result ≡ length left = omega (arith, c.len.ensures, c.pop.new.self.ok.0) in
-    omega (arith, within q table.waiting (keys_of items) table.in_turn.keys inv.0.lists i j range c.loop-fate.fates.items left c.in-Some.fate c.len.result are long inv.2, length_keys items, table.by_question.ok.0)
+    omega (arith, within q table.waiting (keys_of items) table.by_arrival.keys inv.0.lists i j range c.loop-fate.fates.items left c.in-Some.fate c.len.result are long inv.2, length_keys items, table.by_question.ok.0)
 
 pub place_of-turn-requires : goal.place_of-turn-requires
 place_of-turn-requires g c =
@@ -37,9 +37,9 @@ place_of-turn-requires g c =
     let are : c.loop-fate.fates.items ≡ left ++ c.in-Some.fate ∷ [] = c.in-Some.ensures.items in
     let long : c.len.result ≡ length left = omega (arith, c.len.ensures, c.pop.new.self.ok.0) in
     let item : NumberedKey = c.index.result.now in
-    let inside : i + c.len.result < length items = omega (arith, within q table.waiting (keys_of items) table.in_turn.keys inv.0.lists i j range c.loop-fate.fates.items left c.in-Some.fate c.len.result are long inv.2, length_keys items) in
+    let inside : i + c.len.result < length items = omega (arith, within q table.waiting (keys_of items) table.by_arrival.keys inv.0.lists i j range c.loop-fate.fates.items left c.in-Some.fate c.len.result are long inv.2, length_keys items) in
     let read : slice_index (keys_of items) (i + c.len.result) ≡ c.key.result = key_at items (i + c.len.result) item 0 inside ∙ ap (λ (n : NumberedKey). n.key) (sym c.index.ensures) ∙ sym c.key.ensures.key in
-    its_key q table.waiting (keys_of items) table.in_turn.keys inv.0.lists i j range c.loop-fate.fates.items left c.in-Some.fate c.len.result are long inv.2 c.key.result read
+    its_key q table.waiting (keys_of items) table.by_arrival.keys inv.0.lists i j range c.loop-fate.fates.items left c.in-Some.fate c.len.result are long inv.2 c.key.result read
 
 pub settle_one-requires-clause-place : goal.settle_one-requires-clause-place
 settle_one-requires-clause-place g c =
@@ -54,7 +54,7 @@ settle_one-requires-clause-place g c =
     let left : List (Option Onward) = c.pop.new.self.items in
     let are : c.loop-fate.fates.items ≡ left ++ c.in-Some.fate ∷ [] = c.in-Some.ensures.items in
     let long : c.len.result ≡ length left = omega (arith, c.len.ensures, c.pop.new.self.ok.0) in
-    omega (arith, within q table.waiting (keys_of items) table.in_turn.keys inv.0.lists i j range c.loop-fate.fates.items left c.in-Some.fate c.len.result are long inv.2, length_keys items)
+    omega (arith, within q table.waiting (keys_of items) table.by_arrival.keys inv.0.lists i j range c.loop-fate.fates.items left c.in-Some.fate c.len.result are long inv.2, length_keys items)
 
 pub settle_one-requires-clause-one : goal.settle_one-requires-clause-one
 settle_one-requires-clause-one g c =
@@ -70,7 +70,7 @@ settle_one-requires-clause-one g c =
     let are : c.loop-fate.fates.items ≡ left ++ c.in-Some.fate ∷ [] = c.in-Some.ensures.items in
     let long : c.len.result ≡ length left = omega (arith, c.len.ensures, c.pop.new.self.ok.0) in
     let item : NumberedKey = c.index.result.now in
-    let inside : i + c.len.result < length items = omega (arith, within q table.waiting (keys_of items) table.in_turn.keys inv.0.lists i j range c.loop-fate.fates.items left c.in-Some.fate c.len.result are long inv.2, length_keys items) in
+    let inside : i + c.len.result < length items = omega (arith, within q table.waiting (keys_of items) table.by_arrival.keys inv.0.lists i j range c.loop-fate.fates.items left c.in-Some.fate c.len.result are long inv.2, length_keys items) in
     let read : slice_index (keys_of items) (i + c.len.result) ≡ c.key.result = key_at items (i + c.len.result) item 0 inside ∙ ap (λ (n : NumberedKey). n.key) (sym c.index.ensures) ∙ sym c.key.ensures.key in
     read ∙ sym c.place_of-turn.ensures.stands
 
@@ -88,11 +88,11 @@ loop-fate-preserved g c =
     let are : c.loop-fate.fates.items ≡ left ++ c.in-Some.fate ∷ [] = c.in-Some.ensures.items in
     let long : c.len.result ≡ length left = omega (arith, c.len.ensures, c.pop.new.self.ok.0) in
     let item : NumberedKey = c.index.result.now in
-    let inside : i + c.len.result < length items = omega (arith, within q table.waiting (keys_of items) table.in_turn.keys inv.0.lists i j range c.loop-fate.fates.items left c.in-Some.fate c.len.result are long inv.2, length_keys items) in
+    let inside : i + c.len.result < length items = omega (arith, within q table.waiting (keys_of items) table.by_arrival.keys inv.0.lists i j range c.loop-fate.fates.items left c.in-Some.fate c.len.result are long inv.2, length_keys items) in
     let read : slice_index (keys_of items) (i + c.len.result) ≡ c.key.result = key_at items (i + c.len.result) item 0 inside ∙ ap (λ (n : NumberedKey). n.key) (sym c.index.ensures) ∙ sym c.key.ensures.key in (
       c.settle_one.ensures.indexed,
-      next_settled q table.waiting (keys_of items) table.in_turn.keys inv.0.lists i j range c.loop-fate.fates.items left c.in-Some.fate c.len.result are long inv.2 c.place_of-turn.result c.place_of-turn.ensures.within (read ∙ sym c.place_of-turn.ensures.stands) (items_of c.settle_one.new.self) c.settle_one.ensures.list ∙ inv.1,
-      next_enough q table.waiting (keys_of items) table.in_turn.keys inv.0.lists i j range c.loop-fate.fates.items left c.in-Some.fate c.len.result are long inv.2 c.place_of-turn.result c.place_of-turn.ensures.within (read ∙ sym c.place_of-turn.ensures.stands) (items_of c.settle_one.new.self) c.settle_one.ensures.list,
+      next_settled q table.waiting (keys_of items) table.by_arrival.keys inv.0.lists i j range c.loop-fate.fates.items left c.in-Some.fate c.len.result are long inv.2 c.place_of-turn.result c.place_of-turn.ensures.within (read ∙ sym c.place_of-turn.ensures.stands) (items_of c.settle_one.new.self) c.settle_one.ensures.list ∙ inv.1,
+      next_enough q table.waiting (keys_of items) table.by_arrival.keys inv.0.lists i j range c.loop-fate.fates.items left c.in-Some.fate c.len.result are long inv.2 c.place_of-turn.result c.place_of-turn.ensures.within (read ∙ sym c.place_of-turn.ensures.stands) (items_of c.settle_one.new.self) c.settle_one.ensures.list,
     )
 
 pub returns-clause-list : goal.returns-clause-list

@@ -12,12 +12,12 @@ new-requires g c =
     record {
       low = c.range-start.ensures.low;
       high = omega (arith, c.range-start.ensures.high, length_keys table.by_question.items);
-      present = (those_at table.waiting (keys_of table.by_question.items) table.in_turn.keys c.self.invariant.lists c.args.ask.now.question c.key.result.now c.key.ensures c.range-start.result.0 c.range-start.result.1 c.range-start.ensures).0;
+      present = (those_at table.waiting (keys_of table.by_question.items) table.by_arrival.keys c.self.invariant.lists c.args.ask.now.question c.key.result.now c.key.ensures c.range-start.result.0 c.range-start.result.1 c.range-start.ensures).0;
     }
 
 pub returns : goal.returns
 returns g c =
     let table = c.self.inside.table in
     c.new.ensures
-    ∙ (those_at table.waiting (keys_of table.by_question.items) table.in_turn.keys c.self.invariant.lists c.args.ask.now.question c.key.result.now c.key.ensures c.range-start.result.0 c.range-start.result.1 c.range-start.ensures).1
+    ∙ (those_at table.waiting (keys_of table.by_question.items) table.by_arrival.keys c.self.invariant.lists c.args.ask.now.question c.key.result.now c.key.ensures c.range-start.result.0 c.range-start.result.1 c.range-start.ensures).1
     ∙ ap (λ (w : WaitingList). filter (waits_for c.args.ask.now.question) w.items) c.self.view_is

@@ -14,7 +14,7 @@ returns-in-Some g c =
     let one : c.from.result ≡ cond (waits_for c.args.question.now x) 1 0 = c.from.ensures ∙ byte_is c.is_eq.result ∙ ap (λ (b : Bool). cond {A = ℕ} b 1 0) waits in
     let items = ap (λ (w : WaitingList). w.items) c.self.view_is in
     ap (λ (n : ℕ). nat_lt n (c.range-start.result.1 - c.range-start.result.0)) one
-    ∙ any_other c.self.inside.table.waiting (keys_of c.self.inside.table.by_question.items) c.self.inside.table.in_turn.keys c.self.invariant.lists c.args.question.now c.of-key.result c.of-key.ensures
+    ∙ any_other c.self.inside.table.waiting (keys_of c.self.inside.table.by_question.items) c.self.inside.table.by_arrival.keys c.self.invariant.lists c.args.question.now c.of-key.result c.of-key.ensures
     c.range-start.result.0 c.range-start.result.1 c.range-start.ensures c.args.self.now.items items x (ap (λ (xs : List Waiting). slice_get xs 0) (sym items) ∙ c.in-Some.ensures)
 
 pub returns-in-None : goal.returns-in-None
