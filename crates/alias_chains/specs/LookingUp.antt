@@ -1,4 +1,4 @@
--- Look-ups of a question among the entries, along the aliases that it meets: RFC 1034 3.6.2.
+-- Look-ups among the entries, along aliases: RFC 1034 3.6.2.
 use Rattle.std.specs.Prelude.{ℕ, zero, suc, List, [], ◌∷◌, ◌++◌, Option, Some, None}
 use Rattle.dns_message.specs.Values.{Question}
 use Rattle.suffix_routes.specs.Values.{Route}
@@ -10,14 +10,14 @@ use Rattle.negative_cache.specs.Values.{Found, local, rows, alias, no_data, deni
 use Rattle.negative_cache.specs.Finding.{found}
 use Rattle.dns_message.specs.Questions.{asked_at}
 
--- the end of a look-up: a set or a denial, one alias too many, or a name without a living entry
+-- a set or a denial, one alias too many, or no living entry
 pub data LookUpEnd : Type 0 where
   ends : Held → LookUpEnd
   too_long : LookUpEnd
   missed : LookUpEnd
 
--- the aliases that are held at its end, the question wanted then, its end, and the slots that it
--- used, in order
+-- the aliases held at its end, the question wanted then, its end, and the slots that it used, in
+-- order
 pub record LookUp : Type 0 where
   pub held : List Held
   pub wanted : Question
@@ -60,14 +60,14 @@ one_too_many held q e target = record {
 abbrev pub through : Held → LookUp → LookUp
 through e l = record l { used = e.piece.slot ∷ l.used }
 
--- the look-up of a question that holds these aliases, and may take this number more
+-- the look-up of a question that holds these aliases and may take this number more
 abbrev pub look_up : List Route → ℕ → List Held → ℕ → List Held → Question → LookUp
 look_up routes n entries zero held q = look_up_after held q (one_too_many held q) (found routes n entries q)
 look_up routes n entries (suc more) held q =
     look_up_after held q (λ e target. through e (look_up routes n entries more (held ++ e ∷ []) (asked_at q target)))
     (found routes n entries q)
 
--- the entries that a look-up used are the most recently used now
+-- the entries, with those of the used slots promoted in order
 abbrev pub promoted_all : List Slot → List Held → List Held
 promoted_all [] entries = entries
 promoted_all (slot ∷ used) entries = promoted_all used (promoted slot entries)

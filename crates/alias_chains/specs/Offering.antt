@@ -1,4 +1,4 @@
--- Offers of the pieces of an accepted reply to the cache: RFC 2181 5.4.1, RFC 8020 2.
+-- Offers of an accepted reply's pieces to the cache: RFC 2181 5.4.1, RFC 8020 2.
 use Rattle.std.specs.Prelude.{ℕ, ◌+◌, Bool, true, if◌then◌else◌, List, [], ◌∷◌, map}
 use Rattle.trust_rank.specs.Values.{Piece}
 use Rattle.trust_rank.specs.Replacing.{is_name_error}
@@ -28,14 +28,14 @@ count_of Kept = 0
 count_of Outranked = 0
 count_of NotKept = 0
 
--- the pieces are offered in order; rooms says of each in turn whether there is memory, and there is
--- for those after its end
+-- the entries after offers in order; `rooms` says which pieces find memory, and all after its end
+-- do
 abbrev pub put_all : ℕ → ℕ → List Bool → List Piece → List Held → List Held
 put_all capacity n rooms [] entries = entries
 put_all capacity n [] (p ∷ ps) entries = put_all capacity n [] ps (put capacity n true p entries)
 put_all capacity n (room ∷ rooms) (p ∷ ps) entries = put_all capacity n rooms ps (put capacity n room p entries)
 
--- the number of those that found no memory
+-- how many of these offers find no memory
 abbrev pub unkept_of : ℕ → ℕ → List Bool → List Piece → List Held → ℕ
 unkept_of capacity n rooms [] entries = 0
 unkept_of capacity n [] (p ∷ ps) entries =
@@ -43,7 +43,7 @@ unkept_of capacity n [] (p ∷ ps) entries =
 unkept_of capacity n (room ∷ rooms) (p ∷ ps) entries =
     count_of (ended_so n room p entries) + unkept_of capacity n rooms ps (put capacity n room p entries)
 
--- a piece, held since a moment in milliseconds
+-- the piece, held since n ms
 abbrev pub held_at : ℕ → Piece → Held
 held_at n p = record { piece = p; accepted = n }
 

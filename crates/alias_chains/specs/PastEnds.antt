@@ -1,6 +1,6 @@
--- Look-ups of a question among stale entries, once no try is left: RFC 8767 5. They go along
--- aliases, use no denial, and promote nothing. Of a name that the configuration denies there is no
--- entry, so there nothing is found.
+-- Look-ups among stale entries, once no try is left: RFC 8767 5. They go along aliases, use no
+-- denial, and promote nothing. Of a name that the configuration denies there is no entry, so
+-- nothing is found there.
 use Rattle.std.specs.Prelude.{ℕ, zero, suc, List, [], ◌∷◌, option_map, Option, Some, None}
 use Rattle.dns_message.specs.Values.{Question}
 use Rattle.trust_rank.specs.Walks.{target_of}
@@ -23,8 +23,7 @@ past_followed onward (no_data e) = None
 past_followed onward (denied e) = None
 past_followed onward miss = None
 
--- the aliases and the set that a question is led to, within the window in seconds, with this number
--- of aliases at most
+-- the aliases and the set for q, within `window` seconds, with at most this number of aliases
 abbrev pub look_up_past : ℕ → ℕ → List Held → ℕ → Question → Option (List Held)
 look_up_past window n entries zero q = past_followed (λ target. None) (stale window n entries q)
 look_up_past window n entries (suc more) q =

@@ -47,7 +47,7 @@ rcode_of (denied soa) = 3
 
 -- ---- pieces and their seconds in an answer
 
--- the whole seconds that are left of it at the moment: RFC 1035 3.2.1, RFC 2181 5.2
+-- the piece with its whole seconds left: RFC 1035 3.2.1, RFC 2181 5.2
 abbrev pub told_at : ℕ → Held → Told
 told_at moment h = record { piece = h.piece; seconds = seconds_left moment h }
 
@@ -55,7 +55,7 @@ told_at moment h = record { piece = h.piece; seconds = seconds_left moment h }
 abbrev pub told_past : ℕ → Held → Told
 told_past moment h = record { piece = h.piece; seconds = if is_alive moment h then seconds_left moment h else 30 }
 
--- the first `past` pieces with what is left of them, and those after them stale
+-- the first `past` pieces with their seconds left; of those after them, expired ones get 30
 abbrev pub told_stale : ℕ → ℕ → List Held → List Told
 told_stale past moment chain = map (told_at moment) (take past chain) ++ map (told_past moment) (drop past chain)
 
@@ -74,8 +74,7 @@ last_of t (other ∷ chain) = last_of other chain
 abbrev pub authority_of : Told → List Record
 authority_of t = soa_records t.seconds t.piece.body
 
--- the answer section has the aliases in order and the set; the authority section, the SOA of the
--- denial at the end
+-- the aliases in order and the set as answers; the SOA of a denial at the end as authority
 abbrev pub sections_told : List Told → Sections
 sections_told [] = record { answers = []; authority = []; rcode = 0 }
 sections_told (t ∷ chain) = record {
@@ -84,12 +83,11 @@ sections_told (t ∷ chain) = record {
   rcode = rcode_of (last_of t chain).piece.body;
 }
 
--- the same of held pieces by what is left of them
+-- the same of held pieces, with their seconds left
 abbrev pub sections_of : ℕ → List Held → Sections
 sections_of moment chain = sections_told (map (told_at moment) chain)
 
--- aliases that lead to a name whose route denies, which is a name error without SOA: RFC 1035
--- 4.1.1, RFC 2308 2.1
+-- aliases, and a name error without SOA: RFC 2308 2.1
 abbrev pub local_sections : List Told → Sections
 local_sections chain = record { answers = flat_map answers_of chain; authority = []; rcode = 3 }
 
@@ -129,14 +127,14 @@ answer_message a cut s = record {
 abbrev pub bare : ℕ → Sections
 bare rcode = record { answers = []; authority = []; rcode = rcode }
 
--- the full answer; its response code is 3 exactly for a name error
+-- the question with these sections and their response code
 abbrev pub full_answer : Asked → Sections → Message
 full_answer a s = answer_message a false s
 
--- the question alone, with TC and the same response code: RFC 1035 4.1.1, RFC 2181 9
+-- the question alone, with TC and the same response code: RFC 2181 9
 abbrev pub cut_answer : Asked → Sections → Message
 cut_answer a s = answer_message a true (bare s.rcode)
 
--- the answer to a question that was not answered: a response code alone
+-- the question, if any, and a response code alone
 abbrev pub error_response : Asked → ℕ → Message
 error_response a rcode = answer_message a false (bare rcode)

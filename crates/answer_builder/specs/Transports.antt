@@ -10,7 +10,7 @@ use Rattle.answer_builder.specs.Values.{Asked, Sections}
 use Rattle.answer_builder.specs.Answers.{told_at, told_stale, sections_told, sections_of, local_sections, full_answer}
 use Rattle.answer_builder.specs.Answers.{cut_answer}
 
--- what passes 512 octets is cut: RFC 1035 4.2.1
+-- more than 512 octets are cut: RFC 1035 4.2.1
 abbrev pub over_udp : List ℕ → List ℕ → List ℕ
 over_udp full cut = if nat_le (length full) 512 then full else cut
 
@@ -31,11 +31,10 @@ text_of a s transport = sent_over transport (written (full_answer a s)) (written
 abbrev pub answer_of : Asked → List Held → ℕ → Transport → Result (List ℕ) Fault
 answer_of a chain moment transport = text_of a (sections_of moment chain) transport
 
--- that of the answer from a chain whose pieces from index `past` on may have expired: an expired
--- one gets 30 seconds there (RFC 8767 4), and 0 before
+-- the same, where expired pieces from index `past` on get 30 seconds (RFC 8767 4), and 0 before
 abbrev pub stale_answer_of : Asked → List Held → ℕ → ℕ → Transport → Result (List ℕ) Fault
 stale_answer_of a chain past moment transport = text_of a (sections_told (told_stale past moment chain)) transport
 
--- that of the answer from aliases that lead to a name whose route denies
+-- the same from aliases to a name whose route denies
 abbrev pub local_answer_of : Asked → List Held → ℕ → Transport → Result (List ℕ) Fault
 local_answer_of a aliases moment transport = text_of a (local_sections (map (told_at moment) aliases)) transport

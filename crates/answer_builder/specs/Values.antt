@@ -4,7 +4,7 @@ use Rattle.dns_message.specs.Values.{Question, Record}
 use Rattle.trust_rank.specs.Values.{Piece}
 use Rattle.dns_message.specs.Header.{Header}
 
--- what a client asked, as far as its answer repeats it: RFC 1035 4.1.1 and 4.1.2
+-- the part of a request that its answer repeats: RFC 1035 4.1.1 and 4.1.2
 pub record Asked : Type 0 where
   pub id : ℕ
   pub opcode : ℕ
@@ -16,12 +16,12 @@ pub record Told : Type 0 where
   pub piece : Piece
   pub seconds : ℕ
 
--- what an answer says of the question: two sections and the response code
+-- an answer's two sections and its response code
 pub record Sections : Type 0 where
   pub answers : List Record
   pub authority : List Record
   pub rcode : ℕ
 
--- the part of a request with this header that its answer repeats, with its question, if any
+-- that part of a request with this header and question, if any
 abbrev pub asked_in : Header → Option Question → Asked
 asked_in h q = record { id = h.id; opcode = h.opcode; rd = h.rd; question = q }

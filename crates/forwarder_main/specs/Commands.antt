@@ -1,4 +1,4 @@
--- The commands of the program, and for which faults each of them ends.
+-- The program's commands, and the faults that end them.
 use Rattle.std.specs.Prelude.{◌⊎◌, ℕ, ◌==◌, if◌then◌else◌, List, codes, Option, Some, None}
 use Rattle.std.specs.Prelude.{Ok}
 use Rattle.std.specs.Str.{bytes_eq}
@@ -11,19 +11,18 @@ use Rattle.forwarder_main.specs.declared.commands.Command.TheVariants.{Check, Se
 use Rattle.forwarder_main.specs.declared.fault.Fault.{Fault}
 use Rattle.forwarder_main.specs.declared.fault.Fault.TheVariants.{Usage, Stopped}
 
--- the command of a first argument, with this number of arguments in all
+-- the command of this first argument, if the number of arguments is right
 abbrev pub command_by : List ℕ → ℕ → Option Command
 command_by word count =
     if bytes_eq word (codes "check") then (if count == 2 then Some Check else None)
     else (if bytes_eq word (codes "serve") then (if count == 3 then Some Serve else None)
     else (if bytes_eq word (codes "replay") then (if count == 1 then Some Replay else None) else None))
 
--- A configuration that is what some octets say.
+-- some octets say this configuration
 abbrev pub IsOfOctets : ConfigValue → Type 0
 IsOfOctets config = (octets : List ℕ) × IsReadIn octets (Ok config)
 
--- Why no configuration comes of a file: it can't be read or memory ran out, or some octets are
--- refused for this.
+-- a file can't be read, memory ran out, or some octets are refused for this
 abbrev pub IsFaultOfFile : ReplayFault → Type 0
 IsFaultOfFile fault = IsOfStream fault ⊎ ((octets : List ℕ) × IsFaultOf octets fault)
 
@@ -32,17 +31,17 @@ abbrev pub IsFaultOfStream : Fault → Type 0
 IsFaultOfStream Usage = ⊥
 IsFaultOfStream (Stopped fault) = IsOfStream fault
 
--- why `check` ends
+-- a fault of `check`: of its file
 abbrev pub IsFaultOfCheck : Fault → Type 0
 IsFaultOfCheck Usage = ⊥
 IsFaultOfCheck (Stopped fault) = IsFaultOfFile fault
 
--- why `serve` ends: also for a number of turns that is none
+-- a fault of `serve`: of its file, or `Usage` for its number of turns
 abbrev pub IsFaultOfServe : Fault → Type 0
 IsFaultOfServe Usage = Unit {0}
 IsFaultOfServe (Stopped fault) = IsFaultOfFile fault
 
--- why `replay` ends: for any fault of a replay
+-- a fault of `replay`: any but `Usage`
 abbrev pub IsFaultOfReplay : Fault → Type 0
 IsFaultOfReplay Usage = ⊥
 IsFaultOfReplay (Stopped fault) = Unit {0}

@@ -1,4 +1,4 @@
--- The parts of the service, what it does, and what it writes.
+-- The service: its effect and its output.
 use Rattle.std.specs.Prelude.{◌≡◌, ◌⊎◌, ℕ, List, [], ◌∷◌, ◌++◌, Option, Ok, Err}
 use Rattle.std.specs.declared.alloc.AllocError.{AllocError}
 use Rattle.std.specs.Io.KnownBytes.{Appends}
@@ -14,28 +14,26 @@ use Rattle.forwarder_main.specs.declared.fault.Fault.TheVariants.{Stopped}
 use Rattle.forwarder_main.specs.Commands.{IsFaultOfStream}
 use Rattle.forwarder_main.specs.Counts.{counted_text}
 
--- A new wire with the limits of this configuration.
+-- a wire that counted no fault, with the configured `deadline_ms`
 pub record IsWireOf (config : Config) (wire : SeenWire) : Type 0 where
   pub faults : wire.faults ≡ 0
   pub deadline : wire.deadline ≡ config.limits.deadline_ms
 
--- `turns` turns over a wire are served; after its former contents the writer has one line with
--- their counts.
+-- `turns` turns are served, and one line with the counts of turns and lost events is appended
 pub record ServesAndTells (before : Running) (told_before : Telling) (turns : ℕ) (after : Running)
     (told_after : Telling) (held held' : Option (List ℕ)) : Type 0 where
   pub counts : Served
   pub serves : Serves before told_before turns (Ok counts) after told_after
   pub tells : Appends held held' (counted_text counts.turns counts.lost ++ 10 ∷ [])
 
--- The same with a forwarder that is as this one, over some wire.
+-- the same over some wire
 pub record ServesFrom (before : Running) (turns : ℕ) (held held' : Option (List ℕ)) : Type 0 where
   pub told_before : Telling
   pub after : Running
   pub told_after : Telling
   pub serves : ServesAndTells before told_before turns after told_after held held'
 
--- Why serving stops before a line of what was counted is written. Memory ran out in a turn, and
--- nothing was written; or as many turns as were wanted are served, and writing failed.
+-- memory ran out in a turn and nothing was written, or all turns were served and writing failed
 abbrev pub StopsServing : Running → Telling → ℕ → Running → Telling → Option (List ℕ) → Option (List ℕ) → Fault → Type 0
 StopsServing before told_before turns after told_after held held' fault =
     ((refused : AllocError) × Serves before told_before turns (Err refused) after told_after

@@ -14,8 +14,7 @@ use Rattle.message_reading.specs.Records.{QuestionAt, RecordAt, InRow, question_
 
 -- ---- what a message is
 
--- The octets begin with the header, then come as many questions and records as it counts. What
--- follows them is free.
+-- the header, then the questions and records that it counts; what follows them is free
 pub record Spells (bytes : List ℕ) (message : Message) : Type 0 where
   pub header : header_of bytes ≡ Some message.header
   pub counts : message.header.counts ≡ length message.questions ∷ length message.answers ∷ length message.authority
@@ -44,7 +43,7 @@ IsWhole bytes = (message : Message) × Spells bytes message
 abbrev pub AreShaped : List Record → Type 0
 AreShaped records = AllByRecursion (λ entry. IsShaped entry.kind entry.rdata) records
 
--- the data of each record is of the shape of its type
+-- each record's data has its type's shape
 pub record HasShapes (message : Message) : Type 0 where
   pub answers : AreShaped message.answers
   pub authority : AreShaped message.authority

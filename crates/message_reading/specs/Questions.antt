@@ -16,7 +16,7 @@ abbrev pub question_read : Result Question Fault → Option Question
 question_read (Ok question) = Some question
 question_read (Err fault) = None
 
--- the question of octets whose header counts exactly one, if it can be read
+-- the question of octets whose header counts one, if it can be read
 abbrev pub one_question : List ℕ → Option Question
 one_question octets = if slice_index (header_in octets).counts 0 == 1 then question_read (first_question octets)
     else None

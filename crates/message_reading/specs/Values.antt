@@ -2,7 +2,7 @@
 use Rattle.std.specs.Prelude.{ℕ, List}
 use Rattle.message_reading.specs.declared.header.Header.{Header}
 
--- a question: RFC 1035 4.1.2
+-- name, type and class: RFC 1035 4.1.2
 pub record Question : Type 0 where
   pub name : List (List ℕ)
   pub kind : ℕ

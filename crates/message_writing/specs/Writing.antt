@@ -160,8 +160,8 @@ message_text m =
     header_text m ▹ each question_text m.questions ▹ each record_text m.answers ▹ each record_text m.authority
     ▹ each record_text m.additional
 
--- the octets of a message: in each name that may have a pointer, the longest end that was written
--- before is one (RFC 1035 4.1.4)
+-- the octets of a message; in each name that may have a pointer, the longest end written before
+-- within its reach is one (RFC 1035 4.1.4)
 unfoldable pub written : Message → List ℕ
 written m = (message_text m [] 0).octets
 

@@ -56,9 +56,8 @@ abbrev pub found_or : (Held → Found) → Option Held → Found → Found
 found_or so (Some h) next = so h
 found_or so None next = next
 
--- The first of these that is there: the set of the type, the alias, NODATA of the type, and the
--- nearest name error at or above the name whose own name has the route of the name. So a set below
--- a name error is found until it expires.
+-- The first of: the set of the type, the alias, NODATA of the type, the nearest name error at or
+-- above the name and on its route. So a set below a name error is found until it expires.
 abbrev pub found : List Route → ℕ → List Held → Question → Found
 found routes moment entries q =
     found_or rows (set_for moment entries q q.kind)

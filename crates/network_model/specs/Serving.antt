@@ -107,8 +107,9 @@ pub record Does (before : Standing) (taken : List Taken) (after : Standing) : Ty
 abbrev pub left : Running → ℕ
 left r = left_to_do r.config r.state
 
--- A call of `serve` that was to take `wanted` turns: as many whole ones; or, where memory ran out,
--- fewer and one cut short.
+-- A call of `serve` takes `wanted` whole turns, and counts them and, up to 2^64 - 1 each, lost
+-- events, refused puts other than asks, and refused arrivals. Where memory ran out it takes fewer,
+-- and one cut short.
 abbrev pub Ends : Running → ℕ → List Turn → Result Served AllocError → Type 0
 Ends before wanted turns (Ok counts) = (length turns ≡ wanted) × AreTurns before.config [] turns × (counts ≡ record {
   turns = wanted;
@@ -120,11 +121,9 @@ Ends before wanted turns (Err refused) = (whole : List Turn)
     × ((last : Turn) × (turns ≡ whole ++ last ∷ []) × (length turns ≤ wanted) × AreTurns before.config [] whole
     × IsCutShort (map (λ (t : Turn). t.arrival) whole) last)
 
--- The effect of `serve`. Its turns are those of the wire's arrivals, the steps are a run of the
--- forwarder, and what was put are the actions in order. The wire reports nothing else; it reports
--- all of it where it reported before and counted no fault. The counts are the lost events, the
--- refused puts and the refused arrivals; each stays at its last value. From a new forwarder these
--- steps serve truly, and so they do after whatever steps a forwarder made before since it was new.
+-- A call of `serve` (`Ends`): its steps are a run of the forwarder, which serves truly from new and
+-- after any earlier steps, and its puts are the actions in order. The wire reports just this; all
+-- of it is reported if the wire reported before and counted no fault.
 pub record Serves (before : Running) (told_before : Telling) (wanted : ℕ) (result : Result Served AllocError)
     (after : Running) (told_after : Telling) : Type 0 where
   pub turns : List Turn

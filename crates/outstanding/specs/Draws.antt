@@ -35,7 +35,7 @@ abbrev pub without_port : Option ℕ → List Ask → List Ask
 without_port None asks = asks
 without_port (Some port) asks = without_path (Udp port) asks
 
--- the text of an ask: RD alone, and one question (RFC 1035 4.1.1)
+-- an ask: RD alone, and one question (RFC 1035 4.1.1)
 abbrev pub ask_message : ℕ → Question → Message
 ask_message id q = record {
   header = record {
@@ -56,7 +56,6 @@ ask_message id q = record {
   additional = [];
 }
 
--- by TCP, identifier and connection: that of the first word, and the count of asks by TCP before;
--- the last number is never given
+-- by TCP: the first word's identifier, and the count of asks by TCP, below 2^64 - 1, as connection
 abbrev pub drawn_by_tcp : List ℕ → ℕ → Option (ℕ × ℕ)
 drawn_by_tcp words count = if count == 2 ^ 64 - 1 then None else Some (get_or words 0 0 % 65536, count)

@@ -1,5 +1,4 @@
--- Lists of asks, in the order in which they were asked: what is looked up in them, and what holds
--- of each that is kept.
+-- Lists of asks, in the order in which they were asked.
 use Rattle.std.specs.Prelude.{◌≡◌, ◌^◌, ◌≤◌, Bool, false, ◌==◌, not, List, [], ◌∷◌, length, filter, Option, None, true}
 use Rattle.std.specs.List.{find, AllByRecursion}
 use Rattle.dns_message.specs.Values.{Question}
@@ -37,13 +36,12 @@ pub record Follows (a b : Ask) : Type 0 where
   pub question : same_question a.question b.question ≡ false
   pub asked : a.asked ≤ b.asked
 
--- each ask follows each one before it: no two are on one path or have equal questions, and the
--- moments never fall
+-- no two share a path or a question, and moments never fall
 abbrev pub AreInTurn : List Ask → Type 0
 AreInTurn [] = Unit {0}
 AreInTurn (a ∷ asks) = AllByRecursion (Follows a) asks × AreInTurn asks
 
--- what holds of the listed asks at all times
+-- no more than the capacity, `AreInTurn`, and no moment past 2^62 ms
 pub record AreListed (inquiries : Inquiries) : Type 0 where
   pub few : length inquiries.asks ≤ inquiries.capacity
   pub by_arrival : AreInTurn inquiries.asks

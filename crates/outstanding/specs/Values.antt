@@ -1,4 +1,4 @@
--- Asks, and the list of them, as plain values.
+-- Asks, and the list of them.
 use Rattle.std.specs.Prelude.{ℕ, List}
 use Rattle.dns_message.specs.Values.{Question}
 use Rattle.suffix_routes.specs.declared.peer.Peer.{Peer}

@@ -2,12 +2,11 @@
 use Rattle.std.specs.Prelude.{ℕ, ◌+◌, ◌-◌, ◌*◌, ◌/◌, Bool, nat_lt}
 use Rattle.record_cache.specs.Values.{Held}
 
--- the moment at which an entry ends: its lifetime, in seconds, after it was accepted (RFC 1035
--- 3.2.1)
+-- when it expires, in ms: its lifetime after it was accepted (RFC 1035 3.2.1)
 abbrev pub end_of : Held → ℕ
 end_of h = h.accepted + 1000 * h.piece.lifetime
 
--- the entry has not expired at a moment in milliseconds
+-- it has not expired at this moment (ms)
 abbrev pub is_alive : ℕ → Held → Bool
 is_alive moment h = nat_lt moment (end_of h)
 

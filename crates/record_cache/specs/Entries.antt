@@ -1,5 +1,4 @@
--- Lists of entries, the most recently used first: what is looked up in them, what is counted of
--- them, and what holds of each that is kept.
+-- Lists of entries, the most recently used first.
 use Rattle.std.specs.Prelude.{◌≡◌, ◌<◌, ◌≤◌, ℕ, ◌+◌, ◌-◌, ◌%◌, Bool, false, if◌then◌else◌, ◌==◌, ◌&&◌, ◌||◌, not}
 use Rattle.std.specs.Prelude.{nat_eq, nat_lt, List, [], ◌∷◌, ◌++◌, length, filter, drop, Option, Some, None}
 use Rattle.std.specs.Int.{w64, from_be_bytes}
@@ -102,7 +101,7 @@ abbrev pub AreApart : List Held → Type 0
 AreApart [] = Unit {0}
 AreApart (h ∷ entries) = AllByRecursion (λ e. of_slot h.piece.slot e ≡ false) entries × AreApart entries
 
--- what holds of the entries at all times
+-- no more than the capacity, which is above 0; each well formed, no two of one slot
 pub record AreHeld (cache : Cache) : Type 0 where
   pub some : 0 < cache.capacity
   pub few : length cache.entries ≤ cache.capacity

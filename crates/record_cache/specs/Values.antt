@@ -2,7 +2,7 @@
 use Rattle.std.specs.Prelude.{ℕ, List}
 use Rattle.trust_rank.specs.Values.{Piece}
 
--- a piece, and the moment at which it was accepted, in milliseconds
+-- a piece, and the moment at which it was accepted (ms)
 pub record Held : Type 0 where
   pub piece : Piece
   pub accepted : ℕ

@@ -28,8 +28,8 @@ abbrev pub judged_whole : Result Message Fault → Verdict
 judged_whole (Ok message) = Whole
 judged_whole (Err fault) = Malformed
 
--- the first that holds: no match, TC set, an RCODE that is neither NOERROR nor NXDOMAIN, not to be
--- read whole
+-- the first that holds: no match, TC, an RCODE other than 0 and 3, not readable whole; otherwise a
+-- whole reply
 abbrev pub judge : Ask → Peer → List ℕ → Verdict
 judge ask from octets =
     if matches ask from octets

@@ -1,4 +1,4 @@
--- Successful answers and the chains of pieces that justify them.
+-- Answers, and the chains that justify them.
 use Rattle.std.specs.Prelude.{◌≡◌, ◌≢◌, ℕ, ◌≤◌, Bool, true, List, [], ◌∷◌, length, Option, Some}
 use Rattle.dns_name.specs.Labels.{is_under}
 use Rattle.dns_message.specs.Header.{Header}
@@ -19,35 +19,33 @@ use Rattle.dns_message.specs.Questions.{asked_at}
 abbrev pub has_slot : Piece → List (List ℕ) → ℕ → Option ℕ → Bool
 has_slot p name class kind = same_slot p.slot (record { key = name; class = class; kind = kind })
 
--- these justified aliases lead, one after another, from the first question to the last; a question
--- for CNAME follows none (RFC 1034 3.6.2)
+-- justified aliases lead from the first question to the last; a question for CNAME follows none
+-- (RFC 1034 3.6.2)
 abbrev pub FollowsAliases : Look → Question → List Held → Question → Type 0
 FollowsAliases l q [] last = last ≡ q
 FollowsAliases l q (o ∷ os) last =
     (q.kind ≢ 5) × Justified l q.name o × (has_slot o.piece q.name q.class (Some 5) ≡ true)
     × (name : List (List ℕ)) × (target_of o.piece.body ≡ Some name) × FollowsAliases l (asked_at q name) os last
 
--- the piece ends the look-up of a question: its set, its NODATA (RFC 2308 2), or a name error at or
--- above its name (RFC 8020 2)
+-- the piece is q's set, its NODATA (RFC 2308 2), or a name error at or above its name (RFC 8020 2)
 abbrev pub EndsChain : Question → Piece → Body → Type 0
 EndsChain q p (rows each) = has_slot p q.name q.class (Some q.kind) ≡ true
 EndsChain q p (no_data soa) = has_slot p q.name q.class (Some q.kind) ≡ true
 EndsChain q p (denied soa) = (is_under q.name p.slot.key ≡ true) × (p.slot.class ≡ q.class)
 
--- at most eight justified aliases lead from the client's question to another one
+-- at most eight justified aliases lead from q to `last`
 pub record Leads (l : Look) (q : Question) (aliases : List Held) (last : Question) : Type 0 where
   pub few : length aliases ≤ 8
   pub follows : FollowsAliases l q aliases last
 
--- a chain of justified pieces answers the question: at most eight aliases, and the piece that ends
--- them (RFC 1034 3.6.2)
+-- at most eight justified aliases, and a justified piece that ends them, answer q (RFC 1034 3.6.2)
 pub record Chain (l : Look) (q : Question) (aliases : List Held) (o : Held) : Type 0 where
   pub last : Question
   pub leads : Leads l q aliases last
   pub justified : Justified l last.name o
   pub ends : EndsChain last o.piece o.piece.body
 
--- the octets answer the question, and can be read
+-- the octets answer q from such a chain, and can be read
 pub record Answers (l : Look) (client : Client) (h : Header) (q : Question) (octets : List ℕ) : Type 0 where
   pub aliases : List Held
   pub end : Held

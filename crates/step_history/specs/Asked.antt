@@ -1,4 +1,4 @@
--- Claims about the asks of a history.
+-- Claims about asks.
 use Rattle.std.specs.Prelude.{◌≡◌, ℕ, ◌≤◌, false, List, [], ◌∷◌, length, Some, None, Option, slice_get}
 use Rattle.std.specs.List.{AllByRecursion}
 use Rattle.dns_message.specs.Values.{Question}
@@ -15,17 +15,17 @@ use Rattle.step_history.specs.History.{ShownAsk, listed, closes_path, tcp_asks, 
 use Rattle.step_history.specs.Draws.{drawn}
 use Rattle.outstanding.specs.Draws.{ask_message, drawn_by_tcp}
 
--- the two are on different paths, and ask different questions
+-- their paths and their questions differ
 pub record DiffersFrom (a b : ShownAsk) : Type 0 where
   pub path : same_path a.path b.path ≡ false
   pub question : (p q : Question) → Reads a.octets p → Reads b.octets q → same_question p q ≡ false
 
--- no two are on one path, and no two ask one question
+-- no two share a path or a question
 abbrev pub AreApart : List ShownAsk → Type 0
 AreApart [] = Unit {0}
 AreApart (a ∷ asks) = AllByRecursion (DiffersFrom a) asks × AreApart asks
 
--- the peer is a server of the route that the question's name is on
+-- the peer is a server of the route that serves the question's name
 pub record IsServerFor (c : Config) (q : Question) (p : Peer) : Type 0 where
   pub route : ℕ
   pub group : Route
@@ -39,8 +39,8 @@ abbrev pub IsDrawn : Step → List Step → ℕ → Path → Type 0
 IsDrawn s past id (Udp port) = drawn s.handed.words (listed past) s.outcome.actions ≡ Some (id, port)
 IsDrawn s past id (Tcp conn) = drawn_by_tcp s.handed.words (tcp_asks past) ≡ Some (id, conn)
 
--- an ask of this step says one question and nothing else, goes to a server of its name's route, and
--- has the identifier and the path that are drawn for it (RFC 5452 9.2)
+-- the ask is `ask_message` alone, to a server of its name's route, with the drawn identifier and
+-- path (RFC 5452 9.2)
 pub record AsksRight (c : Config) (s : Step) (past : List Step) (a : SentAsk) : Type 0 where
   pub id : ℕ
   pub question : Question
@@ -49,17 +49,17 @@ pub record AsksRight (c : Config) (s : Step) (past : List Step) (a : SentAsk) : 
   pub server : IsServerFor c question a.server
   pub drawn_so : IsDrawn s past id a.path
 
--- an ask is right, and is not closed by what follows it in its step
+-- the ask, if any, is right, and no later action of its step closes it
 abbrev pub IsRightAsk : Config → Step → List Step → Option SentAsk → List Action → Type 0
 IsRightAsk c s past None more = Unit {0}
 IsRightAsk c s past (Some a) more = AsksRight c s past a × (closes_path a.path more ≡ false)
 
--- each ask among the actions of a step is right, with those after it
+-- `IsRightAsk` of each ask among a step's actions
 abbrev pub AreRightAsks : Config → Step → List Step → List Action → Type 0
 AreRightAsks c s past [] = Unit {0}
 AreRightAsks c s past (a ∷ more) = IsRightAsk c s past (ask_in a) more × AreRightAsks c s past more
 
--- after every step the listed asks are apart and no more than may be open, and those that it sends
+-- after every step the listed asks are apart and within the limit, and those that the step sends
 -- are right
 abbrev pub AsksWell : Config → List Step → Type 0
 AsksWell c [] = Unit {0}

@@ -1,4 +1,4 @@
--- The pieces that the replies of an era carried, and which of them still count.
+-- The pieces that an era's replies carried, and those that still count.
 use Rattle.std.specs.Prelude.{◌≡◌, ℕ, ◌<◌, true, false, List, [], ◌∷◌, ◌++◌, Some, ◌⊎◌}
 use Rattle.suffix_routes.specs.Values.{Config}
 use Rattle.trust_rank.specs.Values.{Piece}
@@ -15,7 +15,7 @@ abbrev pub then_carried : ℕ → List Piece → List Held → List Held
 then_carried t [] os = os
 then_carried t (p ∷ ps) os = then_carried t ps (record { piece = p; accepted = t } ∷ os)
 
--- the pieces that were carried in the newest step's era, the newest first
+-- the pieces carried in this era, the newest first
 abbrev pub CarriedInEra : Config → List Step → List Held → Type 0
 CarriedInEra c [] os = os ≡ []
 CarriedInEra c (s ∷ past) os =
@@ -24,15 +24,14 @@ CarriedInEra c (s ∷ past) os =
     ⊎ ((is_restart s ≡ false) × (ps : List Piece) × (before : List Held)
     × Carries c s past ps × CarriedInEra c past before × (os ≡ then_carried (moment_at (s ∷ past)) ps before))
 
--- o was carried, and nothing that was carried since takes its place, whatever lifetime that has
--- (RFC 2181 5.4, RFC 8020 2)
+-- o was carried, and nothing carried since takes its place, whatever its lifetime (RFC 2181 5.4,
+-- RFC 8020 2)
 abbrev pub NotReplaced : Held → List Held → Type 0
 NotReplaced o [] = ⊥
 NotReplaced o (x ∷ os) = (x ≡ o) ⊎ ((takes_place_of x.piece o.piece ≡ false) × NotReplaced o os)
 
--- o may serve the question for this name: it was carried whole by one reply on the name's route,
--- and was alive when the client asked (RFC 1035 3.2.1) and not replaced, or came while the client
--- waited
+-- o may serve this name: one reply on its route carried it whole. It was alive (RFC 1035 3.2.1) and
+-- not replaced when the client asked, or came while the client waited.
 pub record Justified (l : Look) (name : List (List ℕ)) (o : Held) : Type 0 where
   pub old : List Held
   pub new : List Held

@@ -1,4 +1,4 @@
--- Why a question is answered without success.
+-- Why a client gets a failure.
 use Rattle.std.specs.Prelude.{◌≡◌, ◌≢◌, ℕ, zero, suc, ◌+◌, ◌-◌, ◌^◌, ◌<◌, ◌≤◌, true, false, List, [], ◌∷◌, length, Some}
 use Rattle.std.specs.Prelude.{None, ◌⊎◌}
 use Rattle.std.specs.List.{AllByRecursion}
@@ -34,12 +34,12 @@ abbrev pub newest_words : List Step → List ℕ
 newest_words [] = []
 newest_words (s ∷ past) = s.handed.words
 
--- the newest step is the passing of time
+-- the newest step is a tick
 abbrev pub IsTick : List Step → Type 0
 IsTick [] = ⊥
 IsTick (s ∷ past) = s.handed.event ≡ tick
 
--- the step closes an ask of this question
+-- the step closes a listed ask of this question
 pub record ClosesAsk (q : Question) (s : Step) (past : List Step) : Type 0 where
   pub ask : ShownAsk
   pub asked : Question
@@ -48,7 +48,7 @@ pub record ClosesAsk (q : Question) (s : Step) (past : List Step) : Type 0 where
   pub reads : Reads ask.octets asked
   pub same : same_question asked q ≡ true
 
--- the last n asks of this question in the era were closed, none of them by an accepted reply
+-- of the era's closed asks of q, the last n were closed by no accepted reply
 abbrev pub LastFailed : Config → Question → List Step → ℕ → Type 0
 LastFailed c q [] zero = Unit {0}
 LastFailed c q [] (suc k) = ⊥
@@ -69,8 +69,8 @@ NoneAsks q asks = AllByRecursion (λ a. (own : Question) → Reads a.octets own 
 
 -- ---- the facts of the history for each way of failing
 
--- the question has no route and fails at once, or aliases lead from it to a name without one; a
--- name whose route denies it has a route
+-- opcode 0, a served type and class; no route serves or denies the name, at once, or the one that
+-- aliases lead to
 pub record HasNoRoute (l : Look) (octets : List ℕ) : Type 0 where
   pub opcode : (header_in octets).opcode ≡ 0
   pub question : Question
@@ -83,7 +83,7 @@ pub record HasNoRoute (l : Look) (octets : List ℕ) : Type 0 where
   pub not_denied : is_local l.config last.name ≡ false
   pub at_once : aliases ≡ [] → l.now ≡ l.asked ∷ l.before
 
--- the type or class is not served
+-- at once: opcode 0, and a type or class that is not served
 pub record AsksUnserved (l : Look) (octets : List ℕ) : Type 0 where
   pub at_once : l.now ≡ l.asked ∷ l.before
   pub opcode : (header_in octets).opcode ≡ 0
@@ -91,8 +91,8 @@ pub record AsksUnserved (l : Look) (octets : List ℕ) : Type 0 where
   pub reads : Reads octets question
   pub unserved : is_unserved question ≡ true
 
--- all tries failed for what the client asked or for what aliases lead to, the last one in the
--- newest step, and none is under way
+-- all tries failed for the question or the one that aliases lead to, the last in the newest step;
+-- no ask for it is listed
 pub record AllTriesFailed (l : Look) (octets : List ℕ) : Type 0 where
   pub question : Question
   pub reads : Reads octets question
@@ -103,7 +103,7 @@ pub record AllTriesFailed (l : Look) (octets : List ℕ) : Type 0 where
   pub closed : ClosesNow last l.now
   pub none_left : NoneAsks last (listed l.now)
 
--- nine justified aliases, one more than may be followed, lead on from the question
+-- nine justified aliases, one too many, lead on from the question
 pub record FollowsTooMany (l : Look) (octets : List ℕ) : Type 0 where
   pub question : Question
   pub reads : Reads octets question
@@ -112,18 +112,17 @@ pub record FollowsTooMany (l : Look) (octets : List ℕ) : Type 0 where
   pub many : length aliases ≡ 9
   pub follows : FollowsAliases l question aliases last
 
--- no port is free, or as many asks went by TCP as may
+-- the newest step draws no free port, or 2^64 - 1 asks of the era went by TCP
 abbrev pub NoPathIsFree : Look → Type 0
 NoPathIsFree l = (drawn (newest_words l.now) (listed (before_newest l.now)) (newest_actions l.now) ≡ None)
     ⊎ (tcp_asks (before_newest l.now) ≡ 2 ^ 64 - 1)
 
--- time has passed, and the question has waited as long as it may
+-- on a tick the question has waited for `deadline_ms` or longer
 pub record IsOverdue (l : Look) : Type 0 where
   pub passed : IsTick l.now
   pub late : moment_at (l.asked ∷ l.before) + l.config.limits.deadline_ms ≤ moment_at l.now
 
--- the full answer is longer than TCP carries: from living pieces, from expired pieces once all
--- tries failed, or from aliases that lead to a denied name
+-- the full answer from justified pieces passes 65,535 octets (RFC 1035 4.2.2)
 pub record AnswerIsTooLarge (l : Look) (octets : List ℕ) : Type 0 where
   pub question : Question
   pub aliases : List Held
@@ -132,7 +131,8 @@ pub record AnswerIsTooLarge (l : Look) (octets : List ℕ) : Type 0 where
   pub chain : Chain l question aliases end
   pub large : 65535 < length (answer_text (asked_in (header_in octets) (Some question)) aliases end (moment_at l.now))
 
--- an answer with expired sets passes 65,535 octets (RFC 1035 4.2.2, RFC 8767)
+-- all tries failed, there is a window, and the full answer with expired data passes that size (RFC
+-- 8767)
 pub record StaleAnswerIsTooLarge (l : Look) (octets : List ℕ) : Type 0 where
   pub tries : AllTriesFailed l octets
   pub window : 1 ≤ l.config.limits.stale_s
@@ -142,7 +142,7 @@ pub record StaleAnswerIsTooLarge (l : Look) (octets : List ℕ) : Type 0 where
   pub large : 65535 < length (full_text (asked_in (header_in octets) (Some tries.question))
       (stale_sections (moment_at l.now) tries.aliases past end))
 
--- the aliases to a name that the configuration denies pass 65,535 octets (RFC 1035 4.2.2)
+-- the denial with the aliases to a name that the configuration denies passes that size
 pub record LocalAnswerIsTooLarge (l : Look) (octets : List ℕ) : Type 0 where
   pub question : Question
   pub reads : Reads octets question
@@ -151,8 +151,8 @@ pub record LocalAnswerIsTooLarge (l : Look) (octets : List ℕ) : Type 0 where
   pub large : 65535 < length (full_text (asked_in (header_in octets) (Some question))
       (denied_sections (moment_at l.now) aliases))
 
--- the history shows why the reply has this reason; `waiting` is the number of questions of the era
--- without a reply before the question came
+-- the history shows this reason; `waiting` is the number of the era's questions without a reply
+-- before this one came
 abbrev pub Cause : Look → Client → List ℕ → ℕ → Why → Type 0
 Cause l client octets waiting BadOpcode = (l.now ≡ l.asked ∷ l.before) × ((header_in octets).opcode ≢ 0)
 Cause l client octets waiting BadFormat = (l.now ≡ l.asked ∷ l.before) × ((header_in octets).opcode ≡ 0)

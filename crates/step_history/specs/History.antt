@@ -1,4 +1,4 @@
--- A history is the list of its steps, the newest first; a claim about a step is one about the list
+-- A history: the list of its steps, the newest first. A claim about a step is one about the list
 -- that begins with it.
 use Rattle.std.specs.Prelude.{◌≡◌, ℕ, ◌+◌, ◌^◌, ◌<◌, ◌≤◌, Bool, true, false, if◌then◌else◌, not, min, max, List, []}
 use Rattle.std.specs.Prelude.{◌∷◌, ◌++◌, length, filter, Option, Some, None, ◌⊎◌}
@@ -27,17 +27,16 @@ is_restart_event (delivery path from octets) = false
 is_restart_event (path_failed path) = false
 is_restart_event tick = false
 
--- a restart begins an era
+-- the step is a restart, which begins an era
 abbrev pub is_restart : Step → Bool
 is_restart s = is_restart_event s.handed.event
 
--- the history up to the newest step, or up to an earlier one of its era
+-- `upto` is the history up to the newest step, or to an earlier one of its era
 abbrev pub InEra : List Step → List Step → Type 0
 InEra upto [] = ⊥
 InEra upto (s ∷ past) = (upto ≡ s ∷ past) ⊎ ((is_restart s ≡ false) × InEra upto past)
 
--- the effective moment after the newest step: the greatest of the era, a restart's own left out, at
--- most 2^62 milliseconds
+-- the effective moment: the greatest of the era, its restart's left out, at most 2^62 ms
 abbrev pub moment_at : List Step → ℕ
 moment_at [] = 0
 moment_at (s ∷ past) = if is_restart s then 0 else max (min s.handed.now (2 ^ 62)) (moment_at past)
@@ -47,7 +46,7 @@ abbrev pub before_newest : List Step → List Step
 before_newest [] = []
 before_newest (s ∷ past) = past
 
--- a step that asked a question and what came before it, seen from a later moment of its era
+-- a step that asked, the history before it, and the history up to now
 pub record Look : Type 0 where
   pub config : Config
   pub asked : Step
@@ -56,7 +55,7 @@ pub record Look : Type 0 where
 
 -- ---- asks
 
--- an ask as its action shows it, and the moment of that
+-- an ask as its action shows it, and its moment
 pub record ShownAsk : Type 0 where
   pub path : Path
   pub server : Peer
@@ -82,8 +81,7 @@ abbrev pub asks_after : ℕ → List Action → List ShownAsk → List ShownAsk
 asks_after t [] asks = asks
 asks_after t (a ∷ more) asks = asks_after t more (with_sent t (ask_in a) (without_closed (closed_path_in a) asks))
 
--- the asks that are listed after the newest step, in the order in which they were asked: each until
--- its path is given up
+-- the era's asks whose path is not given up, in the order asked
 abbrev pub listed : List Step → List ShownAsk
 listed [] = []
 listed (s ∷ past) = if is_restart s then [] else asks_after (moment_at (s ∷ past)) s.outcome.actions (listed past)
@@ -102,7 +100,7 @@ abbrev pub tcp_asks_in : List Action → ℕ
 tcp_asks_in [] = 0
 tcp_asks_in (a ∷ more) = count_tcp (ask_in a) + tcp_asks_in more
 
--- how many asks went by TCP in the newest step's era
+-- how many asks of the era went by TCP
 abbrev pub tcp_asks : List Step → ℕ
 tcp_asks [] = 0
 tcp_asks (s ∷ past) = if is_restart s then 0 else tcp_asks past + tcp_asks_in s.outcome.actions
@@ -118,7 +116,7 @@ closes_path path actions = list_any (λ a. is_closing path (closed_path_in a)) a
 
 -- ---- deliveries
 
--- octets with one question, which is this
+-- the octets have one question, q
 abbrev pub Reads : List ℕ → Question → Type 0
 Reads octets q = one_question octets ≡ Some q
 
@@ -126,8 +124,8 @@ Reads octets q = one_question octets ≡ Some q
 abbrev pub Delivers : Event → Path → Peer → List ℕ → Type 0
 Delivers e path from octets = delivery_in e ≡ Some (record { path = path; from = from; octets = octets })
 
--- the newest step delivers octets that match an ask which is open before it, in server, path,
--- identifier and question (RFC 5452 9.1)
+-- step s delivers octets that match an open ask in server, path, identifier and question (RFC 5452
+-- 9.1)
 pub record Matches (c : Config) (s : Step) (past : List Step) (ask : ShownAsk) (octets : List ℕ)
     (asked : Question) : Type 0 where
   pub delivered : Delivers s.handed.event ask.path ask.server octets
@@ -144,8 +142,8 @@ pub record Matches (c : Config) (s : Step) (past : List Step) (ask : ShownAsk) (
   pub reads : Reads octets question
   pub same_question_as_ask : same_question question asked ≡ true
 
--- the reply of the newest step is accepted: it matches, can be read whole, has response code 0 or 3
--- and no TC, and is not lame
+-- the reply of step s matches, can be read whole, has response code 0 or 3 and no TC, and is not
+-- lame
 pub record Accepts (c : Config) (s : Step) (past : List Step) (ask : ShownAsk) (asked : Question) (route : ℕ)
     (m : Message) : Type 0 where
   pub octets : List ℕ
@@ -156,8 +154,8 @@ pub record Accepts (c : Config) (s : Step) (past : List Step) (ask : ShownAsk) (
   pub route_is : serving_route_of c asked.name ≡ Some route
   pub not_lame : is_lame (walk_of c m asked route).end ≡ false
 
--- the newest step is accepted and carried these pieces: those of the walk, then the name servers of
--- the authority section
+-- step s accepted a reply and carried its pieces: those of the walk, then the name servers of the
+-- authority section
 pub record Carries (c : Config) (s : Step) (past : List Step) (ps : List Piece) : Type 0 where
   pub ask : ShownAsk
   pub asked : Question
@@ -166,7 +164,7 @@ pub record Carries (c : Config) (s : Step) (past : List Step) (ps : List Piece) 
   pub accepts : Accepts c s past ask asked route message
   pub are : ps ≡ (walk_of c message asked route).pieces ++ (walk_of c message asked route).authority
 
--- the step s, after past, accepted no reply
+-- step s accepted no reply
 abbrev pub NothingAccepted : Config → Step → List Step → Type 0
 NothingAccepted c s past = (ps : List Piece) → Carries c s past ps → ⊥
 
@@ -181,6 +179,6 @@ is_taken_request (Some r) = is_taken r.octets
 abbrev pub takes_question : Event → Bool
 takes_question e = is_taken_request (request_in e)
 
--- the event is these octets of the client
+-- the event is these octets from the client
 abbrev pub Sends : Event → Client → List ℕ → Type 0
 Sends e client octets = request_in e ≡ Some (record { client = client; octets = octets })

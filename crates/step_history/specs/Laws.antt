@@ -12,11 +12,11 @@ use Rattle.step_history.specs.Carried.{CarriedInEra}
 use Rattle.step_history.specs.Causes.{Cause, AnswerIsTooLarge}
 use Rattle.step_history.specs.Sound.{RightReply}
 
--- One more step of an era is not earlier.
+-- Within an era moments never fall.
 abbrev pub MomentsNeverFall : Type 0
 MomentsNeverFall = (s : Step) (past : List Step) → is_restart s ≡ false → moment_at past ≤ moment_at (s ∷ past)
 
--- No moment is past 2^62 milliseconds.
+-- No moment is past 2^62 ms.
 abbrev pub MomentsAreInTime : Type 0
 MomentsAreInTime = (past : List Step) → moment_at past ≤ 2 ^ 62
 
@@ -25,16 +25,15 @@ abbrev pub WhatWasCarriedStaysSo : Type 0
 WhatWasCarriedStaysSo = (c : Config) (upto now : List Step) (all : List Held) → InEra upto now → CarriedInEra c now all
     → (os : List Held) × (new : List Held) × CarriedInEra c upto os × (all ≡ new ++ os)
 
--- Without a window and without a route that denies, version 2 of a configuration adds nothing to
--- the claims: no reply of the two further kinds is right, only an answer from living pieces can be
--- too large, and each name is served by its route.
+-- version 2 adds nothing: no `Stale` or `LocalDenied` is right, only answers from justified pieces
+-- can be too large, each name is served by its route
 pub record AddsNothing (l : Look) (client : Client) (request octets : List ℕ) (waiting : ℕ) : Type 0 where
   pub stale : RightReply l client request waiting Stale octets → ⊥
   pub local : RightReply l client request waiting LocalDenied octets → ⊥
   pub large : Cause l client request waiting TooLarge → AnswerIsTooLarge l request
   pub routed : (name : List (List ℕ)) → serving_route_of l.config name ≡ route_of l.config.routes name
 
--- without a window and without routes that deny, the second version adds no right reply
+-- Without a window and routes that deny, version 2 adds no right reply: `AddsNothing`.
 abbrev pub FirstVersionStandsAlone : Type 0
 FirstVersionStandsAlone = (l : Look) (client : Client) (request octets : List ℕ) (waiting : ℕ) → HasNeither l.config
     → AddsNothing l client request octets waiting

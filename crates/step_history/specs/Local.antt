@@ -11,15 +11,15 @@ use Rattle.step_history.specs.Answers.{Leads}
 use Rattle.step_history.specs.Replies.{full_text, short_text, denied_sections, sized_for, FitsTransport}
 use Rattle.answer_builder.specs.Values.{asked_in}
 
--- at most eight justified aliases lead from the question to a name that the configuration denies
--- (RFC 6761 6.4); without aliases its own name is denied, and it is answered at once
+-- at most eight justified aliases lead from q to a name that the configuration denies; without any,
+-- the answer is at once
 pub record ChainToLocal (l : Look) (q : Question) (aliases : List Held) : Type 0 where
   pub last : Question
   pub leads : Leads l q aliases last
   pub denied : is_local l.config last.name ≡ true
   pub at_once : aliases ≡ [] → l.now ≡ l.asked ∷ l.before
 
--- the octets answer the question with this denial, and can be read
+-- the octets answer q with this denial, and can be read
 pub record LocalAnswers (l : Look) (client : Client) (h : Header) (q : Question) (octets : List ℕ) : Type 0 where
   pub aliases : List Held
   pub chain : ChainToLocal l q aliases

@@ -11,8 +11,7 @@ use Rattle.step_values.specs.declared.event.Client.TheVariants.{Udp, Tcp}
 use Rattle.step_values.specs.declared.action.Why.{Why}
 use Rattle.step_values.specs.Requests.{rcode_of_why}
 
--- the answer from a chain of aliases and the piece that ends it, with the seconds that are left at
--- the moment t
+-- the answer from aliases and the piece that ends them, with the seconds left at t
 abbrev pub answer_text : Asked → List Held → Held → ℕ → List ℕ
 answer_text a aliases end t = written (full_answer a (sections_of t (aliases ++ end ∷ [])))
 
@@ -20,21 +19,19 @@ answer_text a aliases end t = written (full_answer a (sections_of t (aliases ++ 
 abbrev pub cut_text : Asked → List Held → Held → ℕ → List ℕ
 cut_text a aliases end t = written (cut_answer a (sections_of t (aliases ++ end ∷ [])))
 
--- an answer of these sections, and the same cut to the question
+-- the answer with these sections
 abbrev pub full_text : Asked → Sections → List ℕ
 full_text a s = written (full_answer a s)
 
--- the truncated answer: header with TC, and the question (RFC 1035 4.2.1)
+-- the same, cut: header with TC, and the question (RFC 1035 4.2.1)
 abbrev pub short_text : Asked → Sections → List ℕ
 short_text a s = written (cut_answer a s)
 
--- the sections of an answer from aliases that were held, and from aliases and a set after them that
--- may have expired: an expired one gets 30 seconds (RFC 8767 4)
+-- the held aliases, then aliases and a set, of which expired ones get 30 seconds (RFC 8767 4)
 abbrev pub stale_sections : ℕ → List Held → List Held → Held → Sections
 stale_sections t held past end = sections_told (told_stale (length held) t (held ++ (past ++ end ∷ [])))
 
--- the sections of a denial by the configuration: a name error, with the aliases that lead to the
--- denied name
+-- a name error, with the aliases that lead to the denied name
 abbrev pub denied_sections : ℕ → List Held → Sections
 denied_sections t aliases = local_sections (map (told_at t) aliases)
 

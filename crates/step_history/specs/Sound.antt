@@ -1,4 +1,4 @@
--- Claims about each reply and about each history.
+-- Claims about replies.
 use Rattle.std.specs.Prelude.{◌≡◌, ℕ, ◌≤◌, Bool, true, false, if◌then◌else◌, ◌==◌, ◌&&◌, not, List, [], ◌∷◌, ◌++◌}
 use Rattle.std.specs.Prelude.{length, Option, Some, None, ◌⊎◌}
 use Rattle.std.specs.List.{list_any, concat}
@@ -24,8 +24,8 @@ use Rattle.step_history.specs.Causes.{AllTriesFailed, Cause}
 abbrev pub among : ℕ → List ℕ → Bool
 among i js = list_any (λ j. j == i) js
 
--- the numbers of the questions of this era that own no reply, the oldest first; a step's number is
--- how many came before it
+-- the numbers of the era's questions without a reply, the oldest first; a step's number counts the
+-- steps before it
 abbrev pub unanswered : List Step → List ℕ → List ℕ
 unanswered [] owners = []
 unanswered (s ∷ past) owners =
@@ -34,15 +34,15 @@ unanswered (s ∷ past) owners =
     else unanswered past owners ++ (if takes_question s.handed.event && not (among (length past) owners)
     then length past ∷ [] else [])
 
--- the text of a failure: without the question where it was not looked at or can't be read,
--- otherwise with the client's question as it came
+-- the text of a failure: for `BadFormat` and `BadOpcode` without the question, otherwise with it as
+-- it came
 abbrev pub IsErrorResponse : List ℕ → Why → List ℕ → Type 0
 IsErrorResponse request BadFormat octets = octets ≡ failure_text (asked_in (header_in request) None) BadFormat
 IsErrorResponse request BadOpcode octets = octets ≡ failure_text (asked_in (header_in request) None) BadOpcode
 IsErrorResponse request why octets = (q : Question) × Reads request q
     × (octets ≡ failure_text (asked_in (header_in request) (Some q)) why)
 
--- the client asked for a type and class that are served, and the octets answer it
+-- opcode 0, a served type and class, and octets that answer the question
 pub record RightAnswer (l : Look) (client : Client) (request octets : List ℕ) : Type 0 where
   pub opcode : (header_in request).opcode ≡ 0
   pub question : Question
@@ -50,8 +50,8 @@ pub record RightAnswer (l : Look) (client : Client) (request octets : List ℕ) 
   pub served : is_unserved question ≡ false
   pub answers : Answers l client (header_in request) question octets
 
--- all tries failed for what the client asked or for what aliases lead to, the configuration has a
--- window, and the octets answer it with expired data
+-- opcode 0, a served type and class, `AllTriesFailed`, a window, and octets that answer with
+-- expired data
 pub record RightStaleAnswer (l : Look) (client : Client) (request octets : List ℕ) : Type 0 where
   pub opcode : (header_in request).opcode ≡ 0
   pub tries : AllTriesFailed l request
@@ -59,8 +59,7 @@ pub record RightStaleAnswer (l : Look) (client : Client) (request octets : List 
   pub window : 1 ≤ l.config.limits.stale_s
   pub answers : StaleAnswers l client (header_in request) tries.question tries.aliases tries.last octets
 
--- the client asked for a type and class that are served, and the octets deny it: its own name, or
--- one that aliases lead to, is denied by the configuration
+-- opcode 0, a served type and class, and octets that deny the name, or one that aliases lead to
 pub record RightLocalAnswer (l : Look) (client : Client) (request octets : List ℕ) : Type 0 where
   pub opcode : (header_in request).opcode ≡ 0
   pub question : Question
@@ -68,15 +67,14 @@ pub record RightLocalAnswer (l : Look) (client : Client) (request octets : List 
   pub served : is_unserved question ≡ false
   pub answers : LocalAnswers l client (header_in request) question octets
 
--- the reply is right for the client's message
+-- one of these three by its reason, otherwise an error response with its `Cause`
 abbrev pub RightReply : Look → Client → List ℕ → ℕ → Why → List ℕ → Type 0
 RightReply l client request waiting Answered octets = RightAnswer l client request octets
 RightReply l client request waiting Stale octets = RightStaleAnswer l client request octets
 RightReply l client request waiting LocalDenied octets = RightLocalAnswer l client request octets
 RightReply l client request waiting why octets = IsErrorResponse request why octets × Cause l client request waiting why
 
--- the step number i of this era is a message of the client that isn't dropped, and the reply is
--- right for it
+-- step i of the era took a message of the reply's client, and the reply is right for it
 pub record Owns (c : Config) (now : List Step) (owners : List ℕ) (i : ℕ) (r : SentReply) : Type 0 where
   pub asked : Step
   pub before : List Step
@@ -94,37 +92,37 @@ OwnedNext c now None rest owners is = rest owners is
 OwnedNext c now (Some r) rest owners [] = ⊥
 OwnedNext c now (Some r) rest owners (i ∷ is) = Owns c now owners i r × (among i owners ≡ false) × rest (i ∷ owners) is
 
--- each reply of these actions has its owner, which owns no other
+-- each reply of these actions has its own owner
 abbrev pub EachOwned : Config → List Step → List Action → List ℕ → List ℕ → Type 0
 EachOwned c now [] owners is = is ≡ []
 EachOwned c now (a ∷ more) owners is = OwnedNext c now (reply_in_action a) (EachOwned c now more) owners is
 
--- a successful reply with these octets
+-- a reply with these octets for the reason `Answered`
 abbrev pub IsAnswer : Option SentReply → List ℕ → Type 0
 IsAnswer None octets = ⊥
 IsAnswer (Some r) octets = (r.why ≡ Answered) × (r.octets ≡ octets)
 
--- the actions have a successful reply with these octets
+-- the actions have such a reply
 abbrev pub Replies : List Action → List ℕ → Type 0
 Replies [] octets = ⊥
 Replies (a ∷ more) octets = IsAnswer (reply_in_action a) octets ⊎ Replies more octets
 
--- the message of a client asks this question
+-- a client's message asks this question
 abbrev pub AsksIn : Option Request → Question → Type 0
 AsksIn None q = ⊥
 AsksIn (Some r) q = Reads r.octets q
 
--- the step takes the question, and answers it at once with these octets
+-- a client's message asks q, and its step sends these octets as `Answered`
 abbrev pub FromCache : Step → Question → List ℕ → Type 0
 FromCache s q octets = AsksIn (request_in s.handed.event) q × Replies s.outcome.actions octets
 
--- read as messages without TC, both have the same result code, answers and authority
+-- read as messages without TC, both have the same response code, answers and authority
 abbrev pub SameSections : List ℕ → List ℕ → Type 0
 SameSections a b = (m m' : Message) → Spells a m → Spells b m' → m.header.tc ≡ false → m'.header.tc ≡ false
     → (m.header.rcode ≡ m'.header.rcode) × (m.answers ≡ m'.answers) × (m.authority ≡ m'.authority)
 
--- the answer has the sections of each one from cache to an equal question at the same moment, as
--- far back as nothing was accepted
+-- the octets have the sections of each earlier answer from cache to an equal question at moment t
+-- of the era, with nothing accepted since
 abbrev pub SameAsEarlierFromCache : Config → ℕ → Question → List ℕ → List Step → Type 0
 SameAsEarlierFromCache c t q octets [] = Unit {0}
 SameAsEarlierFromCache c t q octets (s ∷ past) =
@@ -132,7 +130,8 @@ SameAsEarlierFromCache c t q octets (s ∷ past) =
     → ((q' : Question) (octets' : List ℕ) → FromCache s q' octets' → same_question q q' ≡ true
     → SameSections octets octets') × SameAsEarlierFromCache c t q octets past
 
--- w has for each step, the newest first, the owners of its replies, in their order
+-- each reply has its own owner, and answers from cache agree; w has the owners of each step's
+-- replies, the newest step first
 abbrev pub Sound : Config → List Step → List (List ℕ) → Type 0
 Sound c [] [] = Unit {0}
 Sound c [] (is ∷ w) = ⊥

@@ -1,4 +1,4 @@
--- Which ask comes first for a question, and which one after a failure.
+-- The first ask for a question, and the next after a failure.
 use Rattle.std.specs.Prelude.{ℕ, ◌+◌, List, [], length, slice_get, get_or, option_map, Option, Some, None}
 use Rattle.dns_message.specs.Values.{Question}
 use Rattle.suffix_routes.specs.declared.peer.Peer.{Peer}

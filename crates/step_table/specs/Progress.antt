@@ -71,7 +71,7 @@ AreTakenInTurn (x ∷ xs) = AllByRecursion (λ y. x.taken ≤ y.taken) xs × Are
 abbrev pub IsTry : Config → Ask → Type 0
 IsTry c a = (1 ≤ a.used) × (a.used ≤ c.limits.tries)
 
--- the name of an entry is within the route of the ask that brought it
+-- the entry's name is on the route of the ask that brought it
 abbrev pub IsOnRoute : Config → Held → Type 0
 IsOnRoute c h = serving_route_of c h.piece.slot.key ≡ Some h.piece.route
 
@@ -89,12 +89,12 @@ pub record IsInOrder (c : Config) (s : State) : Type 0 where
   pub waiting : AreTakenInTurn s.waiting
   pub few_waiting : length s.waiting ≤ c.limits.questions
 
--- a connection has the number of an ask by TCP that went before
+-- a TCP connection's number is below `count`
 abbrev pub IsBelow : ℕ → Path → Type 0
 IsBelow count (Udp port) = Unit {0}
 IsBelow count (Tcp conn) = conn < count
 
--- each route that serves names has the place of one of its servers
+-- each route has a place, which is one of its servers' unless it denies
 abbrev pub ArePreferred : List Route → List ℕ → Type 0
 ArePreferred [] [] = Unit {0}
 ArePreferred [] (p ∷ places) = ⊥

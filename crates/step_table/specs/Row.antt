@@ -1,4 +1,4 @@
--- One step of the forwarder, over plain values.
+-- One step of the forwarder.
 use Rattle.std.specs.Prelude.{◌≡◌, ℕ, ◌^◌, Bool, false, ◌||◌, nat_le, min, max, List, [], None}
 use Rattle.std.specs.List.{list_any}
 use Rattle.suffix_routes.specs.Values.{Config}

@@ -1,4 +1,4 @@
--- The forwarder's state as plain values.
+-- The forwarder's state.
 use Rattle.std.specs.Prelude.{ℕ, List}
 use Rattle.suffix_routes.specs.Values.{Config}
 use Rattle.outstanding.specs.Values.{Ask}

@@ -1,4 +1,4 @@
--- Which messages of clients are taken, and the response code that each reply has.
+-- The messages of clients that are taken, and the response code of each reply.
 use Rattle.std.specs.Prelude.{ℕ, Bool, ◌&&◌, not, nat_le, List, length}
 use Rattle.dns_message.specs.Header.{header_in}
 use Rattle.step_values.specs.declared.action.Why.{Why}
@@ -6,11 +6,11 @@ use Rattle.step_values.specs.declared.action.Why.TheVariants.{Answered, BadForma
 use Rattle.step_values.specs.declared.action.Why.TheVariants.{QuestionsFull, InquiriesFull, NoPort, Exhausted, Deadline}
 use Rattle.step_values.specs.declared.action.Why.TheVariants.{ChainLong, TooLarge, Stale, LocalDenied}
 
--- octets of a client are dropped if they are too few or too many, or are themselves a reply
+-- 12 to 65,535 octets, and QR not set
 abbrev pub is_taken : List ℕ → Bool
 is_taken octets = nat_le 12 (length octets) && nat_le (length octets) 65535 && not (header_in octets).qr
 
--- the response code of each reply (RFC 1035 4.1.1)
+-- the response code (RFC 1035 4.1.1)
 abbrev pub rcode_of_why : Why → ℕ
 rcode_of_why Answered = 0
 rcode_of_why BadFormat = 1

@@ -1,4 +1,4 @@
--- Events, actions and steps as plain values.
+-- Events, actions and steps.
 use Rattle.std.specs.Prelude.{ℕ, ◌≤◌, length, Bool, List, [], ◌∷◌, map, Option, Some, None}
 use Rattle.suffix_routes.specs.declared.peer.Peer.{Peer}
 use Rattle.step_values.specs.declared.event.Client.{Client}
@@ -12,8 +12,7 @@ use Rattle.step_values.specs.declared.action.Action.TheVariants.{AskUdp, AskTcp,
 use Rattle.step_values.specs.declared.actions.Listed.{Listed}
 use Rattle.step_values.specs.declared.actions.Listed.TheVariants.{Nothing, One, More}
 
--- an event: a message of a client, a message on a path to a server, the end of such a path, the
--- passing of time, or a restart
+-- a client's message, a message on a path to a server, the end of a path, a tick, or a restart
 pub data Event : Type 0 where
   from_client : Client → List ℕ → Event
   delivery : Path → Peer → List ℕ → Event
@@ -21,8 +20,7 @@ pub data Event : Type 0 where
   tick : Event
   restart : Event
 
--- an action: a query by UDP from a port or by TCP over a connection, the end of either, or a reply
--- to a client
+-- a query from a UDP port or over a TCP connection, the end of either, or a reply to a client
 pub data Action : Type 0 where
   ask_udp : ℕ → Peer → List ℕ → Action
   ask_tcp : ℕ → Peer → List ℕ → Action
@@ -69,13 +67,13 @@ pub record SentAsk : Type 0 where
   pub server : Peer
   pub octets : List ℕ
 
--- a reply that a client gets
+-- a reply that is sent
 pub record SentReply : Type 0 where
   pub client : Client
   pub octets : List ℕ
   pub why : Why
 
--- the client's message of an event, if it is one
+-- the client's message, if the event is one
 abbrev pub request_in : Event → Option Request
 request_in (from_client client octets) = Some (record { client = client; octets = octets })
 request_in (delivery path from octets) = None
@@ -83,7 +81,7 @@ request_in (path_failed path) = None
 request_in tick = None
 request_in restart = None
 
--- the delivery of an event, if it is one
+-- the delivery, if the event is one
 abbrev pub delivery_in : Event → Option Delivered
 delivery_in (delivery path from octets) = Some (record { path = path; from = from; octets = octets })
 delivery_in (from_client client octets) = None
@@ -91,7 +89,7 @@ delivery_in (path_failed path) = None
 delivery_in tick = None
 delivery_in restart = None
 
--- the query that an action sends, if it sends one
+-- the ask that the action sends, if any
 abbrev pub ask_in : Action → Option SentAsk
 ask_in (ask_udp port server octets) = Some (record { path = path.Udp port; server = server; octets = octets })
 ask_in (ask_tcp conn server octets) = Some (record { path = path.Tcp conn; server = server; octets = octets })
@@ -99,7 +97,7 @@ ask_in (close_udp port) = None
 ask_in (close_tcp conn) = None
 ask_in (send_reply client octets why) = None
 
--- the path that an action gives up, if it gives one up
+-- the path that the action gives up, if any
 abbrev pub closed_path_in : Action → Option Path
 closed_path_in (close_udp port) = Some (path.Udp port)
 closed_path_in (close_tcp conn) = Some (path.Tcp conn)
@@ -107,7 +105,7 @@ closed_path_in (ask_udp port server octets) = None
 closed_path_in (ask_tcp conn server octets) = None
 closed_path_in (send_reply client octets why) = None
 
--- the reply that an action sends, if it sends one
+-- the reply that the action sends, if any
 abbrev pub reply_in_action : Action → Option SentReply
 reply_in_action (send_reply client octets why) = Some (record { client = client; octets = octets; why = why })
 reply_in_action (ask_udp port server octets) = None
@@ -137,19 +135,19 @@ action_of (Reply client octets why) = send_reply client octets why
 abbrev pub actions_of : {A : Type 0} → List (OwnedAction A) → List Action
 actions_of actions = map action_of actions
 
--- the input of a step: moment in milliseconds, eight random words, event
+-- a step's input: moment in ms, eight random words, event
 pub record Handed : Type 0 where
   pub now : ℕ
   pub words : List ℕ
   pub event : Event
 
--- the output of a step: actions, offers without memory, and whether more is due
+-- a step's output: actions, number of offers without memory, and whether more is due
 pub record Outcome : Type 0 where
   pub actions : List Action
   pub unkept : ℕ
   pub more : Bool
 
--- a step: its input and its output
+-- its input and its output
 pub record Step : Type 0 where
   pub handed : Handed
   pub outcome : Outcome

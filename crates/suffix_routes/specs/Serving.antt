@@ -5,13 +5,12 @@ use Rattle.suffix_routes.specs.Routes.{route_of, serving, is_denied}
 use Rattle.suffix_routes.specs.declared.routing.Routing.{Routing}
 use Rattle.suffix_routes.specs.declared.routing.Routing.TheVariants as routing
 
--- the place of the route whose servers are asked for a name: that of the configured suffix with the
--- most labels which the name is under, where that route does not deny it
+-- the place of the route with the longest suffix, by labels, that the name is under, unless it
+-- denies
 abbrev pub serving_route_of : Config → List (List ℕ) → Option ℕ
 serving_route_of config name = serving config.routes (route_of config.routes name)
 
--- the route of the name is there, and denies it: the configuration itself answers that there is no
--- such name
+-- the name's route denies it: the configuration itself answers
 abbrev pub is_local : Config → List (List ℕ) → Bool
 is_local config name = is_denied config.routes name
 

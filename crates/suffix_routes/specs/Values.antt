@@ -1,11 +1,11 @@
--- Configurations: plain values, and what holds of each that was accepted.
+-- Configurations, and what holds of accepted ones.
 use Rattle.std.specs.Prelude.{◌≡◌, ℕ, Bool, true, false, ◌≤◌, List, [], ◌∷◌, length}
 use Rattle.std.specs.List.{AllByRecursion}
 use Rattle.dns_name.specs.Labels.{IsName, IsSame}
 use Rattle.suffix_routes.specs.declared.peer.Peer.{Peer}
 use Rattle.suffix_routes.specs.declared.limits.Limits.{Limits}
 
--- a route: suffix, whether it denies, and servers in the order in which they are asked
+-- suffix, whether it denies, and servers in the order in which they are asked
 pub record Route : Type 0 where
   pub suffix : List (List ℕ)
   pub deny : Bool
@@ -58,14 +58,14 @@ abbrev pub AllDiffer : List Route → Type 0
 AllDiffer [] = Unit {0}
 AllDiffer (r ∷ rs) = HasNoSuffix r.suffix rs × AllDiffer rs
 
--- a configuration that was accepted: limits in range, 1 to 64 routes with different suffixes
+-- accepted: limits in range, 1 to 64 well-formed routes, different suffixes
 pub record IsConfig (config : Config) : Type 0 where
   pub limits : AreLimits config.limits
   pub count : IsWithin 1 64 (length config.routes)
   pub each : AllByRecursion IsRoute config.routes
   pub differ : AllDiffer config.routes
 
--- no window for stale answers, and no route that denies: nothing that only the second version has
+-- no window for stale answers, and no route that denies
 pub record HasNeither (config : Config) : Type 0 where
   pub window : config.limits.stale_s ≡ 0
   pub routes : AllByRecursion (λ r. r.deny ≡ false) config.routes

@@ -1,4 +1,4 @@
--- Chains that a history justifies: those of a look-up, and those of an accepted reply.
+-- Chains of look-ups and of accepted replies, as a history justifies them.
 use Rattle.std.specs.Prelude.{◌≡◌, ℕ, ◌≤◌, Bool, true, false, List, [], ◌∷◌, ◌++◌, length, map, Some, ◌⊎◌}
 use Rattle.std.specs.List.{AllByRecursion}
 use Rattle.dns_message.specs.Values.{Question}
@@ -15,33 +15,34 @@ use Rattle.alias_chains.specs.LookingUp.{LookUpEnd, ends, too_long, missed, Look
 use Rattle.alias_chains.specs.Offering.{held_at}
 use Rattle.theorem_cache.specs.Kept.{CanBeTold}
 
--- a step, and what came before it, seen from now
+-- the `Look` of a step, the history before it, and the history up to now
 abbrev pub look_from : Config → Step → List Step → List Step → Look
 look_from c asked before now = record { config = c; asked = asked; before = before; now = now }
 
--- a step that is no restart: it accepts nothing, or carries these pieces
+-- no restart: the step accepts nothing, or carries some pieces
 abbrev pub GoesOn : Config → Step → List Step → Type 0
 GoesOn c s past = (is_restart s ≡ false) × (NothingAccepted c s past ⊎ ((ps : List Piece) × Carries c s past ps))
 
 -- ---- of a look-up
 
--- it can be written at the moment, is justified, and ends the look-up of the question
+-- it can be written at t, is justified, and ends the look-up of q
 abbrev pub IsRightEnd : Look → ℕ → Question → Held → Type 0
 IsRightEnd l t q h = CanBeTold t h × Justified l q.name h × EndsChain q h.piece h.piece.body
 
--- a look-up ends in a justified piece, if it ends in one
+-- the piece that ends the look-up, if any, `IsRightEnd`
 abbrev pub EndsRight : Look → ℕ → Question → LookUpEnd → Type 0
 EndsRight l t q (ends h) = IsRightEnd l t q h
 EndsRight l t q too_long = Unit {0}
 EndsRight l t q missed = Unit {0}
 
--- a look-up that fails by its aliases holds nine, any other at most eight
+-- a look-up that is too long holds nine aliases, any other at most eight
 abbrev pub IsSized : LookUpEnd → ℕ → Type 0
 IsSized (ends h) k = k ≤ 8
 IsSized too_long k = k ≡ 9
 IsSized missed k = k ≤ 8
 
--- its aliases lead from the question to the one that it ends at, and the end is right for that one
+-- its aliases lead from q to what it wants at its end and can be written; the end is right for it;
+-- `IsSized`
 pub record IsRight (l : Look) (t : ℕ) (q : Question) (v : LookUp) : Type 0 where
   pub told : AllByRecursion (CanBeTold t) v.held
   pub follows : FollowsAliases l q v.held v.wanted
@@ -50,8 +51,8 @@ pub record IsRight (l : Look) (t : ℕ) (q : Question) (v : LookUp) : Type 0 whe
 
 -- ---- of a look-up of expired data
 
--- at most `most` aliases that may have expired lead from the question to a set that may have
--- expired too (RFC 8767 5)
+-- at most `most` aliases lead from q to a set; each `JustifiedPastItsEnd` (RFC 8767 5), and all can
+-- be written
 pub record IsRightPast (l : Look) (t : ℕ) (q : Question) (most : ℕ) (chain : List Held) : Type 0 where
   pub aliases : List Held
   pub end : Held
@@ -65,8 +66,7 @@ pub record IsRightPast (l : Look) (t : ℕ) (q : Question) (most : ℕ) (chain :
 
 -- ---- of an accepted reply
 
--- pieces that came at the moment t: aliases that lead on from the question, and the one that ends
--- its look-up
+-- pieces that came at t: aliases from q on, and one that ends the look-up
 pub record LeadToEnd (l : Look) (t : ℕ) (q : Question) (ps : List Piece) : Type 0 where
   pub aliases : List Piece
   pub last : Piece
@@ -76,8 +76,7 @@ pub record LeadToEnd (l : Look) (t : ℕ) (q : Question) (ps : List Piece) : Typ
   pub justified : Justified l to.name (held_at t last)
   pub right_end : EndsChain to last last.body
 
--- pieces that came at the moment t: one to eight aliases that lead on from the question to the same
--- at this name
+-- pieces that came at t: one to eight aliases that lead from q to the same at this name
 pub record LeadOn (l : Look) (t : ℕ) (q : Question) (ps : List Piece) (name : List (List ℕ)) : Type 0 where
   pub some : 1 ≤ length ps
   pub few : length ps ≤ 8

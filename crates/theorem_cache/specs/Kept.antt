@@ -1,4 +1,4 @@
--- How a history explains the entries of the cache, and the answers from it.
+-- How a history explains the cache and its answers.
 use Rattle.std.specs.Prelude.{◌≡◌, ℕ, ◌<◌, ◌≤◌, false, List, [], ◌∷◌, ◌++◌, Some, ◌⊎◌}
 use Rattle.std.specs.List.{AllByRecursion}
 use Rattle.dns_message.specs.Header.{Header}
@@ -26,8 +26,8 @@ use Rattle.step_table.specs.Progress.{IsOnRoute}
 
 -- ---- entries
 
--- an entry: on its route, accepted not after the present moment, carried by a reply of the era with
--- a lifetime, and not replaced since
+-- a writable entry with a lifetime, on its route, accepted by now, carried in the era and not
+-- replaced since
 pub record IsKept (c : Config) (carried : List Held) (moment : ℕ) (h : Held) : Type 0 where
   pub on_route : IsOnRoute c h
   pub earlier : h.accepted ≤ moment
@@ -35,14 +35,13 @@ pub record IsKept (c : Config) (carried : List Held) (moment : ℕ) (h : Held) :
   pub not_replaced : NotReplaced h carried
   pub writable : IsWritable h.piece
 
--- an answer at the moment t can be written from the entry: it is well formed, writable, and came at
--- t or before
+-- the entry is well formed, writable, and came at t or before
 pub record CanBeTold (t : ℕ) (h : Held) : Type 0 where
   pub formed : IsPiece h.piece
   pub writable : IsWritable h.piece
   pub earlier : h.accepted ≤ t
 
--- a piece that can be kept: of its name's route, and it can be written
+-- the piece is well formed, writable, and on its name's route
 pub record CanBeKept (c : Config) (p : Piece) : Type 0 where
   pub formed : IsPiece p
   pub on_route : serving_route_of c p.slot.key ≡ Some p.route
@@ -50,18 +49,18 @@ pub record CanBeKept (c : Config) (p : Piece) : Type 0 where
 
 -- ---- answers
 
--- an answer can repeat the question
+-- an answer can repeat q
 pub record CanBeRepeated (a : Asked) (q : Question) : Type 0 where
   pub question : a.question ≡ Some q
   pub is_question : IsQuestion q
   pub id : a.id < 65536
   pub opcode : a.opcode < 16
 
--- octets that are read as the answer with these sections, or as the same cut to the question
+-- the octets are read as the answer with these sections, or as the same cut to the question
 abbrev pub SpellsSections : List ℕ → Asked → Sections → Type 0
 SpellsSections octets a s = Spells octets (full_answer a s) ⊎ Spells octets (cut_answer a s)
 
--- octets that are read as the answer from this chain, or as the same cut to the question
+-- the same with the sections of this chain
 abbrev pub SpellsAnswer : List ℕ → Asked → List Held → ℕ → Type 0
 SpellsAnswer octets a chain t = SpellsSections octets a (sections_of t chain)
 
@@ -69,7 +68,7 @@ SpellsAnswer octets a chain t = SpellsSections octets a (sections_of t chain)
 abbrev pub looked : Config → ℕ → List Held → Question → LookUp
 looked c t entries q = look_up c.routes t entries most_aliases [] q
 
--- the octets answer the question with what its look-up finds now
+-- the octets answer q with what its look-up finds at t
 pub record IsStillFound (c : Config) (t : ℕ) (entries : List Held) (q : Question) (octets : List ℕ) : Type 0 where
   pub end : Held
   pub ends_so : (looked c t entries q).met ≡ ends end
@@ -79,7 +78,8 @@ pub record IsStillFound (c : Config) (t : ℕ) (entries : List Held) (q : Questi
       (cut_text (asked_in header (Some q)) (looked c t entries q).held end t)
   pub spells : SpellsAnswer octets (asked_in header (Some q)) ((looked c t entries q).held ++ end ∷ []) t
 
--- each answer from cache of this moment, as far back as nothing was accepted, is still found
+-- each answer from cache at moment t of the era, as far back as nothing was accepted, is still
+-- found
 abbrev pub AreStillFound : Config → ℕ → List Held → List Step → Type 0
 AreStillFound c t entries [] = Unit {0}
 AreStillFound c t entries (s ∷ past) =
@@ -87,8 +87,8 @@ AreStillFound c t entries (s ∷ past) =
     → ((q : Question) (octets : List ℕ) → FromCache s q octets → IsStillFound c t entries q octets)
     × AreStillFound c t entries past
 
--- the pieces that were carried explain the cache and the answers from it: its capacity, each entry,
--- and each answer from cache at this moment with nothing accepted since
+-- `AreHeld`, the configured capacity, `IsKept` of each entry, and `AreStillFound` of the answers at
+-- this moment
 pub record IsCached (c : Config) (past : List Step) (moment : ℕ) (cache : Cache) : Type 0 where
   pub carried : List Held
   pub carried_is : CarriedInEra c past carried

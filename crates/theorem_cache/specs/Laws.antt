@@ -1,4 +1,4 @@
--- Statements about the cache and its answers that hold along the table's steps.
+-- Statements about the cache and its answers.
 use Rattle.std.specs.Prelude.{◌≡◌, ℕ, ◌+◌, true, false, length, Bool, List, [], ◌∷◌, ◌++◌, Some}
 use Rattle.std.specs.List.{AllByRecursion}
 use Rattle.dns_message.specs.Values.{Question, Message}
@@ -28,7 +28,7 @@ use Rattle.theorem_cache.specs.Chains.{look_from, GoesOn, IsRight, IsRightPast, 
 
 -- ---- entries
 
--- The cache stays explained by a step that accepts nothing, where each of its answers from cache is
+-- A step of the era that accepts nothing keeps the cache explained, if its answers from cache are
 -- found now.
 abbrev pub QuietStepsKeep : Type 0
 QuietStepsKeep = (c : Config) (past : List Step) (m n : ℕ) (cache : Cache) (s : Step) → IsCached c past m cache
@@ -36,13 +36,13 @@ QuietStepsKeep = (c : Config) (past : List Step) (m n : ℕ) (cache : Cache) (s 
     → ((q : Question) (octets : List ℕ) → FromCache s q octets → IsStillFound c n cache.entries q octets)
     → IsCached c (s ∷ past) n cache
 
--- The cache stays explained by promotions.
+-- Promotions keep the cache explained.
 abbrev pub PromotionsKeep : Type 0
 PromotionsKeep = (c : Config) (past : List Step) (m : ℕ) (cache : Cache) (used : List Slot) → IsCached c past m cache
     → IsCached c past m (record { capacity = cache.capacity; entries = promoted_all used cache.entries })
 
--- The cache stays explained where the pieces of an accepted reply are offered to it, whatever
--- memory there was for them.
+-- Offers of an accepted reply's pieces, if they can be kept, keep the cache explained, whatever
+-- memory there was.
 abbrev pub OffersKeep : Type 0
 OffersKeep = (c : Config) (past : List Step) (m n : ℕ) (cache : Cache) (s : Step) (rooms : List Bool) (ps : List Piece)
     → IsCached c past m cache → m ≡ moment_at past → is_restart s ≡ false → n ≡ moment_at (s ∷ past)
@@ -60,8 +60,7 @@ AcceptedPiecesCanBeKept = (c : Config) (m : Message) (q : Question) (route : ℕ
     → IsQuestion q → serving_route_of c q.name ≡ Some route → is_lame (walk_of c m q route).end ≡ false
     → AllByRecursion (CanBeKept c) ((walk_of c m q route).pieces ++ (walk_of c m q route).authority)
 
--- Where the walk has a last piece, its pieces answer each question of the era that is equal to the
--- one that was asked.
+-- A walk with a last piece answers each question of the era that equals the asked one.
 abbrev pub AcceptedPiecesAnswer : Type 0
 AcceptedPiecesAnswer = (c : Config) (asked s : Step) (before past : List Step) (os : List Held) (m : Message)
     (q other : Question) (route : ℕ) → InEra (asked ∷ before) past → is_restart s ≡ false → CarriedInEra c past os
@@ -69,8 +68,7 @@ AcceptedPiecesAnswer = (c : Config) (asked s : Step) (before past : List Step) (
     → serving_route_of c q.name ≡ Some route → has_last (walk_of c m q route).end ≡ true → IsSameQuestion other q
     → LeadToEnd (look_from c asked before (s ∷ past)) (moment_at (s ∷ past)) other (walk_of c m q route).pieces
 
--- Where the walk leads to a name that it doesn't answer, its pieces are aliases that lead each such
--- question on to that name.
+-- A walk that ends elsewhere leads each such question on to that name, by aliases.
 abbrev pub AcceptedPiecesLeadOn : Type 0
 AcceptedPiecesLeadOn = (c : Config) (asked s : Step) (before past : List Step) (os : List Held) (m : Message)
     (q other : Question) (route : ℕ) (name : List (List ℕ)) → InEra (asked ∷ before) past → is_restart s ≡ false
@@ -81,15 +79,15 @@ AcceptedPiecesLeadOn = (c : Config) (asked s : Step) (before past : List Step) (
 
 -- ---- a look-up
 
--- The look-up of a client's question is justified, in a step that accepts nothing.
+-- A client's look-up is right in a step that accepts nothing.
 abbrev pub LookUpsAreRight : Type 0
 LookUpsAreRight = (c : Config) (past : List Step) (m n : ℕ) (cache : Cache) (s : Step) (q : Question)
     → IsCached c past m cache → m ≡ moment_at past → (is_restart s ≡ false) × NothingAccepted c s past
     → n ≡ moment_at (s ∷ past)
     → IsRight (look_from c s past (s ∷ past)) n q (looked c n cache.entries q)
 
--- A look-up that goes on for a question that waits, with the aliases that it holds, in the cache as
--- it was before the step, is right too, whatever the step accepts.
+-- A waiting question's look-up, which goes on from its aliases in the cache before the step, is
+-- right whatever the step accepts.
 abbrev pub LookUpsThatGoOnAreRight : Type 0
 LookUpsThatGoOnAreRight = (c : Config) (asked s : Step) (before past : List Step) (m n : ℕ) (cache : Cache)
     (q wanted : Question) (held : List Held) (more : ℕ) → IsCached c past m cache → m ≡ moment_at past
@@ -97,8 +95,8 @@ LookUpsThatGoOnAreRight = (c : Config) (asked s : Step) (before past : List Step
     → FollowsAliases (look_from c asked before (s ∷ past)) q held wanted → more + length held ≡ most_aliases
     → IsRight (look_from c asked before (s ∷ past)) n q (look_up c.routes n cache.entries more held wanted)
 
--- The expired data that a look-up finds, in a step that accepts nothing, is justified for each
--- question of the era (RFC 8767 5).
+-- Expired data that is found in a step that accepts nothing is justified for each question of the
+-- era (RFC 8767 5).
 abbrev pub LookUpsPastEndsAreRight : Type 0
 LookUpsPastEndsAreRight = (c : Config) (asked s : Step) (before past : List Step) (m n : ℕ) (cache : Cache)
     (q : Question) (most : ℕ) (chain : List Held) → IsCached c past m cache → m ≡ moment_at past
@@ -108,16 +106,14 @@ LookUpsPastEndsAreRight = (c : Config) (asked s : Step) (before past : List Step
 
 -- ---- answers
 
--- The octets that a client gets from a chain are read as the answer, or as the answer cut to the
--- question.
+-- An answer's octets that fit the transport are read as that answer, or as the same cut.
 abbrev pub AnswersAreSpelled : Type 0
 AnswersAreSpelled = (a : Asked) (q : Question) (t : ℕ) (aliases : List Held) (end : Held) → CanBeRepeated a q
     → AllByRecursion (CanBeTold t) (aliases ++ end ∷ []) → (client : Client)
     → FitsTransport client (sized_for client (answer_text a aliases end t) (cut_text a aliases end t))
     → SpellsAnswer (sized_for client (answer_text a aliases end t) (cut_text a aliases end t)) a (aliases ++ end ∷ []) t
 
--- The octets of an answer with expired data are read as that answer, or as the same cut to the
--- question (RFC 8767 4).
+-- So are those of an answer with expired data (RFC 8767 4).
 abbrev pub StaleAnswersAreSpelled : Type 0
 StaleAnswersAreSpelled = (a : Asked) (q : Question) (t : ℕ) (held past : List Held) (end : Held) → CanBeRepeated a q
     → AllByRecursion (CanBeTold t) (held ++ (past ++ end ∷ [])) → (client : Client)
@@ -126,8 +122,7 @@ StaleAnswersAreSpelled = (a : Asked) (q : Question) (t : ℕ) (held past : List 
     → SpellsSections (sized_for client (full_text a (stale_sections t held past end))
     (short_text a (stale_sections t held past end))) a (stale_sections t held past end)
 
--- The octets of a denial by the configuration are read as its sections, or as the same cut to the
--- question.
+-- So are those of a denial by the configuration.
 abbrev pub LocalAnswersAreSpelled : Type 0
 LocalAnswersAreSpelled = (a : Asked) (q : Question) (t : ℕ) (aliases : List Held) → CanBeRepeated a q
     → AllByRecursion (CanBeTold t) aliases → (client : Client)
@@ -136,8 +131,7 @@ LocalAnswersAreSpelled = (a : Asked) (q : Question) (t : ℕ) (aliases : List He
     → SpellsSections (sized_for client (full_text a (denied_sections t aliases))
     (short_text a (denied_sections t aliases))) a (denied_sections t aliases)
 
--- An answer from cache has the sections of each earlier one to an equal question at its moment,
--- back to the last accepted reply.
+-- Equal questions at one moment get the same sections from cache, with nothing accepted in between.
 abbrev pub AnswersFromCacheAgree : Type 0
 AnswersFromCacheAgree = (c : Config) (past : List Step) (m n : ℕ) (cache : Cache) (q : Question) (octets : List ℕ)
     → IsCached c past m cache → m ≡ moment_at past → IsStillFound c n cache.entries q octets
@@ -151,7 +145,7 @@ PromotionsFindTheSame = (c : Config) (past : List Step) (m n : ℕ) (cache : Cac
 
 -- ---- aliases that are held
 
--- Aliases that lead on lead on a step later too.
+-- Aliases that lead on still do after one more step of the era.
 abbrev pub LeadsStayLeads : Type 0
 LeadsStayLeads = (c : Config) (asked s : Step) (before now : List Step) (q : Question) (held : List Held)
     (last : Question) → GoesOn c s now → Leads (look_from c asked before now) q held last

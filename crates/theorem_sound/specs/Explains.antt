@@ -1,4 +1,4 @@
--- A history explains the state of a forwarder.
+-- When a history explains a forwarder's state.
 use Rattle.std.specs.Prelude.{◌≡◌, ℕ, suc, ◌<◌, ◌≤◌, true, false, List, ◌∷◌, length, map, Some}
 use Rattle.std.specs.List.{concat, AllByRecursion}
 use Rattle.dns_message.specs.Writing.{written}
@@ -32,7 +32,8 @@ use Rattle.step_table.specs.Progress.{ArePreferred, IsBelow}
 abbrev pub shown : Ask → ShownAsk
 shown a = record { path = a.path; server = a.peer; octets = written (ask_message a.id a.question); moment = a.asked }
 
--- the step with this number is a client's message, with a question that is to be answered
+-- step i of the era took this client's message: opcode 0, one question of a served type and class;
+-- a is what its answer repeats
 pub record Comes (now : List Step) (client : Client) (a : Asked) (i : ℕ) : Type 0 where
   pub asked : Step
   pub before : List Step
@@ -48,16 +49,16 @@ pub record Comes (now : List Step) (client : Client) (a : Asked) (i : ℕ) : Typ
   pub opcode : (header_in request).opcode ≡ 0
   pub served : is_unserved question ≡ false
 
--- the step with this number asked the question that waits; the aliases that it holds lead to the
--- question that it now wants, and can be written
+-- step i brought the waiting question, at its moment; the aliases that it holds lead to what it
+-- wants, and can be written
 pub record Waits (c : Config) (now : List Step) (x : Waiting) (i : ℕ) : Type 0 where
   pub comes : Comes now x.client x.asked i
   pub moment : x.taken ≡ moment_at (comes.asked ∷ comes.before)
   pub leads : Leads (look_from c comes.asked comes.before now) comes.question x.held x.wanted
   pub told : AllByRecursion (CanBeTold (moment_at now)) x.held
 
--- the text of a listed ask reads as its question, on its route; it went to the server at its place
--- in the group; the tries before it, one fewer than those used, failed
+-- the listed ask's text has its question and identifier; its server is at its place on the name's
+-- route; the tries before it failed
 pub record Tried (c : Config) (now : List Step) (a : Ask) : Type 0 where
   pub question : IsQuestion a.question
   pub reads : Reads (written (ask_message a.id a.question)) a.question
@@ -68,7 +69,7 @@ pub record Tried (c : Config) (now : List Step) (a : Ask) : Type 0 where
   pub used : a.used ≡ suc before
   pub failed : LastFailed c a.question now before
 
--- the history with its owners explains the state, and is sound
+-- the history, which is sound, explains the state with its owners
 pub record Explains (c : Config) (past : List Step) (w : List (List ℕ)) (s : State) : Type 0 where
   pub config : IsConfig c
   pub sound : Sound c past w

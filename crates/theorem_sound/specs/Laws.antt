@@ -1,4 +1,4 @@
--- The theorem, as statements over plain values.
+-- The theorem.
 use Rattle.std.specs.Prelude.{List, [], reverse}
 use Rattle.suffix_routes.specs.Values.{Config, IsConfig}
 use Rattle.step_values.specs.Values.{Handed, Outcome, Step}
@@ -9,8 +9,7 @@ use Rattle.step_table.specs.Row.{Row}
 use Rattle.theorem_sound.specs.Explains.{Explains}
 use Rattle.theorem_sound.specs.Runs.{Run, IsSound, StaysExplained}
 
--- A history that explains the state before a row explains, with its step and owners for its
--- replies, the state after it.
+-- Each row keeps the state explained: `StaysExplained`.
 abbrev pub RowsKeepWhatExplains : Type 0
 RowsKeepWhatExplains = (c : Config) (s : State) (h : Handed) (o : Outcome) (s' : State) → Row c s h o s'
     → StaysExplained c s h o s'
@@ -19,7 +18,7 @@ RowsKeepWhatExplains = (c : Config) (s : State) (h : Handed) (o : Outcome) (s' :
 abbrev pub NothingExplainsAStart : Type 0
 NothingExplainsAStart = (c : Config) → IsConfig c → Explains c [] [] (start c)
 
--- The steps of a run, the oldest first, are sound, and ask well.
+-- Each run from a new forwarder is sound and asks well.
 abbrev pub RunsAreSound : Type 0
 RunsAreSound = (c : Config) (steps : List Step) (s : State) → IsConfig c → Run c (start c) steps s → IsSound c steps
     × AsksWell c (reverse steps)

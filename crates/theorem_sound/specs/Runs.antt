@@ -9,24 +9,24 @@ use Rattle.step_table.specs.State.{State}
 use Rattle.step_table.specs.Row.{Row}
 use Rattle.theorem_sound.specs.Explains.{Explains}
 
--- these steps, the oldest first, are rows one after another
+-- these steps are rows one after another, the oldest first, from s to s'
 abbrev pub Run : Config → State → List Step → State → Type 0
 Run c s [] s' = s' ≡ s
 Run c s (t ∷ steps) s' = (mid : State) × Row c s t.handed t.outcome mid × Run c mid steps s'
 
--- Some owners make these steps, the oldest first, sound; with them each step says whether more is
--- due, and the questions that own no reply are no more than may wait.
+-- With some owners these steps, the oldest first, are `Sound` and say what is due. No more
+-- questions lack a reply than may wait.
 pub record IsSound (c : Config) (steps : List Step) : Type 0 where
   pub owners : List (List ℕ)
   pub sound : Sound c (reverse steps) owners
   pub tells : TellsMore c (reverse steps) owners
   pub few : length (unanswered (reverse steps) (concat owners)) ≤ c.limits.questions
 
--- some owners explain the state by these steps, the oldest first
+-- these steps, the oldest first, explain s for some owners
 abbrev pub IsExplained : Config → List Step → State → Type 0
 IsExplained c steps s = (w : List (List ℕ)) × Explains c (reverse steps) w s
 
--- a history that explains the state before the step explains, with the step, the state after it
+-- a history that explains s, with this step added, explains s' for some owners
 abbrev pub StaysExplained : Config → State → Handed → Outcome → State → Type 0
 StaysExplained c s h o s' = (past : List Step) (w : List (List ℕ)) → Explains c past w s → (owners : List ℕ)
     × Explains c (record { handed = h; outcome = o } ∷ past) (owners ∷ w) s'

@@ -1,5 +1,4 @@
--- Claims about whom asks serve: each waiting question wants what a listed ask asks, and nothing
--- else is asked.
+-- Claims about whom asks serve.
 use Rattle.std.specs.Prelude.{◌≡◌, ℕ, true, List, [], ◌∷◌, length, ◌⊎◌}
 use Rattle.std.specs.List.{concat, AllByRecursion}
 use Rattle.dns_message.specs.Questions.{same_question}
@@ -20,8 +19,8 @@ abbrev pub AnyByRecursion : {X : Type 0} → (X → Type 0) → List X → Type 
 AnyByRecursion P [] = ⊥
 AnyByRecursion P (x ∷ xs) = P x ⊎ AnyByRecursion P xs
 
--- The step with this number was a client's message with a question, from which at most eight
--- justified aliases lead to the one that it wants now (RFC 1034 3.6.2): without aliases, to itself.
+-- step i of the era brought a question from which at most eight justified aliases lead to `wanted`
+-- (RFC 1034 3.6.2)
 pub record Wants (c : Config) (now : List Step) (i : ℕ) (wanted : Question) : Type 0 where
   pub asked : Step
   pub before : List Step
@@ -35,7 +34,7 @@ pub record Wants (c : Config) (now : List Step) (i : ℕ) (wanted : Question) : 
   pub aliases : List Held
   pub leads : Leads (record { config = c; asked = asked; before = before; now = now }) question aliases wanted
 
--- each question that waits wants this, in their order
+-- each of these steps wants its question: `Wants`, in order
 abbrev pub EachWants : Config → List Step → List ℕ → List Question → Type 0
 EachWants c now [] [] = Unit {0}
 EachWants c now [] (q ∷ wanted) = ⊥
@@ -48,33 +47,31 @@ pub record Asks (a : ShownAsk) (wanted : Question) : Type 0 where
   pub reads : Reads a.octets question
   pub same : same_question wanted question ≡ true
 
--- the ask was listed before the newest step, as it is
+-- the same ask was listed before the newest step
 abbrev pub WasListed : List Step → ShownAsk → Type 0
 WasListed past a = AnyByRecursion (λ b. b ≡ a) (listed past)
 
--- an ask for this opens an inquiry: the step closed none that failed for it, and a question that
--- waits wants it, in this spelling
+-- an ask for q opens an inquiry: the step failed no ask for q, and a waiting question wants q, in
+-- this spelling
 pub record OpensInquiry (c : Config) (s : Step) (past : List Step) (wanted : List Question) (q : Question) : Type 0
   where
     pub anew : ClosesAsk q s past → NothingAccepted c s past → ⊥
     pub spelled : AnyByRecursion (λ w. w ≡ q) wanted
 
--- an ask for this follows a failed one: the step closed one for it, in this spelling, and accepted
--- nothing
+-- an ask for q follows a failed one: the step closed one, in this spelling, and accepted nothing
 pub record FollowsFailed (c : Config) (s : Step) (past : List Step) (q : Question) : Type 0 where
   pub closes : ClosesAsk q s past
   pub failed : NothingAccepted c s past
   pub spelled : closes.asked ≡ q
 
--- an ask of the step has the spelling of the wanted question where it opens an inquiry, and that of
--- the failed ask where it follows one
+-- `OpensInquiry` or `FollowsFailed` holds of the ask's question
 pub record IsSpelled (c : Config) (s : Step) (past : List Step) (wanted : List Question) (a : ShownAsk) : Type 0 where
   pub question : Question
   pub reads : Reads a.octets question
   pub from : OpensInquiry c s past wanted question ⊎ FollowsFailed c s past question
 
--- After the newest step each question that waits wants what a listed ask asks, and each listed ask
--- is wanted by one; and each that was not listed before is spelled as `IsSpelled` says.
+-- After step s each waiting question wants what a listed ask asks, and each listed ask is wanted.
+-- Each new one `IsSpelled`.
 pub record AsksForWaiting (c : Config) (s : Step) (past : List Step) (owners : List ℕ) : Type 0 where
   pub wanted : List Question
   pub each : EachWants c (s ∷ past) (unanswered (s ∷ past) owners) wanted
@@ -82,15 +79,14 @@ pub record AsksForWaiting (c : Config) (s : Step) (past : List Step) (owners : L
   pub wanting : AllByRecursion (λ a. AnyByRecursion (Asks a) wanted) (listed (s ∷ past))
   pub spelled : AllByRecursion (λ a. WasListed past a ⊎ IsSpelled c s past wanted a) (listed (s ∷ past))
 
--- `AsksForWaiting` holds after every step. w has for each step, the newest first, the owners of its
--- replies.
+-- `AsksForWaiting` after every step; w has the owners of each step's replies, the newest step first
 abbrev pub AsksForThoseWhoWait : Config → List Step → List (List ℕ) → Type 0
 AsksForThoseWhoWait c [] w = Unit {0}
 AsksForThoseWhoWait c (s ∷ past) [] = ⊥
 AsksForThoseWhoWait c (s ∷ past) (is ∷ w) =
     AsksForThoseWhoWait c past w × AsksForWaiting c s past (concat (is ∷ w))
 
--- each of these waits for one of those asks, and one of them for each ask
+-- each waits for one of the asks, and each ask has one that waits for it
 pub record AreServed (asks : List Ask) (waiting : List Waiting) : Type 0 where
   pub asked : AllByRecursion (λ x. AnyByRecursion (λ a. waits_for a.question x ≡ true) asks) waiting
   pub wanting : AllByRecursion (λ a. AnyByRecursion (λ x. waits_for a.question x ≡ true) waiting) asks

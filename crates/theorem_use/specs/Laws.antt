@@ -1,4 +1,4 @@
--- Statements about use and service, over plain values.
+-- Statements about use and service.
 use Rattle.std.specs.Prelude.{List, []}
 use Rattle.suffix_routes.specs.Values.{Config, IsConfig}
 use Rattle.step_values.specs.Values.{Handed, Outcome, Step}
@@ -8,8 +8,7 @@ use Rattle.step_table.specs.Row.{Row}
 use Rattle.theorem_use.specs.Mirrors.{FullyExplains, StaysFullyExplained}
 use Rattle.theorem_use.specs.Service.{ServesTruly, ComesTo}
 
--- A history that fully explains the state before a row fully explains, with its step and owners for
--- its replies, the state after it.
+-- Each row keeps the state fully explained: `StaysFullyExplained`.
 abbrev pub RowsKeepWhatFullyExplains : Type 0
 RowsKeepWhatFullyExplains = (c : Config) (s : State) (h : Handed) (o : Outcome) (s' : State) → Row c s h o s'
     → StaysFullyExplained c s h o s'
@@ -18,6 +17,6 @@ RowsKeepWhatFullyExplains = (c : Config) (s : State) (h : Handed) (o : Outcome) 
 abbrev pub NothingFullyExplainsAStart : Type 0
 NothingFullyExplainsAStart = (c : Config) → IsConfig c → FullyExplains c [] [] (start c)
 
--- The steps of a run from a new forwarder, the oldest first, serve truly.
+-- Each run from a new forwarder serves truly.
 abbrev pub RunsServeTruly : Type 0
 RunsServeTruly = (c : Config) (steps : List Step) (s : State) → ComesTo c steps s → ServesTruly c steps

@@ -12,29 +12,27 @@ use Rattle.theorem_use.specs.Standing.{standing}
 use Rattle.theorem_use.specs.Use.{HasRoom, UsesWhatStands}
 use Rattle.theorem_use.specs.Asking.{AreServed, AsksForThoseWhoWait}
 
--- the entries were carried, and from the moment n on the living ones are those that stand
+-- the entries were carried; at each moment from n on, the living ones are those that stand
 pub record Mirrors (n : ℕ) (carried entries : List Held) : Type 0 where
   pub was_carried : (h : Held) → Among h entries → Among h carried
   pub stands : (m : ℕ) → n ≤ m → (h : Held) → Among h entries → is_alive m h ≡ true → Among h (standing m carried)
   pub held : (m : ℕ) → n ≤ m → (h : Held) → Among h (standing m carried) → Among h entries
 
--- where the cache has room for all that the era carried, its entries mirror what stands; and each
--- step used what stands, with the owners w of its replies
+-- With room for all that the era carried, the entries mirror what stands. Each step used what
+-- stood.
 pub record IsMirrored (c : Config) (past : List Step) (w : List (List ℕ)) (s : State) : Type 0 where
   pub mirrors : (carried : List Held) → CarriedInEra c past carried → HasRoom c past carried
       → Mirrors s.moment carried s.cache.entries
   pub uses : UsesWhatStands c past w
 
--- with these owners the history explains the state, and the entries mirror what stands; those who
--- wait in the state and its asks serve each other, and so they did after each step
+-- `Explains`, `IsMirrored`, `AreServed` and `AsksForThoseWhoWait`, with the same owners
 pub record FullyExplains (c : Config) (past : List Step) (w : List (List ℕ)) (s : State) : Type 0 where
   pub explained : Explains c past w s
   pub mirrored : IsMirrored c past w s
   pub served : AreServed s.asks s.waiting
   pub asked : AsksForThoseWhoWait c past w
 
--- a history that fully explains the state before a step does so, with the step and owners of its
--- replies, after it
+-- a history that fully explains s, with this step added, fully explains s' for some owners
 abbrev pub StaysFullyExplained : Config → State → Handed → Outcome → State → Type 0
 StaysFullyExplained c s h o s' =
     (past : List Step) (w : List (List ℕ)) → FullyExplains c past w s

@@ -1,4 +1,4 @@
--- The headline: one record of all that is claimed of a run.
+-- All that is claimed of a run, in one record.
 use Rattle.std.specs.Prelude.{List, ◌++◌, reverse}
 use Rattle.suffix_routes.specs.Values.{Config, IsConfig}
 use Rattle.step_values.specs.Values.{Step}
@@ -9,7 +9,7 @@ use Rattle.theorem_sound.specs.Runs.{Run, IsSound}
 use Rattle.theorem_use.specs.Use.{UsesWhatStands}
 use Rattle.theorem_use.specs.Asking.{AsksForThoseWhoWait}
 
--- These steps, the oldest first, serve truly.
+-- the four claims hold of these steps, the oldest first
 pub record ServesTruly (c : Config) (steps : List Step) : Type 0 where
   -- For some owners, each once: each reply is right for the question that owns it. A reply with an
   -- answer is of one of three kinds.
@@ -37,12 +37,11 @@ pub record ServesTruly (c : Config) (steps : List Step) : Type 0 where
   -- where the cache has room: by one reply, which that question owns, with the same owners.
   pub uses : UsesWhatStands c (reverse steps) sound.owners
 
--- a new forwarder whose configuration was accepted comes by these steps, the oldest first, to this
--- state
+-- these steps, the oldest first, lead from a new forwarder with an accepted configuration to s
 pub record ComesTo (c : Config) (steps : List Step) (s : State) : Type 0 where
   pub config : IsConfig c
   pub run : Run c (start c) steps s
 
--- after whatever steps led a new forwarder to the state before, these steps serve truly
+-- whatever steps led a new forwarder to s: those and then these serve truly
 abbrev pub ServesOnTruly : Config → State → List Step → Type 0
 ServesOnTruly c s more = (steps : List Step) → ComesTo c steps s → ServesTruly c (steps ++ more)

@@ -1,5 +1,4 @@
--- Claims about the use of the pieces that replies carried: a question is answered at once where
--- enough stands for it.
+-- Claims that a question is answered at once if enough stands for it.
 use Rattle.std.specs.Prelude.{◌≡◌, ℕ, zero, suc, ◌≤◌, true, false, List, [], ◌∷◌, length, Option, None, Some, ◌⊎◌}
 use Rattle.std.specs.List.{concat, AllByRecursion}
 use Rattle.dns_message.specs.Header.{header_in}
@@ -29,26 +28,26 @@ abbrev pub IsOneOf : Slot → List Slot → Type 0
 IsOneOf slot [] = ⊥
 IsOneOf slot (s ∷ slots) = (s ≡ slot) ⊎ IsOneOf slot slots
 
--- the pieces that were carried are of at most `most` different slots
+-- the carried pieces are of at most `most` slots
 pub record HasFewSlots (most : ℕ) (carried : List Held) : Type 0 where
   pub slots : List Slot
   pub few : length slots ≤ most
   pub each : AllByRecursion (λ o. IsOneOf o.piece.slot slots) carried
 
--- no step of the newest step's era found too little memory for an entry
+-- no step of the era was out of memory for an entry
 abbrev pub FoundMemory : List Step → Type 0
 FoundMemory [] = Unit {0}
 FoundMemory (s ∷ past) = (is_restart s ≡ true) ⊎ ((s.outcome.unkept ≡ 0) × FoundMemory past)
 
--- the cache has room for all that the era carried, and there was memory for it
+-- there is room in the cache, and there was memory, for all that the era carried
 pub record HasRoom (c : Config) (past : List Step) (carried : List Held) : Type 0 where
   pub slots : HasFewSlots c.limits.cache carried
   pub memory : FoundMemory past
 
 -- ---- a question
 
--- the step is a client's message that is not dropped, with opcode 0 and one question of a type and
--- class that are served: the question is to be looked up
+-- a client's message that is not dropped: opcode 0, and one question whose type, class and name are
+-- served
 pub record AsksToLookUp (c : Config) (s : Step) (client : Client) (q : Question) : Type 0 where
   pub octets : List ℕ
   pub sends : Sends s.handed.event client octets
@@ -59,7 +58,7 @@ pub record AsksToLookUp (c : Config) (s : Step) (client : Client) (q : Question)
   pub route : ℕ
   pub on_route : serving_route_of c q.name ≡ Some route
 
--- an alias whose one record has a name as its data leads to that name
+-- there is a target name, and `onward` holds of it
 abbrev pub AtTarget : (List (List ℕ) → Type 0) → Option (List (List ℕ)) → Type 0
 AtTarget onward None = ⊥
 AtTarget onward (Some name) = onward name
@@ -73,20 +72,19 @@ EndsOrLeadsOn onward (no_data h) = Unit {0}
 EndsOrLeadsOn onward (denied h) = Unit {0}
 EndsOrLeadsOn onward miss = ⊥
 
--- the pieces that stand answer the question, after at most this many aliases
+-- the pieces that stand answer the question after at most this number of aliases
 abbrev pub LeadsToEnd : List Route → ℕ → List Held → ℕ → Question → Type 0
 LeadsToEnd routes n stood zero q = EndsOrLeadsOn (λ name. ⊥) (found routes n stood q)
 LeadsToEnd routes n stood (suc more) q =
     EndsOrLeadsOn (λ name. LeadsToEnd routes n stood more (asked_at q name)) (found routes n stood q)
 
--- at the step's moment, the pieces that stand answer the question, after at most eight aliases;
--- this is no look-up of the table (`look_up_ends` says how they agree)
+-- At the step's moment the pieces that stand answer q after at most eight aliases. `look_up_ends`
+-- relates this to the table's look-up.
 abbrev pub IsKnown : Config → Step → List Step → List Held → Question → Type 0
 IsKnown c s past carried q = LeadsToEnd c.routes (moment_at (s ∷ past)) (standing (moment_at (s ∷ past)) carried) 8 q
 
--- The only action is one reply, which the step's own question owns, and for which it is right; a
--- failure says that the answer is too large for TCP (RFC 1035 4.2.2). `owners` own the replies
--- before it, `is` those of the step.
+-- The only action is the right reply to the step's own question: `Answered`, or `TooLarge` (RFC
+-- 1035 4.2.2). `owners` own the replies before it, `is` those of the step.
 pub record AnswersAtOnce (c : Config) (s : Step) (past : List Step) (owners is : List ℕ) (client : Client)
     (request : List ℕ)
     : Type 0 where
@@ -98,8 +96,8 @@ pub record AnswersAtOnce (c : Config) (s : Step) (past : List Step) (owners is :
   pub right : RightReply (record { config = c; asked = s; before = past; now = s ∷ past }) client request
       (length (unanswered past owners)) why octets
 
--- Each question for which enough stands is answered at once, where the cache has room for all that
--- its era carried. w has for each step, the newest first, the owners of its replies.
+-- each question that `IsKnown` is answered at once if the cache `HasRoom`; w as in
+-- `AsksForThoseWhoWait`
 abbrev pub UsesWhatStands : Config → List Step → List (List ℕ) → Type 0
 UsesWhatStands c [] w = Unit {0}
 UsesWhatStands c (s ∷ past) [] = ⊥

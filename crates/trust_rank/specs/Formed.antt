@@ -28,9 +28,8 @@ FitsKind None (rows each) = ⊥
 FitsKind None (no_data soa) = ⊥
 FitsKind (Some kind) (denied soa) = ⊥
 
--- the slot is of the owner; a denial of a whole name, and that alone, has no type; a set is not
--- empty; a denial's record is an SOA; data is of its type's shape; and no lifetime is longer than a
--- week
+-- The slot is the owner's; a name error, and nothing else, has no type. A set is not empty, a
+-- denial's record is an SOA, data has its type's shape, and the lifetime is a week at most.
 pub record IsPiece (p : Piece) : Type 0 where
   pub key : p.slot.key ≡ lowered p.owner
   pub body : FitsKind p.slot.kind p.body

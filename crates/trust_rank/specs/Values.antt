@@ -1,4 +1,4 @@
--- The pieces of one reply as plain values.
+-- The pieces of one reply.
 use Rattle.std.specs.Prelude.{ℕ, Bool, List, Option, Some, None, Box}
 use Rattle.dns_message.specs.Values.{Question, Record, Message}
 use Rattle.suffix_routes.specs.Values.{Config}
@@ -8,7 +8,7 @@ use Rattle.trust_rank.specs.declared.piece.Body.TheVariants.{Rows, NoData, Denie
 use Rattle.trust_rank.specs.declared.walk.End.{End as OwnedEnd}
 use Rattle.trust_rank.specs.declared.walk.End.TheVariants as ends
 
--- the data of a record set, or the SOA of a denial: of one type (NODATA), or of the whole name
+-- a set's data, or the SOA, if any, of a denial: of one type (NODATA), or of the whole name
 -- (NXDOMAIN) (RFC 2308 2)
 pub data Body : Type 0 where
   rows : List (List ℕ) → Body
@@ -32,7 +32,7 @@ pub data End : Type 0 where
   elsewhere : List (List ℕ) → End
   lame : End
 
--- the pieces in the order of the walk, the name servers of the authority section, and the end
+-- its pieces in order, the name servers of the authority section, and its end
 pub record Walk : Type 0 where
   pub pieces : List Piece
   pub authority : List Piece

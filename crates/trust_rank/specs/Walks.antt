@@ -59,7 +59,7 @@ has_many (rows each) = nat_lt 1 (length each)
 has_many (no_data soa) = false
 has_many (denied soa) = false
 
--- the name that an alias leads to: that of its one record
+-- the name that an alias's one record leads to
 abbrev pub target_of : Body → Option (List (List ℕ))
 target_of (rows []) = None
 target_of (rows (octets ∷ [])) = name_of_rdata octets
@@ -138,7 +138,7 @@ met_of owned.Lame = met_lame
 
 -- ---- the walk
 
--- no walk takes more aliases; that bound is of this project
+-- the most aliases that a walk takes, a bound of this project
 abbrev pub most_aliases : ℕ
 most_aliases = 8
 
@@ -221,8 +221,7 @@ with_servers r w =
     then record { pieces = w.pieces; authority = servers_from r w.pieces r.authority; end = w.end }
     else w
 
--- what a message carries as the reply to a question that was asked on a route, and how its walk
--- ends
+-- a message's walk, as the reply to a question asked on this route
 abbrev pub walk_of : Config → Message → Question → ℕ → Walk
 walk_of c m q route = with_servers (reply_of c m q route) (walk_from (reply_of c m q route) most_aliases true q.name)
 

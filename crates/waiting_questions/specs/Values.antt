@@ -1,4 +1,4 @@
--- A question that waits, and what callers see of all that do.
+-- Waiting questions.
 use Rattle.std.specs.Prelude.{ℕ, Bool, List}
 use Rattle.dns_message.specs.Values.{Question}
 use Rattle.dns_message.specs.Questions.{same_question}
@@ -6,8 +6,8 @@ use Rattle.record_cache.specs.Values.{Held}
 use Rattle.answer_builder.specs.Values.{Asked}
 use Rattle.step_values.specs.declared.event.Client.{Client}
 
--- a question that waits: what its answer repeats of it, the aliases that it holds, and what it
--- wants to know now, which is its own question or the same at the name that its aliases lead to
+-- a waiting question: what its answer repeats of it, the aliases that it holds, and what it wants
+-- now
 pub record Waiting : Type 0 where
   pub client : Client
   pub asked : Asked
@@ -15,7 +15,7 @@ pub record Waiting : Type 0 where
   pub held : List Held
   pub wanted : Question
 
--- the waiting question wants q
+-- it wants q
 abbrev pub waits_for : Question → Waiting → Bool
 waits_for q x = same_question x.wanted q
 
