@@ -226,3 +226,22 @@ def events_that_find_no_memory_are_counted(program):
         expect((words[:3], told, forwarder.process.returncode), ([b"turns", b"1500", b"lost"], b"", 0))
         if int(words[3]) == 0:
             raise AssertionError("none was lost")
+
+
+@case
+def a_stream_that_finds_no_memory_ends_the_service(program):
+    """Clients that begin messages of 65,535 octets use up the memory that is left: it ends with status 4."""
+    server = Server()
+    with Forwarder(program, [server.port], descriptors=4096) as forwarder:
+        forwarder.is_well()
+        room = has_memory(forwarder.process.pid) + 4_000_000
+        resource.prlimit(forwarder.process.pid, resource.RLIMIT_AS, (room, room))
+        clients = []
+        for _ in range(500):
+            try:
+                clients.append(forwarder.tcp())
+                clients[-1].sendall(b"\xff\xff" + bytes(60000))
+            except OSError:
+                break
+        printed, told = forwarder.process.communicate(timeout=30)
+        expect((printed, told, forwarder.process.returncode), (b"", b"memory\n", 4))

@@ -157,8 +157,8 @@ fn on_verdict<'a, 's, H: BuildHasher + Drop, A: Allocator + Copy>(
 }
 
 /// Decides a delivery on a path to a server. Nothing where no ask on the path is live, or the
-/// octets are not its reply. `Err` where memory ran out. Out of line: inlined, its tables for
-/// reading a reply would be on the stack of each client's question.
+/// octets are not its reply. `Err` where memory ran out. Out of line: inlined, what it may hold
+/// would be on the stack of each client's question.
 #[inline(never)]
 pub fn on_delivery<'a, 's, H: BuildHasher + Drop, A: Allocator + Copy>(
     turn: &TurnRef<'a, H, A>,
