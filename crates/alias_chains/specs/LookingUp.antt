@@ -16,8 +16,7 @@ pub data LookUpEnd : Type 0 where
   too_long : LookUpEnd
   missed : LookUpEnd
 
--- the aliases held at its end, the question wanted then, its end, and the slots that it used, in
--- order
+-- the aliases held at its end, the question wanted then, its end, and the slots used, in order
 pub record LookUp : Type 0 where
   pub held : List Held
   pub wanted : Question

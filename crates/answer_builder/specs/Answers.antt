@@ -74,7 +74,7 @@ last_of t (other ∷ chain) = last_of other chain
 abbrev pub authority_of : Told → List Record
 authority_of t = soa_records t.seconds t.piece.body
 
--- the aliases in order and the set as answers; the SOA of a denial at the end as authority
+-- aliases and set as answers, in order; the SOA of a denial at the end as authority
 abbrev pub sections_told : List Told → Sections
 sections_told [] = record { answers = []; authority = []; rcode = 0 }
 sections_told (t ∷ chain) = record {

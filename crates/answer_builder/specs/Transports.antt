@@ -31,7 +31,7 @@ text_of a s transport = sent_over transport (written (full_answer a s)) (written
 abbrev pub answer_of : Asked → List Held → ℕ → Transport → Result (List ℕ) Fault
 answer_of a chain moment transport = text_of a (sections_of moment chain) transport
 
--- the same, where expired pieces from index `past` on get 30 seconds (RFC 8767 4), and 0 before
+-- the same with expired pieces from index `past` on at 30 seconds (RFC 8767 4), and 0 before
 abbrev pub stale_answer_of : Asked → List Held → ℕ → ℕ → Transport → Result (List ℕ) Fault
 stale_answer_of a chain past moment transport = text_of a (sections_told (told_stale past moment chain)) transport
 

@@ -22,7 +22,7 @@ command_by word count =
 abbrev pub IsOfOctets : ConfigValue → Type 0
 IsOfOctets config = (octets : List ℕ) × IsReadIn octets (Ok config)
 
--- a file can't be read, memory ran out, or some octets are refused for this
+-- a file can't be read, memory ran out, or octets are refused for this
 abbrev pub IsFaultOfFile : ReplayFault → Type 0
 IsFaultOfFile fault = IsOfStream fault ⊎ ((octets : List ℕ) × IsFaultOf octets fault)
 
@@ -36,7 +36,7 @@ abbrev pub IsFaultOfCheck : Fault → Type 0
 IsFaultOfCheck Usage = ⊥
 IsFaultOfCheck (Stopped fault) = IsFaultOfFile fault
 
--- a fault of `serve`: of its file, or `Usage` for its number of turns
+-- a fault of `serve`: of its file, or `Usage` for its turns
 abbrev pub IsFaultOfServe : Fault → Type 0
 IsFaultOfServe Usage = Unit {0}
 IsFaultOfServe (Stopped fault) = IsFaultOfFile fault

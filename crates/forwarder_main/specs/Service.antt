@@ -19,7 +19,7 @@ pub record IsWireOf (config : Config) (wire : SeenWire) : Type 0 where
   pub faults : wire.faults ≡ 0
   pub deadline : wire.deadline ≡ config.limits.deadline_ms
 
--- `turns` turns are served, and one line with the counts of turns and lost events is appended
+-- `turns` turns are served, and a line with the counts of turns and lost events is appended
 pub record ServesAndTells (before : Running) (told_before : Telling) (turns : ℕ) (after : Running)
     (told_after : Telling) (held held' : Option (List ℕ)) : Type 0 where
   pub counts : Served

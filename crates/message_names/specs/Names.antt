@@ -20,7 +20,8 @@ abbrev pub target : List ℕ → ℕ → ℕ
 target bytes o = (slice_index bytes o - 192) * 256 + slice_index bytes (o + 1)
 
 -- The run of labels began at f, and from o on the name goes on with these labels, and ends before
--- e.
+-- e. A zero octet ends the name, one of 1 to 63 begins a label of that length. One of 192 or more
+-- begins a pointer of two octets to before f, where a new run begins (RFC 1035 4.1.4).
 pub data NameAt (bytes : List ℕ) : ℕ → ℕ → List (List ℕ) → ℕ → Type 0 where
   at_root : {o f e : ℕ} → o < length bytes → slice_index bytes o ≡ 0 → e ≡ o + 1 → NameAt bytes o f [] e
   at_label : {o f e : ℕ} {l : List ℕ} {ls : List (List ℕ)} → 0 < slice_index bytes o → slice_index bytes o < 64

@@ -14,7 +14,7 @@ use Rattle.message_reading.specs.Records.{QuestionAt, RecordAt, InRow, question_
 
 -- ---- what a message is
 
--- the header, then the questions and records that it counts; what follows them is free
+-- the header, then the questions and records that it counts; the rest is free
 pub record Spells (bytes : List ℕ) (message : Message) : Type 0 where
   pub header : header_of bytes ≡ Some message.header
   pub counts : message.header.counts ≡ length message.questions ∷ length message.answers ∷ length message.authority

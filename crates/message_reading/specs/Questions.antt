@@ -25,7 +25,7 @@ one_question octets = if slice_index (header_in octets).counts 0 == 1 then quest
 abbrev pub asked_at : Question → List (List ℕ) → Question
 asked_at q name = record { name = name; kind = q.kind; class = q.class }
 
--- questions for what is no data, or for more than one type or class (RFC 1035 3.2.3 and 3.2.5, RFC
--- 6895 3.1)
+-- types 0, 41 and 128 to 255, and class 255: no data, or more than one type or class (RFC 1035
+-- 3.2.3 and 3.2.5, RFC 6895 3.1)
 abbrev pub is_unserved : Question → Bool
 is_unserved q = (q.kind == 0) || (q.kind == 41) || (nat_le 128 q.kind && nat_le q.kind 255) || (q.class == 255)

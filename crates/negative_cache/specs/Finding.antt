@@ -56,7 +56,7 @@ abbrev pub found_or : (Held → Found) → Option Held → Found → Found
 found_or so (Some h) next = so h
 found_or so None next = next
 
--- The first of: the set of the type, the alias, NODATA of the type, the nearest name error at or
+-- The first living one of: set of the type, alias, NODATA of the type, nearest name error at or
 -- above the name and on its route. So a set below a name error is found until it expires.
 abbrev pub found : List Route → ℕ → List Held → Question → Found
 found routes moment entries q =

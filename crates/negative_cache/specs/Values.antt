@@ -5,8 +5,8 @@ use Rattle.record_cache.specs.Values.{Held}
 use Rattle.negative_cache.specs.declared.found.Found.{Found as OwnedFound}
 use Rattle.negative_cache.specs.declared.found.Found.TheVariants as owned
 
--- a denial by the configuration, the set, an alias in its place (RFC 1034 3.6.2), NODATA (RFC 2308
--- 2.2), a name error at or above the name (RFC 2308 2.1, RFC 8020 2), or no living entry
+-- a denial by the configuration, a set, an alias (RFC 1034 3.6.2), NODATA (RFC 2308 2.2), a name
+-- error (RFC 2308 2.1, RFC 8020 2), or nothing that lives
 pub data Found : Type 0 where
   local : Found
   rows : Held → Found

@@ -121,9 +121,9 @@ Ends before wanted turns (Err refused) = (whole : List Turn)
     × ((last : Turn) × (turns ≡ whole ++ last ∷ []) × (length turns ≤ wanted) × AreTurns before.config [] whole
     × IsCutShort (map (λ (t : Turn). t.arrival) whole) last)
 
--- A call of `serve` (`Ends`): its steps are a run of the forwarder, which serves truly from new and
--- after any earlier steps, and its puts are the actions in order. The wire reports just this; all
--- of it is reported if the wire reported before and counted no fault.
+-- A call of `serve` (`Ends`): its steps are a run of the forwarder, which serves truly after any
+-- earlier ones. Its puts are the actions in order. The wire reports just this, and all of it if it
+-- reported before and counted no fault.
 pub record Serves (before : Running) (told_before : Telling) (wanted : ℕ) (result : Result Served AllocError)
     (after : Running) (told_after : Telling) : Type 0 where
   pub turns : List Turn

@@ -7,7 +7,7 @@ use Rattle.outstanding.specs.Values.{Ask}
 use Rattle.outstanding.specs.Lists.{same_path, without_path}
 use Rattle.dns_message.specs.Values.{Question, Message}
 
--- the port of a word, from 1024 on
+-- the port of a random word w: `1024 + (w / 65536) mod 64512`
 abbrev pub port_of : ℕ → ℕ
 port_of word = 1024 + (word / 65536) % 64512
 
@@ -24,7 +24,7 @@ is_freed port (Some freed) = port == freed
 abbrev pub is_free : ℕ → List Ask → Option ℕ → Bool
 is_free port asks freed = is_freed port freed || not (is_used port asks)
 
--- identifier and port of the first word whose port is free
+-- identifier (`w mod 65536`) and port of the first word w whose port is free
 abbrev pub udp_draw : List ℕ → List Ask → Option ℕ → Option (ℕ × ℕ)
 udp_draw [] asks freed = None
 udp_draw (word ∷ words) asks freed = if is_free (port_of word) asks freed then Some (word % 65536, port_of word)
@@ -56,6 +56,6 @@ ask_message id q = record {
   additional = [];
 }
 
--- by TCP: the first word's identifier, and the count of asks by TCP, below 2^64 - 1, as connection
+-- by TCP: the first word's identifier, and as connection the count of asks by TCP, below 2^64 - 1
 abbrev pub drawn_by_tcp : List ℕ → ℕ → Option (ℕ × ℕ)
 drawn_by_tcp words count = if count == 2 ^ 64 - 1 then None else Some (get_or words 0 0 % 65536, count)

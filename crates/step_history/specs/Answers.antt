@@ -38,7 +38,7 @@ pub record Leads (l : Look) (q : Question) (aliases : List Held) (last : Questio
   pub few : length aliases ≤ 8
   pub follows : FollowsAliases l q aliases last
 
--- at most eight justified aliases, and a justified piece that ends them, answer q (RFC 1034 3.6.2)
+-- such aliases (`Leads`), and a justified piece that ends them, answer q (RFC 1034 3.6.2)
 pub record Chain (l : Look) (q : Question) (aliases : List Held) (o : Held) : Type 0 where
   pub last : Question
   pub leads : Leads l q aliases last

@@ -39,8 +39,8 @@ abbrev pub IsDrawn : Step → List Step → ℕ → Path → Type 0
 IsDrawn s past id (Udp port) = drawn s.handed.words (listed past) s.outcome.actions ≡ Some (id, port)
 IsDrawn s past id (Tcp conn) = drawn_by_tcp s.handed.words (tcp_asks past) ≡ Some (id, conn)
 
--- the ask is `ask_message` alone, to a server of its name's route, with the drawn identifier and
--- path (RFC 5452 9.2)
+-- `ask_message` alone, to a server of its name's route, with the drawn identifier and path (RFC
+-- 5452 9.2)
 pub record AsksRight (c : Config) (s : Step) (past : List Step) (a : SentAsk) : Type 0 where
   pub id : ℕ
   pub question : Question
@@ -59,8 +59,7 @@ abbrev pub AreRightAsks : Config → Step → List Step → List Action → Type
 AreRightAsks c s past [] = Unit {0}
 AreRightAsks c s past (a ∷ more) = IsRightAsk c s past (ask_in a) more × AreRightAsks c s past more
 
--- after every step the listed asks are apart and within the limit, and those that the step sends
--- are right
+-- after every step its asks are right, and the listed ones apart and within the limit
 abbrev pub AsksWell : Config → List Step → Type 0
 AsksWell c [] = Unit {0}
 AsksWell c (s ∷ past) =

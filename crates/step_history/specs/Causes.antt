@@ -69,7 +69,7 @@ NoneAsks q asks = AllByRecursion (λ a. (own : Question) → Reads a.octets own 
 
 -- ---- the facts of the history for each way of failing
 
--- opcode 0, a served type and class; no route serves or denies the name, at once, or the one that
+-- opcode 0, a served type and class; no route serves or denies the name (at once), or the one that
 -- aliases lead to
 pub record HasNoRoute (l : Look) (octets : List ℕ) : Type 0 where
   pub opcode : (header_in octets).opcode ≡ 0
@@ -91,8 +91,8 @@ pub record AsksUnserved (l : Look) (octets : List ℕ) : Type 0 where
   pub reads : Reads octets question
   pub unserved : is_unserved question ≡ true
 
--- all tries failed for the question or the one that aliases lead to, the last in the newest step;
--- no ask for it is listed
+-- all tries failed for the question or the one that aliases lead to, the last in the newest step,
+-- and no ask for it is listed
 pub record AllTriesFailed (l : Look) (octets : List ℕ) : Type 0 where
   pub question : Question
   pub reads : Reads octets question
@@ -122,7 +122,7 @@ pub record IsOverdue (l : Look) : Type 0 where
   pub passed : IsTick l.now
   pub late : moment_at (l.asked ∷ l.before) + l.config.limits.deadline_ms ≤ moment_at l.now
 
--- the full answer from justified pieces passes 65,535 octets (RFC 1035 4.2.2)
+-- the full answer from justified pieces exceeds 65,535 octets (RFC 1035 4.2.2)
 pub record AnswerIsTooLarge (l : Look) (octets : List ℕ) : Type 0 where
   pub question : Question
   pub aliases : List Held
@@ -131,7 +131,7 @@ pub record AnswerIsTooLarge (l : Look) (octets : List ℕ) : Type 0 where
   pub chain : Chain l question aliases end
   pub large : 65535 < length (answer_text (asked_in (header_in octets) (Some question)) aliases end (moment_at l.now))
 
--- all tries failed, there is a window, and the full answer with expired data passes that size (RFC
+-- all tries failed, there is a window, and the full answer with expired data exceeds that size (RFC
 -- 8767)
 pub record StaleAnswerIsTooLarge (l : Look) (octets : List ℕ) : Type 0 where
   pub tries : AllTriesFailed l octets
@@ -142,7 +142,7 @@ pub record StaleAnswerIsTooLarge (l : Look) (octets : List ℕ) : Type 0 where
   pub large : 65535 < length (full_text (asked_in (header_in octets) (Some tries.question))
       (stale_sections (moment_at l.now) tries.aliases past end))
 
--- the denial with the aliases to a name that the configuration denies passes that size
+-- the denial with the aliases to a name that the configuration denies exceeds that size
 pub record LocalAnswerIsTooLarge (l : Look) (octets : List ℕ) : Type 0 where
   pub question : Question
   pub reads : Reads octets question
@@ -151,8 +151,8 @@ pub record LocalAnswerIsTooLarge (l : Look) (octets : List ℕ) : Type 0 where
   pub large : 65535 < length (full_text (asked_in (header_in octets) (Some question))
       (denied_sections (moment_at l.now) aliases))
 
--- the history shows this reason; `waiting` is the number of the era's questions without a reply
--- before this one came
+-- the history shows this reason; `waiting` counts the era's questions without a reply before this
+-- one came
 abbrev pub Cause : Look → Client → List ℕ → ℕ → Why → Type 0
 Cause l client octets waiting BadOpcode = (l.now ≡ l.asked ∷ l.before) × ((header_in octets).opcode ≢ 0)
 Cause l client octets waiting BadFormat = (l.now ≡ l.asked ∷ l.before) × ((header_in octets).opcode ≡ 0)

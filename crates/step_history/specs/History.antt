@@ -31,12 +31,12 @@ is_restart_event tick = false
 abbrev pub is_restart : Step → Bool
 is_restart s = is_restart_event s.handed.event
 
--- `upto` is the history up to the newest step, or to an earlier one of its era
+-- `upto` is the history up to a step of the newest step's era
 abbrev pub InEra : List Step → List Step → Type 0
 InEra upto [] = ⊥
 InEra upto (s ∷ past) = (upto ≡ s ∷ past) ⊎ ((is_restart s ≡ false) × InEra upto past)
 
--- the effective moment: the greatest of the era, its restart's left out, at most 2^62 ms
+-- the effective moment: the greatest since the era's restart, at most 2^62 ms
 abbrev pub moment_at : List Step → ℕ
 moment_at [] = 0
 moment_at (s ∷ past) = if is_restart s then 0 else max (min s.handed.now (2 ^ 62)) (moment_at past)
@@ -124,8 +124,8 @@ Reads octets q = one_question octets ≡ Some q
 abbrev pub Delivers : Event → Path → Peer → List ℕ → Type 0
 Delivers e path from octets = delivery_in e ≡ Some (record { path = path; from = from; octets = octets })
 
--- step s delivers octets that match an open ask in server, path, identifier and question (RFC 5452
--- 9.1)
+-- Step s delivers 12 to 65,535 octets with QR set and opcode 0. They match a listed ask, sent less
+-- than `ask_ms` ago, in server, path, identifier and their one question (RFC 5452 9.1).
 pub record Matches (c : Config) (s : Step) (past : List Step) (ask : ShownAsk) (octets : List ℕ)
     (asked : Question) : Type 0 where
   pub delivered : Delivers s.handed.event ask.path ask.server octets

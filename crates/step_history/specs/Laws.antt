@@ -20,13 +20,13 @@ MomentsNeverFall = (s : Step) (past : List Step) → is_restart s ≡ false → 
 abbrev pub MomentsAreInTime : Type 0
 MomentsAreInTime = (past : List Step) → moment_at past ≤ 2 ^ 62
 
--- The pieces carried up to a step of the era are the older part of those carried in it.
+-- The pieces carried up to a step of the era are the older part of all.
 abbrev pub WhatWasCarriedStaysSo : Type 0
 WhatWasCarriedStaysSo = (c : Config) (upto now : List Step) (all : List Held) → InEra upto now → CarriedInEra c now all
     → (os : List Held) × (new : List Held) × CarriedInEra c upto os × (all ≡ new ++ os)
 
--- version 2 adds nothing: no `Stale` or `LocalDenied` is right, only answers from justified pieces
--- can be too large, each name is served by its route
+-- no `Stale` or `LocalDenied` is right, only answers from justified pieces can be too large, and
+-- each name is served by its route
 pub record AddsNothing (l : Look) (client : Client) (request octets : List ℕ) (waiting : ℕ) : Type 0 where
   pub stale : RightReply l client request waiting Stale octets → ⊥
   pub local : RightReply l client request waiting LocalDenied octets → ⊥

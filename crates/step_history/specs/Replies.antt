@@ -11,7 +11,7 @@ use Rattle.step_values.specs.declared.event.Client.TheVariants.{Udp, Tcp}
 use Rattle.step_values.specs.declared.action.Why.{Why}
 use Rattle.step_values.specs.Requests.{rcode_of_why}
 
--- the answer from aliases and the piece that ends them, with the seconds left at t
+-- the answer from aliases and their end, with the seconds left at t
 abbrev pub answer_text : Asked → List Held → Held → ℕ → List ℕ
 answer_text a aliases end t = written (full_answer a (sections_of t (aliases ++ end ∷ [])))
 
@@ -27,7 +27,7 @@ full_text a s = written (full_answer a s)
 abbrev pub short_text : Asked → Sections → List ℕ
 short_text a s = written (cut_answer a s)
 
--- the held aliases, then aliases and a set, of which expired ones get 30 seconds (RFC 8767 4)
+-- the held aliases, then aliases and a set, expired ones of these with 30 seconds (RFC 8767 4)
 abbrev pub stale_sections : ℕ → List Held → List Held → Held → Sections
 stale_sections t held past end = sections_told (told_stale (length held) t (held ++ (past ++ end ∷ [])))
 

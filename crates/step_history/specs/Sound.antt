@@ -24,8 +24,8 @@ use Rattle.step_history.specs.Causes.{AllTriesFailed, Cause}
 abbrev pub among : ℕ → List ℕ → Bool
 among i js = list_any (λ j. j == i) js
 
--- the numbers of the era's questions without a reply, the oldest first; a step's number counts the
--- steps before it
+-- the numbers of the era's questions without a reply, the oldest first; a number counts the steps
+-- before
 abbrev pub unanswered : List Step → List ℕ → List ℕ
 unanswered [] owners = []
 unanswered (s ∷ past) owners =
@@ -34,8 +34,7 @@ unanswered (s ∷ past) owners =
     else unanswered past owners ++ (if takes_question s.handed.event && not (among (length past) owners)
     then length past ∷ [] else [])
 
--- the text of a failure: for `BadFormat` and `BadOpcode` without the question, otherwise with it as
--- it came
+-- the text of a failure, with the question as it came, but for `BadFormat` and `BadOpcode`
 abbrev pub IsErrorResponse : List ℕ → Why → List ℕ → Type 0
 IsErrorResponse request BadFormat octets = octets ≡ failure_text (asked_in (header_in request) None) BadFormat
 IsErrorResponse request BadOpcode octets = octets ≡ failure_text (asked_in (header_in request) None) BadOpcode
@@ -74,7 +73,7 @@ RightReply l client request waiting Stale octets = RightStaleAnswer l client req
 RightReply l client request waiting LocalDenied octets = RightLocalAnswer l client request octets
 RightReply l client request waiting why octets = IsErrorResponse request why octets × Cause l client request waiting why
 
--- step i of the era took a message of the reply's client, and the reply is right for it
+-- step i of the era took a message of the reply's client, for which the reply is right
 pub record Owns (c : Config) (now : List Step) (owners : List ℕ) (i : ℕ) (r : SentReply) : Type 0 where
   pub asked : Step
   pub before : List Step
@@ -121,8 +120,8 @@ abbrev pub SameSections : List ℕ → List ℕ → Type 0
 SameSections a b = (m m' : Message) → Spells a m → Spells b m' → m.header.tc ≡ false → m'.header.tc ≡ false
     → (m.header.rcode ≡ m'.header.rcode) × (m.answers ≡ m'.answers) × (m.authority ≡ m'.authority)
 
--- the octets have the sections of each earlier answer from cache to an equal question at moment t
--- of the era, with nothing accepted since
+-- at moment t of the era, as far back as nothing was accepted, each answer from cache to an equal
+-- question has these sections
 abbrev pub SameAsEarlierFromCache : Config → ℕ → Question → List ℕ → List Step → Type 0
 SameAsEarlierFromCache c t q octets [] = Unit {0}
 SameAsEarlierFromCache c t q octets (s ∷ past) =

@@ -23,9 +23,9 @@ IsSet (rows each) = Unit {0}
 IsSet (no_data soa) = ⊥
 IsSet (denied soa) = ⊥
 
--- o may serve this name although expired (RFC 8767 5): a set with a lifetime that a reply on the
--- name's route carried whole before the newest step. It is not replaced, and expired, if at all,
--- less than the window ago.
+-- o may serve this name although expired: a set with a lifetime, carried whole on the name's route
+-- before the newest step. It is not replaced, and expired, if at all, less than the window ago (RFC
+-- 8767 5).
 pub record JustifiedPastItsEnd (l : Look) (name : List (List ℕ)) (o : Held) : Type 0 where
   pub old : List Held
   pub new : List Held
@@ -38,15 +38,14 @@ pub record JustifiedPastItsEnd (l : Look) (name : List (List ℕ)) (o : Held) : 
   pub has_lifetime : 1 ≤ o.piece.lifetime
   pub within : moment_at l.now < end_of o + 1000 * l.config.limits.stale_s
 
--- such aliases lead from the first question to the last; a question for CNAME follows none (RFC
--- 1034 3.6.2)
+-- such aliases lead from the first question to the last, as in `FollowsAliases`
 abbrev pub FollowsPastEnds : Look → Question → List Held → Question → Type 0
 FollowsPastEnds l q [] last = last ≡ q
 FollowsPastEnds l q (o ∷ os) last =
     (q.kind ≢ 5) × JustifiedPastItsEnd l q.name o × (has_slot o.piece q.name q.class (Some 5) ≡ true)
     × (name : List (List ℕ)) × (target_of o.piece.body ≡ Some name) × FollowsPastEnds l (asked_at q name) os last
 
--- after the held aliases, such aliases and a set answer q; at most eight aliases in all
+-- after the held aliases, such aliases and a set answer q; at most eight in all
 pub record ChainPastEnds (l : Look) (held : List Held) (q : Question) (past : List Held) (o : Held) : Type 0 where
   pub last : Question
   pub follows : FollowsPastEnds l q past last
@@ -54,7 +53,7 @@ pub record ChainPastEnds (l : Look) (held : List Held) (q : Question) (past : Li
   pub justified : JustifiedPastItsEnd l last.name o
   pub slot : has_slot o.piece last.name last.class (Some last.kind) ≡ true
 
--- the octets answer q with expired data, and can be read; the chain goes on from `asked`, to which
+-- the octets answer q with expired data, and can be read; the chain goes on from `asked`, where
 -- `held` led
 pub record StaleAnswers (l : Look) (client : Client) (h : Header) (q : Question) (held : List Held) (asked : Question)
     (octets : List ℕ) : Type 0 where

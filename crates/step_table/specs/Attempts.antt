@@ -23,7 +23,7 @@ abbrev pub servers_in : Option Route → List Peer
 servers_in None = []
 servers_in (Some r) = r.servers
 
--- the server at this place of the route's group
+-- the route's server at this place
 abbrev pub peer_at : Config → ℕ → ℕ → Option Peer
 peer_at c route server = slice_get (servers_in (group_of c route)) server
 

@@ -6,7 +6,7 @@ use Rattle.step_values.specs.declared.action.Why.TheVariants.{Answered, BadForma
 use Rattle.step_values.specs.declared.action.Why.TheVariants.{QuestionsFull, InquiriesFull, NoPort, Exhausted, Deadline}
 use Rattle.step_values.specs.declared.action.Why.TheVariants.{ChainLong, TooLarge, Stale, LocalDenied}
 
--- 12 to 65,535 octets, and QR not set
+-- a client's message is not dropped: 12 to 65,535 octets, and QR not set
 abbrev pub is_taken : List ℕ → Bool
 is_taken octets = nat_le 12 (length octets) && nat_le (length octets) 65535 && not (header_in octets).qr
 

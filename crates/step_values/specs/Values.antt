@@ -12,7 +12,7 @@ use Rattle.step_values.specs.declared.action.Action.TheVariants.{AskUdp, AskTcp,
 use Rattle.step_values.specs.declared.actions.Listed.{Listed}
 use Rattle.step_values.specs.declared.actions.Listed.TheVariants.{Nothing, One, More}
 
--- a client's message, a message on a path to a server, the end of a path, a tick, or a restart
+-- a client's message, a message on a path, the end of a path, a tick, or a restart
 pub data Event : Type 0 where
   from_client : Client → List ℕ → Event
   delivery : Path → Peer → List ℕ → Event

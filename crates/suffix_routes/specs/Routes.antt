@@ -31,7 +31,7 @@ abbrev pub place_or : Option ℕ → Option ℕ → Option ℕ
 place_or (Some place) next = Some place
 place_or None next = next
 
--- computed: the route with this suffix, if any, otherwise that of the name without its first label
+-- computed: the route of this suffix, if any, otherwise that of the name without its first label
 unfoldable pub route_of : List Route → List (List ℕ) → Option ℕ
 route_of routes [] = route_at routes []
 route_of routes (label ∷ labels) = place_or (route_at routes (label ∷ labels)) (route_of routes labels)

@@ -5,8 +5,7 @@ use Rattle.suffix_routes.specs.Routes.{route_of, serving, is_denied}
 use Rattle.suffix_routes.specs.declared.routing.Routing.{Routing}
 use Rattle.suffix_routes.specs.declared.routing.Routing.TheVariants as routing
 
--- the place of the route with the longest suffix, by labels, that the name is under, unless it
--- denies
+-- the place of the longest suffix, by labels, that the name is under, unless its route denies
 abbrev pub serving_route_of : Config → List (List ℕ) → Option ℕ
 serving_route_of config name = serving config.routes (route_of config.routes name)
 

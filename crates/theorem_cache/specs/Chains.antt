@@ -15,7 +15,7 @@ use Rattle.alias_chains.specs.LookingUp.{LookUpEnd, ends, too_long, missed, Look
 use Rattle.alias_chains.specs.Offering.{held_at}
 use Rattle.theorem_cache.specs.Kept.{CanBeTold}
 
--- the `Look` of a step, the history before it, and the history up to now
+-- the `Look` of these
 abbrev pub look_from : Config → Step → List Step → List Step → Look
 look_from c asked before now = record { config = c; asked = asked; before = before; now = now }
 
@@ -41,8 +41,8 @@ IsSized (ends h) k = k ≤ 8
 IsSized too_long k = k ≡ 9
 IsSized missed k = k ≤ 8
 
--- its aliases lead from q to what it wants at its end and can be written; the end is right for it;
--- `IsSized`
+-- its aliases can be written and lead from q to what it wants at its end; `EndsRight` and `IsSized`
+-- hold
 pub record IsRight (l : Look) (t : ℕ) (q : Question) (v : LookUp) : Type 0 where
   pub told : AllByRecursion (CanBeTold t) v.held
   pub follows : FollowsAliases l q v.held v.wanted
@@ -51,8 +51,8 @@ pub record IsRight (l : Look) (t : ℕ) (q : Question) (v : LookUp) : Type 0 whe
 
 -- ---- of a look-up of expired data
 
--- at most `most` aliases lead from q to a set; each `JustifiedPastItsEnd` (RFC 8767 5), and all can
--- be written
+-- at most `most` aliases lead from q to a set; all can be written and are `JustifiedPastItsEnd`
+-- (RFC 8767 5)
 pub record IsRightPast (l : Look) (t : ℕ) (q : Question) (most : ℕ) (chain : List Held) : Type 0 where
   pub aliases : List Held
   pub end : Held
@@ -66,7 +66,7 @@ pub record IsRightPast (l : Look) (t : ℕ) (q : Question) (most : ℕ) (chain :
 
 -- ---- of an accepted reply
 
--- pieces that came at t: aliases from q on, and one that ends the look-up
+-- pieces that came at t: aliases from q on, and their end
 pub record LeadToEnd (l : Look) (t : ℕ) (q : Question) (ps : List Piece) : Type 0 where
   pub aliases : List Piece
   pub last : Piece
@@ -76,7 +76,7 @@ pub record LeadToEnd (l : Look) (t : ℕ) (q : Question) (ps : List Piece) : Typ
   pub justified : Justified l to.name (held_at t last)
   pub right_end : EndsChain to last last.body
 
--- pieces that came at t: one to eight aliases that lead from q to the same at this name
+-- pieces that came at t: one to eight aliases from q to this name
 pub record LeadOn (l : Look) (t : ℕ) (q : Question) (ps : List Piece) (name : List (List ℕ)) : Type 0 where
   pub some : 1 ≤ length ps
   pub few : length ps ≤ 8

@@ -56,7 +56,7 @@ pub record CanBeRepeated (a : Asked) (q : Question) : Type 0 where
   pub id : a.id < 65536
   pub opcode : a.opcode < 16
 
--- the octets are read as the answer with these sections, or as the same cut to the question
+-- the octets are read as the answer with these sections, or as the same cut
 abbrev pub SpellsSections : List ℕ → Asked → Sections → Type 0
 SpellsSections octets a s = Spells octets (full_answer a s) ⊎ Spells octets (cut_answer a s)
 
@@ -78,8 +78,8 @@ pub record IsStillFound (c : Config) (t : ℕ) (entries : List Held) (q : Questi
       (cut_text (asked_in header (Some q)) (looked c t entries q).held end t)
   pub spells : SpellsAnswer octets (asked_in header (Some q)) ((looked c t entries q).held ++ end ∷ []) t
 
--- each answer from cache at moment t of the era, as far back as nothing was accepted, is still
--- found
+-- at moment t of the era, as far back as nothing was accepted, each answer from cache
+-- `IsStillFound`
 abbrev pub AreStillFound : Config → ℕ → List Held → List Step → Type 0
 AreStillFound c t entries [] = Unit {0}
 AreStillFound c t entries (s ∷ past) =

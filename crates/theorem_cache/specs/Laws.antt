@@ -29,7 +29,7 @@ use Rattle.theorem_cache.specs.Chains.{look_from, GoesOn, IsRight, IsRightPast, 
 -- ---- entries
 
 -- A step of the era that accepts nothing keeps the cache explained, if its answers from cache are
--- found now.
+-- found.
 abbrev pub QuietStepsKeep : Type 0
 QuietStepsKeep = (c : Config) (past : List Step) (m n : ℕ) (cache : Cache) (s : Step) → IsCached c past m cache
     → m ≡ moment_at past → (is_restart s ≡ false) × NothingAccepted c s past → n ≡ moment_at (s ∷ past)
@@ -86,8 +86,8 @@ LookUpsAreRight = (c : Config) (past : List Step) (m n : ℕ) (cache : Cache) (s
     → n ≡ moment_at (s ∷ past)
     → IsRight (look_from c s past (s ∷ past)) n q (looked c n cache.entries q)
 
--- A waiting question's look-up, which goes on from its aliases in the cache before the step, is
--- right whatever the step accepts.
+-- So is a waiting question's, which goes on from its aliases in the cache before the step, whatever
+-- that accepts.
 abbrev pub LookUpsThatGoOnAreRight : Type 0
 LookUpsThatGoOnAreRight = (c : Config) (asked s : Step) (before past : List Step) (m n : ℕ) (cache : Cache)
     (q wanted : Question) (held : List Held) (more : ℕ) → IsCached c past m cache → m ≡ moment_at past
@@ -95,8 +95,7 @@ LookUpsThatGoOnAreRight = (c : Config) (asked s : Step) (before past : List Step
     → FollowsAliases (look_from c asked before (s ∷ past)) q held wanted → more + length held ≡ most_aliases
     → IsRight (look_from c asked before (s ∷ past)) n q (look_up c.routes n cache.entries more held wanted)
 
--- Expired data that is found in a step that accepts nothing is justified for each question of the
--- era (RFC 8767 5).
+-- In a step that accepts nothing a look-up among stale entries `IsRightPast` (RFC 8767 5).
 abbrev pub LookUpsPastEndsAreRight : Type 0
 LookUpsPastEndsAreRight = (c : Config) (asked s : Step) (before past : List Step) (m n : ℕ) (cache : Cache)
     (q : Question) (most : ℕ) (chain : List Held) → IsCached c past m cache → m ≡ moment_at past
@@ -106,7 +105,7 @@ LookUpsPastEndsAreRight = (c : Config) (asked s : Step) (before past : List Step
 
 -- ---- answers
 
--- An answer's octets that fit the transport are read as that answer, or as the same cut.
+-- An answer's octets that fit the transport are read as it, or as the same cut.
 abbrev pub AnswersAreSpelled : Type 0
 AnswersAreSpelled = (a : Asked) (q : Question) (t : ℕ) (aliases : List Held) (end : Held) → CanBeRepeated a q
     → AllByRecursion (CanBeTold t) (aliases ++ end ∷ []) → (client : Client)
@@ -131,7 +130,7 @@ LocalAnswersAreSpelled = (a : Asked) (q : Question) (t : ℕ) (aliases : List He
     → SpellsSections (sized_for client (full_text a (denied_sections t aliases))
     (short_text a (denied_sections t aliases))) a (denied_sections t aliases)
 
--- Equal questions at one moment get the same sections from cache, with nothing accepted in between.
+-- Equal questions at one moment, with nothing accepted in between, get equal sections from cache.
 abbrev pub AnswersFromCacheAgree : Type 0
 AnswersFromCacheAgree = (c : Config) (past : List Step) (m n : ℕ) (cache : Cache) (q : Question) (octets : List ℕ)
     → IsCached c past m cache → m ≡ moment_at past → IsStillFound c n cache.entries q octets

@@ -32,8 +32,8 @@ use Rattle.step_table.specs.Progress.{ArePreferred, IsBelow}
 abbrev pub shown : Ask → ShownAsk
 shown a = record { path = a.path; server = a.peer; octets = written (ask_message a.id a.question); moment = a.asked }
 
--- step i of the era took this client's message: opcode 0, one question of a served type and class;
--- a is what its answer repeats
+-- step i of the era took this client's message, with opcode 0 and one question of a served type and
+-- class; its answer repeats a
 pub record Comes (now : List Step) (client : Client) (a : Asked) (i : ℕ) : Type 0 where
   pub asked : Step
   pub before : List Step
@@ -49,16 +49,16 @@ pub record Comes (now : List Step) (client : Client) (a : Asked) (i : ℕ) : Typ
   pub opcode : (header_in request).opcode ≡ 0
   pub served : is_unserved question ≡ false
 
--- step i brought the waiting question, at its moment; the aliases that it holds lead to what it
--- wants, and can be written
+-- step i brought the waiting question, at its moment; its aliases lead to what it wants, and can be
+-- written
 pub record Waits (c : Config) (now : List Step) (x : Waiting) (i : ℕ) : Type 0 where
   pub comes : Comes now x.client x.asked i
   pub moment : x.taken ≡ moment_at (comes.asked ∷ comes.before)
   pub leads : Leads (look_from c comes.asked comes.before now) comes.question x.held x.wanted
   pub told : AllByRecursion (CanBeTold (moment_at now)) x.held
 
--- the listed ask's text has its question and identifier; its server is at its place on the name's
--- route; the tries before it failed
+-- the listed ask's text has its question and identifier, its server is at its place on the name's
+-- route, and the earlier tries failed
 pub record Tried (c : Config) (now : List Step) (a : Ask) : Type 0 where
   pub question : IsQuestion a.question
   pub reads : Reads (written (ask_message a.id a.question)) a.question

@@ -26,7 +26,7 @@ pub record IsSound (c : Config) (steps : List Step) : Type 0 where
 abbrev pub IsExplained : Config → List Step → State → Type 0
 IsExplained c steps s = (w : List (List ℕ)) × Explains c (reverse steps) w s
 
--- a history that explains s, with this step added, explains s' for some owners
+-- a history that explains s, and this step, explain s' for some owners
 abbrev pub StaysExplained : Config → State → Handed → Outcome → State → Type 0
 StaysExplained c s h o s' = (past : List Step) (w : List (List ℕ)) → Explains c past w s → (owners : List ℕ)
     × Explains c (record { handed = h; outcome = o } ∷ past) (owners ∷ w) s'

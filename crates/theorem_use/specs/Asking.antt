@@ -19,8 +19,7 @@ abbrev pub AnyByRecursion : {X : Type 0} → (X → Type 0) → List X → Type 
 AnyByRecursion P [] = ⊥
 AnyByRecursion P (x ∷ xs) = P x ⊎ AnyByRecursion P xs
 
--- step i of the era brought a question from which at most eight justified aliases lead to `wanted`
--- (RFC 1034 3.6.2)
+-- the question that step i of the era brought `Leads` to `wanted`
 pub record Wants (c : Config) (now : List Step) (i : ℕ) (wanted : Question) : Type 0 where
   pub asked : Step
   pub before : List Step
@@ -51,14 +50,13 @@ pub record Asks (a : ShownAsk) (wanted : Question) : Type 0 where
 abbrev pub WasListed : List Step → ShownAsk → Type 0
 WasListed past a = AnyByRecursion (λ b. b ≡ a) (listed past)
 
--- an ask for q opens an inquiry: the step failed no ask for q, and a waiting question wants q, in
--- this spelling
+-- q opens an inquiry: the step failed no ask for it, and a waiting question wants it, so spelled
 pub record OpensInquiry (c : Config) (s : Step) (past : List Step) (wanted : List Question) (q : Question) : Type 0
   where
     pub anew : ClosesAsk q s past → NothingAccepted c s past → ⊥
     pub spelled : AnyByRecursion (λ w. w ≡ q) wanted
 
--- an ask for q follows a failed one: the step closed one, in this spelling, and accepted nothing
+-- q follows a failed ask: the step closed one for it, so spelled, and accepted nothing
 pub record FollowsFailed (c : Config) (s : Step) (past : List Step) (q : Question) : Type 0 where
   pub closes : ClosesAsk q s past
   pub failed : NothingAccepted c s past
@@ -70,8 +68,7 @@ pub record IsSpelled (c : Config) (s : Step) (past : List Step) (wanted : List Q
   pub reads : Reads a.octets question
   pub from : OpensInquiry c s past wanted question ⊎ FollowsFailed c s past question
 
--- After step s each waiting question wants what a listed ask asks, and each listed ask is wanted.
--- Each new one `IsSpelled`.
+-- After step s the waiting questions want just what the listed asks ask. Each new ask `IsSpelled`.
 pub record AsksForWaiting (c : Config) (s : Step) (past : List Step) (owners : List ℕ) : Type 0 where
   pub wanted : List Question
   pub each : EachWants c (s ∷ past) (unanswered (s ∷ past) owners) wanted
@@ -79,14 +76,14 @@ pub record AsksForWaiting (c : Config) (s : Step) (past : List Step) (owners : L
   pub wanting : AllByRecursion (λ a. AnyByRecursion (Asks a) wanted) (listed (s ∷ past))
   pub spelled : AllByRecursion (λ a. WasListed past a ⊎ IsSpelled c s past wanted a) (listed (s ∷ past))
 
--- `AsksForWaiting` after every step; w has the owners of each step's replies, the newest step first
+-- `AsksForWaiting` after every step; w as in `Sound`
 abbrev pub AsksForThoseWhoWait : Config → List Step → List (List ℕ) → Type 0
 AsksForThoseWhoWait c [] w = Unit {0}
 AsksForThoseWhoWait c (s ∷ past) [] = ⊥
 AsksForThoseWhoWait c (s ∷ past) (is ∷ w) =
     AsksForThoseWhoWait c past w × AsksForWaiting c s past (concat (is ∷ w))
 
--- each waits for one of the asks, and each ask has one that waits for it
+-- each waits for one of the asks, and each ask is waited for
 pub record AreServed (asks : List Ask) (waiting : List Waiting) : Type 0 where
   pub asked : AllByRecursion (λ x. AnyByRecursion (λ a. waits_for a.question x ≡ true) asks) waiting
   pub wanting : AllByRecursion (λ a. AnyByRecursion (λ x. waits_for a.question x ≡ true) waiting) asks

@@ -32,7 +32,7 @@ pub record FullyExplains (c : Config) (past : List Step) (w : List (List ℕ)) (
   pub served : AreServed s.asks s.waiting
   pub asked : AsksForThoseWhoWait c past w
 
--- a history that fully explains s, with this step added, fully explains s' for some owners
+-- a history that fully explains s, and this step, fully explain s' for some owners
 abbrev pub StaysFullyExplained : Config → State → Handed → Outcome → State → Type 0
 StaysFullyExplained c s h o s' =
     (past : List Step) (w : List (List ℕ)) → FullyExplains c past w s

@@ -15,7 +15,7 @@ pub record ServesTruly (c : Config) (steps : List Step) : Type 0 where
   -- answer is of one of three kinds.
   -- Alive: each record set or denial in it was alive when the client asked (RFC 1035 3.2.1) and not
   -- replaced (RFC 2181 5.4, RFC 8020 2), or came since.
-  -- Expired: all tries failed. The record set, and aliases that lead to it, may have ended, but
+  -- Expired: all tries failed. The record set, and aliases that lead to it, may have expired, but
   -- less than the configured window ago (RFC 8767 5), and nothing has taken their place.
   -- Denied by the configuration: the route of the asked name, or of a name that aliases lead to,
   -- denies it (RFC 6761 6.4).
@@ -42,6 +42,6 @@ pub record ComesTo (c : Config) (steps : List Step) (s : State) : Type 0 where
   pub config : IsConfig c
   pub run : Run c (start c) steps s
 
--- whatever steps led a new forwarder to s: those and then these serve truly
+-- after any steps that led a new forwarder to s, these serve truly together with those
 abbrev pub ServesOnTruly : Config → State → List Step → Type 0
 ServesOnTruly c s more = (steps : List Step) → ComesTo c steps s → ServesTruly c (steps ++ more)

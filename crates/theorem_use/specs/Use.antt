@@ -39,15 +39,14 @@ abbrev pub FoundMemory : List Step → Type 0
 FoundMemory [] = Unit {0}
 FoundMemory (s ∷ past) = (is_restart s ≡ true) ⊎ ((s.outcome.unkept ≡ 0) × FoundMemory past)
 
--- there is room in the cache, and there was memory, for all that the era carried
+-- the cache had room and memory for all that the era carried
 pub record HasRoom (c : Config) (past : List Step) (carried : List Held) : Type 0 where
   pub slots : HasFewSlots c.limits.cache carried
   pub memory : FoundMemory past
 
 -- ---- a question
 
--- a client's message that is not dropped: opcode 0, and one question whose type, class and name are
--- served
+-- a client's message is taken: opcode 0, and one question whose type, class and name are served
 pub record AsksToLookUp (c : Config) (s : Step) (client : Client) (q : Question) : Type 0 where
   pub octets : List ℕ
   pub sends : Sends s.handed.event client octets
@@ -78,13 +77,13 @@ LeadsToEnd routes n stood zero q = EndsOrLeadsOn (λ name. ⊥) (found routes n 
 LeadsToEnd routes n stood (suc more) q =
     EndsOrLeadsOn (λ name. LeadsToEnd routes n stood more (asked_at q name)) (found routes n stood q)
 
--- At the step's moment the pieces that stand answer q after at most eight aliases. `look_up_ends`
--- relates this to the table's look-up.
+-- the pieces that stand at the step's moment answer q after at most eight aliases; so their look-up
+-- ends (`look_up_ends`)
 abbrev pub IsKnown : Config → Step → List Step → List Held → Question → Type 0
 IsKnown c s past carried q = LeadsToEnd c.routes (moment_at (s ∷ past)) (standing (moment_at (s ∷ past)) carried) 8 q
 
--- The only action is the right reply to the step's own question: `Answered`, or `TooLarge` (RFC
--- 1035 4.2.2). `owners` own the replies before it, `is` those of the step.
+-- The only action is the right reply to the step's question: `Answered` or `TooLarge` (RFC 1035
+-- 4.2.2). `is` are the step's owners, `owners` those before it.
 pub record AnswersAtOnce (c : Config) (s : Step) (past : List Step) (owners is : List ℕ) (client : Client)
     (request : List ℕ)
     : Type 0 where
@@ -96,8 +95,7 @@ pub record AnswersAtOnce (c : Config) (s : Step) (past : List Step) (owners is :
   pub right : RightReply (record { config = c; asked = s; before = past; now = s ∷ past }) client request
       (length (unanswered past owners)) why octets
 
--- each question that `IsKnown` is answered at once if the cache `HasRoom`; w as in
--- `AsksForThoseWhoWait`
+-- each question that `IsKnown` is answered at once if the cache `HasRoom`; w as in `Sound`
 abbrev pub UsesWhatStands : Config → List Step → List (List ℕ) → Type 0
 UsesWhatStands c [] w = Unit {0}
 UsesWhatStands c (s ∷ past) [] = ⊥

@@ -17,7 +17,8 @@ same_kind (Some a) (Some b) = a == b
 abbrev pub same_slot : Slot → Slot → Bool
 same_slot a b = same a.key b.key && (a.class == b.class) && same_kind a.kind b.kind
 
--- a denial of a whole name (NXDOMAIN, RFC 2308 2.1), which has no type
+-- a denial of a whole name (NXDOMAIN, RFC 2308 2.1), and so of all names below it (RFC 8020); it
+-- has no type
 abbrev pub is_name_error : Piece → Bool
 is_name_error p = is_none p.slot.kind
 
@@ -25,8 +26,8 @@ is_name_error p = is_none p.slot.kind
 abbrev pub shows_name : Piece → Piece → Bool
 shows_name q p = not (is_name_error q) && (q.slot.class == p.slot.class) && is_under q.slot.key p.slot.key
 
--- q is of p's slot and of no lower rank; for a name error p, of its slot at any rank, or shows its
--- name
+-- q is of p's slot and of no lower rank. For a name error p: of its slot at any rank, or a set or
+-- NODATA of its class at or under its name.
 abbrev pub takes_place_of : Piece → Piece → Bool
 takes_place_of q p =
     if is_name_error p then same_slot q.slot p.slot || shows_name q p

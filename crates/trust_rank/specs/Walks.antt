@@ -150,7 +150,7 @@ ending pieces end = record { pieces = pieces; authority = []; end = end }
 abbrev pub lame_walk : Walk
 lame_walk = ending [] lame
 
--- the walk is lame
+-- the walk ends lame
 abbrev pub is_lame : End → Bool
 is_lame lame = true
 is_lame found = false

@@ -6,8 +6,7 @@ use Rattle.record_cache.specs.Values.{Held}
 use Rattle.answer_builder.specs.Values.{Asked}
 use Rattle.step_values.specs.declared.event.Client.{Client}
 
--- a waiting question: what its answer repeats of it, the aliases that it holds, and what it wants
--- now
+-- a waiting question: what its answer repeats, the aliases that it holds, what it wants
 pub record Waiting : Type 0 where
   pub client : Client
   pub asked : Asked
