@@ -67,6 +67,10 @@ getPool(""):setCache(newPacketCache({2 * NAMES}))
 """
 
 
+def output(*words):
+    return subprocess.run(words, capture_output=True, text=True, check=True).stdout
+
+
 class Program:
     """A program to be measured. `command` is that of its package; it serves at the port SERVED."""
 
@@ -78,9 +82,10 @@ class Program:
 
     @classmethod
     def version(cls):
-        asked = ["dpkg-query", "-W", "-f", "${Version}", cls.package]
+        """The version of the Debian package that has the program; empty if none has."""
         with contextlib.suppress(OSError, subprocess.CalledProcessError):
-            return subprocess.run(asked, capture_output=True, text=True, check=True).stdout
+            owner = output("dpkg-query", "-S", os.path.realpath(cls.path())).partition(":")[0]
+            return output("dpkg-query", "-W", "-f", "${Version}", owner)
         return ""
 
     def words(self, folder):

@@ -51,7 +51,7 @@ def table(run):
     return lines
 
 
-def processors_busy(seconds=1.0):
+def processors_busy(seconds=3.0):
     """Which share of the processors' time is used now."""
 
     def times():
@@ -73,7 +73,8 @@ def machine():
 
 
 def is_idle(found):
-    return found["load"] < 0.5 and found["busy"] < 5
+    """Whether the processors had nothing to do. The load is that of the minute before, so it says less."""
+    return found["busy"] < 5
 
 
 def a_second(run, name):
@@ -98,7 +99,7 @@ def about(run):
     waited = max((each["waited"] for of_name in run["figures"].values() for each in of_name.values()), default=0)
     versions = [f"{each['title']} {each['version']}" for each in run["programs"].values() if each["version"]]
     lines = [f"{on['processors']} processors, {on['model']}; {on['system']}, Linux {on['kernel']}.",
-             f"{busy}: a load of {on['load']}, and processors {on['busy']} % busy.",
+             f"{busy}: processors {on['busy']} % busy, a load of {on['load']} in the last minute.",
              f"What was measured waited for its processor for up to {waited:.0f} % of the time in which it could run.",
              "" if idle else "So how long a client waits says more of the machine than of a program.",
              f"Rounds: {run['rounds']}, of {run['seconds']:g} s for each load.",
