@@ -75,14 +75,32 @@ fn write_answer(
     Ok(())
 }
 
+/// What one answer after another is made in.
+#[derive(Drop)]
+struct Room {
+    /// The slot of a look-up.
+    slot: Slot,
+    /// The octets of an answer.
+    text: Vec<u8>,
+}
+
+impl Room {
+    /// Room for an answer of 512 octets.
+    fn new(alloc: Global) -> Result<Room> {
+        Ok(Room {
+            slot: any_slot(),
+            text: Vec::with_capacity(alloc, 512)?,
+        })
+    }
+}
+
 /// Writes the answer to a question from the cache, and promotes what it used; whether there is one.
 fn answer(
     alloc: Global,
     cache: &mut Cache<RandomState>,
-    slot: &mut Slot,
     config: &Config,
     octets: &[u8],
-    text: &mut Vec<u8>,
+    room: &mut Room,
 ) -> Result<bool> {
     let view = MessageRef::view(octets)?;
     let Some(question) = view.question_ref() else {
@@ -93,34 +111,29 @@ fn answer(
         config,
         moment: NOW,
     };
-    match at.find(slot, &question) {
+    match at.find(&mut room.slot, &question) {
         Found::Rows(held) | Found::Denied(held) if held.accepted <= NOW => {
-            write_answer(alloc, text, view.header(), question, held)?;
+            write_answer(alloc, &mut room.text, view.header(), question, held)?;
         }
         _ => return Ok(false),
     }
-    cache.promote(slot);
+    cache.promote(&room.slot);
     Ok(true)
 }
 
 /// Writes the answer to a question from `held`, if its name has the key of that entry; whether it
 /// has.
-fn answer_from(
-    alloc: Global,
-    held: &Held,
-    slot: &mut Slot,
-    octets: &[u8],
-    text: &mut Vec<u8>,
-) -> Result<bool> {
+fn answer_from(alloc: Global, held: &Held, octets: &[u8], room: &mut Room) -> Result<bool> {
     let view = MessageRef::view(octets)?;
     let Some(question) = view.question_ref() else {
         return Ok(false);
     };
-    slot.key.set_octets(question.name());
-    if slot.key.octets() != held.piece.owner.octets() || held.accepted > NOW {
+    let key = &mut room.slot.key;
+    key.set_octets(question.name());
+    if key.octets() != held.piece.owner.octets() || held.accepted > NOW {
         return Ok(false);
     }
-    write_answer(alloc, text, view.header(), question, held)?;
+    write_answer(alloc, &mut room.text, view.header(), question, held)?;
     Ok(true)
 }
 
@@ -144,8 +157,7 @@ fn time_of(
     questions: &[u8],
 ) -> Result<(usize, u128)> {
     let alloc = rt.alloc();
-    let mut text = Vec::with_capacity(alloc, 512)?;
-    let mut slot = any_slot();
+    let mut room = Room::new(alloc)?;
     let count = questions.len() / ROOM;
     let times = times_of(count);
     let mut least = u128::MAX;
@@ -155,7 +167,7 @@ fn time_of(
         let started = Instant::now(rt)?;
         for _ in 0..times {
             for octets in questions.chunks_exact(ROOM) {
-                if answer(alloc, cache, &mut slot, config, octets, &mut text)? {
+                if answer(alloc, cache, config, octets, &mut room)? {
                     answers = answers.saturating_add(1);
                 }
             }
@@ -326,11 +338,10 @@ fn pieces_of(alloc: Global, config: &Config) -> Result<Vec<Piece>> {
 }
 
 /// The number of `CALLS` calls that give an answer from `held`.
-fn answers_from(alloc: Global, held: &Held, octets: &[u8], text: &mut Vec<u8>) -> Result<usize> {
+fn answers_from(alloc: Global, held: &Held, octets: &[u8], room: &mut Room) -> Result<usize> {
     let mut answers = 0usize;
-    let mut slot = any_slot();
     for _ in 0..CALLS {
-        if answer_from(alloc, held, &mut slot, octets, text)? {
+        if answer_from(alloc, held, octets, room)? {
             answers = answers.saturating_add(1);
         }
     }
@@ -340,12 +351,12 @@ fn answers_from(alloc: Global, held: &Held, octets: &[u8], text: &mut Vec<u8>) -
 /// The number of answers that a round gives from one entry, and the least time of one, in
 /// nanoseconds.
 fn time_of_text(rt: &HostRuntime, held: &Held, octets: &[u8]) -> Result<(usize, u128)> {
-    let mut text = Vec::with_capacity(rt.alloc(), 512)?;
+    let mut room = Room::new(rt.alloc())?;
     let mut least = u128::MAX;
     let mut answers = 0usize;
     for _ in 0..ROUNDS {
         let started = Instant::now(rt)?;
-        answers = answers_from(rt.alloc(), held, octets, &mut text)?;
+        answers = answers_from(rt.alloc(), held, octets, &mut room)?;
         least = least.min(each(rt, &started, CALLS, 1)?);
     }
     Ok((answers, least))
