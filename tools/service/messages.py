@@ -3,6 +3,8 @@ import struct
 
 SERVFAIL, REFUSED = 2, 5
 UNKNOWN = 65280
+# Data of a large record. It is made once: a server that makes it for each reply is too slow on a busy machine.
+DATA = bytes(range(251)) * 262
 
 
 def name(text):
@@ -27,7 +29,7 @@ def alias_reply_to(query, target, seconds=300):
 
 def long_reply_to(query, octets, seconds=0):
     """A reply with a record of type 65280, which nothing is known of (RFC 3597), that has so many octets of data."""
-    answer = b"\xc0\x0c" + struct.pack(">2HIH", UNKNOWN, 1, seconds, octets) + bytes(k % 251 for k in range(octets))
+    answer = b"\xc0\x0c" + struct.pack(">2HIH", UNKNOWN, 1, seconds, octets) + DATA[:octets]
     return query[:2] + struct.pack(">5H", 0x8580, 1, 1, 0, 0) + query[12:] + answer
 
 
