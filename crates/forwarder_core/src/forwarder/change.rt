@@ -11,8 +11,9 @@ ghost use Rattle.step_table.specs.Row.{is_due_at};
 ghost use Rattle.step_table.specs.Ticks.{deadline_of};
 ghost use Rattle.step_table.specs.Replies.{timeout_of};
 ghost use Rattle.step_actions.specs.Decision.{tcp_count_of, left_or_sent, left_waiting, with_preferred, without_closed};
-ghost use Rattle.step_actions.specs.Decision.{changed, next_of, IsOutcome, IsRouted, CanWait, CanFollow, CanSendOn};
-ghost use Rattle.step_actions.specs.Decision.{CanChange, FitsChange, IsServed};
+ghost use Rattle.step_actions.specs.Decision.{next_of, IsOutcome, IsRouted, CanWait, CanFollow, CanSendOn};
+ghost use Rattle.step_actions.specs.Decision.{CanChange, IsServed};
+ghost use Rattle.forwarder_core.specs.Acting.{CanApply, Applies};
 
 use crate::forwarder::Forwarder;
 use crate::lists::{close_inquiry, end_closed, list_ask, send_on};
@@ -215,13 +216,8 @@ impl<H: BuildHasher + Drop, A: Allocator + Copy> Forwarder<H, A> {
     /// Puts a change in place. An `Err` changes nothing. A step that changes no list does without
     /// the room on the stack that what is listed takes, which is cleared before it is used.
     fn apply(&mut self, moment: u64, change: Change<A>) -> Result<(), AllocError>
-        requires later { self.old.state.moment ≤ moment }
-        requires in_time { moment ≤ 2 ^ 62 }
-        requires fits { FitsChange self.old.config moment self.old.state change }
-        ensures ok { OnOk result (self.new.state ≡ changed moment self.old.state change) }
-        ensures config { self.new.config ≡ self.old.config }
-        ensures quiet { change ≡ Change.Nothing → IsOk result }
-        ensures err { OnErr result (self.new ≡ self.old) }
+        requires { CanApply self.old moment change }
+        ensures { Applies self.old moment change result self.new }
     {
         match change {
             Change::Nothing => {
@@ -235,13 +231,8 @@ impl<H: BuildHasher + Drop, A: Allocator + Copy> Forwarder<H, A> {
     /// The same, for any change, out of line.
     #[inline(never)]
     fn change_lists(&mut self, moment: u64, change: Change<A>) -> Result<(), AllocError>
-        requires later { self.old.state.moment ≤ moment }
-        requires in_time { moment ≤ 2 ^ 62 }
-        requires fits { FitsChange self.old.config moment self.old.state change }
-        ensures ok { OnOk result (self.new.state ≡ changed moment self.old.state change) }
-        ensures config { self.new.config ≡ self.old.config }
-        ensures quiet { change ≡ Change.Nothing → IsOk result }
-        ensures err { OnErr result (self.new ≡ self.old) }
+        requires { CanApply self.old moment change }
+        ensures { Applies self.old moment change result self.new }
     {
         match change {
             Change::Nothing => {

@@ -11,6 +11,7 @@ ghost use Rattle.theorem_sound.specs.Runs.{StaysExplained};
 ghost use Rattle.theorem_sound.specs.Explains.{Explains};
 ghost use Rattle.theorem_use.specs.Mirrors.{FullyExplains, StaysFullyExplained};
 ghost use Rattle.theorem_use.specs.Service.{ComesTo, ServesOnTruly};
+ghost use Rattle.forwarder_core.specs.Acting.{Acts};
 
 mod change;
 mod tick;
@@ -139,12 +140,8 @@ impl<H: BuildHasher + Drop, A: Allocator + Copy> Forwarder<H, A> {
         words: [u32; 8],
         event: &Event<A>,
     ) -> Result<Outcome<A>, AllocError>
-        ensures row { IfOk result (λ outcome. Row self.old.config self.old.state
-            (record { now = now; words = words; event = event_of event.now }) outcome self.new.state) }
-        ensures config { self.new.config ≡ self.old.config }
-        ensures no_memory { TakesNoMemory self.old.config (effective now self.old.state) self.old.state
-            (event_of event.now) → IsOk result }
-        ensures err { OnErr result (self.new ≡ self.old) }
+        ensures { Acts self.old (record { now = now; words = words; event = event_of event.now }) result
+            self.new }
     {
         let moment = self.effective(now);
         let mut slot = slot_for_look_ups();
@@ -171,12 +168,8 @@ impl<H: BuildHasher + Drop, A: Allocator + Copy> Forwarder<H, A> {
         words: [u32; 8],
         event: &Event<A>,
     ) -> Result<Outcome<A>, AllocError>
-        ensures row { IfOk result (λ outcome. Row self.old.config self.old.state
-            (record { now = now; words = words; event = event_of event.now }) outcome self.new.state) }
-        ensures config { self.new.config ≡ self.old.config }
-        ensures no_memory { TakesNoMemory self.old.config (effective now self.old.state) self.old.state
-            (event_of event.now) → IsOk result }
-        ensures err { OnErr result (self.new ≡ self.old) }
+        ensures acts { Acts self.old (record { now = now; words = words; event = event_of event.now }) result
+            self.new }
         ensures in_order { IsInOrder self.old.config self.old.state }
     {
         let moment = self.effective(now);

@@ -5,17 +5,17 @@ use Rattle.theorem_use.proofs.CallerLemmas.{row_stays_fully_explained, row_serve
 use Rattle.forwarder_core.proofs.forwarder.Forwarder.step.Goals as goal
 
 pub returns-clause-explained : goal.returns-clause-explained
-returns-clause-explained g c = IfOk-weaker c.take.result _ _ (λ o row. row_stays _ _ _ o _ row) c.take.ensures.row
+returns-clause-explained g c = IfOk-weaker c.take.result _ _ (λ o row. row_stays _ _ _ o _ row) c.take.ensures.acts.row
 
 pub returns-clause-whole : goal.returns-clause-whole
 returns-clause-whole g c = IfOk-weaker c.take.result _ _
-    (λ o row. row_stays_fully_explained _ _ _ o _ row) c.take.ensures.row
+    (λ o row. row_stays_fully_explained _ _ _ o _ row) c.take.ensures.acts.row
 
 pub returns-clause-truly : goal.returns-clause-truly
-returns-clause-truly g c = IfOk-weaker c.take.result _ _ (λ o row. row_serves_on _ _ _ o _ row) c.take.ensures.row
+returns-clause-truly g c = IfOk-weaker c.take.result _ _ (λ o row. row_serves_on _ _ _ o _ row) c.take.ensures.acts.row
 
 pub returns-clause-bounded : goal.returns-clause-bounded
 returns-clause-bounded g c = left_is_bounded _ _ c.take.ensures.in_order
 
 pub returns-clause-less : goal.returns-clause-less
-returns-clause-less g c = λ serves. IfOk-weaker c.take.result _ _ (λ o row. less_is_left _ _ _ o _ c.take.ensures.in_order row serves) c.take.ensures.row
+returns-clause-less g c = λ serves. IfOk-weaker c.take.result _ _ (λ o row. less_is_left _ _ _ o _ c.take.ensures.in_order row serves) c.take.ensures.acts.row

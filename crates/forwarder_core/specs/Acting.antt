@@ -1,0 +1,32 @@
+-- The effects of an event and of a change.
+use Rattle.std.specs.Prelude.{◌≡◌, ℕ, ◌^◌, ◌≤◌, Result, IfOk, OnOk, OnErr, IsOk}
+use Rattle.std.specs.declared.alloc.AllocError.{AllocError}
+use Rattle.step_values.specs.Values.{Handed, Outcome}
+use Rattle.step_table.specs.State.{Running}
+use Rattle.step_table.specs.Row.{TakesNoMemory, effective, Row}
+use Rattle.step_actions.specs.declared.decision.Change.{Change}
+use Rattle.step_actions.specs.declared.decision.Change.TheVariants.{Nothing}
+use Rattle.step_actions.specs.Decision.{FitsChange, changed}
+
+-- The forwarder acted on an event: what was done is the event's row of the table. Where memory ran
+-- out nothing changed, and it never runs out for what takes no memory.
+pub record Acts (before : Running) (handed : Handed) (result : Result Outcome AllocError) (after : Running) : Type 0 where
+  pub row : IfOk result (λ outcome. Row before.config before.state handed outcome after.state)
+  pub config : after.config ≡ before.config
+  pub no_memory : TakesNoMemory before.config (effective handed.now before.state) before.state handed.event
+      → IsOk result
+  pub err : OnErr result (after ≡ before)
+
+-- The forwarder is no later than the moment, which may be, and the change fits it.
+pub record CanApply {A : Type 0} (before : Running) (moment : ℕ) (change : Change A) : Type 0 where
+  pub later : before.state.moment ≤ moment
+  pub in_time : moment ≤ 2 ^ 62
+  pub fits : FitsChange before.config moment before.state change
+
+-- The change is in place. Where memory ran out nothing changed, and a change of no list takes none.
+pub record Applies {A : Type 0} (before : Running) (moment : ℕ) (change : Change A)
+    (result : Result (Unit {0}) AllocError) (after : Running) : Type 0 where
+  pub ok : OnOk result (after.state ≡ changed moment before.state change)
+  pub config : after.config ≡ before.config
+  pub quiet : change ≡ Nothing → IsOk result
+  pub err : OnErr result (after ≡ before)
