@@ -10,7 +10,8 @@ use Rattle.step_actions.specs.Decision.{FitsChange, changed}
 
 -- The forwarder acted on an event: what was done is the event's row of the table. Where memory ran
 -- out nothing changed, and it never runs out for what takes no memory.
-pub record Acts (before : Running) (handed : Handed) (result : Result Outcome AllocError) (after : Running) : Type 0 where
+pub record Acts (before : Running) (handed : Handed) (result : Result Outcome AllocError)
+    (after : Running) : Type 0 where
   pub row : IfOk result (λ outcome. Row before.config before.state handed outcome after.state)
   pub config : after.config ≡ before.config
   pub no_memory : TakesNoMemory before.config (effective handed.now before.state) before.state handed.event

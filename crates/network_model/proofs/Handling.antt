@@ -1,4 +1,4 @@
--- The effects of the parts of a turn, put together.
+-- The effects of the parts of a round, put together.
 use Rattle.std.proofs.Common.{◌≡◌, ◌∙◌, refl, sym, ap, subst, ℕ, zero, suc, ◌+◌, ◌*◌, ◌<◌, ◌≤◌, ◌⊎◌, inl, inr, List, [], ◌∷◌, ◌++◌, length, append_assoc, append-nil, Option, Some, None, Bool, true, false, arith}
 use Rattle.std.specs.Prelude.{option_map, map, IsSome}
 use Rattle.std.specs.List.{AllByRecursion}

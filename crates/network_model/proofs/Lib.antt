@@ -2,5 +2,5 @@ pub mod Telling
 pub mod Quiet
 pub mod Handling
 pub mod Framing
-pub mod Turns
+pub mod Rounds
 pub mod Worked

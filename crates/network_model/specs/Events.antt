@@ -1,4 +1,4 @@
--- The events of a wire's arrivals, and how a turn serves them.
+-- The events of a wire's arrivals, and how a round serves them.
 use Rattle.std.specs.Prelude.{◌≡◌, ℕ, suc, ◌+◌, ◌*◌, ◌≤◌, Bool, true, false, if◌then◌else◌, ◌==◌, List, [], ◌∷◌, ◌++◌}
 use Rattle.std.specs.Prelude.{length, map, drop, Option, Some, None, option_map}
 use Rattle.std.specs.List.{filter_map}
@@ -156,29 +156,29 @@ AreTicks false (chain ∷ chains) = ⊥
 AreTicks true [] = ⊥
 AreTicks true (chain ∷ chains) = IsChain (Some tick) chain × AreTicks (tells_more chain) chains
 
--- ---- turns
+-- ---- rounds
 
--- a turn: what arrived, what was taken for each of its events, and what was taken for each tick
-pub record Turn : Type 0 where
+-- a round: what arrived, what was taken for each of its events, and what was taken for each tick
+pub record Round : Type 0 where
   pub arrival : Option Arrival
   pub served : List (List Taken)
   pub ticks : List (List Taken)
 
--- the steps of a turn: those of its events, and its ticks
-abbrev pub taken_in_turn : Turn → List Taken
-taken_in_turn t = joined t.served ++ joined t.ticks
+-- the steps of a round: those of its events, and its ticks
+abbrev pub taken_in_round : Round → List Taken
+taken_in_round r = joined r.served ++ joined r.ticks
 
--- the steps of all turns
-abbrev pub taken_in : List Turn → List Taken
+-- the steps of all rounds
+abbrev pub taken_in : List Round → List Taken
 taken_in [] = []
-taken_in (t ∷ turns) = taken_in_turn t ++ taken_in turns
+taken_in (r ∷ rounds) = taken_in_round r ++ taken_in rounds
 
--- A whole turn after these arrivals: each event of its arrival, then ticks, at most one more than
+-- A whole round after these arrivals: each event of its arrival, then ticks, at most one more than
 -- the questions and tries that there can be.
-pub record IsTurn (c : Config) (past : List (Option Arrival)) (t : Turn) : Type 0 where
-  pub served : AreChains (events_of past t.arrival) t.served
-  pub ticks : AreTicks true t.ticks
-  pub few : length t.ticks ≤ suc (c.limits.questions + c.limits.inquiries * c.limits.tries)
+pub record IsRound (c : Config) (past : List (Option Arrival)) (r : Round) : Type 0 where
+  pub served : AreChains (events_of past r.arrival) r.served
+  pub ticks : AreTicks true r.ticks
+  pub few : length r.ticks ≤ suc (c.limits.questions + c.limits.inquiries * c.limits.tries)
 
 -- a piece of a stream: a reader has to hold it, and to give its frames, before these are events,
 -- which allocates
@@ -192,18 +192,18 @@ IsPiece (Some (server_datagram port from datagram)) = ⊥
 IsPiece (Some (server_stream conn from piece)) = Unit {0}
 IsPiece (Some (path_gone path)) = ⊥
 
--- A turn in which memory ran out between two events of its arrival, which is a piece of a stream:
--- those before were served. An event that the forwarder lost because memory ran out cuts no turn
+-- A round in which memory ran out between two events of its arrival, which is a piece of a stream:
+-- those before were served. An event that the forwarder lost because memory ran out cuts no round
 -- short.
-pub record IsCutShort (past : List (Option Arrival)) (t : Turn) : Type 0 where
-  pub piece : IsPiece t.arrival
+pub record IsCutShort (past : List (Option Arrival)) (r : Round) : Type 0 where
+  pub piece : IsPiece r.arrival
   pub done : List Event
   pub left : List Event
-  pub events : events_of past t.arrival ≡ done ++ left
-  pub served : AreChains done t.served
-  pub ticks : t.ticks ≡ []
+  pub events : events_of past r.arrival ≡ done ++ left
+  pub served : AreChains done r.served
+  pub ticks : r.ticks ≡ []
 
--- each is a turn of the loop after the arrivals before it
-abbrev pub AreTurns : Config → List (Option Arrival) → List Turn → Type 0
-AreTurns c past [] = Unit {0}
-AreTurns c past (t ∷ turns) = IsTurn c past t × AreTurns c (past ++ t.arrival ∷ []) turns
+-- each is a round of the loop after the arrivals before it
+abbrev pub AreRounds : Config → List (Option Arrival) → List Round → Type 0
+AreRounds c past [] = Unit {0}
+AreRounds c past (r ∷ rounds) = IsRound c past r × AreRounds c (past ++ r.arrival ∷ []) rounds

@@ -10,7 +10,7 @@ use Rattle.theorem_sound.specs.Runs.{Run}
 use Rattle.theorem_use.specs.Service.{ServesOnTruly}
 use Rattle.network_model.specs.declared.counts.Served.{Served}
 use Rattle.wires.specs.Wire.{Arrival, Put, Told, Telling, silence, ◌then◌, TellsMore, arrived}
-use Rattle.network_model.specs.Events.{Taken, PutsItsActions, steps_in, Turn, taken_in_turn, taken_in, AreTurns}
+use Rattle.network_model.specs.Events.{Taken, PutsItsActions, steps_in, Round, taken_in_round, taken_in, AreRounds}
 use Rattle.network_model.specs.Events.{IsCutShort}
 
 -- ---- the report of a wire
@@ -24,14 +24,14 @@ abbrev pub told_of_all : List Taken → Told
 told_of_all [] = silence
 told_of_all (x ∷ taken) = told_of x then told_of_all taken
 
--- the report of a turn
-abbrev pub told_in_turn : Turn → Told
-told_in_turn t = arrived t.arrival then told_of_all (taken_in_turn t)
+-- the report of a round
+abbrev pub told_in_round : Round → Told
+told_in_round r = arrived r.arrival then told_of_all (taken_in_round r)
 
--- the report of all turns
-abbrev pub told_in : List Turn → Told
+-- the report of all rounds
+abbrev pub told_in : List Round → Told
 told_in [] = silence
-told_in (t ∷ turns) = told_in_turn t then told_in turns
+told_in (r ∷ rounds) = told_in_round r then told_in rounds
 
 -- ---- counts
 
@@ -67,9 +67,9 @@ missed_by None = 1
 missed_by (Some arrival) = 0
 
 -- how many arrivals the wire refused
-abbrev pub missed_in : List Turn → ℕ
+abbrev pub missed_in : List Round → ℕ
 missed_in [] = 0
-missed_in (t ∷ turns) = missed_by t.arrival + missed_in turns
+missed_in (r ∷ rounds) = missed_by r.arrival + missed_in rounds
 
 -- a count that has reached its last value stays there
 abbrev pub capped : ℕ → ℕ
@@ -107,29 +107,30 @@ pub record Does (before : Standing) (taken : List Taken) (after : Standing) : Ty
 abbrev pub left : Running → ℕ
 left r = left_to_do r.config r.state
 
--- A call of `serve` takes `wanted` whole turns, and counts them and, up to 2^64 - 1 each, lost
+-- A call of `serve` takes `wanted` whole rounds, and counts them and, up to 2^64 - 1 each, lost
 -- events, refused puts other than asks, and refused arrivals. Where memory ran out it takes fewer,
 -- and one cut short.
-abbrev pub Ends : Running → ℕ → List Turn → Result Served AllocError → Type 0
-Ends before wanted turns (Ok counts) = (length turns ≡ wanted) × AreTurns before.config [] turns × (counts ≡ record {
-  turns = wanted;
-  lost = capped (lost_in (taken_in turns));
-  refused_puts = capped (refused_in (taken_in turns));
-  refused_arrivals = capped (missed_in turns);
-})
-Ends before wanted turns (Err refused) = (whole : List Turn)
-    × ((last : Turn) × (turns ≡ whole ++ last ∷ []) × (length turns ≤ wanted) × AreTurns before.config [] whole
-    × IsCutShort (map (λ (t : Turn). t.arrival) whole) last)
+abbrev pub Ends : Running → ℕ → List Round → Result Served AllocError → Type 0
+Ends before wanted rounds (Ok counts) = (length rounds ≡ wanted) × AreRounds before.config [] rounds
+    × (counts ≡ record {
+      turns = wanted;
+      lost = capped (lost_in (taken_in rounds));
+      refused_puts = capped (refused_in (taken_in rounds));
+      refused_arrivals = capped (missed_in rounds);
+    })
+Ends before wanted rounds (Err refused) = (whole : List Round)
+    × ((last : Round) × (rounds ≡ whole ++ last ∷ []) × (length rounds ≤ wanted) × AreRounds before.config [] whole
+    × IsCutShort (map (λ (r : Round). r.arrival) whole) last)
 
 -- A call of `serve` (`Ends`): its steps are a run of the forwarder, which serves truly after any
 -- earlier ones. Its puts are the actions in order. The wire reports just this, and all of it if it
 -- reported before and counted no fault.
 pub record Serves (before : Running) (told_before : Telling) (wanted : ℕ) (result : Result Served AllocError)
     (after : Running) (told_after : Telling) : Type 0 where
-  pub turns : List Turn
-  pub ends : Ends before wanted turns result
+  pub rounds : List Round
+  pub ends : Ends before wanted rounds result
   pub config : after.config ≡ before.config
-  pub run : Run before.config before.state (steps_in (taken_in turns)) after.state
-  pub truly : ServesOnTruly before.config before.state (steps_in (taken_in turns))
-  pub puts : AllByRecursion PutsItsActions (taken_in turns)
-  pub told : TellsMore told_before (told_in turns) told_after
+  pub run : Run before.config before.state (steps_in (taken_in rounds)) after.state
+  pub truly : ServesOnTruly before.config before.state (steps_in (taken_in rounds))
+  pub puts : AllByRecursion PutsItsActions (taken_in rounds)
+  pub told : TellsMore told_before (told_in rounds) told_after

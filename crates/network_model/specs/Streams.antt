@@ -14,7 +14,7 @@ use Rattle.network_model.specs.declared.streams.Sender.TheVariants.{FromClient, 
 use Rattle.wires.specs.Wire.{Arrival, nothing, client_datagram, client_stream, client_closed, server_datagram}
 use Rattle.wires.specs.Wire.{server_stream, path_gone, TellsMore, arrived}
 use Rattle.network_model.specs.Events.{Taken, joined, client_message, server_message, client_octets, server_octets}
-use Rattle.network_model.specs.Events.{AreChains, AreTicks, Turn, taken_in_turn, IsPiece}
+use Rattle.network_model.specs.Events.{AreChains, AreTicks, Round, taken_in_round, IsPiece}
 use Rattle.network_model.specs.Serving.{Standing, Does, Adds, missed_by}
 use Rattle.network_model.specs.Handing.{most_left}
 
@@ -117,27 +117,27 @@ pub record TakesArrival {A : Type 0} (s : Streams A) (result : Result (Unit {0})
   pub piece : OnErr result (IsPiece arrival)
 
 -- Those before were served, and no tick.
-pub record StopsShort {A : Type 0} (s : Streams A) (t : Turn) : Type 0 where
-  pub piece : IsPiece t.arrival
+pub record StopsShort {A : Type 0} (s : Streams A) (r : Round) : Type 0 where
+  pub piece : IsPiece r.arrival
   pub done : List Event
   pub missed : List Event
-  pub events_are : events_by s t.arrival ≡ done ++ missed
-  pub served : AreChains done t.served
-  pub ticks : t.ticks ≡ []
+  pub events_are : events_by s r.arrival ≡ done ++ missed
+  pub served : AreChains done r.served
+  pub ticks : r.ticks ≡ []
 
--- the loop makes this turn, and leaves these streams
-pub record MakesTurn {A : Type 0} (s : Streams A) (t : Turn) (s' : Streams A) (before : Standing) : Type 0 where
-  pub served : AreChains (events_by s t.arrival) t.served
-  pub ticks : AreTicks true t.ticks
-  pub few : length t.ticks ≤ suc (most_left before.running)
-  pub follows : Follows s t.arrival s'
+-- the loop makes this round, and leaves these streams
+pub record MakesRound {A : Type 0} (s : Streams A) (r : Round) (s' : Streams A) (before : Standing) : Type 0 where
+  pub served : AreChains (events_by s r.arrival) r.served
+  pub ticks : AreTicks true r.ticks
+  pub few : length r.ticks ≤ suc (most_left before.running)
+  pub follows : Follows s r.arrival s'
 
--- A turn was made, or memory ran out in it.
-pub record TakesTurn {A : Type 0} (s : Streams A) (result : Result (Unit {0}) AllocError) (s' : Streams A)
+-- A round was made, or memory ran out in it.
+pub record TakesRound {A : Type 0} (s : Streams A) (result : Result (Unit {0}) AllocError) (s' : Streams A)
     (before after : Standing) : Type 0 where
-  pub turn : Turn
+  pub round : Round
   pub mid : Standing
-  pub arrives : Arrives before turn.arrival mid
-  pub does : Does mid (taken_in_turn turn) after
-  pub ok : OnOk result (MakesTurn s turn s' before)
-  pub err : OnErr result (StopsShort s turn)
+  pub arrives : Arrives before round.arrival mid
+  pub does : Does mid (taken_in_round round) after
+  pub ok : OnOk result (MakesRound s round s' before)
+  pub err : OnErr result (StopsShort s round)

@@ -4,7 +4,7 @@
 /// reached it.
 #[derive(Clone, Copy, PartialEq, Eq, Debug, Drop)]
 pub struct Served {
-    /// The number of turns.
+    /// The number of rounds of the loop: a call's `turns` counts these.
     pub turns: u64,
     /// The number of events that found no memory.
     pub lost: u64,

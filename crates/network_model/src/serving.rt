@@ -5,7 +5,7 @@ ghost use Rattle.wires.specs.Wire.{telling, arrival_of, path_gone};
 ghost use Rattle.network_model.specs.Events.{IsPiece};
 ghost use Rattle.network_model.specs.Serving.{standing, Serves};
 ghost use Rattle.network_model.specs.Streams.{events_by, Follows, ServesEvents, TakesArrival};
-ghost use Rattle.network_model.specs.Streams.{TakesTurn};
+ghost use Rattle.network_model.specs.Streams.{TakesRound};
 
 use crate::counts::Served;
 use crate::handing::{hand_datagram, hand_on, tick_on};
@@ -118,15 +118,15 @@ fn take_arrival<H: BuildHasher + Drop, A: Allocator + Copy, W: Wire<A>>(
     }
 }
 
-/// Takes one turn: an arrival with its events, then ticks.
-fn take_turn<H: BuildHasher + Drop, A: Allocator + Copy, W: Wire<A>>(
+/// Takes one round: an arrival with its events, then ticks.
+fn take_round<H: BuildHasher + Drop, A: Allocator + Copy, W: Wire<A>>(
     alloc: A,
     wire: &mut W,
     forwarder: &mut Forwarder<H, A>,
     counts: &mut Served,
     streams: &mut Streams<A>,
 ) -> Result<(), AllocError>
-    ensures { TakesTurn streams.old result streams.new
+    ensures { TakesRound streams.old result streams.new
         (standing forwarder.old (telling (W.told wire.old) (W.fault_count wire.old)) counts.old)
         (standing forwarder.new (telling (W.told wire.new) (W.fault_count wire.new)) counts.new) }
 {
@@ -135,12 +135,12 @@ fn take_turn<H: BuildHasher + Drop, A: Allocator + Copy, W: Wire<A>>(
     Ok(())
 }
 
-/// Serves `turns` turns over a wire. A turn takes one arrival and gives its events to the
-/// forwarder: a datagram is one event, a piece of a stream is one for each frame that it completes,
-/// and the end of a path to a server is its failure. The actions of an event are put at once, in
-/// order. An ask that the wire refuses is the failure of its path, which comes next. Then ticks
-/// follow until one reports that nothing more is due. The wire gives a moment and words for each
-/// event. From a new forwarder the steps that it makes serve truly, for all that the wire may
+/// Serves `turns` rounds of the loop over a wire. A round takes one arrival and gives its events to
+/// the forwarder: a datagram is one event, a piece of a stream is one for each frame that it
+/// completes, and the end of a path to a server is its failure. The actions of an event are put at
+/// once, in order. An ask that the wire refuses is the failure of its path, which comes next. Then
+/// ticks follow until one reports that nothing more is due. The wire gives a moment and words for
+/// each event. From a new forwarder the steps that it makes serve truly, for all that the wire may
 /// bring; from another they do after those that it made since it was new.
 ///
 /// It returns wherever the calls of its wire do. `Err` only where memory ran out for a frame
@@ -165,8 +165,8 @@ pub fn serve<H: BuildHasher + Drop, A: Allocator + Copy, W: Wire<A>>(
         clients: BTreeMap::new(alloc),
         servers: BTreeMap::new(alloc),
     };
-    for _turn in 0..turns {
-        take_turn(alloc, wire, forwarder, &mut counts, &mut streams)?;
+    for _round in 0..turns {
+        take_round(alloc, wire, forwarder, &mut counts, &mut streams)?;
     }
     Ok(counts)
 }

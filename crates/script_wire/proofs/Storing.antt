@@ -4,7 +4,7 @@ use Rattle.std.specs.Prelude.{IfSome, [], ◌∷◌, map, slice_get, nat_lt, con
 use Rattle.std.proofs.lemmas.Bool.{ltb-false}
 use Rattle.script_wire.specs.declared.script_wire.ScriptTurn.{ScriptTurn}
 use Rattle.wires.specs.Wire.{Arrival, Put, Told, ◌then◌, told_more, telling, TellsMore}
-use Rattle.script_wire.specs.Scripts.{stored, Script, standing, no_turn, turn_of, begun, calls_once, faults_once, refuses, Stores}
+use Rattle.script_wire.specs.Scripts.{stored, Script, standing, no_round, round_of, begun, calls_once, faults_once, refuses, Stores}
 
 told_before : (o : Option Told) (more now : Told) → told_more o more ≡ Some now → (before : Told) × (o ≡ Some before) × (now ≡ before then more)
 told_before None more now is = absurd (cc)
@@ -52,15 +52,15 @@ pub shows : (tells : Bool) (a : List (Option Arrival)) (p : List Put) (m : List 
 shows true a p m w xs o is same = subst (λ (v : Option Told). IfSome v (λ (told : Told). xs ≡ told.puts)) is same
 shows false a p m w xs o is same = subst (λ (v : Option Told). IfSome v (λ (told : Told). xs ≡ told.puts)) is tt
 
--- the turn of a wire before its first one begins
-pub standing_some : {A : Type 0} (turns : List (ScriptTurn A)) (turn : ScriptTurn A) → slice_get turns 0 ≡ Some turn → standing (map turn_of turns) ≡ turn_of turn
-standing_some [] turn is = absurd (cc)
-standing_some (first ∷ later) turn is = ap turn_of (some_is first turn is)
+-- the round of a wire before its first one begins
+pub standing_some : {A : Type 0} (rounds : List (ScriptTurn A)) (round : ScriptTurn A) → slice_get rounds 0 ≡ Some round → standing (map round_of rounds) ≡ round_of round
+standing_some [] round is = absurd (cc)
+standing_some (first ∷ later) round is = ap round_of (some_is first round is)
   where
     some_is : {X : Type 0} (s t : X) → Some s ≡ Some t → s ≡ t
     some_is s t e = cc
 
-pub standing_none : {A : Type 0} (turns : List (ScriptTurn A)) → slice_get turns 0 ≡ None → standing (map turn_of turns) ≡ no_turn
+pub standing_none : {A : Type 0} (rounds : List (ScriptTurn A)) → slice_get rounds 0 ≡ None → standing (map round_of rounds) ≡ no_round
 standing_none [] none = refl
 standing_none (first ∷ later) none = absurd (cc)
 

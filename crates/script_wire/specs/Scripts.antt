@@ -20,52 +20,52 @@ stored tells arrivals puts moments words =
 
 -- ---- its script
 
--- a turn: its arrival, and the moment and the words of each of its steps
-pub record Turn : Type 0 where
+-- a round: its arrival, and the moment and the words of each of its steps
+pub record Round : Type 0 where
   pub arrival : Arrival
   pub moment : ℕ
   pub words : List ℕ
 
--- a turn of the script as a plain value
-abbrev pub turn_of : {A : Type 0} → ScriptTurn A → Turn
-turn_of turn = record { arrival = arrival_of turn.arrival; moment = turn.moment; words = turn.words }
+-- a round of the script as a plain value
+abbrev pub round_of : {A : Type 0} → ScriptTurn A → Round
+round_of round = record { arrival = arrival_of round.arrival; moment = round.moment; words = round.words }
 
--- A wire in memory: its report, and how many faults it counted; the turns that have not begun; the
--- moment and the words of the turn that began last, before the first one of that one; the numbers
+-- A wire in memory: its report, and how many faults it counted; the rounds that have not begun; the
+-- moment and the words of the round that began last, before the first one of that one; the numbers
 -- of the calls of `arrival` and `put` that it refuses, and how many such calls there were.
 pub record Script : Type 0 where
   pub told : Option Told
   pub faults : ℕ
-  pub to_come : List Turn
+  pub to_come : List Round
   pub moment : ℕ
   pub words : List ℕ
   pub refuse : List ℕ
   pub calls : ℕ
 
 -- where nothing is given, nothing arrives at the moment 0, and all words are 0
-abbrev pub no_turn : Turn
-no_turn = record { arrival = nothing; moment = 0; words = 0 ∷ 0 ∷ 0 ∷ 0 ∷ 0 ∷ 0 ∷ 0 ∷ 0 ∷ [] }
+abbrev pub no_round : Round
+no_round = record { arrival = nothing; moment = 0; words = 0 ∷ 0 ∷ 0 ∷ 0 ∷ 0 ∷ 0 ∷ 0 ∷ 0 ∷ [] }
 
--- the turn of a wire before the first of its turns begins
-abbrev pub standing : List Turn → Turn
-standing [] = no_turn
-standing (turn ∷ later) = turn
+-- the round of a wire before the first of its rounds begins
+abbrev pub standing : List Round → Round
+standing [] = no_round
+standing (round ∷ later) = round
 
--- the turn that begins next; after the last one nothing arrives, and the moment and the words stay
-abbrev pub next_of : Script → List Turn → Turn
+-- the round that begins next; after the last one nothing arrives, and the moment and the words stay
+abbrev pub next_of : Script → List Round → Round
 next_of script [] = record { arrival = nothing; moment = script.moment; words = script.words }
-next_of script (turn ∷ later) = turn
+next_of script (round ∷ later) = round
 
--- the turn that comes next
-abbrev pub next_turn : Script → Turn
-next_turn script = next_of script script.to_come
+-- the round that comes next
+abbrev pub next_round : Script → Round
+next_round script = next_of script script.to_come
 
--- the script once its next turn has begun
+-- the script once its next round has begun
 abbrev pub begun : Script → Script
 begun script = record script {
   to_come = drop 1 script.to_come;
-  moment = (next_turn script).moment;
-  words = (next_turn script).words;
+  moment = (next_round script).moment;
+  words = (next_round script).words;
 }
 
 -- whether the next call of `arrival` or `put` is refused

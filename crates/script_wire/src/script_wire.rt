@@ -6,7 +6,7 @@ ghost use Rattle.step_values.specs.Values.{action_of};
 ghost use Rattle.wires.specs.Wire.{silence, told_more, telling, TellsMore, arrival_of, given, arrived, was_put};
 ghost use Rattle.wires.specs.Wire.{moment_was, words_were};
 ghost use Rattle.wires.specs.Wire.Arrival.{nothing};
-ghost use Rattle.script_wire.specs.Scripts.{put_of, turn_of, next_turn, begun, calls_once, faults_once, refuses};
+ghost use Rattle.script_wire.specs.Scripts.{put_of, round_of, next_round, begun, calls_once, faults_once, refuses};
 ghost use Rattle.script_wire.specs.Scripts.{standing, counts_want, AllButTold, Tells, Stores};
 
 use plain_list::Octets;
@@ -16,13 +16,13 @@ use std::marker::Model;
 use step_values::Action;
 use wires::{Arrival, Wire, WireFault};
 
-/// A turn of a `ScriptWire`: its arrival, moment and words.
+/// A round of a script: its arrival, moment and words.
 #[derive(Drop)]
 pub struct ScriptTurn<A: Allocator = Global> {
     pub arrival: Arrival<A>,
-    /// The moment of each step of the turn, in milliseconds.
+    /// The moment of each step of the round, in milliseconds.
     pub moment: u64,
-    /// The words of each step of the turn.
+    /// The words of each step of the round.
     pub words: [u32; 8],
 }
 
@@ -186,29 +186,30 @@ impl<A: Allocator + Copy> Stored<A> {
     }
 }
 
-/// The moment and the words of a wire of these turns before the first one begins.
+/// The moment and the words of a wire of these rounds before the first one begins.
 #[tactic(auto, using(crate::proofs::Storing::standing_some, crate::proofs::Storing::standing_none))]
-fn stands_at<A: Allocator>(turns: &[ScriptTurn<A>]) -> (u64, [u32; 8])
-    ensures { (result.0 ≡ (standing (map turn_of turns.now)).moment)
-        × (result.1 ≡ (standing (map turn_of turns.now)).words) }
+fn stands_at<A: Allocator>(rounds: &[ScriptTurn<A>]) -> (u64, [u32; 8])
+    ensures { (result.0 ≡ (standing (map round_of rounds.now)).moment)
+        × (result.1 ≡ (standing (map round_of rounds.now)).words) }
 {
-    match turns.first() {
-        Some(turn) => (turn.moment, turn.words),
+    match rounds.first() {
+        Some(round) => (round.moment, round.words),
         None => (0, [0; 8]),
     }
 }
 
-/// A wire in memory. Its turns are given beforehand: the arrival of a turn comes at its call of
-/// `arrival`, and the moment and the words of the turn are those of all steps in it; after the last
-/// turn nothing arrives, and its moment and words go on. The caller chooses which calls it refuses.
+/// A wire in memory. Its rounds are given beforehand: the arrival of a round comes at its call of
+/// `arrival`, and the moment and the words of the round are those of all steps in it; after the
+/// last round nothing arrives, and its moment and words go on. The caller chooses which calls it
+/// refuses.
 /// It stores all that it gave and took.
 #[derive(Drop)]
 pub struct ScriptWire<A: Allocator = Global> {
-    /// The turns that have not begun.
+    /// The rounds that have not begun.
     to_come: VecDeque<ScriptTurn<A>, A>,
-    /// The moment of the turn that began last; before the first one, of that one.
+    /// The moment of the round that began last; before the first one, of that one.
     moment: u64,
-    /// The words of the same turn.
+    /// The words of the same round.
     words: [u32; 8],
     /// The numbers of the calls of `arrival` and `put` that are refused, counted together from 0.
     refuse: Vec<u64, A>,
@@ -220,14 +221,14 @@ pub struct ScriptWire<A: Allocator = Global> {
 
 impl<A: Allocator> Model for ScriptWire<A> {
     ghost use Rattle.std.specs.Prelude.{map};
-    ghost use Rattle.script_wire.specs.Scripts.{Script, turn_of};
+    ghost use Rattle.script_wire.specs.Scripts.{Script, round_of};
 
     ghost Value = { Script };
 
     ghost view = { λ w. record {
       told = w.stored;
       faults = w.faults;
-      to_come = map turn_of w.to_come.items;
+      to_come = map round_of w.to_come.items;
       moment = w.moment;
       words = w.words;
       refuse = w.refuse.items;
@@ -236,12 +237,12 @@ impl<A: Allocator> Model for ScriptWire<A> {
 }
 
 impl<A: Allocator + Copy> ScriptWire<A> {
-    /// A wire that gives these turns, and refuses the calls of `arrival` and `put` with these
+    /// A wire that gives these rounds, and refuses the calls of `arrival` and `put` with these
     /// numbers, counted together from 0. It does not allocate.
     pub fn new(alloc: A, turns: Vec<ScriptTurn<A>, A>, refuse: Vec<u64, A>) -> ScriptWire<A>
         ensures told { result.told ≡ Some silence }
         ensures faults { result.faults ≡ 0 }
-        ensures script { result.to_come ≡ map turn_of turns.items }
+        ensures script { result.to_come ≡ map round_of turns.items }
         ensures stands { (result.moment ≡ (standing result.to_come).moment)
             × (result.words ≡ (standing result.to_come).words) }
         ensures refuses { (result.refuse ≡ refuse.items) × (result.calls ≡ 0) }
@@ -266,16 +267,16 @@ impl<A: Allocator + Copy> ScriptWire<A> {
         self.stored.puts()
     }
 
-    /// Begins the next turn, and gives its arrival.
+    /// Begins the next round, and gives its arrival.
     fn begin(&mut self) -> Arrival<A>
-        ensures arrival { arrival_of result ≡ (next_turn self.old).arrival }
+        ensures arrival { arrival_of result ≡ (next_round self.old).arrival }
         ensures begun { self.new ≡ begun self.old }
     {
         match self.to_come.pop_front() {
-            Some(turn) => {
-                self.moment = turn.moment;
-                self.words = turn.words;
-                turn.arrival
+            Some(round) => {
+                self.moment = round.moment;
+                self.words = round.words;
+                round.arrival
             }
             None => Arrival::Nothing,
         }
@@ -300,10 +301,10 @@ impl<A: Allocator + Copy> ScriptWire<A> {
         }
     }
 
-    /// Stores and returns the moment of the turn. Where memory ran out, that counts as a fault and
+    /// Stores and returns the moment of the round. Where memory ran out, that counts as a fault and
     /// nothing more is reported.
     fn tell_moment(&mut self) -> u64
-        ensures of_the_turn { result ≡ self.old.moment }
+        ensures of_the_round { result ≡ self.old.moment }
         ensures stores { Stores self.old (moment_was result) self.new }
     {
         let moment = self.moment;
@@ -313,10 +314,10 @@ impl<A: Allocator + Copy> ScriptWire<A> {
         moment
     }
 
-    /// Stores and returns the words of the turn. Where memory ran out, that counts as a fault and
+    /// Stores and returns the words of the round. Where memory ran out, that counts as a fault and
     /// nothing more is reported.
     fn tell_words(&mut self) -> [u32; 8]
-        ensures of_the_turn { result ≡ self.old.words }
+        ensures of_the_round { result ≡ self.old.words }
         ensures stores { Stores self.old (words_were result) self.new }
     {
         let words = self.words;
@@ -337,7 +338,7 @@ impl<A: Allocator + Copy> Wire<A> for ScriptWire<A> {
             (telling self.new.told self.new.faults) }
         ensures faults { OnErr result (self.old.faults < self.new.faults) }
         ensures last { self.old.faults ≡ 2 ^ 64 - 1 → (given result ≡ Some nothing) × AllButTold self.old self.new }
-        ensures gives { self.old.faults < 2 ^ 64 - 1 → OnOk result ((given result ≡ Some (next_turn self.old).arrival)
+        ensures gives { self.old.faults < 2 ^ 64 - 1 → OnOk result ((given result ≡ Some (next_round self.old).arrival)
             × (refuses self.old ≡ false)
             × Tells (calls_once (begun self.old)) self.old.told (arrived (given result)) self.new) }
         ensures refuses { OnErr result (AllButTold (faults_once (calls_once (begun self.old))) self.new
@@ -403,7 +404,7 @@ impl<A: Allocator + Copy> Wire<A> for ScriptWire<A> {
     fn moment(&mut self) -> u64
         ensures tells { TellsMore (telling self.old.told self.old.faults) (moment_was result)
             (telling self.new.told self.new.faults) }
-        ensures of_the_turn { result ≡ self.old.moment }
+        ensures of_the_round { result ≡ self.old.moment }
         ensures stores { Stores self.old (moment_was result) self.new }
     {
         self.tell_moment()
@@ -412,7 +413,7 @@ impl<A: Allocator + Copy> Wire<A> for ScriptWire<A> {
     fn words(&mut self) -> [u32; 8]
         ensures tells { TellsMore (telling self.old.told self.old.faults) (words_were result)
             (telling self.new.told self.new.faults) }
-        ensures of_the_turn { result ≡ self.old.words }
+        ensures of_the_round { result ≡ self.old.words }
         ensures stores { Stores self.old (words_were result) self.new }
     {
         self.tell_words()
