@@ -6,7 +6,7 @@ use crate::script::{Heap, Runner, Script, handed_in, run_again, run_first};
 use forwarder_core::{Event, Handed};
 use plain_list::PlainList;
 use replay_script::{MOST_LINES, ReplayFault};
-use std::alloc::{AllocError, Global};
+use std::alloc::AllocError;
 use std::io::Write;
 
 /// The octets of a message's header, the least that it has (RFC 1035 4.1.1).
@@ -17,24 +17,21 @@ const LEAST: usize = 12;
 /// actions. After each one that has actions the forwarder runs those lines again. With ample memory
 /// none is refused.
 pub(crate) fn tell_beginnings<W: Write>(
-    alloc: Global,
-    heap: Heap<'_>,
-    script: Script<'_>,
+    script: Script<'_, '_>,
     number: u32,
     line: &[u8],
     writer: &mut W,
 ) -> Result<(), ReplayFault>
     requires { number ≤ MOST_LINES }
 {
-    let handed = handed_in(heap, script, number, line)?;
-    let mut forwarder = run_first(alloc, heap, script, number.saturating_sub(1))?;
-    hand_beginnings(heap, script, &mut forwarder, number, &handed, writer)
+    let handed = handed_in(script, number, line)?;
+    let mut forwarder = run_first(script, number.saturating_sub(1))?;
+    hand_beginnings(script, &mut forwarder, number, &handed, writer)
 }
 
 /// Makes a step with each beginning of a message on a forwarder that has run the lines before.
 fn hand_beginnings<'a, W: Write>(
-    heap: Heap<'a>,
-    script: Script<'_>,
+    script: Script<'a, '_>,
     forwarder: &mut Runner<'a>,
     number: u32,
     handed: &Handed<Heap<'a>>,
@@ -43,13 +40,13 @@ fn hand_beginnings<'a, W: Write>(
     requires { number ≤ MOST_LINES }
 {
     for end in 0..octets_of(&handed.event).len() {
-        if is_idle_at(heap, forwarder, handed, end)? {
+        if is_idle_at(script.heap, forwarder, handed, end)? {
             continue;
         }
         if end < LEAST {
             writeln!(writer, "{number} cut to {end} calls for something")?;
         }
-        run_again(heap, script, number.saturating_sub(1), forwarder)?;
+        run_again(script, number.saturating_sub(1), forwarder)?;
     }
     Ok(())
 }

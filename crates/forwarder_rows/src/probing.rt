@@ -26,19 +26,28 @@ pub(crate) fn run_probed<W: Write>(
     writer: &mut W,
 ) -> Result<(), ReplayFault> {
     let heap = Refusing::new(alloc);
-    let script = script_in(text, words)?;
-    let mut forwarder = begin(alloc, &heap, script)?;
+    run_within(alloc, &heap, text, words, writer)
+}
+
+/// Runs a script as [`run_probed`], with the memory of this heap.
+fn run_within<W: Write>(
+    alloc: Global,
+    heap: Heap<'_>,
+    text: &[u8],
+    words: Option<[u32; 8]>,
+    writer: &mut W,
+) -> Result<(), ReplayFault> {
+    let script = script_in(alloc, heap, text, words)?;
+    let mut forwarder = begin(script)?;
     if script.count == 0 {
         return Ok(());
     }
-    run_lines(alloc, &heap, script, &mut forwarder, writer)
+    run_lines(script, &mut forwarder, writer)
 }
 
 /// Runs the lines of a script one after another.
 fn run_lines<'a, W: Write>(
-    alloc: Global,
-    heap: Heap<'a>,
-    script: Script<'_>,
+    script: Script<'a, '_>,
     forwarder: &mut Runner<'a>,
     writer: &mut W,
 ) -> Result<(), ReplayFault> {
@@ -47,12 +56,12 @@ fn run_lines<'a, W: Write>(
             Ok(before) if before < MOST_LINES => before + 1,
             _ => return Err(ReplayFault::Line(MOST_LINES + 1)),
         };
-        run_line(alloc, heap, script, forwarder, number, line, writer)?;
+        run_line(script, forwarder, number, line, writer)?;
         if script.count <= MOST_RESTARTED {
-            tell_restart(alloc, heap, script, number, writer)?;
+            tell_restart(script, number, writer)?;
         }
         if script.count <= MOST_CUT {
-            tell_beginnings(alloc, heap, script, number, line, writer)?;
+            tell_beginnings(script, number, line, writer)?;
         }
     }
     Ok(())

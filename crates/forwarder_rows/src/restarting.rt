@@ -6,23 +6,20 @@ use crate::script::{Heap, Runner, Script, handed_in, lines_of, read_in, run_firs
 use forwarder_core::{Event, Handed, Outcome, Step};
 use network_model::run_list;
 use replay_script::{MOST_LINES, ReplayFault};
-use std::alloc::Global;
 use std::io::Write;
 
 /// Prints a line where a restart after line `number` has an action, or where the steps after it
 /// differ from a run over the lines after it alone.
 pub(crate) fn tell_restart<W: Write>(
-    alloc: Global,
-    heap: Heap<'_>,
-    script: Script<'_>,
+    script: Script<'_, '_>,
     number: u32,
     writer: &mut W,
 ) -> Result<(), ReplayFault>
     requires { number ≤ MOST_LINES }
 {
-    let mut forwarder = run_first(alloc, heap, script, number)?;
+    let mut forwarder = run_first(script, number)?;
     tell_deed(&mut forwarder, number, writer)?;
-    tell_rest(alloc, heap, script, number, &mut forwarder, writer)
+    tell_rest(script, number, &mut forwarder, writer)
 }
 
 /// Restarts a forwarder at the last moment, which must not count. Prints a line where the step has
@@ -43,15 +40,13 @@ fn tell_deed<W: Write>(
 /// Prints a line where a restarted forwarder does something else after line `number` than a run
 /// over the lines after it alone.
 fn tell_rest<'a, W: Write>(
-    alloc: Global,
-    heap: Heap<'a>,
-    script: Script<'_>,
+    script: Script<'a, '_>,
     number: u32,
     restarted: &mut Runner<'a>,
     writer: &mut W,
 ) -> Result<(), ReplayFault> {
-    let wanted = told_by_run(alloc, heap, script, number)?;
-    let made = told_behind(alloc, heap, script, number, restarted)?;
+    let wanted = told_by_run(script, number)?;
+    let made = told_behind(script, number, restarted)?;
     if made.as_slice() != wanted.as_slice() {
         writeln!(writer, "{number} stays over a restart")?;
     }
@@ -59,29 +54,22 @@ fn tell_rest<'a, W: Write>(
 }
 
 /// The outcomes, as text, of a run over the lines after line `number`.
-fn told_by_run(
-    alloc: Global,
-    heap: Heap<'_>,
-    script: Script<'_>,
-    number: u32,
-) -> Result<Vec<u8>, ReplayFault> {
-    let steps = run_behind(alloc, heap, script, number)?;
-    told_of_steps(alloc, heap, script, number, &steps)
+fn told_by_run(script: Script<'_, '_>, number: u32) -> Result<Vec<u8>, ReplayFault> {
+    let steps = run_behind(script, number)?;
+    told_of_steps(script, number, &steps)
 }
 
 /// The outcomes, as text, of the steps of the lines after line `number`.
 fn told_of_steps<'a>(
-    alloc: Global,
-    heap: Heap<'a>,
-    script: Script<'_>,
+    script: Script<'a, '_>,
     number: u32,
     steps: &[Step<Heap<'a>>],
 ) -> Result<Vec<u8>, ReplayFault> {
-    let mut told = Vec::new(alloc);
+    let mut told = Vec::new(script.alloc);
     let mut later = number;
     for step in steps {
         later = later.saturating_add(1);
-        let more = told_of(alloc, heap, script, later, &step.outcome)?;
+        let more = told_of(script, later, &step.outcome)?;
         told.extend_from_slice(&more)?;
     }
     Ok(told)
@@ -90,13 +78,11 @@ fn told_of_steps<'a>(
 /// The outcomes, as text, of a forwarder at the lines after line `number`. A line that is refused
 /// ends them.
 fn told_behind<'a>(
-    alloc: Global,
-    heap: Heap<'a>,
-    script: Script<'_>,
+    script: Script<'a, '_>,
     number: u32,
     forwarder: &mut Runner<'a>,
 ) -> Result<Vec<u8>, ReplayFault> {
-    let mut told = Vec::new(alloc);
+    let mut told = Vec::new(script.alloc);
     let mut lines = script.events.split(|octet| *octet == b'\n');
     for before in 0..MOST_LINES {
         let Some(line) = lines.next() else {
@@ -105,7 +91,7 @@ fn told_behind<'a>(
         if before < number {
             continue;
         }
-        match done_at(alloc, heap, script, before + 1, line, forwarder) {
+        match done_at(script, before + 1, line, forwarder) {
             Ok(more) => told.extend_from_slice(&more)?,
             Err(ReplayFault::Line(_)) => return Ok(told),
             Err(fault) => return Err(fault),
@@ -116,39 +102,34 @@ fn told_behind<'a>(
 
 /// The outcome, as text, of a forwarder at a line, with ample memory.
 fn done_at<'a>(
-    alloc: Global,
-    heap: Heap<'a>,
-    script: Script<'_>,
+    script: Script<'a, '_>,
     number: u32,
     line: &[u8],
     forwarder: &mut Runner<'a>,
 ) -> Result<Vec<u8>, ReplayFault>
     requires { number ≤ MOST_LINES }
 {
-    let handed = handed_in(heap, script, number, line)?;
+    let handed = handed_in(script, number, line)?;
     let outcome = forwarder.step(handed.now, handed.words, &handed.event)?;
-    told_of(alloc, heap, script, number, &outcome)
+    told_of(script, number, &outcome)
 }
 
 /// Runs the lines after line `number`.
 fn run_behind<'a>(
-    alloc: Global,
-    heap: Heap<'a>,
-    script: Script<'_>,
+    script: Script<'a, '_>,
     number: u32,
 ) -> Result<Vec<Step<Heap<'a>>, Heap<'a>>, ReplayFault> {
-    let config = read_in(alloc, heap, script)?;
-    let handed = handed_behind(heap, script, number)?;
-    Ok(run_list(heap, &config, &handed)?)
+    let config = read_in(script)?;
+    let handed = handed_behind(script, number)?;
+    Ok(run_list(script.heap, &config, &handed)?)
 }
 
 /// The inputs of the lines after line `number`. A line that is refused ends them.
 fn handed_behind<'a>(
-    heap: Heap<'a>,
-    script: Script<'_>,
+    script: Script<'a, '_>,
     number: u32,
 ) -> Result<Vec<Handed<Heap<'a>>, Heap<'a>>, ReplayFault> {
-    let mut handed = Vec::new(heap);
+    let mut handed = Vec::new(script.heap);
     let mut lines = script.events.split(|octet| *octet == b'\n');
     for before in 0..MOST_LINES {
         let Some(line) = lines.next() else {
@@ -158,7 +139,7 @@ fn handed_behind<'a>(
             continue;
         }
         handed.reserve(1)?;
-        match handed_in(heap, script, before + 1, line) {
+        match handed_in(script, before + 1, line) {
             Ok(entry) => handed.push_reserved(entry),
             Err(ReplayFault::Line(_)) => return Ok(handed),
             Err(fault) => return Err(fault),
@@ -170,13 +151,11 @@ fn handed_behind<'a>(
 /// An outcome as text: the lines that it prints, how many pieces were not kept, and whether more is
 /// due.
 fn told_of<'a>(
-    alloc: Global,
-    heap: Heap<'a>,
-    script: Script<'_>,
+    script: Script<'a, '_>,
     number: u32,
     outcome: &Outcome<Heap<'a>>,
 ) -> Result<Vec<u8>, ReplayFault> {
-    let mut lines = lines_of(alloc, heap, script, number, outcome)?;
+    let mut lines = lines_of(script, number, outcome)?;
     let unkept = outcome.unkept;
     let more = outcome.more;
     writeln!(lines, "{unkept} {more}")?;

@@ -38,6 +38,15 @@ impl Kind {
     }
 }
 
+/// A folder with the rows of one kind.
+#[derive(Clone, Copy)]
+struct Folder<'f> {
+    kind: Kind,
+    path: &'f str,
+    /// The names of its files.
+    names: &'f [String],
+}
+
 /// Runs the rows of each kind in a folder, prints each difference, and counts.
 pub(crate) fn run_all<R: Files + Print + AllocGlobal + Clone + Drop>(
     rt: &R,
@@ -60,16 +69,18 @@ pub(crate) fn run_all<R: Files + Print + AllocGlobal + Clone + Drop>(
 fn run_folder<R: Files + Print + AllocGlobal + Clone + Drop>(
     rt: &R,
     kind: Kind,
-    folder: &str,
+    path: &str,
     tally: &mut Tally,
 ) -> io::Result<()> {
-    let names = names_in(rt, folder)?;
+    let names = names_in(rt, path)?;
+    let names = names.as_slice();
+    let folder = Folder { kind, path, names };
     let before = tally.rows;
-    for name in &names {
-        run_file(rt, kind, folder, name.as_str(), &names, tally)?;
+    for name in names {
+        run_file(rt, folder, name.as_str(), tally)?;
     }
     if tally.rows == before {
-        println!(rt; "{folder}: no rows")?;
+        println!(rt; "{path}: no rows")?;
         tally.count_difference();
     }
     Ok(())
@@ -78,20 +89,19 @@ fn run_folder<R: Files + Print + AllocGlobal + Clone + Drop>(
 /// Runs the row that a file of a folder with these names is, if it is one.
 fn run_file<R: Files + Print + AllocGlobal>(
     rt: &R,
-    kind: Kind,
-    folder: &str,
+    folder: Folder<'_>,
     name: &str,
-    names: &[String],
     tally: &mut Tally,
 ) -> io::Result<()> {
+    let path = folder.path;
     match name.split_once('.') {
         None => {
-            let row = format!(in rt.alloc(); "{folder}/{name}")?;
-            run_row(rt, kind, row.as_str(), names, tally)
+            let row = format!(in rt.alloc(); "{path}/{name}")?;
+            run_row(rt, folder, row.as_str(), tally)
         }
-        Some((row, "stdout" | "stderr")) if has(names, row) => Ok(()),
+        Some((row, "stdout" | "stderr")) if has(folder.names, row) => Ok(()),
         Some(_) => {
-            println!(rt; "{folder}/{name}: belongs to no row")?;
+            println!(rt; "{path}/{name}: belongs to no row")?;
             tally.count_difference();
             Ok(())
         }
@@ -102,15 +112,14 @@ fn run_file<R: Files + Print + AllocGlobal>(
 /// `NAME.stderr` it has to end well.
 fn run_row<R: Files + Print + AllocGlobal>(
     rt: &R,
-    kind: Kind,
+    folder: Folder<'_>,
     row: &str,
-    names: &[String],
     tally: &mut Tally,
 ) -> io::Result<()> {
     tally.count_row();
     let mut is_well = true;
-    for manner in kind.manners() {
-        is_well = is_as_expected(rt, *manner, row, names)? && is_well;
+    for manner in folder.kind.manners() {
+        is_well = is_as_expected(rt, *manner, row, folder.names)? && is_well;
     }
     if !is_well {
         tally.count_difference();

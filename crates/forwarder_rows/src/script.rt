@@ -16,9 +16,14 @@ pub(crate) type Heap<'a> = &'a Refusing<Global>;
 /// A forwarder whose memory can be refused.
 pub(crate) type Runner<'a> = Forwarder<DefaultHasher, Heap<'a>>;
 
-/// A script, and the words of each of its lines where they are not the line's own.
+/// A script, the memory that its run takes, and the words of each of its lines where they are not
+/// the line's own.
 #[derive(Clone, Copy)]
-pub(crate) struct Script<'s> {
+pub(crate) struct Script<'a, 's> {
+    /// The memory of what is printed.
+    pub alloc: Global,
+    /// The memory of the forwarders and their inputs.
+    pub heap: Heap<'a>,
     /// Its configuration.
     pub config: &'s [u8],
     /// Its event lines, without the line feed that ends the last one.
@@ -29,8 +34,13 @@ pub(crate) struct Script<'s> {
     pub words: Option<[u32; 8]>,
 }
 
-/// A script's parts; `Line(0)` where it has no line `---`.
-pub(crate) fn script_in(text: &[u8], words: Option<[u32; 8]>) -> Result<Script<'_>, ReplayFault> {
+/// A script's parts, with the memory of its run; `Line(0)` where it has no line `---`.
+pub(crate) fn script_in<'a, 's>(
+    alloc: Global,
+    heap: Heap<'a>,
+    text: &'s [u8],
+    words: Option<[u32; 8]>,
+) -> Result<Script<'a, 's>, ReplayFault> {
     let (config, events) = parts(text).ok_or(ReplayFault::Line(0))?;
     let lines = events.strip_suffix(b"\n".as_slice()).unwrap_or(events);
     let count = if events.is_empty() {
@@ -39,6 +49,8 @@ pub(crate) fn script_in(text: &[u8], words: Option<[u32; 8]>) -> Result<Script<'
         count_lines(lines)
     };
     Ok(Script {
+        alloc,
+        heap,
         config,
         events: lines,
         count,
@@ -56,44 +68,30 @@ fn count_lines(lines: &[u8]) -> u32 {
 }
 
 /// The configuration of a script.
-pub(crate) fn read_in<'a>(
-    alloc: Global,
-    heap: Heap<'a>,
-    script: Script<'_>,
-) -> Result<Config<Heap<'a>>, ReplayFault> {
+pub(crate) fn read_in<'a>(script: Script<'a, '_>) -> Result<Config<Heap<'a>>, ReplayFault> {
     let mut config = script.config;
-    read_config(alloc, heap, &mut config)
+    read_config(script.alloc, script.heap, &mut config)
 }
 
 /// A new forwarder with the configuration of a script.
-pub(crate) fn begin<'a>(
-    alloc: Global,
-    heap: Heap<'a>,
-    script: Script<'_>,
-) -> Result<Runner<'a>, ReplayFault> {
-    let config = read_in(alloc, heap, script)?;
-    Ok(Forwarder::new(heap, config, DefaultHasher::default())?)
+pub(crate) fn begin<'a>(script: Script<'a, '_>) -> Result<Runner<'a>, ReplayFault> {
+    let config = read_in(script)?;
+    Ok(Forwarder::new(script.heap, config, DefaultHasher::default())?)
 }
 
 /// A forwarder that has run the first `count` lines of a script, with ample memory.
-pub(crate) fn run_first<'a>(
-    alloc: Global,
-    heap: Heap<'a>,
-    script: Script<'_>,
-    count: u32,
-) -> Result<Runner<'a>, ReplayFault>
+pub(crate) fn run_first<'a>(script: Script<'a, '_>, count: u32) -> Result<Runner<'a>, ReplayFault>
     requires { count ≤ MOST_LINES }
 {
-    let mut forwarder = begin(alloc, heap, script)?;
-    run_again(heap, script, count, &mut forwarder)?;
+    let mut forwarder = begin(script)?;
+    run_again(script, count, &mut forwarder)?;
     Ok(forwarder)
 }
 
 /// Runs the first `count` lines of a script, with ample memory, on a forwarder that forgets all
 /// before.
 pub(crate) fn run_again<'a>(
-    heap: Heap<'a>,
-    script: Script<'_>,
+    script: Script<'a, '_>,
     count: u32,
     forwarder: &mut Runner<'a>,
 ) -> Result<(), ReplayFault>
@@ -105,7 +103,7 @@ pub(crate) fn run_again<'a>(
         let Some(line) = lines.next() else {
             return Ok(());
         };
-        let handed = handed_in(heap, script, before + 1, line)?;
+        let handed = handed_in(script, before + 1, line)?;
         let _outcome = forwarder.step(handed.now, handed.words, &handed.event)?;
     }
     Ok(())
@@ -113,30 +111,27 @@ pub(crate) fn run_again<'a>(
 
 /// The input of a line.
 pub(crate) fn handed_in<'a>(
-    heap: Heap<'a>,
-    script: Script<'_>,
+    script: Script<'a, '_>,
     number: u32,
     line: &[u8],
 ) -> Result<Handed<Heap<'a>>, ReplayFault>
     requires { number ≤ MOST_LINES }
 {
-    let mut handed = handed_by(heap, number, line)?;
+    let mut handed = handed_by(script.heap, number, line)?;
     handed.words = script.words.unwrap_or(handed.words);
     Ok(handed)
 }
 
 /// The lines that a row has of an outcome.
 pub(crate) fn lines_of<'a>(
-    alloc: Global,
-    heap: Heap<'a>,
-    script: Script<'_>,
+    script: Script<'a, '_>,
     number: u32,
     outcome: &Outcome<Heap<'a>>,
 ) -> Result<Vec<u8>, ReplayFault> {
-    let mut lines = Vec::new(alloc);
+    let mut lines = Vec::new(script.alloc);
     for place in 0..outcome.actions.len() {
         if let Some(action) = outcome.actions.get(place) {
-            print(heap, &mut lines, number, action)?;
+            print(script.heap, &mut lines, number, action)?;
         }
     }
     if outcome.more && script.words.is_some() {

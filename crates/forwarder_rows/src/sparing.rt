@@ -5,7 +5,6 @@ ghost use Rattle.std.specs.Prelude.{◌≤◌};
 use crate::script::{Heap, Runner, Script, handed_in, lines_of, run_first};
 use forwarder_core::{Event, Handed, Outcome};
 use replay_script::{MOST_LINES, ReplayFault};
-use std::alloc::Global;
 use std::io::Write;
 
 /// More allocations than any step of a row makes.
@@ -14,9 +13,7 @@ const MOST_GROWTHS: u64 = 10_000;
 /// A line whose step is made again and again, with the inputs of the step.
 #[derive(Clone, Copy)]
 struct Trial<'t, 'a, 's> {
-    alloc: Global,
-    heap: Heap<'a>,
-    script: Script<'s>,
+    script: Script<'a, 's>,
     /// The number of the line, from 1.
     number: u32,
     /// The input of the line.
@@ -83,9 +80,7 @@ struct Made {
 /// Runs one line and prints its actions. Then makes its step again with each of its allocations
 /// refused in turn, alone and with all after it, and prints a line for each fault of these steps.
 pub(crate) fn run_line<'a, W: Write>(
-    alloc: Global,
-    heap: Heap<'a>,
-    script: Script<'_>,
+    script: Script<'a, '_>,
     forwarder: &mut Runner<'a>,
     number: u32,
     line: &[u8],
@@ -93,10 +88,8 @@ pub(crate) fn run_line<'a, W: Write>(
 ) -> Result<(), ReplayFault>
     requires { number ≤ MOST_LINES }
 {
-    let handed = handed_in(heap, script, number, line)?;
+    let handed = handed_in(script, number, line)?;
     let trial = Trial {
-        alloc,
-        heap,
         script,
         number,
         handed: &handed,
@@ -207,7 +200,7 @@ fn made_anew(trial: &Trial<'_, '_, '_>, refused: Refused) -> Result<Made, Replay
     requires { trial.now.number ≤ MOST_LINES }
 {
     let before = trial.number.saturating_sub(1);
-    let mut forwarder = run_first(trial.alloc, trial.heap, trial.script, before)?;
+    let mut forwarder = run_first(trial.script, before)?;
     made_with(trial, &mut forwarder, refused)
 }
 
@@ -219,9 +212,9 @@ fn made_with<'a>(
     refused: Refused,
 ) -> Result<Made, ReplayFault> {
     let handed = trial.handed;
-    refused.begin(trial.heap);
+    refused.begin(trial.script.heap);
     let outcome = forwarder.step(handed.now, handed.words, &handed.event);
-    let is_spared = refused.end(trial.heap);
+    let is_spared = refused.end(trial.script.heap);
     match outcome {
         Ok(outcome) if is_spared => made_of(trial, End::Spared, &outcome),
         Ok(outcome) => made_of(trial, End::Borne, &outcome),
@@ -245,7 +238,7 @@ fn made_of<'a>(
     end: End,
     outcome: &Outcome<Heap<'a>>,
 ) -> Result<Made, ReplayFault> {
-    let lines = lines_of(trial.alloc, trial.heap, trial.script, trial.number, outcome)?;
+    let lines = lines_of(trial.script, trial.number, outcome)?;
     Ok(Made {
         end,
         is_idle: outcome.actions.is_empty(),

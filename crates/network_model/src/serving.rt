@@ -9,7 +9,7 @@ ghost use Rattle.network_model.specs.Streams.{TakesRound};
 
 use crate::counts::Served;
 use crate::handing::{hand_datagram, hand_on, tick_on};
-use crate::streams::{Sender, Streams, put_in, serve_piece, take_out};
+use crate::streams::{Piece, Sender, Streams, put_in, serve_piece, take_out};
 use forwarder_core::Forwarder;
 use std::alloc::{AllocError, Allocator};
 use std::collections::BTreeMap;
@@ -18,13 +18,13 @@ use step_values::{Client, Event, Path};
 use wires::{Arrival, Wire};
 
 /// Forgets what is left of the stream on a path that is gone.
-fn forget_path<A: Allocator + Copy>(alloc: A, streams: &mut Streams<A>, path: Path)
+fn forget_path<A: Allocator + Copy>(streams: &mut Streams<A>, path: Path)
     ensures { Follows streams.old (Some (path_gone path)) streams.new }
 {
     match path {
         Path::Udp(_) => {}
         Path::Tcp(conn) => {
-            take_out(alloc, &mut streams.servers, conn);
+            take_out(streams.alloc, &mut streams.servers, conn);
         }
     }
 }
@@ -32,7 +32,6 @@ fn forget_path<A: Allocator + Copy>(alloc: A, streams: &mut Streams<A>, path: Pa
 /// Serves the events of one arrival. `Err` where memory ran out for a frame reader, its octets or a
 /// frame.
 fn serve_arrival<H: BuildHasher + Drop, A: Allocator + Copy, W: Wire<A>>(
-    alloc: A,
     wire: &mut W,
     forwarder: &mut Forwarder<H, A>,
     counts: &mut Served,
@@ -52,20 +51,14 @@ fn serve_arrival<H: BuildHasher + Drop, A: Allocator + Copy, W: Wire<A>>(
             hand_datagram(wire, forwarder, counts, Event::Client { client, bytes });
         }
         Arrival::ClientStream { conn, bytes } => {
-            let mut reader = take_out(alloc, &mut streams.clients, conn);
+            let mut reader = take_out(streams.alloc, &mut streams.clients, conn);
             let sender = Sender::FromClient(conn);
-            serve_piece(
-                wire,
-                forwarder,
-                counts,
-                &mut reader,
-                sender,
-                bytes.as_slice(),
-            )?;
+            let piece = Piece { sender, bytes };
+            serve_piece(wire, forwarder, counts, &mut reader, piece)?;
             put_in(&mut streams.clients, conn, reader)?;
         }
         Arrival::ClientClosed { conn } => {
-            take_out(alloc, &mut streams.clients, conn);
+            take_out(streams.alloc, &mut streams.clients, conn);
         }
         Arrival::ServerDatagram { port, from, bytes } => {
             let path = Path::Udp(port);
@@ -77,20 +70,14 @@ fn serve_arrival<H: BuildHasher + Drop, A: Allocator + Copy, W: Wire<A>>(
             );
         }
         Arrival::ServerStream { conn, from, bytes } => {
-            let mut reader = take_out(alloc, &mut streams.servers, conn);
+            let mut reader = take_out(streams.alloc, &mut streams.servers, conn);
             let sender = Sender::FromServer(conn, from);
-            serve_piece(
-                wire,
-                forwarder,
-                counts,
-                &mut reader,
-                sender,
-                bytes.as_slice(),
-            )?;
+            let piece = Piece { sender, bytes };
+            serve_piece(wire, forwarder, counts, &mut reader, piece)?;
             put_in(&mut streams.servers, conn, reader)?;
         }
         Arrival::PathGone { path } => {
-            forget_path(alloc, streams, path);
+            forget_path(streams, path);
             hand_on(wire, forwarder, counts, &Event::PathFailed { path });
         }
     }
@@ -99,7 +86,6 @@ fn serve_arrival<H: BuildHasher + Drop, A: Allocator + Copy, W: Wire<A>>(
 
 /// Takes one arrival and serves its events; one that the wire refuses is counted.
 fn take_arrival<H: BuildHasher + Drop, A: Allocator + Copy, W: Wire<A>>(
-    alloc: A,
     wire: &mut W,
     forwarder: &mut Forwarder<H, A>,
     counts: &mut Served,
@@ -110,7 +96,7 @@ fn take_arrival<H: BuildHasher + Drop, A: Allocator + Copy, W: Wire<A>>(
         (standing forwarder.new (telling (W.told wire.new) (W.fault_count wire.new)) counts.new) }
 {
     match wire.arrival() {
-        Ok(arrival) => serve_arrival(alloc, wire, forwarder, counts, streams, arrival),
+        Ok(arrival) => serve_arrival(wire, forwarder, counts, streams, arrival),
         Err(_) => {
             counts.refused_arrivals = counts.refused_arrivals.saturating_add(1);
             Ok(())
@@ -120,7 +106,6 @@ fn take_arrival<H: BuildHasher + Drop, A: Allocator + Copy, W: Wire<A>>(
 
 /// Takes one round: an arrival with its events, then ticks.
 fn take_round<H: BuildHasher + Drop, A: Allocator + Copy, W: Wire<A>>(
-    alloc: A,
     wire: &mut W,
     forwarder: &mut Forwarder<H, A>,
     counts: &mut Served,
@@ -130,7 +115,7 @@ fn take_round<H: BuildHasher + Drop, A: Allocator + Copy, W: Wire<A>>(
         (standing forwarder.old (telling (W.told wire.old) (W.fault_count wire.old)) counts.old)
         (standing forwarder.new (telling (W.told wire.new) (W.fault_count wire.new)) counts.new) }
 {
-    take_arrival(alloc, wire, forwarder, counts, streams)?;
+    take_arrival(wire, forwarder, counts, streams)?;
     tick_on(wire, forwarder, counts);
     Ok(())
 }
@@ -162,11 +147,12 @@ pub fn serve<H: BuildHasher + Drop, A: Allocator + Copy, W: Wire<A>>(
         refused_arrivals: 0,
     };
     let mut streams = Streams {
+        alloc,
         clients: BTreeMap::new(alloc),
         servers: BTreeMap::new(alloc),
     };
     for _round in 0..turns {
-        take_round(alloc, wire, forwarder, &mut counts, &mut streams)?;
+        take_round(wire, forwarder, &mut counts, &mut streams)?;
     }
     Ok(counts)
 }

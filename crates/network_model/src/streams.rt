@@ -22,6 +22,7 @@ use wires::Wire;
 /// The octets of streams that are no whole frame yet, by the number of the connection.
 #[derive(Drop)]
 pub(crate) struct Streams<A: Allocator> {
+    pub alloc: A,
     /// Of connections that clients opened.
     pub clients: BTreeMap<u64, FrameReader<A>, A>,
     /// Of connections of asks.
@@ -52,6 +53,13 @@ impl Sender {
             },
         }
     }
+}
+
+/// A piece of a stream.
+#[derive(Drop)]
+pub(crate) struct Piece<A: Allocator> {
+    pub sender: Sender,
+    pub bytes: Octets<A>,
 }
 
 /// Takes out the reader of a connection; a new one where there is none.
@@ -101,22 +109,21 @@ fn serve_frames<H: BuildHasher + Drop, A: Allocator + Copy, W: Wire<A>>(
     Ok(())
 }
 
-/// Takes a piece of a stream: serves each frame that it completes. `Err` where memory ran out for a
-/// reader, its octets or a frame.
+/// Takes a piece of a stream: serves each frame that it completes. `Err` where memory ran out for
+/// the octets of the reader or for a frame.
 pub(crate) fn serve_piece<H: BuildHasher + Drop, A: Allocator + Copy, W: Wire<A>>(
     wire: &mut W,
     forwarder: &mut Forwarder<H, A>,
     counts: &mut Served,
     reader: &mut FrameReader<A>,
-    sender: Sender,
-    piece: &[u8],
+    piece: Piece<A>,
 ) -> Result<(), AllocError>
-    ensures serves { ServesEvents (map (message_from sender) (frames_of (reader.old ++ piece.now)))
+    ensures serves { ServesEvents (map (message_from piece.sender) (frames_of (reader.old ++ piece.bytes)))
         result
         (standing forwarder.old (telling (W.told wire.old) (W.fault_count wire.old)) counts.old)
         (standing forwarder.new (telling (W.told wire.new) (W.fault_count wire.new)) counts.new) }
-    ensures reader { OnOk result (reader.new ≡ unfinished_of (reader.old ++ piece.now)) }
+    ensures reader { OnOk result (reader.new ≡ unfinished_of (reader.old ++ piece.bytes)) }
 {
-    reader.feed(piece)?;
-    serve_frames(wire, forwarder, counts, reader, sender)
+    reader.feed(piece.bytes.as_slice())?;
+    serve_frames(wire, forwarder, counts, reader, piece.sender)
 }
