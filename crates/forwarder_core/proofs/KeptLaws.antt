@@ -5,6 +5,7 @@ use Rattle.std.specs.List.{cons_option, AllByRecursion, list_any}
 use Rattle.std.specs.Option.{IfSome}
 use Rattle.std.proofs.lemmas.List.{length-append, length-set, with_items_is, append-nil}
 use Rattle.std.specs.Vec.{with_items}
+use Rattle.std.proofs.Math.Nat.{min-eq_left, min-eq_right}
 use Rattle.std.proofs.lemmas.Bool.{cond_both, leb-true, leb-false, cond-true, cond-false}
 use Rattle.suffix_routes.specs.Values.{Config, Route, IsConfig}
 use Rattle.outstanding.specs.declared.ask.Path.{Path}
@@ -333,8 +334,8 @@ sooner_one p None = refl
 sooner_one p (Some q) = by (nat_le p.0 q.0) refl
   where
     by : (b : Bool) → nat_le p.0 q.0 ≡ b → option_map (λ d. d.0) (cond (nat_le p.0 q.0) (Some p) (Some q)) ≡ Some (min p.0 q.0)
-    by true t = ap (option_map (λ (d : ℕ × Path). d.0)) (cond-true (nat_le p.0 q.0) (Some p) (Some q) t) ∙ sym (ap (λ (m : ℕ). Some m) (Rattle.std.proofs.Math.Nat.min-eq_left (leb-true p.0 q.0 t)))
-    by false f = ap (option_map (λ (d : ℕ × Path). d.0)) (cond-false (nat_le p.0 q.0) (Some p) (Some q) f) ∙ sym (ap (λ (m : ℕ). Some m) (Rattle.std.proofs.Math.Nat.min-eq_right (let less = leb-false p.0 q.0 f in omega (arith, less))))
+    by true t = ap (option_map (λ (d : ℕ × Path). d.0)) (cond-true (nat_le p.0 q.0) (Some p) (Some q) t) ∙ sym (ap (λ (m : ℕ). Some m) (min-eq_left (leb-true p.0 q.0 t)))
+    by false f = ap (option_map (λ (d : ℕ × Path). d.0)) (cond-false (nat_le p.0 q.0) (Some p) (Some q) f) ∙ sym (ap (λ (m : ℕ). Some m) (min-eq_right (let less = leb-false p.0 q.0 f in omega (arith, less))))
 
 pub timeouts_least : (c : Config) (asks : List Ask) → option_map (λ d. d.0) (due.next_due c.limits.ask_ms asks) ≡ least (map (timeout_of c) asks)
 timeouts_least c [] = refl

@@ -1,6 +1,9 @@
 -- Rounds, one after another.
 use Rattle.std.proofs.Common.{◌≡◌, ◌∙◌, refl, sym, ap, subst, ℕ, ◌+◌, ◌*◌, ◌<◌, List, [], ◌∷◌, ◌++◌, length, drop, append_assoc, append-nil, Option, Some, None, Ok, Err, Bool, true, false, cond, arith}
-use Rattle.std.specs.Prelude.{map, ◌==◌}
+use Rattle.std.specs.Prelude.{map, ◌==◌, unwrap_or}
+use Rattle.std.specs.Map.{lookup}
+use Rattle.std.specs.BTreeMap.{is_at}
+use Rattle.std.specs.Ordering.{nat_cmp}
 use Rattle.std.specs.List.{filter_map, AllByRecursion}
 use Rattle.std.specs.declared.alloc.AllocError.{AllocError}
 use Rattle.std.proofs.lemmas.List.{length-append, map-append}
@@ -204,7 +207,7 @@ rounds_none s x clients servers = record {
 }
   where
     left_in : List (ℕ × List ℕ) → ℕ → List ℕ
-    left_in es conn = Rattle.std.specs.Prelude.unwrap_or (Rattle.std.specs.Map.lookup (Rattle.std.specs.BTreeMap.is_at (Rattle.std.specs.Ordering.nat_cmp conn)) es) []
+    left_in es conn = unwrap_or (lookup (is_at (nat_cmp conn)) es) []
 
 pub rounds_more : PiecesContinue → {A : Type 0} (count : ℕ) (s s' : Streams A) (x y z : Standing) → RoundsSoFar count s x y → TakesRound s (Ok tt) s' y z → RoundsSoFar (count + 1) s' x z
 rounds_more law count s s' x y z so_far h =

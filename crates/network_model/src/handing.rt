@@ -22,89 +22,6 @@ pub(crate) struct Handled {
     pub more: bool,
 }
 
-/// Returns the path of an ask; `None` for another action.
-fn path_of_ask<A: Allocator>(action: &Action<A>) -> Option<Path>
-    ensures { result ≡ option_map (λ ask. ask.path) (ask_in (action_of action.now)) }
-{
-    match action {
-        Action::AskUdp { port, .. } => Some(Path::Udp(*port)),
-        Action::AskTcp { conn, .. } => Some(Path::Tcp(*conn)),
-        Action::CloseUdp { .. } | Action::CloseTcp { .. } | Action::Reply { .. } => None,
-    }
-}
-
-/// Puts one action. Returns the path of the ask that was refused last.
-fn put<A: Allocator, W: Wire<A>>(
-    wire: &mut W,
-    counts: &mut Served,
-    action: &Action<A>,
-    failed: Option<Path>,
-) -> Option<Path>
-    ensures { Puts failed (action_of action.now ∷ []) result
-        (telling (W.told wire.old) (W.fault_count wire.old))
-        (telling (W.told wire.new) (W.fault_count wire.new)) counts.old counts.new }
-{
-    match wire.put(action) {
-        Ok(()) => failed,
-        Err(_) => match path_of_ask(action) {
-            Some(path) => Some(path),
-            None => {
-                counts.refused_puts = counts.refused_puts.saturating_add(1);
-                failed
-            }
-        },
-    }
-}
-
-/// Puts actions in order. Returns the path of the ask that was refused, if any.
-fn put_all<A: Allocator + Copy, W: Wire<A>>(
-    wire: &mut W,
-    counts: &mut Served,
-    actions: &Actions<A>,
-) -> Option<Path>
-    ensures { Puts None (actions_of actions.now) result
-        (telling (W.told wire.old) (W.fault_count wire.old))
-        (telling (W.told wire.new) (W.fault_count wire.new)) counts.old counts.new }
-{
-    let mut failed = None;
-    for place in 0..actions.len() {
-        let Some(action) = actions.get(place) else {
-            unreachable!();
-        };
-        failed = put(wire, counts, action, failed);
-    }
-    failed
-}
-
-/// Gives one event to the forwarder, and puts the actions of its step. An event that finds no
-/// memory is lost.
-fn hand<H: BuildHasher + Drop, A: Allocator + Copy, W: Wire<A>>(
-    wire: &mut W,
-    forwarder: &mut Forwarder<H, A>,
-    counts: &mut Served,
-    event: &Event<A>,
-) -> Handled
-    ensures { Hands (event_of event.now) result.failed result.more
-        (standing forwarder.old (telling (W.told wire.old) (W.fault_count wire.old)) counts.old)
-        (standing forwarder.new (telling (W.told wire.new) (W.fault_count wire.new)) counts.new) }
-{
-    let now = wire.moment();
-    let words = wire.words();
-    match forwarder.step(now, words, event) {
-        Ok(outcome) => Handled {
-            failed: put_all(wire, counts, &outcome.actions),
-            more: outcome.more,
-        },
-        Err(_) => {
-            counts.lost = counts.lost.saturating_add(1);
-            Handled {
-                failed: None,
-                more: false,
-            }
-        }
-    }
-}
-
 /// Gives an event to the forwarder, and after each ask that the wire refuses the failure of its
 /// path. Returns whether more was due after the event.
 pub(crate) fn hand_on<H: BuildHasher + Drop, A: Allocator + Copy, W: Wire<A>>(
@@ -156,4 +73,87 @@ pub(crate) fn tick_on<H: BuildHasher + Drop, A: Allocator + Copy, W: Wire<A>>(
         (standing forwarder.new (telling (W.told wire.new) (W.fault_count wire.new)) counts.new) }
 {
     while hand_on(wire, forwarder, counts, &Event::Tick) {}
+}
+
+/// Gives one event to the forwarder, and puts the actions of its step. An event that finds no
+/// memory is lost.
+fn hand<H: BuildHasher + Drop, A: Allocator + Copy, W: Wire<A>>(
+    wire: &mut W,
+    forwarder: &mut Forwarder<H, A>,
+    counts: &mut Served,
+    event: &Event<A>,
+) -> Handled
+    ensures { Hands (event_of event.now) result.failed result.more
+        (standing forwarder.old (telling (W.told wire.old) (W.fault_count wire.old)) counts.old)
+        (standing forwarder.new (telling (W.told wire.new) (W.fault_count wire.new)) counts.new) }
+{
+    let now = wire.moment();
+    let words = wire.words();
+    match forwarder.step(now, words, event) {
+        Ok(outcome) => Handled {
+            failed: put_all(wire, counts, &outcome.actions),
+            more: outcome.more,
+        },
+        Err(_) => {
+            counts.lost = counts.lost.saturating_add(1);
+            Handled {
+                failed: None,
+                more: false,
+            }
+        }
+    }
+}
+
+/// Puts actions in order. Returns the path of the ask that was refused, if any.
+fn put_all<A: Allocator + Copy, W: Wire<A>>(
+    wire: &mut W,
+    counts: &mut Served,
+    actions: &Actions<A>,
+) -> Option<Path>
+    ensures { Puts None (actions_of actions.now) result
+        (telling (W.told wire.old) (W.fault_count wire.old))
+        (telling (W.told wire.new) (W.fault_count wire.new)) counts.old counts.new }
+{
+    let mut failed = None;
+    for place in 0..actions.len() {
+        let Some(action) = actions.get(place) else {
+            unreachable!();
+        };
+        failed = put(wire, counts, action, failed);
+    }
+    failed
+}
+
+/// Puts one action. Returns the path of the ask that was refused last.
+fn put<A: Allocator, W: Wire<A>>(
+    wire: &mut W,
+    counts: &mut Served,
+    action: &Action<A>,
+    failed: Option<Path>,
+) -> Option<Path>
+    ensures { Puts failed (action_of action.now ∷ []) result
+        (telling (W.told wire.old) (W.fault_count wire.old))
+        (telling (W.told wire.new) (W.fault_count wire.new)) counts.old counts.new }
+{
+    match wire.put(action) {
+        Ok(()) => failed,
+        Err(_) => match path_of_ask(action) {
+            Some(path) => Some(path),
+            None => {
+                counts.refused_puts = counts.refused_puts.saturating_add(1);
+                failed
+            }
+        },
+    }
+}
+
+/// Returns the path of an ask; `None` for another action.
+fn path_of_ask<A: Allocator>(action: &Action<A>) -> Option<Path>
+    ensures { result ≡ option_map (λ ask. ask.path) (ask_in (action_of action.now)) }
+{
+    match action {
+        Action::AskUdp { port, .. } => Some(Path::Udp(*port)),
+        Action::AskTcp { conn, .. } => Some(Path::Tcp(*conn)),
+        Action::CloseUdp { .. } | Action::CloseTcp { .. } | Action::Reply { .. } => None,
+    }
 }

@@ -91,24 +91,6 @@ pub(crate) fn put_in<A: Allocator + Copy>(
     Ok(())
 }
 
-/// Serves each whole frame that the reader has. `Err` where memory for a message ran out.
-fn serve_frames<H: BuildHasher + Drop, A: Allocator + Copy, W: Wire<A>>(
-    wire: &mut W,
-    forwarder: &mut Forwarder<H, A>,
-    counts: &mut Served,
-    reader: &mut FrameReader<A>,
-    sender: Sender,
-) -> Result<(), AllocError>
-    ensures { ServesFrames sender reader.old result reader.new
-        (standing forwarder.old (telling (W.told wire.old) (W.fault_count wire.old)) counts.old)
-        (standing forwarder.new (telling (W.told wire.new) (W.fault_count wire.new)) counts.new) }
-{
-    while let Some(message) = reader.take()? {
-        hand_on(wire, forwarder, counts, &sender.event(message));
-    }
-    Ok(())
-}
-
 /// Takes a piece of a stream: serves each frame that it completes. `Err` where memory ran out for
 /// the octets of the reader or for a frame.
 pub(crate) fn serve_piece<H: BuildHasher + Drop, A: Allocator + Copy, W: Wire<A>>(
@@ -126,4 +108,22 @@ pub(crate) fn serve_piece<H: BuildHasher + Drop, A: Allocator + Copy, W: Wire<A>
 {
     reader.feed(piece.bytes.as_slice())?;
     serve_frames(wire, forwarder, counts, reader, piece.sender)
+}
+
+/// Serves each whole frame that the reader has. `Err` where memory for a message ran out.
+fn serve_frames<H: BuildHasher + Drop, A: Allocator + Copy, W: Wire<A>>(
+    wire: &mut W,
+    forwarder: &mut Forwarder<H, A>,
+    counts: &mut Served,
+    reader: &mut FrameReader<A>,
+    sender: Sender,
+) -> Result<(), AllocError>
+    ensures { ServesFrames sender reader.old result reader.new
+        (standing forwarder.old (telling (W.told wire.old) (W.fault_count wire.old)) counts.old)
+        (standing forwarder.new (telling (W.told wire.new) (W.fault_count wire.new)) counts.new) }
+{
+    while let Some(message) = reader.take()? {
+        hand_on(wire, forwarder, counts, &sender.event(message));
+    }
+    Ok(())
 }

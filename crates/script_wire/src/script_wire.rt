@@ -26,178 +26,6 @@ pub struct ScriptTurn<A: Allocator = Global> {
     pub words: [u32; 8],
 }
 
-/// The report of a wire, stored. Once memory ran out it reports nothing more.
-#[derive(Drop)]
-struct Stored<A: Allocator> {
-    alloc: A,
-    tells: bool,
-    arrivals: Vec<Result<Arrival<A>, WireFault>, A>,
-    puts: Vec<(Action<A>, bool), A>,
-    moments: Vec<u64, A>,
-    words: Vec<[u32; 8], A>,
-}
-
-impl<A: Allocator> Model for Stored<A> {
-    ghost use Rattle.std.specs.Prelude.{Option, map};
-    ghost use Rattle.wires.specs.Wire.{Told, given};
-    ghost use Rattle.script_wire.specs.Scripts.{put_of, stored};
-
-    ghost Value = { Option Told };
-
-    ghost view = { λ s. stored s.tells (map given s.arrivals.items)
-        (map put_of s.puts.items) s.moments.items s.words.items };
-}
-
-impl<A: Allocator + Copy> Stored<A> {
-    fn new(alloc: A) -> Stored<A>
-        ensures { result ≡ Some silence }
-    {
-        Stored {
-            alloc,
-            tells: true,
-            arrivals: Vec::new(alloc),
-            puts: Vec::new(alloc),
-            moments: Vec::new(alloc),
-            words: Vec::new(alloc),
-        }
-    }
-
-    /// Reports nothing more.
-    fn fall_silent(&mut self)
-        ensures { self.new ≡ None }
-    {
-        self.tells = false;
-    }
-
-    fn push_arrival(&mut self, arrival: Result<Arrival<A>, WireFault>) -> Result<(), AllocError>
-        ensures { OnOk result (self.new ≡ told_more self.old (arrived (given arrival))) }
-    {
-        self.arrivals.push(arrival)?;
-        Ok(())
-    }
-
-    fn push_put(&mut self, action: Action<A>, sent: bool) -> Result<(), AllocError>
-        ensures { OnOk result (self.new ≡ told_more self.old (was_put (action_of action) sent)) }
-    {
-        self.puts.push((action, sent))?;
-        Ok(())
-    }
-
-    fn push_moment(&mut self, moment: u64) -> Result<(), AllocError>
-        ensures { OnOk result (self.new ≡ told_more self.old (moment_was moment)) }
-    {
-        self.moments.push(moment)?;
-        Ok(())
-    }
-
-    fn push_words(&mut self, words: [u32; 8]) -> Result<(), AllocError>
-        ensures { OnOk result (self.new ≡ told_more self.old (words_were words)) }
-    {
-        self.words.push(words)?;
-        Ok(())
-    }
-
-    fn copy_arrival(&mut self, arrival: &Arrival<A>) -> Result<(), AllocError>
-        ensures { OnOk result (self.new ≡ told_more self.old (arrived (Some (arrival_of arrival.now)))) }
-    {
-        let copy = arrival.copy(self.alloc)?;
-        self.push_arrival(Ok(copy))
-    }
-
-    fn copy_put(&mut self, action: &Action<A>, sent: bool) -> Result<(), AllocError>
-        ensures { OnOk result (self.new ≡ told_more self.old (was_put (action_of action.now) sent)) }
-    {
-        let copy = action.copy(self.alloc)?;
-        self.push_put(copy, sent)
-    }
-
-    /// Stores an arrival. `Err` where memory ran out: nothing more is reported then.
-    fn keep_arrival(&mut self, arrival: &Arrival<A>) -> Result<(), AllocError>
-        ensures kept { OnOk result (self.new ≡ told_more self.old (arrived (Some (arrival_of arrival.now)))) }
-        ensures lost { OnErr result (self.new ≡ None) }
-    {
-        match self.copy_arrival(arrival) {
-            Ok(()) => Ok(()),
-            Err(refusal) => {
-                self.fall_silent();
-                Err(refusal)
-            }
-        }
-    }
-
-    /// Stores that an arrival was refused. Where memory ran out nothing more is reported.
-    fn keep_refusal(&mut self)
-        ensures { (self.new ≡ told_more self.old (arrived None)) ⊎ (self.new ≡ None) }
-    {
-        match self.push_arrival(Err(WireFault)) {
-            Ok(()) => {}
-            Err(_) => self.fall_silent(),
-        }
-    }
-
-    /// Stores an action and whether it was sent. `Err` where memory ran out: nothing more is
-    /// reported then.
-    fn keep_put(&mut self, action: &Action<A>, sent: bool) -> Result<(), AllocError>
-        ensures kept { OnOk result (self.new ≡ told_more self.old (was_put (action_of action.now) sent)) }
-        ensures lost { OnErr result (self.new ≡ None) }
-    {
-        match self.copy_put(action, sent) {
-            Ok(()) => Ok(()),
-            Err(refusal) => {
-                self.fall_silent();
-                Err(refusal)
-            }
-        }
-    }
-
-    /// Stores a moment in milliseconds. `Err` where memory ran out: nothing more is reported then.
-    fn keep_moment(&mut self, moment: u64) -> Result<(), AllocError>
-        ensures kept { OnOk result (self.new ≡ told_more self.old (moment_was moment)) }
-        ensures lost { OnErr result (self.new ≡ None) }
-    {
-        match self.push_moment(moment) {
-            Ok(()) => Ok(()),
-            Err(refusal) => {
-                self.fall_silent();
-                Err(refusal)
-            }
-        }
-    }
-
-    /// Stores words. `Err` where memory ran out: nothing more is reported then.
-    fn keep_words(&mut self, words: [u32; 8]) -> Result<(), AllocError>
-        ensures kept { OnOk result (self.new ≡ told_more self.old (words_were words)) }
-        ensures lost { OnErr result (self.new ≡ None) }
-    {
-        match self.push_words(words) {
-            Ok(()) => Ok(()),
-            Err(refusal) => {
-                self.fall_silent();
-                Err(refusal)
-            }
-        }
-    }
-
-    /// The actions that were put.
-    fn puts(&self) -> &[(Action<A>, bool)]
-        ensures { IfSome self.now (λ told. map put_of result.now ≡ told.puts) }
-    {
-        self.puts.as_slice()
-    }
-}
-
-/// The moment and the words of a wire of these rounds before the first one begins.
-#[tactic(auto, using(crate::proofs::Storing::standing_some, crate::proofs::Storing::standing_none))]
-fn stands_at<A: Allocator>(rounds: &[ScriptTurn<A>]) -> (u64, [u32; 8])
-    ensures { (result.0 ≡ (standing (map round_of rounds.now)).moment)
-        × (result.1 ≡ (standing (map round_of rounds.now)).words) }
-{
-    match rounds.first() {
-        Some(round) => (round.moment, round.words),
-        None => (0, [0; 8]),
-    }
-}
-
 /// A wire in memory. Its rounds are given beforehand: the arrival of a round comes at its call of
 /// `arrival`, and the moment and the words of the round are those of all steps in it; after the
 /// last round nothing arrives, and its moment and words go on. The caller chooses which calls it
@@ -421,5 +249,177 @@ impl<A: Allocator + Copy> Wire<A> for ScriptWire<A> {
 
     fn faults(&self) -> u64 {
         self.faults
+    }
+}
+
+/// The report of a wire, stored. Once memory ran out it reports nothing more.
+#[derive(Drop)]
+struct Stored<A: Allocator> {
+    alloc: A,
+    tells: bool,
+    arrivals: Vec<Result<Arrival<A>, WireFault>, A>,
+    puts: Vec<(Action<A>, bool), A>,
+    moments: Vec<u64, A>,
+    words: Vec<[u32; 8], A>,
+}
+
+impl<A: Allocator> Model for Stored<A> {
+    ghost use Rattle.std.specs.Prelude.{Option, map};
+    ghost use Rattle.wires.specs.Wire.{Told, given};
+    ghost use Rattle.script_wire.specs.Scripts.{put_of, stored};
+
+    ghost Value = { Option Told };
+
+    ghost view = { λ s. stored s.tells (map given s.arrivals.items)
+        (map put_of s.puts.items) s.moments.items s.words.items };
+}
+
+impl<A: Allocator + Copy> Stored<A> {
+    fn new(alloc: A) -> Stored<A>
+        ensures { result ≡ Some silence }
+    {
+        Stored {
+            alloc,
+            tells: true,
+            arrivals: Vec::new(alloc),
+            puts: Vec::new(alloc),
+            moments: Vec::new(alloc),
+            words: Vec::new(alloc),
+        }
+    }
+
+    /// Reports nothing more.
+    fn fall_silent(&mut self)
+        ensures { self.new ≡ None }
+    {
+        self.tells = false;
+    }
+
+    fn push_arrival(&mut self, arrival: Result<Arrival<A>, WireFault>) -> Result<(), AllocError>
+        ensures { OnOk result (self.new ≡ told_more self.old (arrived (given arrival))) }
+    {
+        self.arrivals.push(arrival)?;
+        Ok(())
+    }
+
+    fn push_put(&mut self, action: Action<A>, sent: bool) -> Result<(), AllocError>
+        ensures { OnOk result (self.new ≡ told_more self.old (was_put (action_of action) sent)) }
+    {
+        self.puts.push((action, sent))?;
+        Ok(())
+    }
+
+    fn push_moment(&mut self, moment: u64) -> Result<(), AllocError>
+        ensures { OnOk result (self.new ≡ told_more self.old (moment_was moment)) }
+    {
+        self.moments.push(moment)?;
+        Ok(())
+    }
+
+    fn push_words(&mut self, words: [u32; 8]) -> Result<(), AllocError>
+        ensures { OnOk result (self.new ≡ told_more self.old (words_were words)) }
+    {
+        self.words.push(words)?;
+        Ok(())
+    }
+
+    fn copy_arrival(&mut self, arrival: &Arrival<A>) -> Result<(), AllocError>
+        ensures { OnOk result (self.new ≡ told_more self.old (arrived (Some (arrival_of arrival.now)))) }
+    {
+        let copy = arrival.copy(self.alloc)?;
+        self.push_arrival(Ok(copy))
+    }
+
+    fn copy_put(&mut self, action: &Action<A>, sent: bool) -> Result<(), AllocError>
+        ensures { OnOk result (self.new ≡ told_more self.old (was_put (action_of action.now) sent)) }
+    {
+        let copy = action.copy(self.alloc)?;
+        self.push_put(copy, sent)
+    }
+
+    /// Stores an arrival. `Err` where memory ran out: nothing more is reported then.
+    fn keep_arrival(&mut self, arrival: &Arrival<A>) -> Result<(), AllocError>
+        ensures kept { OnOk result (self.new ≡ told_more self.old (arrived (Some (arrival_of arrival.now)))) }
+        ensures lost { OnErr result (self.new ≡ None) }
+    {
+        match self.copy_arrival(arrival) {
+            Ok(()) => Ok(()),
+            Err(refusal) => {
+                self.fall_silent();
+                Err(refusal)
+            }
+        }
+    }
+
+    /// Stores that an arrival was refused. Where memory ran out nothing more is reported.
+    fn keep_refusal(&mut self)
+        ensures { (self.new ≡ told_more self.old (arrived None)) ⊎ (self.new ≡ None) }
+    {
+        match self.push_arrival(Err(WireFault)) {
+            Ok(()) => {}
+            Err(_) => self.fall_silent(),
+        }
+    }
+
+    /// Stores an action and whether it was sent. `Err` where memory ran out: nothing more is
+    /// reported then.
+    fn keep_put(&mut self, action: &Action<A>, sent: bool) -> Result<(), AllocError>
+        ensures kept { OnOk result (self.new ≡ told_more self.old (was_put (action_of action.now) sent)) }
+        ensures lost { OnErr result (self.new ≡ None) }
+    {
+        match self.copy_put(action, sent) {
+            Ok(()) => Ok(()),
+            Err(refusal) => {
+                self.fall_silent();
+                Err(refusal)
+            }
+        }
+    }
+
+    /// Stores a moment in milliseconds. `Err` where memory ran out: nothing more is reported then.
+    fn keep_moment(&mut self, moment: u64) -> Result<(), AllocError>
+        ensures kept { OnOk result (self.new ≡ told_more self.old (moment_was moment)) }
+        ensures lost { OnErr result (self.new ≡ None) }
+    {
+        match self.push_moment(moment) {
+            Ok(()) => Ok(()),
+            Err(refusal) => {
+                self.fall_silent();
+                Err(refusal)
+            }
+        }
+    }
+
+    /// Stores words. `Err` where memory ran out: nothing more is reported then.
+    fn keep_words(&mut self, words: [u32; 8]) -> Result<(), AllocError>
+        ensures kept { OnOk result (self.new ≡ told_more self.old (words_were words)) }
+        ensures lost { OnErr result (self.new ≡ None) }
+    {
+        match self.push_words(words) {
+            Ok(()) => Ok(()),
+            Err(refusal) => {
+                self.fall_silent();
+                Err(refusal)
+            }
+        }
+    }
+
+    /// The actions that were put.
+    fn puts(&self) -> &[(Action<A>, bool)]
+        ensures { IfSome self.now (λ told. map put_of result.now ≡ told.puts) }
+    {
+        self.puts.as_slice()
+    }
+}
+
+/// The moment and the words of a wire of these rounds before the first one begins.
+#[tactic(auto, using(crate::proofs::Storing::standing_some, crate::proofs::Storing::standing_none))]
+fn stands_at<A: Allocator>(rounds: &[ScriptTurn<A>]) -> (u64, [u32; 8])
+    ensures { (result.0 ≡ (standing (map round_of rounds.now)).moment)
+        × (result.1 ≡ (standing (map round_of rounds.now)).words) }
+{
+    match rounds.first() {
+        Some(round) => (round.moment, round.words),
+        None => (0, [0; 8]),
     }
 }

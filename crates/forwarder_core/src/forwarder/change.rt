@@ -26,46 +26,6 @@ use step_actions::{Change, Opening, Preferred, Sending, is_late, is_overdue};
 use step_values::{Actions, Outcome};
 use waiting_questions::KeyedWaiting;
 
-/// One more ask by TCP, where the path is a connection.
-fn count_tcp(count: u64, path: Path) -> u64
-    requires { count + tcp_count_of path < 2 ^ 64 }
-    ensures { result ≡ count + tcp_count_of path }
-{
-    match path {
-        Path::Udp(_) => count,
-        Path::Tcp(_) => count + 1,
-    }
-}
-
-/// The count, one more if there is an ask and its path is a connection.
-fn count_next<A: Allocator>(count: u64, ask: &Option<Ask<A>>) -> u64
-    requires { count + tcp_count ask.now < 2 ^ 64 }
-    ensures { result ≡ count + tcp_count ask.now }
-{
-    match ask {
-        Some(next) => count_tcp(count, next.path),
-        None => count,
-    }
-}
-
-/// The server is asked first from now on.
-fn prefer(places: &mut [usize], preferred: Option<Preferred>)
-    ensures { places.new ≡ with_preferred preferred places.old }
-{
-    if let Some(preferred) = preferred {
-        put_place(places, preferred.route.place, preferred.server);
-    }
-}
-
-/// Sets the server of a route, if there is such a route.
-fn put_place(places: &mut [usize], route: usize, server: usize)
-    ensures { places.new ≡ slice_set places.old route server }
-{
-    if route < places.len() {
-        places[route] = server;
-    }
-}
-
 impl<H: BuildHasher + Drop, A: Allocator + Copy> Forwarder<H, A> {
     /// The moment has come.
     pub(crate) fn pass(&mut self, moment: u64)
@@ -74,6 +34,101 @@ impl<H: BuildHasher + Drop, A: Allocator + Copy> Forwarder<H, A> {
         ensures { self.new ≡ record { config = self.old.config; state = record self.old.state { moment = moment } } }
     {
         self.moment = moment;
+    }
+
+    /// Does what was decided. An `Err` changes nothing.
+    pub(crate) fn carry_out(
+        &mut self,
+        moment: u64,
+        actions: Actions<A>,
+        used: &Slots<'_, A>,
+        change: Change<A>,
+        carried: Vec<Held<A>, A>,
+    ) -> Result<Outcome<A>, AllocError>
+        requires later { self.old.state.moment ≤ moment }
+        requires in_time { moment ≤ 2 ^ 62 }
+        requires fits { CanChange self.old.config moment self.old.state (record {
+          actions = actions;
+          used = used.now;
+          change = change;
+          carried = carried;
+        }) }
+        ensures ok { IfOk result (λ outcome. (rooms : List Bool)
+            × IsOutcome self.old.config (next_of moment rooms self.old.state (record {
+              actions = actions;
+              used = used.now;
+              change = change;
+              carried = carried;
+            })) outcome self.new.state) }
+        ensures config { self.new.config ≡ self.old.config }
+        ensures quiet { change ≡ Change.Nothing → IsOk result }
+        ensures err { OnErr result (self.new ≡ self.old) }
+    {
+        self.apply(moment, change)?;
+        let unkept = self.keep(used, carried);
+        let more = self.is_due();
+        Ok(Outcome {
+            actions,
+            unkept,
+            more,
+        })
+    }
+
+    /// Something is due at this moment.
+    pub(crate) fn is_due_by(&self, moment: u64) -> bool
+        ensures { result ≡ is_due_at self.now.config moment self.now.state }
+    {
+        self.is_question_due(moment) || self.is_ask_due(moment)
+    }
+
+    /// Puts a change in place. An `Err` changes nothing. A step that changes no list does without
+    /// the room on the stack that what is listed takes, which is cleared before it is used.
+    fn apply(&mut self, moment: u64, change: Change<A>) -> Result<(), AllocError>
+        requires { CanApply self.old moment change }
+        ensures { Applies self.old moment change result self.new }
+    {
+        match change {
+            Change::Nothing => {
+                self.pass(moment);
+                Ok(())
+            }
+            listed => self.change_lists(moment, listed),
+        }
+    }
+
+    /// The same, for any change, out of line.
+    #[inline(never)]
+    fn change_lists(&mut self, moment: u64, change: Change<A>) -> Result<(), AllocError>
+        requires { CanApply self.old moment change }
+        ensures { Applies self.old moment change result self.new }
+    {
+        match change {
+            Change::Nothing => {
+                self.pass(moment);
+                Ok(())
+            }
+            Change::Join(waiting) => self.put_waiting(moment, Box::into_inner(waiting)),
+            Change::Open(opening) => {
+                let Opening { waiting, ask } = Box::into_inner(opening);
+                self.put_ask(moment, waiting, ask)
+            }
+            Change::Close(path, preferred) => {
+                self.close(moment, path, preferred);
+                Ok(())
+            }
+            Change::SendOn(sending) => {
+                self.send_all_on(moment, Box::into_inner(sending));
+                Ok(())
+            }
+            Change::AskAgain(path, ask) => {
+                self.replace(moment, path, Box::into_inner(ask));
+                Ok(())
+            }
+            Change::Expire(closed) => {
+                self.expire_first(moment, closed);
+                Ok(())
+            }
+        }
     }
 
     /// The question waits for an ask that is listed already. An `Err` changes nothing.
@@ -213,56 +268,6 @@ impl<H: BuildHasher + Drop, A: Allocator + Copy> Forwarder<H, A> {
         self.moment = moment;
     }
 
-    /// Puts a change in place. An `Err` changes nothing. A step that changes no list does without
-    /// the room on the stack that what is listed takes, which is cleared before it is used.
-    fn apply(&mut self, moment: u64, change: Change<A>) -> Result<(), AllocError>
-        requires { CanApply self.old moment change }
-        ensures { Applies self.old moment change result self.new }
-    {
-        match change {
-            Change::Nothing => {
-                self.pass(moment);
-                Ok(())
-            }
-            listed => self.change_lists(moment, listed),
-        }
-    }
-
-    /// The same, for any change, out of line.
-    #[inline(never)]
-    fn change_lists(&mut self, moment: u64, change: Change<A>) -> Result<(), AllocError>
-        requires { CanApply self.old moment change }
-        ensures { Applies self.old moment change result self.new }
-    {
-        match change {
-            Change::Nothing => {
-                self.pass(moment);
-                Ok(())
-            }
-            Change::Join(waiting) => self.put_waiting(moment, Box::into_inner(waiting)),
-            Change::Open(opening) => {
-                let Opening { waiting, ask } = Box::into_inner(opening);
-                self.put_ask(moment, waiting, ask)
-            }
-            Change::Close(path, preferred) => {
-                self.close(moment, path, preferred);
-                Ok(())
-            }
-            Change::SendOn(sending) => {
-                self.send_all_on(moment, Box::into_inner(sending));
-                Ok(())
-            }
-            Change::AskAgain(path, ask) => {
-                self.replace(moment, path, Box::into_inner(ask));
-                Ok(())
-            }
-            Change::Expire(closed) => {
-                self.expire_first(moment, closed);
-                Ok(())
-            }
-        }
-    }
-
     /// Promotes the entries that a look-up used, then offers what an accepted reply carries.
     /// Returns how many of its pieces found no memory.
     fn keep(&mut self, used: &Slots<'_, A>, carried: Vec<Held<A>, A>) -> u32
@@ -278,6 +283,13 @@ impl<H: BuildHasher + Drop, A: Allocator + Copy> Forwarder<H, A> {
     {
         promote_all(&mut self.cache, used);
         offer_all(&mut self.cache, carried, self.moment)
+    }
+
+    /// More is due at the moment that it is now.
+    fn is_due(&self) -> bool
+        ensures { result ≡ is_due_at self.now.config self.now.state.moment self.now.state }
+    {
+        self.is_due_by(self.moment)
     }
 
     /// Whether a question has waited as long as it may. The list is in the order of time, so the
@@ -300,56 +312,44 @@ impl<H: BuildHasher + Drop, A: Allocator + Copy> Forwarder<H, A> {
             None => false,
         }
     }
+}
 
-    /// Something is due at this moment.
-    pub(crate) fn is_due_by(&self, moment: u64) -> bool
-        ensures { result ≡ is_due_at self.now.config moment self.now.state }
-    {
-        self.is_question_due(moment) || self.is_ask_due(moment)
+/// One more ask by TCP, where the path is a connection.
+fn count_tcp(count: u64, path: Path) -> u64
+    requires { count + tcp_count_of path < 2 ^ 64 }
+    ensures { result ≡ count + tcp_count_of path }
+{
+    match path {
+        Path::Udp(_) => count,
+        Path::Tcp(_) => count + 1,
     }
+}
 
-    /// More is due at the moment that it is now.
-    fn is_due(&self) -> bool
-        ensures { result ≡ is_due_at self.now.config self.now.state.moment self.now.state }
-    {
-        self.is_due_by(self.moment)
+/// The count, one more if there is an ask and its path is a connection.
+fn count_next<A: Allocator>(count: u64, ask: &Option<Ask<A>>) -> u64
+    requires { count + tcp_count ask.now < 2 ^ 64 }
+    ensures { result ≡ count + tcp_count ask.now }
+{
+    match ask {
+        Some(next) => count_tcp(count, next.path),
+        None => count,
     }
+}
 
-    /// Does what was decided. An `Err` changes nothing.
-    pub(crate) fn carry_out(
-        &mut self,
-        moment: u64,
-        actions: Actions<A>,
-        used: &Slots<'_, A>,
-        change: Change<A>,
-        carried: Vec<Held<A>, A>,
-    ) -> Result<Outcome<A>, AllocError>
-        requires later { self.old.state.moment ≤ moment }
-        requires in_time { moment ≤ 2 ^ 62 }
-        requires fits { CanChange self.old.config moment self.old.state (record {
-          actions = actions;
-          used = used.now;
-          change = change;
-          carried = carried;
-        }) }
-        ensures ok { IfOk result (λ outcome. (rooms : List Bool)
-            × IsOutcome self.old.config (next_of moment rooms self.old.state (record {
-              actions = actions;
-              used = used.now;
-              change = change;
-              carried = carried;
-            })) outcome self.new.state) }
-        ensures config { self.new.config ≡ self.old.config }
-        ensures quiet { change ≡ Change.Nothing → IsOk result }
-        ensures err { OnErr result (self.new ≡ self.old) }
-    {
-        self.apply(moment, change)?;
-        let unkept = self.keep(used, carried);
-        let more = self.is_due();
-        Ok(Outcome {
-            actions,
-            unkept,
-            more,
-        })
+/// The server is asked first from now on.
+fn prefer(places: &mut [usize], preferred: Option<Preferred>)
+    ensures { places.new ≡ with_preferred preferred places.old }
+{
+    if let Some(preferred) = preferred {
+        put_place(places, preferred.route.place, preferred.server);
+    }
+}
+
+/// Sets the server of a route, if there is such a route.
+fn put_place(places: &mut [usize], route: usize, server: usize)
+    ensures { places.new ≡ slice_set places.old route server }
+{
+    if route < places.len() {
+        places[route] = server;
     }
 }

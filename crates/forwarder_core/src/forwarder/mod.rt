@@ -32,27 +32,6 @@ use waiting_questions::WaitingQuestions;
 /// The greatest effective moment, in milliseconds.
 const LATEST: u64 = 1 << 62;
 
-/// For each route the place of the server that is asked first: at the beginning the first of its
-/// group.
-fn first_places<A: Allocator>(alloc: A, routes: &[Route<A>]) -> Result<Vec<usize, A>, AllocError>
-    ensures { IfOk result (λ places. places.items ≡ map (λ r. 0) routes.now) }
-{
-    let mut places = Vec::new(alloc);
-    for _route in routes {
-        places.push(0)?;
-    }
-    Ok(places)
-}
-
-/// The first server of each group is asked first again.
-fn forget_places(places: &mut [usize])
-    ensures { places.new ≡ map (λ p. 0) places.old }
-{
-    for route in 0..places.len() {
-        places[route] = 0;
-    }
-}
-
 /// A forwarder: its configuration, what it keeps of replies, the asks that are under way, the
 /// questions that wait, the server of each group that is asked first, its effective moment, and how
 /// many asks went by TCP.
@@ -91,95 +70,6 @@ impl<H: BuildHasher, A: Allocator> Model for Forwarder<H, A> {
 }
 
 impl<H: BuildHasher + Drop, A: Allocator + Copy> Forwarder<H, A> {
-    /// The greatest moment passed in so far, at most 2^62 ms. `in_order` repeats what holds of each
-    /// forwarder: both lists are in the order of time and within their limits.
-    fn effective(&self, now: u64) -> u64
-        ensures value { result ≡ effective now self.now.state }
-        ensures later { self.now.state.moment ≤ result }
-        ensures in_time { result ≤ 2 ^ 62 }
-        ensures in_order { IsInOrder self.now.config self.now.state }
-    {
-        now.min(LATEST).max(self.moment)
-    }
-
-    /// The forwarder as a step finds it, borrowed, with the moment and the words of the step.
-    fn turn(&self, now: u64, words: [u32; 8]) -> TurnRef<'_, H, A>
-        ensures { result ≡ turn self.now.config (effective now self.now.state) words self.now.state }
-    {
-        TurnRef {
-            alloc: self.alloc,
-            config: &self.config,
-            cache: &self.cache,
-            inquiries: &self.inquiries,
-            waiting: &self.waiting,
-            preferred: &self.preferred,
-            tcp_asks: self.tcp_asks,
-            before: self.moment,
-            moment: self.effective(now),
-            words,
-        }
-    }
-
-    /// The outcome of a step that does nothing, where nothing is due.
-    fn nothing_done(&self) -> Outcome<A>
-        ensures { result ≡ record { actions = []; unkept = 0; more = false } }
-    {
-        Outcome {
-            actions: Actions::new(self.alloc),
-            unkept: 0,
-            more: false,
-        }
-    }
-
-    /// Decides what an event calls for, and puts it in place. Out of line: a tick that finds
-    /// nothing due needs neither it nor its room on the stack.
-    #[inline(never)]
-    fn act_on(
-        &mut self,
-        now: u64,
-        words: [u32; 8],
-        event: &Event<A>,
-    ) -> Result<Outcome<A>, AllocError>
-        ensures { Acts self.old (record { now = now; words = words; event = event_of event.now }) result
-            self.new }
-    {
-        let moment = self.effective(now);
-        let mut slot = slot_for_look_ups();
-        let Some(
-            Decision {
-                actions,
-                used,
-                change,
-                carried,
-            },
-        ) = decide(&self.turn(now, words), &mut slot, event)?
-        else {
-            self.restart();
-            return Ok(self.nothing_done());
-        };
-        let used = used.copied(self.alloc)?;
-        self.carry_out(moment, actions, &used, change, carried)
-    }
-
-    /// One step over a borrowed event.
-    fn take(
-        &mut self,
-        now: u64,
-        words: [u32; 8],
-        event: &Event<A>,
-    ) -> Result<Outcome<A>, AllocError>
-        ensures acts { Acts self.old (record { now = now; words = words; event = event_of event.now }) result
-            self.new }
-        ensures in_order { IsInOrder self.old.config self.old.state }
-    {
-        let moment = self.effective(now);
-        if self.is_idle_tick(moment, event) {
-            self.pass(moment);
-            return Ok(self.nothing_done());
-        }
-        self.act_on(now, words, event)
-    }
-
     /// A forwarder that remembers nothing. `Err` where memory ran out.
     pub fn new(alloc: A, config: Config<A>, hasher: H) -> Result<Forwarder<H, A>, AllocError>
         ensures new { IfOk result (λ forwarder. forwarder ≡ record { config = config; state = start config }) }
@@ -271,5 +161,115 @@ impl<H: BuildHasher + Drop, A: Allocator + Copy> Forwarder<H, A> {
             (Some(deadline), None) => Some(deadline),
             (None, timeout) => timeout,
         }
+    }
+
+    /// One step over a borrowed event.
+    fn take(
+        &mut self,
+        now: u64,
+        words: [u32; 8],
+        event: &Event<A>,
+    ) -> Result<Outcome<A>, AllocError>
+        ensures acts { Acts self.old (record { now = now; words = words; event = event_of event.now }) result
+            self.new }
+        ensures in_order { IsInOrder self.old.config self.old.state }
+    {
+        let moment = self.effective(now);
+        if self.is_idle_tick(moment, event) {
+            self.pass(moment);
+            return Ok(self.nothing_done());
+        }
+        self.act_on(now, words, event)
+    }
+
+    /// Decides what an event calls for, and puts it in place. Out of line: a tick that finds
+    /// nothing due needs neither it nor its room on the stack.
+    #[inline(never)]
+    fn act_on(
+        &mut self,
+        now: u64,
+        words: [u32; 8],
+        event: &Event<A>,
+    ) -> Result<Outcome<A>, AllocError>
+        ensures { Acts self.old (record { now = now; words = words; event = event_of event.now }) result
+            self.new }
+    {
+        let moment = self.effective(now);
+        let mut slot = slot_for_look_ups();
+        let Some(
+            Decision {
+                actions,
+                used,
+                change,
+                carried,
+            },
+        ) = decide(&self.turn(now, words), &mut slot, event)?
+        else {
+            self.restart();
+            return Ok(self.nothing_done());
+        };
+        let used = used.copied(self.alloc)?;
+        self.carry_out(moment, actions, &used, change, carried)
+    }
+
+    /// The forwarder as a step finds it, borrowed, with the moment and the words of the step.
+    fn turn(&self, now: u64, words: [u32; 8]) -> TurnRef<'_, H, A>
+        ensures { result ≡ turn self.now.config (effective now self.now.state) words self.now.state }
+    {
+        TurnRef {
+            alloc: self.alloc,
+            config: &self.config,
+            cache: &self.cache,
+            inquiries: &self.inquiries,
+            waiting: &self.waiting,
+            preferred: &self.preferred,
+            tcp_asks: self.tcp_asks,
+            before: self.moment,
+            moment: self.effective(now),
+            words,
+        }
+    }
+
+    /// The greatest moment passed in so far, at most 2^62 ms. `in_order` repeats what holds of each
+    /// forwarder: both lists are in the order of time and within their limits.
+    fn effective(&self, now: u64) -> u64
+        ensures value { result ≡ effective now self.now.state }
+        ensures later { self.now.state.moment ≤ result }
+        ensures in_time { result ≤ 2 ^ 62 }
+        ensures in_order { IsInOrder self.now.config self.now.state }
+    {
+        now.min(LATEST).max(self.moment)
+    }
+
+    /// The outcome of a step that does nothing, where nothing is due.
+    fn nothing_done(&self) -> Outcome<A>
+        ensures { result ≡ record { actions = []; unkept = 0; more = false } }
+    {
+        Outcome {
+            actions: Actions::new(self.alloc),
+            unkept: 0,
+            more: false,
+        }
+    }
+}
+
+/// For each route the place of the server that is asked first: at the beginning the first of its
+/// group.
+fn first_places<A: Allocator>(alloc: A, routes: &[Route<A>]) -> Result<Vec<usize, A>, AllocError>
+    ensures { IfOk result (λ places. places.items ≡ map (λ r. 0) routes.now) }
+{
+    let mut places = Vec::new(alloc);
+    for _route in routes {
+        places.push(0)?;
+    }
+    Ok(places)
+}
+
+/// The first server of each group is asked first again.
+fn forget_places(places: &mut [usize])
+    ensures { places.new ≡ map (λ p. 0) places.old }
+{
+    for route in 0..places.len() {
+        places[route] = 0;
     }
 }
