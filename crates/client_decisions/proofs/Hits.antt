@@ -1,14 +1,14 @@
--- The look-up of a client's question among the entries, and the rows that it takes then.
-use Rattle.std.proofs.Common.{◌≡◌, ℕ, zero, suc, ◌≤◌, arith, List, [], ◌∷◌, ◌++◌, true, false, ◌⊎◌, inl, inr, refl, sym, ap, ◌∙◌, subst, Option, Some, None}
+-- The look-up of a client's question among the entries, and the row that its fate takes then.
+use Rattle.std.proofs.Common.{◌≡◌, ℕ, zero, suc, ◌≤◌, arith, List, [], ◌∷◌, ◌++◌, true, ◌⊎◌, inl, inr, refl, sym, ap, ◌∙◌, length, subst, Option, Some, None}
 use Rattle.std.specs.Prelude.{map, is_some, ◌&&◌, ◌==◌}
 use Rattle.std.specs.List.{AllByRecursion}
-use Rattle.std.proofs.lemmas.Bool.{and_parts, cond-true, cond-false, false≢true}
-use Rattle.dns_name.specs.Labels.{IsSame, lowered, same}
+use Rattle.std.proofs.lemmas.Bool.{and_parts, false≢true}
+use Rattle.dns_name.specs.Labels.{IsSame, same}
 use Rattle.dns_name.proofs.CallerLemmas.{same_decides}
 use Rattle.dns_message.specs.Values.{Question}
 use Rattle.suffix_routes.specs.Values.{Config, Route}
 use Rattle.suffix_routes.specs.Routes.{serving}
-use Rattle.suffix_routes.proofs.CallerLemmas.{serving_respects_same, serving_lowered, denied_lowered}
+use Rattle.suffix_routes.proofs.CallerLemmas.{serving_respects_same}
 use Rattle.trust_rank.specs.declared.slot.Slot.{Slot}
 use Rattle.trust_rank.specs.Replacing.{same_kind}
 use Rattle.trust_rank.specs.Walks.{target_of, most_aliases}
@@ -18,25 +18,22 @@ use Rattle.negative_cache.specs.Values.{Found, local, rows, alias, no_data, deni
 use Rattle.negative_cache.specs.Finding.{found}
 use Rattle.negative_cache.specs.Laws.{Fits, IsTyped}
 use Rattle.negative_cache.proofs.CallerLemmas.{found_fits}
-use Rattle.suffix_routes.specs.Serving.{serving_route_of, is_local}
+use Rattle.suffix_routes.specs.Serving.{serving_route_of}
 use Rattle.dns_message.specs.Questions.{asked_at}
 use Rattle.alias_chains.specs.LookingUp.{LookUpEnd, ends, too_long, missed, LookUp, missing, look_up_behind, look_up_after, one_too_many, through, look_up}
 use Rattle.step_table.specs.State.{State, turn}
 use Rattle.waiting_questions.specs.Values.{Waiting}
-use Rattle.step_table.specs.Steps.{Done, with_promoted, reply_step, sends, transport_of, gives_up, denied_locally}
-use Rattle.step_table.specs.Clients.{without_server, row_of_fate, fate_missed, row_of_look_up, row_of_route, row_of_waiting}
+use Rattle.step_table.specs.Steps.{Fate, with_promoted}
+use Rattle.step_table.specs.Clients.{row_of_fate, fate_missed, fate_of, row_of_look_up, row_of_route}
 use Rattle.step_table.specs.Progress.{IsOnRoute}
 use Rattle.step_table.proofs.CallerLemmas.{All-append, All-weaker}
-use Rattle.waiting_questions.specs.Onward.{Onward, waits_on}
-use Rattle.alias_chains.specs.Seen.{Seen, seen_at, seen_of, last_target}
+use Rattle.alias_chains.specs.Seen.{Seen, seen_at, seen_of, last_target, is_few, UsesFew}
 use Rattle.alias_chains.specs.Laws.{led_to}
 use Rattle.alias_chains.specs.declared.looked.LookUpEnd.{LookUpEnd as SeenMet}
-use Rattle.alias_chains.specs.declared.looked.LookUpEnd.TheVariants.{Ends, TooLong, Missed}
+use Rattle.alias_chains.specs.declared.looked.LookUpEnd.TheVariants.{Missed}
 use Rattle.alias_chains.proofs.CallerLemmas.{missed_wants, uses_what_is_seen}
-use Rattle.step_values.specs.declared.action.Why.TheVariants.{Answered, ChainLong, NoRoute}
 use Rattle.answer_builder.specs.Answers.{IsEarlier}
-use Rattle.answer_builder.specs.Transports.{answer_of}
-use Rattle.step_values.specs.Values.{Action}
+use Rattle.step_actions.specs.Fates.{IsSeenAs}
 
 -- ---- what is found
 
@@ -130,10 +127,6 @@ pub earlier_used : (routes : List Route) (m n : ℕ) (entries : List Held) (q : 
 earlier_used routes m n entries q all le =
     used_among (IsEarlier n) routes n entries (All-weaker (IsEarlier m) (IsEarlier n) (λ h was. let at : h.accepted ≤ m = was in omega (arith, at, le)) entries all) most_aliases [] q tt
 
--- the slots of these entries
-abbrev pub slots_in : List Held → List Slot
-slots_in held = map (λ h. h.piece.slot) held
-
 -- ---- a look-up that misses
 
 last_put : (held : List Held) (e : Held) → last_target (held ++ e ∷ []) ≡ target_of e.piece.body
@@ -174,120 +167,73 @@ nothing_held routes n entries more q met nowhere = by (leads_somewhere routes n 
     by (inl none) = none
     by (inr there) = absurd (false≢true (sym (ap (λ (o : Option (List (List ℕ))). is_some o) nowhere) ∙ there))
 
-missed_so : (held : List Held) (m : LookUpEnd) → Missed ≡ (seen_at held m).met → (m ≡ missed) × ((seen_at held m).used ≡ held)
+missed_so : (held : List Held) (m : LookUpEnd) → Missed ≡ (seen_at held m).met
+    → (m ≡ missed) × ((seen_at held m).used ≡ held)
 missed_so held (ends e) is = absurd (cc)
 missed_so held too_long is = absurd (cc)
 missed_so held missed is = (refl, refl)
 
--- ---- the rows
+-- ---- what the code sees of it
 
-module _ (c : Config) (n : ℕ) (words : List ℕ) (x : Waiting) (s : State) (held : List Held) (wanted : Question) (used : List Slot) where
-  abbrev looked : LookUpEnd → LookUp
-  looked m = record { held = held; wanted = wanted; met = m; used = used }
-
-  ends_row : (m : LookUpEnd) → Ends ≡ (seen_at held m).met → reply_step n (sends Answered x (answer_of x.asked (seen_at held m).used n (transport_of x.client))) (with_promoted used s) ≡ row_of_look_up (turn c n words s) x (looked m)
-  ends_row (ends e) is = refl
-  ends_row too_long is = absurd (cc)
-  ends_row missed is = absurd (cc)
-
-  too_long_row : (m : LookUpEnd) → TooLong ≡ (seen_at held m).met → reply_step n (gives_up ChainLong x) (with_promoted used s) ≡ row_of_look_up (turn c n words s) x (looked m)
-  too_long_row (ends e) is = absurd (cc)
-  too_long_row too_long is = refl
-  too_long_row missed is = absurd (cc)
-
--- what the configuration says of a key it says of the name
-pub served_by_key : (c : Config) (key name : List (List ℕ)) → key ≡ lowered name → serving_route_of c key ≡ serving_route_of c name
-served_by_key c key name is = ap (serving_route_of c) is ∙ serving_lowered c.routes name
-
-pub denied_by_key : (c : Config) (key name : List (List ℕ)) → key ≡ lowered name → is_local c key ≡ is_local c name
-denied_by_key c key name is = ap (is_local c) is ∙ denied_lowered c.routes name
-
--- the question missed after these aliases has no route, or is asked for
-abbrev pub missed_at : List Held → Question → List Slot → LookUp
-missed_at held wanted slots = record { held = held; wanted = wanted; met = missed; used = slots }
-
-module _ (c : Config) (n : ℕ) (words : List ℕ) (x : Waiting) (s : State) (held : List Held) (wanted : Question) (slots : List Slot) where
-  by_route : (r : Option ℕ) → serving_route_of c wanted.name ≡ r → row_of_fate (turn c n words (with_promoted slots s)) (fate_missed c n x (missed_at held wanted slots) r) ≡ row_of_look_up (turn c n words s) x (missed_at held wanted slots)
-  by_route r is = ap (λ (o : Option ℕ). row_of_fate (turn c n words (with_promoted slots s)) (fate_missed c n x (missed_at held wanted slots) o)) (sym is)
-
-  unserved_row : (used : List Slot) (d : Done) → serving_route_of c wanted.name ≡ None → used ≡ slots
-      → d ≡ reply_step n (without_server c n x held wanted.name) (with_promoted used s) → d ≡ row_of_look_up (turn c n words s) x (missed_at held wanted slots)
-  unserved_row used d none same d_is = d_is ∙ ap (λ (ss : List Slot). reply_step n (without_server c n x held wanted.name) (with_promoted ss s)) same ∙ by_route None none
-
-  -- the configuration denies the name
-  pub denied_row : (used : List Slot) (reply : Action) (d : Done) → None ≡ serving_route_of c wanted.name → true ≡ is_local c wanted.name → used ≡ slots → reply ≡ denied_locally n x held
-      → d ≡ reply_step n reply (with_promoted used s) → d ≡ row_of_look_up (turn c n words s) x (missed_at held wanted slots)
-  denied_row used reply d none denies same reply_is d_is =
-      unserved_row used d (sym none) same
-      (d_is ∙ ap (λ (a : Action). reply_step n a (with_promoted used s)) (reply_is ∙ sym (cond-true (is_local c wanted.name) _ _ (sym denies))))
-
-  -- the name has no route
-  pub unrouted_row : (used : List Slot) (d : Done) → None ≡ serving_route_of c wanted.name → false ≡ is_local c wanted.name → used ≡ slots
-      → d ≡ reply_step n (gives_up NoRoute x) (with_promoted used s) → d ≡ row_of_look_up (turn c n words s) x (missed_at held wanted slots)
-  unrouted_row used d none permits same d_is =
-      unserved_row used d (sym none) same
-      (d_is ∙ ap (λ (a : Action). reply_step n a (with_promoted used s)) (sym (cond-false (is_local c wanted.name) _ _ (sym permits))))
-
-  -- a route serves the name
-  pub asked_row : (route : ℕ) (y : Waiting) (d : Done) → serving_route_of c wanted.name ≡ Some route → y ≡ record x { held = held; wanted = wanted }
-      → d ≡ row_of_waiting (turn c n words (with_promoted slots s)) y → d ≡ row_of_look_up (turn c n words s) x (missed_at held wanted slots)
-  asked_row route y d on y_is d_is = d_is ∙ ap (row_of_waiting (turn c n words (with_promoted slots s))) y_is ∙ by_route (Some route) on
-
-  pub waits_row : (used : List Slot) (o : Onward) (route : ℕ) (d : Done) → serving_route_of c wanted.name ≡ Some route → o ≡ record { held = held; wanted = wanted } → used ≡ slots
-      → d ≡ row_of_waiting (turn c n words (with_promoted used s)) (waits_on (Some o) x) → d ≡ row_of_look_up (turn c n words s) x (missed_at held wanted slots)
-  waits_row used o route d on o_is same d_is = d_is ∙ (λ i. row_of_waiting (turn c n words (with_promoted (same i) s)) (waits_on (Some (o_is i)) x)) ∙ by_route (Some route) on
-
-module _ (c : Config) (n : ℕ) (words : List ℕ) (x : Waiting) (s : State) (seen : Seen) (is : seen ≡ seen_of (look_up c.routes n s.cache.entries most_aliases [] x.wanted)) where
+module _ (c : Config) (n : ℕ) (x : Waiting) (s : State) (seen : Seen)
+    (is : seen ≡ seen_of (look_up c.routes n s.cache.entries most_aliases [] x.wanted)) where
   abbrev l : LookUp
   l = look_up c.routes n s.cache.entries most_aliases [] x.wanted
 
   -- the slots that it used are those of what is seen
-  slots_are : slots_in seen.used ≡ l.used
-  slots_are = ap (λ (v : Seen). slots_in v.used) is ∙ sym (uses_what_is_seen c.routes n s.cache.entries most_aliases x.wanted)
-
-  met_is : (m : SeenMet) → seen.met ≡ m → m ≡ (seen_of l).met
-  met_is m met = sym met ∙ ap (λ (v : Seen). v.met) is
-
-  -- the answer comes from the entries that it used, and these are promoted
-  pub hit_row : (slots : List Slot) (reply : Action) (d : Done) → seen.met ≡ Ends → slots ≡ slots_in seen.used → reply ≡ sends Answered x (answer_of x.asked seen.used n (transport_of x.client)) → d ≡ reply_step n reply (with_promoted slots s) → d ≡ row_of_look_up (turn c n words s) x l
-  hit_row slots reply d met told reply_is d_is =
-      d_is ∙ (λ i. reply_step n (reply_is i) (with_promoted ((told ∙ slots_are) i) s))
-      ∙ ap (λ (v : Seen). reply_step n (sends Answered x (answer_of x.asked v.used n (transport_of x.client))) (with_promoted l.used s)) is
-      ∙ ends_row c n words x s l.held l.wanted l.used l.met (met_is Ends met)
-
-  pub many_row : (slots : List Slot) (d : Done) → seen.met ≡ TooLong → slots ≡ slots_in seen.used → d ≡ reply_step n (gives_up ChainLong x) (with_promoted slots s) → d ≡ row_of_look_up (turn c n words s) x l
-  many_row slots d met told d_is = d_is ∙ ap (λ (ss : List Slot). reply_step n (gives_up ChainLong x) (with_promoted ss s)) (told ∙ slots_are) ∙ too_long_row c n words x s l.held l.wanted l.used l.met (met_is TooLong met)
+  pub slots_are : map (λ h. h.piece.slot) seen.used ≡ l.used
+  slots_are = ap (λ (v : Seen). map (λ h. h.piece.slot) v.used) is
+      ∙ sym (uses_what_is_seen c.routes n s.cache.entries most_aliases x.wanted)
 
   module _ (met : seen.met ≡ Missed) where
     it_missed : (l.met ≡ missed) × ((seen_of l).used ≡ l.held)
-    it_missed = missed_so l.held l.met (met_is Missed met)
+    it_missed = missed_so l.held l.met (sym met ∙ ap (λ (v : Seen). v.met) is)
 
     held_is : seen.used ≡ l.held
     held_is = ap (λ (v : Seen). v.used) is ∙ it_missed.1
 
-    looked_is : (held : List Held) (wanted : Question) → held ≡ l.held → wanted ≡ l.wanted → missed_at held wanted (slots_in seen.used) ≡ l
-    looked_is held wanted held_are wanted_is = λ i. record { held = held_are i; wanted = wanted_is i; met = sym it_missed.0 i; used = slots_are i }
-
     -- what it wants is where the last alias leads
-    wants : (o : Option (List (List ℕ))) → last_target seen.used ≡ o → led_to x.wanted o ≡ l.wanted
-    wants o leads = sym (missed_wants c.routes n s.cache.entries most_aliases x.wanted it_missed.0 ∙ ap (λ (hs : List Held). led_to x.wanted (last_target hs)) (sym held_is) ∙ ap (led_to x.wanted) leads)
+    wants : l.wanted ≡ led_to x.wanted (last_target seen.used)
+    wants = missed_wants c.routes n s.cache.entries most_aliases x.wanted it_missed.0
+        ∙ ap (λ (hs : List Held). led_to x.wanted (last_target hs)) (sym held_is)
 
-    pub behind_row : (name : List (List ℕ)) (d : Done) → last_target seen.used ≡ Some name → d ≡ row_of_look_up (turn c n words s) x (missed_at seen.used (asked_at x.wanted name) (slots_in seen.used)) → d ≡ row_of_look_up (turn c n words s) x l
-    behind_row name d leads d_is = d_is ∙ ap (row_of_look_up (turn c n words s) x) (looked_is seen.used (asked_at x.wanted name) held_is (wants (Some name) leads))
+    -- without a name that it leads to it used none
+    pub none_used : last_target seen.used ≡ None → seen.used ≡ []
+    none_used nowhere = held_is ∙ nothing_held c.routes n s.cache.entries most_aliases x.wanted it_missed.0
+        (ap (λ (hs : List Held). last_target hs) (sym held_is) ∙ nowhere)
 
-    none_held : last_target seen.used ≡ None → [] ≡ l.held
-    none_held nowhere = sym (nothing_held c.routes n s.cache.entries most_aliases x.wanted it_missed.0 (ap (λ (hs : List Held). last_target hs) (sym held_is) ∙ nowhere))
+    -- and no more aliases than it may
+    pub few_used : UsesFew most_aliases seen → length seen.used ≤ 8
+    few_used few = subst (λ (m : SeenMet). is_few most_aliases (length seen.used) m) met few
 
-    pub own_row : (slots : List Slot) (d : Done) → last_target seen.used ≡ None → slots ≡ slots_in seen.used → d ≡ row_of_look_up (turn c n words s) x (missed_at [] x.wanted slots) → d ≡ row_of_look_up (turn c n words s) x l
-    own_row slots d nowhere told d_is =
-        d_is ∙ ap (λ (ss : List Slot). row_of_look_up (turn c n words s) x (missed_at [] x.wanted ss)) told
-        ∙ ap (row_of_look_up (turn c n words s) x) (looked_is [] x.wanted (none_held nowhere) (wants None nowhere))
+  -- after these entries
+  pub seen_as : (chain : List Held) → chain ≡ seen.used
+      → IsSeenAs chain seen.met (led_to x.wanted (last_target seen.used)) l
+  seen_as chain used = record {
+    seen = sym is ∙ (λ i. record { used = sym used i; met = seen.met });
+    wants = wants;
+  }
 
 -- no route is looked for before the look-up: a name without one meets nothing
-pub looked_row : (c : Config) (n : ℕ) (words : List ℕ) (x : Waiting) (s : State) → AllByRecursion (IsOnRoute c) s.cache.entries
-    → row_of_look_up (turn c n words s) x (look_up c.routes n s.cache.entries most_aliases [] x.wanted) ≡ row_of_route (turn c n words s) x (serving_route_of c x.wanted.name)
+pub looked_row : (c : Config) (n : ℕ) (words : List ℕ) (x : Waiting) (s : State)
+    → AllByRecursion (IsOnRoute c) s.cache.entries
+    → row_of_look_up (turn c n words s) x (look_up c.routes n s.cache.entries most_aliases [] x.wanted)
+    ≡ row_of_route (turn c n words s) x (serving_route_of c x.wanted.name)
 looked_row c n words x s on = by (serving_route_of c x.wanted.name) refl
   where
-    by : (r : Option ℕ) → serving_route_of c x.wanted.name ≡ r → row_of_look_up (turn c n words s) x (look_up c.routes n s.cache.entries most_aliases [] x.wanted) ≡ row_of_route (turn c n words s) x r
-    by None none = ap (row_of_look_up (turn c n words s) x) (nothing_met c n s.cache.entries on x.wanted none) ∙ ap (λ (o : Option ℕ). row_of_fate (turn c n words s) (fate_missed c n x (missing [] x.wanted) o)) none
+    by : (r : Option ℕ) → serving_route_of c x.wanted.name ≡ r
+        → row_of_look_up (turn c n words s) x (look_up c.routes n s.cache.entries most_aliases [] x.wanted)
+        ≡ row_of_route (turn c n words s) x r
+    by None none = ap (row_of_look_up (turn c n words s) x) (nothing_met c n s.cache.entries on x.wanted none)
+        ∙ ap (λ (o : Option ℕ). row_of_fate (turn c n words s) (fate_missed c n x (missing [] x.wanted) o)) none
     by (Some route) there = refl
+
+-- the entries that it used are promoted, and its fate is the table's
+pub fate_row : (c : Config) (n : ℕ) (words : List ℕ) (x : Waiting) (s : State) (slots : List Slot) (fate : Fate)
+    → AllByRecursion (IsOnRoute c) s.cache.entries
+    → slots ≡ (look_up c.routes n s.cache.entries most_aliases [] x.wanted).used
+    → fate ≡ fate_of c n x (look_up c.routes n s.cache.entries most_aliases [] x.wanted)
+    → row_of_fate (turn c n words (with_promoted slots s)) fate
+    ≡ row_of_route (turn c n words s) x (serving_route_of c x.wanted.name)
+fate_row c n words x s slots fate on slots_are fate_is =
+    (λ i. row_of_fate (turn c n words (with_promoted (slots_are i) s)) (fate_is i)) ∙ looked_row c n words x s on

@@ -3,50 +3,44 @@
 //!
 //! 1. `on_client`: nothing, `refuse_message`, or `serve_message` for exactly one question.
 //! 2. `serve_message` calls `serve`: `refuse` for a kind that is not served, otherwise `look`.
-//! 3. `look` looks it up in the cache, and `decide_look_up` calls `hit`, `refuse` or a miss.
-//! 4. `miss`, or `miss_behind` after aliases: `wait`, `reply` with the local denial, or `refuse`.
+//! 3. `look` looks it up in the cache, and `step_actions::fate_of` gives its fate.
+//! 4. `decide_fate`: `reply` with the answer, the denial or the failure, or `wait`.
 //! 5. `wait`: `refuse` where no room is left, otherwise `admit`.
 //! 6. `admit`: `join` where its ask is listed; `ask_anew`: `first_ask`, then `open` or `refuse`.
-//! 7. `hit` and `refuse` end in `reply`: one reply, and the promotion of the used entries.
+//! 7. `reply`, in which `refuse` ends too: one reply, and the promotion of the used entries.
 
-ghost use Rattle.std.specs.Prelude.{◌≡◌, ◌^◌, ℕ, ◌<◌, ◌≤◌, [], false, true, length, map, Bool, List, IfOk, Some, None};
-ghost use Rattle.std.specs.List.{AllByRecursion};
-ghost use Rattle.answer_builder.specs.Answers.{IsEarlier};
+ghost use Rattle.std.specs.Prelude.{◌≡◌, ◌<◌, false, length, IfOk, Some, None};
 ghost use Rattle.dns_message.specs.Messages.{first_question};
-ghost use Rattle.dns_message.specs.Questions.{question_read, asked_at};
+ghost use Rattle.dns_message.specs.Questions.{question_read};
 ghost use Rattle.outstanding.specs.Lists.{of_question};
 ghost use Rattle.outstanding.specs.Orders.{question_key};
 ghost use Rattle.suffix_routes.specs.Serving.{serving_route_of};
 ghost use Rattle.step_values.specs.Requests.{is_taken};
-ghost use Rattle.alias_chains.specs.Seen.{seen_of, UsesFew};
-ghost use Rattle.alias_chains.specs.declared.looked.LookUpEnd.{LookUpEnd};
 ghost use Rattle.step_actions.specs.Kept.{HoldsEarlier};
 ghost use Rattle.waiting_questions.specs.Onward.{waits_on};
 ghost use Rattle.step_table.specs.Attempts.{first_ask};
-ghost use Rattle.alias_chains.specs.LookingUp.{look_up, missed};
 ghost use Rattle.answer_builder.specs.Values.{asked_in};
 ghost use Rattle.step_table.specs.Steps.{with_promoted, idle_step, reply_step, taking_step, gives_up, failed};
 ghost use Rattle.step_table.specs.Clients.{row_of_opening, row_of_new_inquiry, row_of_inquiry};
-ghost use Rattle.step_table.specs.Clients.{row_of_waiting, row_of_look_up, row_of_route, row_of_service};
+ghost use Rattle.step_table.specs.Clients.{row_of_waiting, row_of_fate, row_of_route, row_of_service};
 ghost use Rattle.step_table.specs.Clients.{row_of_question, row_of_request};
 ghost use Rattle.step_values.specs.Values.{action_of};
-ghost use Rattle.trust_rank.specs.Walks.{most_aliases};
+ghost use Rattle.step_actions.specs.Fates.{becomes, fate_in, IfWaits};
 ghost use Rattle.step_actions.specs.Decision.{IsQuiet, CanWait, CanFollow, MeetsStep};
 ghost use Rattle.step_table.specs.State.{turn, from_state};
 
-use crate::request::{Wanted, is_not_served, owned_question, taken_header, with_one_question};
-use alias_chains::{LookUp, LookUpEnd, SlotsRef, copies, look_up};
+use crate::request::{is_not_served, owned_question, taken_header, with_one_question};
+use alias_chains::{SlotsRef, look_up};
 use dns_message::{Header, MessageRef, Question, QuestionRef};
-use dns_name::Name;
 use outstanding::{Ask, KeyedAsk, QuestionKey, draw};
 use std::alloc::{AllocError, Allocator};
 use std::hash::BuildHasher;
 use step_actions::{
-    Attempt, Change, Decision, Opening, TurnRef, answer, ask as ask_action, by_udp, failure,
-    local_answer, new_ask, nothing, refusal,
+    Attempt, Change, Decision, Fate, Opening, TurnRef, Wanted, ask as ask_action, by_udp, failure,
+    fate_of, new_ask, nothing, refusal,
 };
 use step_values::{Action, Actions, Client, Why};
-use suffix_routes::{RouteId, Routing};
+use suffix_routes::RouteId;
 use trust_rank::{MOST_ALIASES, Slot};
 use waiting_questions::{KeyedWaiting, Request, SentOn, Waiting};
 
@@ -150,14 +144,7 @@ fn first_ask<'a, H: BuildHasher + Drop, A: Allocator + Copy>(
         used: 1,
     };
     let drawn = by_udp(draw(turn.words, turn.inquiries, None));
-    new_ask(
-        turn.alloc,
-        turn.config,
-        turn.moment,
-        question,
-        attempt,
-        drawn,
-    )
+    new_ask(turn, question, attempt, drawn)
 }
 
 /// The number of asks under way.
@@ -240,132 +227,21 @@ fn wait<'a, 's, H: BuildHasher + Drop, A: Allocator + Copy>(
     admit(turn, waiting, wanted, used)
 }
 
-/// Decides a question that the cache answers.
-fn hit<'a, 's, H: BuildHasher + Drop, A: Allocator + Copy>(
+/// Decides a question by its fate: its reply goes out, or it waits.
+fn decide_fate<'a, 's, H: BuildHasher + Drop, A: Allocator + Copy>(
     turn: &TurnRef<'a, H, A>,
     request: &Request<'_>,
-    looked: LookUp<'a, 's, A>,
-) -> Result<Decision<'a, 's, A>, AllocError>
-    requires ended { looked.met ≡ LookUpEnd.Ends }
-    requires earlier { AllByRecursion (IsEarlier turn.now.moment) looked.used }
-    requires found { looked ≡ seen_of (look_up turn.now.config.routes turn.now.moment turn.now.state.cache.entries
-        most_aliases [] request.now.wanted) }
-    ensures decides { IfOk result (MeetsStep turn.now (row_of_look_up turn.now request.now
-        (look_up turn.now.config.routes turn.now.moment turn.now.state.cache.entries most_aliases []
-        request.now.wanted))) }
-{
-    let action = answer(turn.alloc, request, looked.used(), turn.moment)?;
-    reply(turn, action, looked.into_slots())
-}
-
-/// The question of a client at another name.
-fn asked_at<A: Allocator>(request: &Request<'_>, name: Name<A>) -> Question<A>
-    ensures { result ≡ asked_at request.now.wanted name }
-{
-    Question {
-        name,
-        kind: request.question.kind(),
-        class: request.question.class(),
-    }
-}
-
-/// The aliases and the wanted question with which a question is sent on, whose look-up missed after
-/// these aliases.
-fn onward<'a, H: BuildHasher + Drop, A: Allocator + Copy>(
-    turn: &TurnRef<'a, H, A>,
-    looked: &LookUp<'_, '_, A>,
-    wanted: Question<A>,
-) -> Result<SentOn<A>, AllocError>
-    requires few { length looked.now.used ≤ 8 }
-    ensures { IfOk result (λ sent_on. sent_on ≡ record { held = looked.now.used; wanted = wanted }) }
-{
-    let aliases = copies(turn.alloc, looked.used())?;
-    Ok(SentOn { aliases, wanted })
-}
-
-/// Decides a question whose look-up missed after aliases, at this name. It waits where the name is
-/// served, gets the local denial where it is denied, and fails with `NoRoute` otherwise.
-fn miss_behind<'a, 's, H: BuildHasher + Drop, A: Allocator + Copy>(
-    turn: &TurnRef<'a, H, A>,
-    request: &Request<'_>,
-    looked: LookUp<'a, 's, A>,
-    name: Name<A>,
-) -> Result<Decision<'a, 's, A>, AllocError>
-    requires few { length looked.used ≤ 8 }
-    requires earlier { AllByRecursion (IsEarlier turn.now.moment) looked.used }
-    requires taken { request.now.taken ≡ turn.now.moment }
-    ensures decides { IfOk result (MeetsStep turn.now (row_of_look_up turn.now request.now
-        (record {
-          held = looked.entry.used;
-          wanted = asked_at request.now.wanted name;
-          met = missed;
-          used = map (λ h. h.piece.slot) looked.entry.used;
-        }))) }
-{
-    let question = asked_at(request, name);
-    let asked = QuestionRef::of(&question);
-    let name = asked.key();
-    match turn.config.routing_of_key(&name) {
-        Routing::Served(route) => {
-            let wanted = Wanted::by_key(&asked, &name, route);
-            let sent_on = onward(turn, &looked, question)?;
-            wait(turn, request, Some(sent_on), &wanted, looked.into_slots())
-        }
-        Routing::Denied => {
-            let action = local_answer(turn.alloc, request, looked.used(), turn.moment)?;
-            reply(turn, action, looked.into_slots())
-        }
-        Routing::None => refuse(turn, request, Why::NoRoute, looked.into_slots()),
-    }
-}
-
-/// Decides a question whose look-up missed at its own name. It waits where the name is served, gets
-/// the local denial where it is denied, and fails with `NoRoute` otherwise.
-fn miss<'a, 's, H: BuildHasher + Drop, A: Allocator + Copy>(
-    turn: &TurnRef<'a, H, A>,
-    request: &Request<'_>,
+    fate: Fate<A>,
     used: SlotsRef<'a, 's, A>,
 ) -> Result<Decision<'a, 's, A>, AllocError>
+    requires waits { IfWaits turn.now.config turn.now.moment request.now fate }
     requires taken { request.now.taken ≡ turn.now.moment }
-    ensures decides { IfOk result (MeetsStep turn.now (row_of_look_up turn.now request.now
-        (record { held = []; wanted = request.now.wanted; met = missed; used = used.entry }))) }
+    ensures decides { IfOk result (MeetsStep turn.now (row_of_fate
+        (from_state (with_promoted used.entry turn.now.state) turn.now) (fate_in request.now (becomes fate)))) }
 {
-    let name = request.question.key();
-    match turn.config.routing_of_key(&name) {
-        Routing::Served(route) => {
-            let wanted = Wanted::by_key(&request.question, &name, route);
-            wait(turn, request, None, &wanted, used)
-        }
-        Routing::Denied => {
-            let action = local_answer(turn.alloc, request, &[], turn.moment)?;
-            reply(turn, action, used)
-        }
-        Routing::None => refuse(turn, request, Why::NoRoute, used),
-    }
-}
-
-/// Decides a question by its look-up. It fails with `ChainLong` after too many aliases.
-fn decide_look_up<'a, 's, H: BuildHasher + Drop, A: Allocator + Copy>(
-    turn: &TurnRef<'a, H, A>,
-    request: &Request<'_>,
-    looked: LookUp<'a, 's, A>,
-) -> Result<Decision<'a, 's, A>, AllocError>
-    requires found { looked ≡ seen_of (look_up turn.now.config.routes turn.now.moment turn.now.state.cache.entries
-        most_aliases [] request.now.wanted) }
-    requires few { UsesFew 8 looked }
-    requires earlier { AllByRecursion (IsEarlier turn.now.moment) looked.used }
-    requires taken { request.now.taken ≡ turn.now.moment }
-    ensures decides { IfOk result (MeetsStep turn.now (row_of_look_up turn.now request.now
-        (look_up turn.now.config.routes turn.now.moment turn.now.state.cache.entries most_aliases []
-        request.now.wanted))) }
-{
-    match looked.met() {
-        LookUpEnd::Ends => hit(turn, request, looked),
-        LookUpEnd::TooLong => refuse(turn, request, Why::ChainLong, looked.into_slots()),
-        LookUpEnd::Missed => match looked.target(turn.alloc)? {
-            Some(name) => miss_behind(turn, request, looked, name),
-            None => miss(turn, request, looked.into_slots()),
-        },
+    match fate {
+        Fate::Reply(action) => reply(turn, action, used),
+        Fate::Waits(sent_on, wanted) => wait(turn, request, sent_on, &wanted, used),
     }
 }
 
@@ -387,7 +263,8 @@ fn look<'a, 's, H: BuildHasher + Drop, A: Allocator + Copy>(
         &request.question,
         MOST_ALIASES,
     )?;
-    decide_look_up(turn, request, looked)
+    let fate = fate_of(turn, request, looked.used(), &looked, None)?;
+    decide_fate(turn, request, fate, looked.into_slots())
 }
 
 /// Decides a question that was read. It fails with `NotServed` where its class or type is not

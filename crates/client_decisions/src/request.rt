@@ -5,14 +5,9 @@ ghost use Rattle.dns_message.specs.Header.{header_in};
 ghost use Rattle.dns_message.specs.Messages.{first_question};
 ghost use Rattle.dns_message.specs.Questions.{one_question, question_read, is_unserved};
 ghost use Rattle.step_values.specs.Requests.{is_taken};
-ghost use Rattle.dns_name.specs.Labels.{lowered};
-ghost use Rattle.outstanding.specs.Orders.{question_key};
 
 use dns_message::{Header, MessageRef, Question, QuestionRef, types};
-use dns_name::NameKey;
-use outstanding::QuestionKey;
 use std::alloc::{AllocError, Allocator};
-use suffix_routes::RouteId;
 
 /// The header of a client's message, unless the message is dropped: one of fewer than 12 or more
 /// than 65,535 octets, or one that is itself a reply.
@@ -64,24 +59,4 @@ pub(crate) fn is_not_served(question: &QuestionRef<'_>) -> bool
     let kind = question.kind();
     let is_meta = kind >= types::FIRST_META && kind <= types::ANY;
     kind == 0 || kind == types::OPT || is_meta || question.class() == types::ANY_CLASS
-}
-
-/// The key of a wanted question, and the route that serves its name.
-#[derive(Clone, Copy)]
-pub(crate) struct Wanted {
-    pub(crate) key: QuestionKey,
-    pub(crate) route: RouteId,
-}
-
-impl Wanted {
-    /// The wanted question whose name has this key, and is served by this route. It does not
-    /// allocate.
-    pub(crate) fn by_key(question: &QuestionRef<'_>, name: &NameKey, route: RouteId) -> Wanted
-        requires { name.now ≡ lowered question.now.name }
-        ensures key { result.key ≡ question_key question.now }
-        ensures route { result.route ≡ route }
-    {
-        let key = QuestionKey::of_name(*name, question.kind(), question.class());
-        Wanted { key, route }
-    }
 }

@@ -1,7 +1,7 @@
 -- The fates of those that wait for one question, among all that wait.
 use Rattle.std.proofs.Common.{◌≡◌, List, [], ◌∷◌, length, Bool, true, false, cond, Option, Some, None, refl, sym, ap, ◌∙◌, arith}
 use Rattle.std.specs.Prelude.{filter, map}
-use Rattle.std.specs.List.{filter_map, cons_option}
+use Rattle.std.specs.List.{AllByRecursion, filter_map, cons_option}
 use Rattle.std.proofs.lemmas.Bool.{cond-true, cond-false}
 use Rattle.dns_message.specs.Values.{Question}
 use Rattle.step_values.specs.Values.{Action}
@@ -9,17 +9,19 @@ use Rattle.waiting_questions.specs.Onward.{Onward, sent_on}
 use Rattle.waiting_questions.specs.Values.{Waiting, waits_for}
 use Rattle.step_table.specs.Steps.{Fate, waits, reply_in, waiting_in, replies, still_waiting}
 use Rattle.waiting_questions.specs.Settling.{left_by, settled}
-use Rattle.reply_decisions.specs.Fates.{Becomes, replied, sent, fate_in, fates_in, reply_of, onward_in, first_wanted, Become}
+use Rattle.step_actions.specs.Fates.{Becomes, replied, stays, fate_in, IsSentOn}
+use Rattle.reply_decisions.specs.Fates.{fates_in, reply_of, onward_in, first_wanted, Become}
 
 -- ---- one of them
 
 reply_is : (x : Waiting) (b : Becomes) → reply_in (fate_in x b) ≡ reply_of b
 reply_is x (replied action) = refl
-reply_is x (sent s) = refl
+reply_is x (stays sent_on) = refl
 
-left_is : (x : Waiting) (b : Becomes) → left_by (onward_in b) x ≡ waiting_in (fate_in x b)
-left_is x (replied action) = refl
-left_is x (sent s) = refl
+left_is : (x : Waiting) (b : Becomes) → IsSentOn b → left_by (onward_in b) x ≡ waiting_in (fate_in x b)
+left_is x (replied action) on = refl
+left_is x (stays None) on = absurd on
+left_is x (stays (Some s)) on = refl
 
 -- without fates all stay
 all_stay : (q : Question) (xs : List Waiting) → settled q [] xs ≡ xs
@@ -58,41 +60,42 @@ module _ (q : Question) (fate : Waiting → Fate) (others : (x : Waiting) → wa
 
   -- ---- what is left of them
 
-  one_left : (t : Bool) (x : Waiting) (xs those : List Waiting) → waits_for q x ≡ t → ((each : List Becomes) → Are those each → settled q (map onward_in each) xs ≡ still_waiting (map fate xs))
-      → (each : List Becomes) → Are (cond t (x ∷ those) those) each → settled q (map onward_in each) (x ∷ xs) ≡ cons_option (waiting_in (fate x)) (still_waiting (map fate xs))
-  one_left false x xs those e rest each are =
+  one_left : (t : Bool) (x : Waiting) (xs those : List Waiting) → waits_for q x ≡ t → ((each : List Becomes) → AllByRecursion IsSentOn each → Are those each → settled q (map onward_in each) xs ≡ still_waiting (map fate xs))
+      → (each : List Becomes) → AllByRecursion IsSentOn each → Are (cond t (x ∷ those) those) each → settled q (map onward_in each) (x ∷ xs) ≡ cons_option (waiting_in (fate x)) (still_waiting (map fate xs))
+  one_left false x xs those e rest each on are =
       passes q (map onward_in each) x xs e
-      ∙ ap (λ (ys : List Waiting). x ∷ ys) (rest each are)
+      ∙ ap (λ (ys : List Waiting). x ∷ ys) (rest each on are)
       ∙ sym (ap (λ (f : Fate). cons_option (waiting_in f) (still_waiting (map fate xs))) (others x e))
-  one_left true x xs those e rest [] are = absurd (let none = are.0 in omega (arith, none))
-  one_left true x xs those e rest (b ∷ each) are =
+  one_left true x xs those e rest [] on are = absurd (let none = are.0 in omega (arith, none))
+  one_left true x xs those e rest (b ∷ each) on are =
       let count = are.0 in
       let both : fate_in x b ∷ fates_in those each ≡ fate x ∷ map fate those = are.1 in
       let head : fate_in x b ≡ fate x = cc in
       let tail : fates_in those each ≡ map fate those = cc in
       cond-true (waits_for q x) (cons_option (left_by (onward_in b) x) (settled q (map onward_in each) xs)) (x ∷ settled q (onward_in b ∷ map onward_in each) xs) e
-      ∙ ap (cons_option (left_by (onward_in b) x)) (rest each (omega (arith, count), tail))
-      ∙ ap (λ (o : Option Waiting). cons_option o (still_waiting (map fate xs))) (left_is x b)
+      ∙ ap (cons_option (left_by (onward_in b) x)) (rest each on.1 (omega (arith, count), tail))
+      ∙ ap (λ (o : Option Waiting). cons_option o (still_waiting (map fate xs))) (left_is x b on.0)
       ∙ ap (λ (f : Fate). cons_option (waiting_in f) (still_waiting (map fate xs))) head
 
-  left_of : (xs : List Waiting) (each : List Becomes) → Are (filter (waits_for q) xs) each → settled q (map onward_in each) xs ≡ still_waiting (map fate xs)
-  left_of [] each are = refl
-  left_of (x ∷ xs) each are = one_left (waits_for q x) x xs (filter (waits_for q) xs) refl (left_of xs) each are
+  left_of : (xs : List Waiting) (each : List Becomes) → AllByRecursion IsSentOn each → Are (filter (waits_for q) xs) each → settled q (map onward_in each) xs ≡ still_waiting (map fate xs)
+  left_of [] each on are = refl
+  left_of (x ∷ xs) each on are = one_left (waits_for q x) x xs (filter (waits_for q) xs) refl (left_of xs) each on are
 
 pub replies_are : (q : Question) (fate : Waiting → Fate) (xs : List Waiting) (each : List Becomes) → Become q fate xs each → replies (map fate xs) ≡ filter_map reply_of each
 replies_are q fate xs each b = replies_of q fate b.others xs each (b.count, b.those)
 
-pub waiting_are : (q : Question) (fate : Waiting → Fate) (xs : List Waiting) (each : List Becomes) → Become q fate xs each → settled q (map onward_in each) xs ≡ still_waiting (map fate xs)
-waiting_are q fate xs each b = left_of q fate b.others xs each (b.count, b.those)
+pub waiting_are : (q : Question) (fate : Waiting → Fate) (xs : List Waiting) (each : List Becomes) → AllByRecursion IsSentOn each → Become q fate xs each → settled q (map onward_in each) xs ≡ still_waiting (map fate xs)
+waiting_are q fate xs each on b = left_of q fate b.others xs each on (b.count, b.those)
 
 -- ---- those that wait on
 
 -- none is sent on, so none of them waits on
-pub none_wanted : (xs : List Waiting) (each : List Becomes) → first_wanted each ≡ None → still_waiting (fates_in xs each) ≡ []
-none_wanted [] each none = refl
-none_wanted (x ∷ xs) [] none = refl
-none_wanted (x ∷ xs) (replied action ∷ each) none = none_wanted xs each none
-none_wanted (x ∷ xs) (sent s ∷ each) none = absurd (cc)
+pub none_wanted : (xs : List Waiting) (each : List Becomes) → AllByRecursion IsSentOn each → first_wanted each ≡ None → still_waiting (fates_in xs each) ≡ []
+none_wanted [] each on none = refl
+none_wanted (x ∷ xs) [] on none = refl
+none_wanted (x ∷ xs) (replied action ∷ each) on none = none_wanted xs each on.1 none
+none_wanted (x ∷ xs) (stays None ∷ each) on none = absurd on.0
+none_wanted (x ∷ xs) (stays (Some s) ∷ each) on none = absurd (cc)
 
 -- the first that waits on, and those after it
 pub record FirstWaits (wanted : Question) (xs : List Waiting) : Type 0 where
@@ -101,12 +104,13 @@ pub record FirstWaits (wanted : Question) (xs : List Waiting) : Type 0 where
   pub are : xs ≡ first ∷ others
   pub wants : first.wanted ≡ wanted
 
-pub first_waits : (wanted : Question) (xs : List Waiting) (each : List Becomes) → length each ≡ length xs → first_wanted each ≡ Some wanted → FirstWaits wanted (still_waiting (fates_in xs each))
-first_waits wanted [] [] count is = absurd (cc)
-first_waits wanted [] (b ∷ each) count is = absurd (omega (arith, count))
-first_waits wanted (x ∷ xs) [] count is = absurd (omega (arith, count))
-first_waits wanted (x ∷ xs) (replied action ∷ each) count is = first_waits wanted xs each (omega (arith, count)) is
-first_waits wanted (x ∷ xs) (sent s ∷ each) count is = record {
+pub first_waits : (wanted : Question) (xs : List Waiting) (each : List Becomes) → AllByRecursion IsSentOn each → length each ≡ length xs → first_wanted each ≡ Some wanted → FirstWaits wanted (still_waiting (fates_in xs each))
+first_waits wanted [] [] on count is = absurd (cc)
+first_waits wanted [] (b ∷ each) on count is = absurd (omega (arith, count))
+first_waits wanted (x ∷ xs) [] on count is = absurd (omega (arith, count))
+first_waits wanted (x ∷ xs) (replied action ∷ each) on count is = first_waits wanted xs each on.1 (omega (arith, count)) is
+first_waits wanted (x ∷ xs) (stays None ∷ each) on count is = absurd on.0
+first_waits wanted (x ∷ xs) (stays (Some s) ∷ each) on count is = record {
   first = sent_on s x;
   others = still_waiting (fates_in xs each);
   are = refl;

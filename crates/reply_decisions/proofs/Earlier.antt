@@ -20,7 +20,8 @@ use Rattle.alias_chains.specs.LookingUp.{LookUpEnd, ends, too_long, missed, Look
 use Rattle.step_table.specs.Steps.{Fate, gets, waits}
 use Rattle.step_table.specs.Replies.{too_many, without_port}
 use Rattle.step_table.specs.Clients.{fate_missed, fate_at, fate_of}
-use Rattle.reply_decisions.specs.Fates.{Becomes, replied, sent, fate_in, fates_in, onward_in, fate_behind}
+use Rattle.step_actions.specs.Fates.{Becomes, replied, stays, fate_in}
+use Rattle.reply_decisions.specs.Fates.{fates_in, onward_in, fate_behind}
 use Rattle.reply_decisions.proofs.Going.{all_append}
 
 module _ (P : Held → Type 0) (routes : List Route) (n : ℕ) (entries : List Held) (all : AllByRecursion P entries) where
@@ -97,7 +98,8 @@ no_port_holds P fate = λ x y own is. by (fate x) y is
 
 one_holds : (P : Held → Type 0) (fate : Waiting → Fate) → Holds P fate → (x : Waiting) (b : Becomes) → AllByRecursion P x.held → fate_in x b ≡ fate x → IsHeld P (onward_in b)
 one_holds P fate holds x (replied action) own is = tt
-one_holds P fate holds x (sent s) own is = holds x (sent_on s x) own (sym is)
+one_holds P fate holds x (stays None) own is = tt
+one_holds P fate holds x (stays (Some s)) own is = holds x (sent_on s x) own (sym is)
 
 pub all_hold : (P : Held → Type 0) (fate : Waiting → Fate) → Holds P fate → (xs : List Waiting) (each : List Becomes) → length each ≡ length xs → AllByRecursion (λ x. AllByRecursion P x.held) xs → fates_in xs each ≡ map fate xs → AllByRecursion (λ b. IsHeld P (onward_in b)) each
 all_hold P fate holds [] [] count own are = tt

@@ -1,31 +1,28 @@
 -- A look-up that goes on after held aliases, and the fate that it gives a question.
-use Rattle.std.proofs.Common.{◌≡◌, ℕ, ◌+◌, ◌-◌, ◌≤◌, ◌<◌, List, [], ◌∷◌, ◌++◌, length, true, false, Option, Some, None, refl, sym, ap, ◌∙◌, subst, inl, inr, arith}
-use Rattle.std.specs.Prelude.{map, nat_le}
+use Rattle.std.proofs.Common.{◌≡◌, ℕ, ◌+◌, ◌-◌, ◌≤◌, ◌<◌, List, [], ◌∷◌, ◌++◌, length, Option, Some, None, refl, sym, ap, ◌∙◌, subst, inl, inr, arith}
+use Rattle.std.specs.Prelude.{map, nat_le, Result, Ok, Err, IfOk}
 use Rattle.std.specs.List.{AllByRecursion}
 use Rattle.std.proofs.lemmas.Bool.{cond-true, cond-false, le-leb, lt-leb}
 use Rattle.std.proofs.lemmas.List.{append_assoc, length-append}
 use Rattle.dns_message.specs.Values.{Question}
 use Rattle.suffix_routes.specs.Values.{Config}
-use Rattle.trust_rank.specs.declared.slot.Slot.{Slot}
 use Rattle.trust_rank.specs.Walks.{most_aliases}
 use Rattle.record_cache.specs.Values.{Held}
 use Rattle.record_cache.specs.Laws.{Among}
-use Rattle.answer_builder.specs.Transports.{answer_of}
-use Rattle.step_values.specs.declared.action.Why.TheVariants.{Answered, ChainLong, NoRoute}
-use Rattle.step_values.specs.Values.{Action}
 use Rattle.dns_message.specs.Questions.{asked_at}
-use Rattle.suffix_routes.specs.Serving.{serving_route_of, is_local}
+use Rattle.suffix_routes.specs.Serving.{serving_route_of}
 use Rattle.waiting_questions.specs.Values.{Waiting}
 use Rattle.alias_chains.specs.LookingUp as rules
 use Rattle.alias_chains.specs.LookingUp.{LookUp, look_up, ends, too_long, missed}
-use Rattle.step_table.specs.Steps.{Fate, gets, waits, gives_up, denied_locally, sends, transport_of}
+use Rattle.step_table.specs.Steps.{waits}
 use Rattle.step_table.specs.Replies.{goes_on, too_many}
-use Rattle.step_table.specs.Clients.{fate_missed, fate_at}
+use Rattle.step_table.specs.Clients.{fate_missed, fate_at, fate_of}
 use Rattle.alias_chains.specs.Seen.{Seen, seen_at, seen_of, last_target, UsesFew}
 use Rattle.alias_chains.specs.Laws.{behind, led_to}
-use Rattle.alias_chains.specs.declared.looked.LookUpEnd.TheVariants.{Ends, TooLong, Missed}
+use Rattle.alias_chains.specs.declared.looked.LookUpEnd.TheVariants.{Ends, Missed}
 use Rattle.alias_chains.proofs.CallerLemmas.{begins_with_held, missed_wants, uses_what_is_seen}
-use Rattle.reply_decisions.specs.Fates.{or_name, name_behind, looked_behind, fate_behind}
+use Rattle.step_actions.specs.Fates.{Becomes, replied, stays, fate_in, IsSeenAs, IsSentOn}
+use Rattle.reply_decisions.specs.Fates.{looked_behind}
 
 -- ---- lists
 
@@ -58,39 +55,16 @@ goes_on_is c n entries held q more count =
 pub goes_too_long : (c : Config) (n : ℕ) (entries held : List Held) (q : Question) → 8 < length held → goes_on c n entries held q ≡ too_many held q
 goes_too_long c n entries held q many = cond-false (nat_le (length held) most_aliases) _ _ (lt-leb (length held) most_aliases many)
 
--- ---- what it makes of a question
+-- ---- what the code sees of it
 
-module _ (c : Config) (n : ℕ) (x : Waiting) (held own : List Held) (wanted : Question) (used : List Slot) where
-  abbrev whole : rules.LookUpEnd → LookUp
-  whole m = record { held = held ++ own; wanted = wanted; met = m; used = used }
+missed_at : (own : List Held) (m : rules.LookUpEnd) → Missed ≡ (seen_at own m).met
+    → (m ≡ missed) × ((seen_at own m).used ≡ own)
+missed_at own (ends e) is = absurd (cc)
+missed_at own too_long is = absurd (cc)
+missed_at own missed is = (refl, refl)
 
-  ends_so : (m : rules.LookUpEnd) → Ends ≡ (seen_at own m).met → gets (sends Answered x (answer_of x.asked (held ++ (seen_at own m).used) n (transport_of x.client))) ≡ fate_at c n x (whole m) m
-  ends_so (ends e) is = ap (λ (chain : List Held). gets (sends Answered x (answer_of x.asked chain n (transport_of x.client)))) (sym (append_assoc held own (e ∷ [])))
-  ends_so too_long is = absurd (cc)
-  ends_so missed is = absurd (cc)
-
-  too_long_so : (m : rules.LookUpEnd) → TooLong ≡ (seen_at own m).met → gets (gives_up ChainLong x) ≡ fate_at c n x (whole m) m
-  too_long_so (ends e) is = absurd (cc)
-  too_long_so too_long is = refl
-  too_long_so missed is = absurd (cc)
-
-  missed_so : (m : rules.LookUpEnd) (f : Fate) → Missed ≡ (seen_at own m).met → (m ≡ missed → f ≡ fate_missed c n x (whole missed) (serving_route_of c wanted.name)) → f ≡ fate_at c n x (whole m) m
-  missed_so (ends e) f is then = absurd (cc)
-  missed_so too_long f is then = absurd (cc)
-  missed_so missed f is then = then refl
-
--- the entries that are seen of a miss are its aliases
-seen_missed : (own : List Held) (m : rules.LookUpEnd) → Missed ≡ (seen_at own m).met → (seen_at own m).used ≡ own
-seen_missed own (ends e) is = absurd (cc)
-seen_missed own too_long is = absurd (cc)
-seen_missed own missed is = refl
-
--- the question that is wanted after these, of a question at this name
-wanted_is : (q : Question) (name : List (List ℕ)) (o : Option (List (List ℕ))) → led_to (asked_at q name) o ≡ asked_at q (or_name o name)
-wanted_is q name None = refl
-wanted_is q name (Some target) = refl
-
-module _ (c : Config) (n : ℕ) (x : Waiting) (entries aliases : List Held) (name : List (List ℕ)) (more : ℕ) (count : more + length (x.held ++ aliases) ≡ 8) (seen : Seen)
+module _ (c : Config) (n : ℕ) (x : Waiting) (entries aliases : List Held) (name : List (List ℕ)) (more : ℕ)
+    (count : more + length (x.held ++ aliases) ≡ 8) (seen : Seen)
     (is : seen ≡ seen_of (look_up c.routes n entries more [] (asked_at x.wanted name))) where
   abbrev held : List Held
   held = x.held ++ aliases
@@ -101,69 +75,82 @@ module _ (c : Config) (n : ℕ) (x : Waiting) (entries aliases : List Held) (nam
   behind_is : looked_behind c n entries aliases name x ≡ behind held l
   behind_is = goes_on_is c n entries held (asked_at x.wanted name) more count
 
-  fate_is : fate_at c n x (behind held l) l.met ≡ fate_behind c n entries aliases name x
-  fate_is = sym (ap (λ (v : LookUp). fate_at c n x v v.met) behind_is)
+  behind_seen : (own : List Held) (m : rules.LookUpEnd)
+      → seen_at (held ++ own) m ≡ record { used = held ++ (seen_at own m).used; met = (seen_at own m).met }
+  behind_seen own (ends e) = λ i. record { used = append_assoc held own (e ∷ []) i; met = Ends }
+  behind_seen own too_long = refl
+  behind_seen own missed = refl
 
-  pub ended_fate : Ends ≡ seen.met → gets (sends Answered x (answer_of x.asked (held ++ seen.used) n (transport_of x.client))) ≡ fate_behind c n entries aliases name x
-  ended_fate met =
-      ap (λ (v : Seen). gets (sends Answered x (answer_of x.asked (held ++ v.used) n (transport_of x.client)))) is
-      ∙ ends_so c n x held l.held l.wanted l.used l.met (met ∙ ap (λ (v : Seen). v.met) is) ∙ fate_is
+  -- what it wants is where the last alias leads
+  wants : seen.met ≡ Missed → l.wanted ≡ led_to (asked_at x.wanted name) (last_target seen.used)
+  wants met =
+      let so = missed_at l.held l.met (sym met ∙ ap (λ (v : Seen). v.met) is) in
+      missed_wants c.routes n entries more (asked_at x.wanted name) so.0
+      ∙ ap (λ (hs : List Held). led_to (asked_at x.wanted name) (last_target hs))
+      (sym (ap (λ (v : Seen). v.used) is ∙ so.1))
 
-  pub too_long_fate : TooLong ≡ seen.met → gets (gives_up ChainLong x) ≡ fate_behind c n entries aliases name x
-  too_long_fate met = too_long_so c n x held l.held l.wanted l.used l.met (met ∙ ap (λ (v : Seen). v.met) is) ∙ fate_is
-
-  pub missed_fate : Missed ≡ seen.met
-      → fate_missed c n x (record { held = held ++ seen.used; wanted = asked_at x.wanted (name_behind seen.used name); met = missed; used = [] }) (serving_route_of c (name_behind seen.used name)) ≡ fate_behind c n entries aliases name x
-  missed_fate met = missed_so c n x held l.held l.wanted l.used l.met _ at then ∙ fate_is
-    where
-      at : Missed ≡ (seen_of l).met
-      at = met ∙ ap (λ (v : Seen). v.met) is
-
-      used_is : seen.used ≡ l.held
-      used_is = ap (λ (v : Seen). v.used) is ∙ seen_missed l.held l.met at
-
-      then : l.met ≡ missed → fate_missed c n x (record { held = held ++ seen.used; wanted = asked_at x.wanted (name_behind seen.used name); met = missed; used = [] }) (serving_route_of c (name_behind seen.used name))
-          ≡ fate_missed c n x (record { held = held ++ l.held; wanted = l.wanted; met = missed; used = l.used }) (serving_route_of c l.wanted.name)
-      then m =
-          let wants : asked_at x.wanted (name_behind seen.used name) ≡ l.wanted =
-          ap (λ (hs : List Held). asked_at x.wanted (name_behind hs name)) used_is ∙ sym (wanted_is x.wanted name (last_target l.held)) ∙ sym (missed_wants c.routes n entries more (asked_at x.wanted name) m) in
-          by (held ++ seen.used) (held ++ l.held) (asked_at x.wanted (name_behind seen.used name)) l.wanted (ap (λ (hs : List Held). held ++ hs) used_is) wants (serving_route_of c l.wanted.name)
-        where
-          by : (hs ks : List Held) (w v : Question) → hs ≡ ks → w ≡ v → (r : Option ℕ) → fate_missed c n x (record { held = hs; wanted = w; met = missed; used = [] }) (serving_route_of c w.name) ≡ fate_missed c n x (record { held = ks; wanted = v; met = missed; used = l.used }) (serving_route_of c v.name)
-          by hs ks w v e f r = (λ i. fate_missed c n x (record { held = e i; wanted = f i; met = missed; used = [] }) (serving_route_of c (f i).name)) ∙ same_used (serving_route_of c v.name)
-            where
-              same_used : (o : Option ℕ) → fate_missed c n x (record { held = ks; wanted = v; met = missed; used = [] }) o ≡ fate_missed c n x (record { held = ks; wanted = v; met = missed; used = l.used }) o
-              same_used None = refl
-              same_used (Some route) = refl
+  -- after these entries
+  pub seen_behind : (chain : List Held) → chain ≡ held ++ seen.used
+      → IsSeenAs chain seen.met (led_to (asked_at x.wanted name) (last_target seen.used))
+      (looked_behind c n entries aliases name x)
+  seen_behind chain used =
+      subst (IsSeenAs chain seen.met (led_to (asked_at x.wanted name) (last_target seen.used))) (sym behind_is) (record {
+        seen =
+            behind_seen l.held l.met
+            ∙ ap (λ (v : Seen). record { used = held ++ v.used; met = v.met }) (sym is)
+            ∙ ap (λ (hs : List Held). record { used = hs; met = seen.met }) (sym used);
+        wants = wants;
+      })
 
   -- the slots that it used are those of what is seen
   pub used_fate : map (λ (h : Held). h.piece.slot) seen.used ≡ (looked_behind c n entries aliases name x).used
-  used_fate = ap (λ (v : Seen). map (λ (h : Held). h.piece.slot) v.used) is ∙ sym (uses_what_is_seen c.routes n entries more (asked_at x.wanted name)) ∙ sym (ap (λ (v : LookUp). v.used) behind_is)
+  used_fate = ap (λ (v : Seen). map (λ (h : Held). h.piece.slot) v.used) is
+      ∙ sym (uses_what_is_seen c.routes n entries more (asked_at x.wanted name))
+      ∙ sym (ap (λ (v : LookUp). v.used) behind_is)
 
--- ---- a question whose look-up missed, by what the configuration says of the name
+-- ---- a question that waits, and its request
 
-module _ (c : Config) (n : ℕ) (x : Waiting) (held : List Held) (wanted : Question) where
-  abbrev unanswered : LookUp
-  unanswered = record { held = held; wanted = wanted; met = missed; used = [] }
+module _ (c : Config) (n : ℕ) (l : LookUp) where
+  by_route : (x : Waiting) (hs : List Held) (q : Question) (r : Option ℕ)
+      → fate_missed c n x l r ≡ fate_missed c n (record x { held = hs; wanted = q }) l r
+  by_route x hs q None = refl
+  by_route x hs q (Some route) = refl
 
-  -- a route serves the name: it waits on
-  pub missed_on : (route : ℕ) → Some route ≡ serving_route_of c wanted.name
-      → waits (record x { held = held; wanted = wanted }) ≡ fate_missed c n x unanswered (serving_route_of c wanted.name)
-  missed_on route served = ap (fate_missed c n x unanswered) served
+  by_end : (x : Waiting) (hs : List Held) (q : Question) (m : rules.LookUpEnd)
+      → fate_at c n x l m ≡ fate_at c n (record x { held = hs; wanted = q }) l m
+  by_end x hs q (ends e) = refl
+  by_end x hs q too_long = refl
+  by_end x hs q missed = by_route x hs q (serving_route_of c l.wanted.name)
 
-  -- the configuration denies the name
-  pub denied_on : None ≡ serving_route_of c wanted.name → true ≡ is_local c wanted.name
-      → gets (denied_locally n x held) ≡ fate_missed c n x unanswered (serving_route_of c wanted.name)
-  denied_on none denied =
-      ap (λ (a : Action). gets a) (sym (cond-true (is_local c wanted.name) _ _ (sym denied)))
-      ∙ ap (fate_missed c n x unanswered) none
+  -- neither what it held nor what it wanted before matters
+  pub fate_alike : (x y : Waiting) → x.client ≡ y.client → x.asked ≡ y.asked → x.taken ≡ y.taken
+      → fate_of c n x l ≡ fate_of c n y l
+  fate_alike x y client asked taken =
+      by_end x y.held y.wanted l.met
+      ∙ (λ i. fate_of c n (record {
+        client = client i;
+        asked = asked i;
+        taken = taken i;
+        held = y.held;
+        wanted = y.wanted;
+      }) l)
 
-  -- the name has no route
-  pub unrouted_on : None ≡ serving_route_of c wanted.name → false ≡ is_local c wanted.name
-      → gets (gives_up NoRoute x) ≡ fate_missed c n x unanswered (serving_route_of c wanted.name)
-  unrouted_on none not_denied =
-      ap (λ (a : Action). gets a) (sym (cond-false (is_local c wanted.name) _ _ (sym not_denied)))
-      ∙ ap (fate_missed c n x unanswered) none
+pub in_alike : (x y : Waiting) (b : Becomes) → x.client ≡ y.client → x.asked ≡ y.asked → x.taken ≡ y.taken
+    → IsSentOn b → fate_in x b ≡ fate_in y b
+in_alike x y (replied action) client asked taken on = refl
+in_alike x y (stays None) client asked taken on = absurd on
+in_alike x y (stays (Some s)) client asked taken on = λ i. waits (record {
+  client = client i;
+  asked = asked i;
+  taken = taken i;
+  held = s.held;
+  wanted = s.wanted;
+})
+
+pub if_both : {X E : Type 0} (r : Result X E) (P Q R : X → Type 0) → ((x : X) → P x → Q x → R x) → IfOk r P → IfOk r Q
+    → IfOk r R
+if_both (Ok x) P Q R then p q = then x p q
+if_both (Err e) P Q R then p q = tt
 
 -- a look-up that missed used no more than was left
 pub few_missed : (held : List Held) (more : ℕ) (seen : Seen) → UsesFew more seen → more + length held ≡ 8 → seen.met ≡ Missed → length (held ++ seen.used) ≤ 8

@@ -1,17 +1,19 @@
 -- One more of what becomes of questions.
 use Rattle.std.proofs.Common.{◌≡◌, ℕ, zero, suc, ◌+◌, ◌<◌, List, [], ◌∷◌, ◌++◌, length, take, drop, get_or, Option, Some, None, slice_get, refl, sym, ap, ◌∙◌, subst, arith}
-use Rattle.std.specs.Prelude.{map}
+use Rattle.std.specs.Prelude.{map, option_map}
 use Rattle.std.specs.List.{cons_option, filter_map, flat_map, AllByRecursion}
 use Rattle.std.proofs.lemmas.List.{append_assoc, append-nil, drop_more, length-append, map-append}
 use Rattle.std.proofs.lemmas.Grind.{flat_map-append}
+use Rattle.dns_message.specs.Values.{Question}
 use Rattle.trust_rank.specs.declared.slot.Slot.{Slot}
 use Rattle.step_values.specs.Values.{Action}
 use Rattle.waiting_questions.specs.Onward.{Onward}
 use Rattle.waiting_questions.specs.Values.{Waiting}
 use Rattle.step_table.specs.Steps.{Fate}
 use Rattle.step_table.specs.Replies.{without_port}
-use Rattle.reply_decisions.specs.declared.fate.Fate.{Fate as OwnFate}
-use Rattle.reply_decisions.specs.Fates.{Becomes, becomes, fate_in, fates_in, first_wanted, or_wanted, reply_of, onward_in, OneMore}
+use Rattle.step_actions.specs.declared.fate.Fate.{Fate as OwnFate}
+use Rattle.step_actions.specs.Fates.{Becomes, becomes, fate_in}
+use Rattle.reply_decisions.specs.Fates.{fates_in, first_wanted, or_wanted, reply_of, onward_in, OneMore}
 
 -- ---- the parts of it, with those that are left
 
@@ -38,10 +40,18 @@ passed_over {A} items i f lt is none =
     ap (λ (o : Option Onward). or_wanted o (first_wanted (map becomes (drop (i + 1) items)))) (sym none ∙ ap (λ (g : OwnFate A). onward_in (becomes g)) is)
     ∙ sym (ap (λ (fs : List (OwnFate A)). first_wanted (map becomes fs)) (drop_more items i f lt))
 
-pub wanted_here : {A : Type 0} (items : List (OwnFate A)) (i : ℕ) (f : OwnFate A) (s : Onward) → i < length items → f ≡ get_or items i f → onward_in (becomes f) ≡ Some s → first_wanted (map becomes (drop i items)) ≡ Some s.wanted
-wanted_here {A} items i f s lt is sent =
+-- the question that is wanted with these aliases comes first
+wanted_first : (o : Option Onward) (rest : Option Question) (wanted : Question) → option_map (λ s. s.wanted) o ≡ Some wanted
+    → or_wanted o rest ≡ Some wanted
+wanted_first None rest wanted is = absurd (cc)
+wanted_first (Some s) rest wanted is = is
+
+pub wanted_here : {A : Type 0} (items : List (OwnFate A)) (i : ℕ) (f : OwnFate A) (wanted : Question) → i < length items → f ≡ get_or items i f
+    → option_map (λ s. s.wanted) (onward_in (becomes f)) ≡ Some wanted → first_wanted (map becomes (drop i items)) ≡ Some wanted
+wanted_here {A} items i f wanted lt is sent =
     ap (λ (fs : List (OwnFate A)). first_wanted (map becomes fs)) (drop_more items i f lt)
-    ∙ ap (λ (o : Option Onward). or_wanted o (first_wanted (map becomes (drop (i + 1) items)))) (sym (ap (λ (g : OwnFate A). onward_in (becomes g)) is) ∙ sent)
+    ∙ wanted_first (onward_in (becomes (get_or items i f))) (first_wanted (map becomes (drop (i + 1) items))) wanted
+    (ap (λ (g : OwnFate A). option_map (λ s. s.wanted) (onward_in (becomes g))) (sym is) ∙ sent)
 
 -- ---- the fates
 

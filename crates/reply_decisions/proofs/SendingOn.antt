@@ -21,7 +21,8 @@ use Rattle.step_table.specs.Steps.{Done, Fate, waits, still_waiting, with_prefer
 use Rattle.step_table.specs.Replies.{fate_by, looked_by, unless_open, to_be_asked, without_port, unless_no_port, row_of_next_name, row_of_sent_on, row_of_end, row_of_acceptance}
 use Rattle.step_table.specs.Clients.{fate_of}
 use Rattle.alias_chains.specs.Offering.{held_at}
-use Rattle.reply_decisions.specs.Fates.{Becomes, fates_in, first_wanted, looked_behind, fate_behind, onward_in, Become}
+use Rattle.step_actions.specs.Fates.{Becomes, IsSentOn}
+use Rattle.reply_decisions.specs.Fates.{fates_in, first_wanted, looked_behind, fate_behind, onward_in, Become}
 use Rattle.reply_decisions.proofs.Becoming.{none_wanted, FirstWaits, first_waits, same_fates}
 use Rattle.reply_decisions.proofs.Earlier.{IsHeld, Holds, no_port_holds, all_hold}
 use Rattle.step_table.proofs.CallerLemmas.{without_shorter, All-weaker}
@@ -34,16 +35,16 @@ use Rattle.reply_decisions.specs.Sending.{closing_state, asked_for, ask_for, fat
 
 -- what the first of those wants that are sent on, unless it is asked already
 pub asked_is : (a : Ask) (s : State) (those : List Waiting) (each : List Becomes) (wanted : Question)
-    → length each ≡ length those → first_wanted each ≡ Some wanted
+    → AllByRecursion IsSentOn each → length each ≡ length those → first_wanted each ≡ Some wanted
     → asked_for a s (fates_in those each) ≡ unless_open wanted (of_question wanted (without_path a.path s.asks))
-asked_is a s those each wanted count is =
-    let first : FirstWaits wanted (still_waiting (fates_in those each)) = first_waits wanted those each count is in
+asked_is a s those each wanted on count is =
+    let first : FirstWaits wanted (still_waiting (fates_in those each)) = first_waits wanted those each on count is in
     ap (to_be_asked (without_path a.path s.asks)) first.are
     ∙ ap (λ (q : Question). unless_open q (of_question q (without_path a.path s.asks))) first.wants
 
-pub none_asked : (a : Ask) (s : State) (those : List Waiting) (each : List Becomes) → first_wanted each ≡ None
-    → asked_for a s (fates_in those each) ≡ None
-none_asked a s those each none = ap (to_be_asked (without_path a.path s.asks)) (none_wanted those each none)
+pub none_asked : (a : Ask) (s : State) (those : List Waiting) (each : List Becomes) → AllByRecursion IsSentOn each
+    → first_wanted each ≡ None → asked_for a s (fates_in those each) ≡ None
+none_asked a s those each on none = ap (to_be_asked (without_path a.path s.asks)) (none_wanted those each on none)
 
 -- ---- the fate of each that waits
 
@@ -222,15 +223,15 @@ unopened_is q None is = refl
 unopened_is q (Some a) is = absurd (cc)
 
 module _ (a : Ask) (s : State) (those : List Waiting) (each : List Becomes) (wanted : Question)
-    (count : length each ≡ length those) (is : first_wanted each ≡ Some wanted) where
+    (on : AllByRecursion IsSentOn each) (count : length each ≡ length those) (is : first_wanted each ≡ Some wanted) where
   pub asked_already : is_some (of_question wanted (without_path a.path s.asks)) ≡ true
       → asked_for a s (fates_in those each) ≡ None
-  asked_already there = asked_is a s those each wanted count is
+  asked_already there = asked_is a s those each wanted on count is
       ∙ open_is wanted (of_question wanted (without_path a.path s.asks)) there
 
   pub asked_now : is_some (of_question wanted (without_path a.path s.asks)) ≡ false
       → asked_for a s (fates_in those each) ≡ Some wanted
-  asked_now none = asked_is a s those each wanted count is
+  asked_now none = asked_is a s those each wanted on count is
       ∙ unopened_is wanted (of_question wanted (without_path a.path s.asks)) none
 
 -- ---- the ask for it may be listed

@@ -5,38 +5,21 @@ use Rattle.dns_message.specs.Values.{Question}
 use Rattle.suffix_routes.specs.Values.{Config}
 use Rattle.record_cache.specs.Values.{Held}
 use Rattle.record_cache.specs.Laws.{Among}
-use Rattle.step_values.specs.declared.action.Why.TheVariants.{NoPort}
-use Rattle.step_values.specs.Values.{Action, action_of}
+use Rattle.step_values.specs.Values.{Action}
 use Rattle.dns_message.specs.Questions.{asked_at}
 use Rattle.waiting_questions.specs.Values.{Waiting, waits_for}
 use Rattle.alias_chains.specs.LookingUp.{LookUp, look_up}
 use Rattle.step_table.specs.Steps as steps
 use Rattle.step_table.specs.Replies.{goes_on}
 use Rattle.step_table.specs.Clients.{fate_of}
-use Rattle.alias_chains.specs.Seen.{last_target, seen_of, Seen, UsesFew}
-use Rattle.waiting_questions.specs.Onward.{Onward, sent_on}
-use Rattle.reply_decisions.specs.declared.fate.Fate.{Fate}
-use Rattle.reply_decisions.specs.declared.fate.Fate.TheVariants.{Reply, SentOn}
-
--- the fate of one: its reply, or the aliases and the question that it is sent on with
-pub data Becomes : Type 0 where
-  replied : Action → Becomes
-  sent : Onward → Becomes
-
--- the fate of a question, as a plain value
-abbrev pub becomes : {A : Type 0} → Fate A → Becomes
-becomes (Reply action) = replied (action_of action)
-becomes (SentOn s) = sent s
+use Rattle.alias_chains.specs.Seen.{seen_of, Seen, UsesFew}
+use Rattle.waiting_questions.specs.Onward.{Onward}
+use Rattle.step_actions.specs.Fates.{Becomes, replied, stays, fate_in}
 
 -- of all of them, in the order of taking, and the entries that their look-ups used
 pub record Fates : Type 0 where
   pub each : List Becomes
   pub used : List Held
-
--- the fate of a question
-abbrev pub fate_in : Waiting → Becomes → steps.Fate
-fate_in x (replied action) = steps.gets action
-fate_in x (sent s) = steps.waits (sent_on s x)
 
 -- the fates of these questions
 abbrev pub fates_in : List Waiting → List Becomes → List steps.Fate
@@ -47,17 +30,12 @@ fates_in (x ∷ xs) (b ∷ each) = fate_in x b ∷ fates_in xs each
 -- the aliases and the question that it is sent on with, where it is
 abbrev pub onward_in : Becomes → Option Onward
 onward_in (replied action) = None
-onward_in (sent s) = Some s
+onward_in (stays sent_on) = sent_on
 
 -- its reply, if it gets one
 abbrev pub reply_of : Becomes → Option Action
 reply_of (replied action) = Some action
-reply_of (sent s) = None
-
--- without a port, those that would wait on fail
-abbrev pub unless_sent : Waiting → Becomes → Becomes
-unless_sent x (replied action) = replied action
-unless_sent x (sent s) = replied (steps.gives_up NoPort x)
+reply_of (stays sent_on) = None
 
 -- the question that it wants, if it is sent on, otherwise this one
 abbrev pub or_wanted : Option Onward → Option Question → Option Question
@@ -68,15 +46,6 @@ or_wanted (Some s) q = Some s.wanted
 abbrev pub first_wanted : List Becomes → Option Question
 first_wanted [] = None
 first_wanted (b ∷ each) = or_wanted (onward_in b) (first_wanted each)
-
--- the name that these entries lead to, or this one where there are none
-abbrev pub or_name : Option (List (List ℕ)) → List (List ℕ) → List (List ℕ)
-or_name None name = name
-or_name (Some target) name = target
-
--- the name to which the aliases of a look-up lead
-abbrev pub name_behind : List Held → List (List ℕ) → List (List ℕ)
-name_behind used name = or_name (last_target used) name
 
 -- the look-up of a question, once it holds the aliases of the reply too
 abbrev pub looked_behind : Config → ℕ → List Held → List Held → List (List ℕ) → Waiting → LookUp

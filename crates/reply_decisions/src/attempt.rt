@@ -95,14 +95,7 @@ fn retry<'a, 's, H: BuildHasher + Drop, A: Allocator + Copy>(
         server: usize::from(server),
         used: asked.used + 1,
     };
-    match new_ask(
-        turn.alloc,
-        turn.config,
-        turn.moment,
-        &asked.question,
-        attempt,
-        drawn,
-    )? {
+    match new_ask(turn, &asked.question, attempt, drawn)? {
         Some(next) => ask_again(turn, path, ask, next),
         None => give_up(turn, path, ask, Why::NoPort),
     }

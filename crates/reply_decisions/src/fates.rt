@@ -1,6 +1,7 @@
 //! The fates of all questions that waited for one reply.
 
-ghost use Rattle.std.specs.Prelude.{◌≡◌, ◌++◌, ◌+◌, ◌≤◌, ◌∷◌, ℕ, List, [], length, map, IfOk, MatchOption, None, Some};
+ghost use Rattle.std.specs.Prelude.{◌≡◌, ◌++◌, ◌+◌, ◌≤◌, ◌∷◌, ℕ, List, [], length, map, option_map, IfOk, MatchOption};
+ghost use Rattle.std.specs.Prelude.{None, Some};
 ghost use Rattle.record_cache.specs.Values.{Held as HeldValue};
 ghost use Rattle.dns_message.specs.Questions.{asked_at};
 ghost use Rattle.alias_chains.specs.LookingUp.{look_up};
@@ -11,10 +12,11 @@ ghost use Rattle.answer_builder.specs.Answers.{IsEarlier};
 ghost use Rattle.step_table.specs.Replies.{without_port};
 ghost use Rattle.step_table.specs.Steps.{replies};
 ghost use Rattle.step_values.specs.Values.{actions_of};
-ghost use Rattle.reply_decisions.specs.Fates.{becomes, fates_in, fate_behind, first_wanted, looked_behind, onward_in};
+ghost use Rattle.step_actions.specs.Fates.{becomes, IsSentOn};
+ghost use Rattle.reply_decisions.specs.Fates.{fates_in, fate_behind, first_wanted, looked_behind, onward_in};
 ghost use Rattle.reply_decisions.specs.Fates.{reply_of, OneMore};
 
-use crate::fate::{AliasLead, Fate, fails, fate_of, unless_sent};
+use crate::fate::{AliasLead, fate_behind, unless_waits};
 use crate::looking_on::look_on;
 use alias_chains::{LookUp, SlotsRef, slot_for_look_ups};
 use dns_message::Question;
@@ -22,7 +24,7 @@ use record_cache::Held;
 use std::alloc::{AllocError, Allocator, Global};
 use std::hash::BuildHasher;
 use std::marker::Model;
-use step_actions::TurnRef;
+use step_actions::{Fate, TurnRef, failure};
 use step_values::{Action, Actions, Why};
 use waiting_questions::{SentOn, Waiting, WaitingFor};
 
@@ -36,12 +38,16 @@ pub struct Fates<'a, A: Allocator = Global> {
 
 impl<'a, A: Allocator> Model for Fates<'a, A> {
     ghost use Rattle.std.specs.Prelude.{map};
+    ghost use Rattle.std.specs.List.{AllByRecursion};
     ghost use Rattle.plain_list.specs.Borrowed.{lent};
-    ghost use Rattle.reply_decisions.specs.Fates.{Fates, becomes};
+    ghost use Rattle.step_actions.specs.Fates.{becomes, IsSentOn};
+    ghost use Rattle.reply_decisions.specs.Fates.{Fates};
 
     ghost Value = { Fates };
 
     ghost view = { λ f. record { each = map becomes f.each.items; used = lent f.used.items } };
+
+    ghost invariant = { λ f. AllByRecursion IsSentOn (map becomes f.each.items) };
 }
 
 /// The fates of the questions that waited for a reply which leads on: each is looked up at the name
@@ -72,6 +78,20 @@ pub fn fates_behind<'a, H: BuildHasher + Drop, A: Allocator + Copy>(
     Ok(fates)
 }
 
+/// The question that is wanted by a fate with aliases.
+fn wanted_in<A: Allocator>(fate: &Fate<A>) -> Option<&Question<A>>
+    ensures { MatchOption result (onward_in (becomes fate.now) ≡ None)
+        (λ q. option_map (λ s. s.wanted) (onward_in (becomes fate.now)) ≡ Some q.now) }
+{
+    let Fate::Waits(sent_on, _) = fate else {
+        return None;
+    };
+    match sent_on {
+        Some(sent_on) => Some(&sent_on.wanted),
+        None => None,
+    }
+}
+
 impl<'a, A: Allocator + Copy> Fates<'a, A> {
     /// Puts the fate of one more question last, by its look-up, and the entries that this used.
     fn put_looked<H: BuildHasher + Drop>(
@@ -95,7 +115,7 @@ impl<'a, A: Allocator + Copy> Fates<'a, A> {
         ensures used { IfOk result (λ _. self.new.used ≡ self.old.used ++ looked.now.used) }
     {
         self.used.extend_from_slice(looked.used())?;
-        let fate = fate_of(turn.alloc, turn.config, turn.moment, lead, waiting, looked)?;
+        let fate = fate_behind(turn, lead, waiting, looked)?;
         self.put(fate)
     }
 
@@ -116,12 +136,11 @@ impl<'a, A: Allocator + Copy> Fates<'a, A> {
             ++ (looked_behind turn.now.config turn.now.moment turn.now.state.cache.entries lead.now.aliases.now
             lead.now.name.now waiting.now).used) }
     {
-        let alloc = turn.alloc;
         let mut slot = slot_for_look_ups();
         match look_on(turn, &mut slot, lead, waiting)? {
             None => {
-                let fate = fails(alloc, waiting, Why::ChainLong)?;
-                self.put(fate)
+                let action = failure(turn.alloc, &waiting.request(), Why::ChainLong)?;
+                self.put(Fate::Reply(action))
             }
             Some(looked) => self.put_looked(turn, lead, waiting, &looked),
         }
@@ -129,6 +148,7 @@ impl<'a, A: Allocator + Copy> Fates<'a, A> {
 
     /// Puts the fate of one more question last.
     fn put(&mut self, fate: Fate<A>) -> Result<(), AllocError>
+        requires { IsSentOn (becomes fate) }
         ensures each { IfOk result (λ _. self.new.each ≡ self.old.each ++ becomes fate ∷ []) }
         ensures used { self.new.used ≡ self.old.used }
     {
@@ -139,12 +159,13 @@ impl<'a, A: Allocator + Copy> Fates<'a, A> {
     /// The question that the first of those that are sent on wants, and so all of them; `None`
     /// exactly where none is sent on. It does not allocate.
     pub fn wanted(&self) -> Option<&Question<A>>
-        ensures { MatchOption result (first_wanted self.now.each ≡ None) (λ q. first_wanted self.now.each
+        ensures wanted { MatchOption result (first_wanted self.now.each ≡ None) (λ q. first_wanted self.now.each
             ≡ Some q.now) }
+        ensures sent { AllByRecursion IsSentOn self.now.each }
     {
         for fate in &self.each {
-            if let Fate::SentOn(sent_on) = fate {
-                return Some(&sent_on.wanted);
+            if let Some(question) = wanted_in(fate) {
+                return Some(question);
             }
         }
         None
@@ -167,7 +188,7 @@ impl<'a, A: Allocator + Copy> Fates<'a, A> {
         let mut told = Vec::with_capacity(alloc, each.len())?;
         for fate in each {
             let waiting = those.get(told.len());
-            told.push(unless_sent(alloc, waiting, fate)?)?;
+            told.push(unless_waits(alloc, waiting, fate)?)?;
         }
         Ok(Fates { each: told, used })
     }
@@ -183,6 +204,7 @@ impl<'a, A: Allocator + Copy> Fates<'a, A> {
             ≡ actions_of actions.old ++ filter_map reply_of self.entry.each) }
         ensures onward { IfOk result (λ parts. parts.0.items ≡ map onward_in self.entry.each) }
         ensures used { IfOk result (λ parts. parts.1 ≡ map (λ h. h.piece.slot) self.entry.used) }
+        ensures sent { IfOk result (λ _. AllByRecursion IsSentOn self.entry.each) }
     {
         let Fates { each, used } = self;
         let mut onward = Vec::with_capacity(alloc, each.len())?;
@@ -192,7 +214,7 @@ impl<'a, A: Allocator + Copy> Fates<'a, A> {
                     actions.push(action)?;
                     onward.push(None)?;
                 }
-                Fate::SentOn(sent_on) => onward.push(Some(sent_on))?,
+                Fate::Waits(sent_on, _) => onward.push(sent_on)?,
             }
         }
         Ok((onward, SlotsRef::of(used)))

@@ -5,7 +5,6 @@ ghost use Rattle.reply_decisions.specs.Fates.{IfLooksOn};
 
 use crate::fate::AliasLead;
 use alias_chains::{LookUp, look_up};
-use dns_message::QuestionRef;
 use std::alloc::{AllocError, Allocator};
 use std::hash::BuildHasher;
 use step_actions::TurnRef;
@@ -27,8 +26,7 @@ pub(crate) fn look_on<'a, 's, H: BuildHasher + Drop, A: Allocator + Copy>(
     let Some(more) = MOST_ALIASES.checked_sub(count) else {
         return Ok(None);
     };
-    let own = waiting.wanted();
-    let question = QuestionRef::from_octets(lead.name.octets(), own.kind, own.class);
+    let question = lead.question(waiting);
     let looked = look_up(turn.alloc, &turn.cache_at(), slot, &question, more)?;
     Ok(Some(looked))
 }

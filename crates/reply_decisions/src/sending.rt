@@ -98,14 +98,7 @@ fn first_ask_then<'a, H: BuildHasher + Drop, A: Allocator + Copy>(
     };
     let ask = answered.ask();
     let drawn = by_udp(draw(turn.words, turn.inquiries, freed_port(ask.path)));
-    new_ask(
-        turn.alloc,
-        turn.config,
-        turn.moment,
-        question,
-        attempt,
-        drawn,
-    )
+    new_ask(turn, question, attempt, drawn)
 }
 
 /// Whether another ask of the question is listed than the one that is answered.

@@ -1,6 +1,7 @@
 pub mod Aliases
 pub mod CallerLemmas
 pub mod Carried
+pub mod Fates
 pub mod Folds
 pub mod Following
 pub mod Fronts

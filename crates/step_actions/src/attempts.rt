@@ -6,10 +6,12 @@ ghost use Rattle.outstanding.specs.Draws.{drawn_by_tcp};
 ghost use Rattle.step_table.specs.Attempts.{group_of, servers_in, peer_at, over_udp, over_tcp, ask_by, freed_by};
 ghost use Rattle.step_table.specs.Attempts.{plan_of};
 
+use crate::turn::TurnRef;
 use dns_message::Question;
 use outstanding::{Ask, Path};
 use retry_failover::Plan;
 use std::alloc::{AllocError, Allocator};
+use std::hash::BuildHasher;
 use suffix_routes::{Config, Peer, RouteId};
 
 /// The servers of a route, in the order of the configuration.
@@ -78,26 +80,24 @@ pub struct Attempt {
     pub used: u8,
 }
 
-/// The ask of a server over the drawn path, at a moment in milliseconds. `None` where there is no
-/// such server, or no path was drawn. `Err` where memory ran out.
-pub fn new_ask<A: Allocator + Copy>(
-    alloc: A,
-    config: &Config<A>,
-    moment: u64,
+/// The ask of a server over the drawn path. `None` where there is no such server, or no path was
+/// drawn. `Err` where memory ran out.
+pub fn new_ask<'a, H: BuildHasher + Drop, A: Allocator + Copy>(
+    turn: &TurnRef<'a, H, A>,
     question: &Question<A>,
     attempt: Attempt,
     drawn: Option<(u16, Path)>,
 ) -> Result<Option<Ask<A>>, AllocError>
-    ensures { IfOk result (λ ask. ask ≡ ask_by moment question.now attempt.route attempt.server attempt.used
-        (peer_at config.now attempt.route attempt.server) drawn) }
+    ensures { IfOk result (λ ask. ask ≡ ask_by turn.now.moment question.now attempt.route attempt.server attempt.used
+        (peer_at turn.now.config attempt.route attempt.server) drawn) }
 {
-    let Some(peer) = server_at(config, attempt.route, attempt.server) else {
+    let Some(peer) = server_at(turn.config, attempt.route, attempt.server) else {
         return Ok(None);
     };
     let Some((id, path)) = drawn else {
         return Ok(None);
     };
-    let question = question.copy(alloc)?;
+    let question = question.copy(turn.alloc)?;
     Ok(Some(Ask {
         question,
         route: attempt.route,
@@ -106,7 +106,7 @@ pub fn new_ask<A: Allocator + Copy>(
         used: attempt.used,
         path,
         id,
-        asked: moment,
+        asked: turn.moment,
     }))
 }
 

@@ -1,8 +1,8 @@
-use Rattle.std.proofs.Common.{◌≡◌, ◌∙◌, subst, get_or, arith}
+use Rattle.std.proofs.Common.{◌≡◌, ◌∙◌, subst, sym, get_or, arith}
 use Rattle.std.specs.Prelude.{unwrap_or}
 use Rattle.std.proofs.lemmas.Result.{IfOk-weaker}
 use Rattle.step_table.specs.State.{Turn, turn}
-use Rattle.step_table.specs.Attempts.{first_ask}
+use Rattle.step_table.specs.Attempts.{ask_by, first_ask, peer_at}
 use Rattle.client_decisions.proofs.Clients.{asked_first}
 use Rattle.client_decisions.proofs.client.first_ask.Goals as goal
 
@@ -24,4 +24,7 @@ returns g c =
       tcp_asks = c.turn.inside.tcp_asks;
     })
     c.unwrap_or-server.result c.draw.result c.by_udp-drawn.result ask server c.draw.ensures.drawn
-    c.by_udp-drawn.ensures is)) c.new_ask.ensures
+    c.by_udp-drawn.ensures
+    (is ∙ (λ i. ask_by (sym c.turn.view_is i).moment c.args.question.now c.args.route c.unwrap_or-server.result 1
+    (peer_at (sym c.turn.view_is i).config c.args.route c.unwrap_or-server.result) c.by_udp-drawn.result))))
+    c.new_ask.ensures

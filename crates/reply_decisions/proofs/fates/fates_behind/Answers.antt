@@ -5,7 +5,8 @@ use Rattle.record_cache.specs.Values.{Held}
 use Rattle.answer_builder.specs.Answers.{IsEarlier}
 use Rattle.plain_list.specs.Borrowed.{lent}
 use Rattle.waiting_questions.specs.Values.{Waiting}
-use Rattle.reply_decisions.specs.Fates.{becomes, fates_in, fate_behind, looked_behind}
+use Rattle.step_actions.specs.Fates.{becomes}
+use Rattle.reply_decisions.specs.Fates.{fates_in, fate_behind, looked_behind}
 use Rattle.reply_decisions.proofs.Parts.{none_known, one_more, used_more, all_at}
 use Rattle.reply_decisions.proofs.fates.fates_behind.Goals as goal
 

@@ -1,4 +1,4 @@
-use Rattle.std.proofs.Common.{◌≡◌, ◌∙◌, ℕ, List, [], length, ap, subst, arith}
+use Rattle.std.proofs.Common.{◌≡◌, ◌∙◌, List, [], length, ap, subst, arith}
 use Rattle.std.specs.List.{AllByRecursion}
 use Rattle.std.proofs.lemmas.List.{length-append}
 use Rattle.record_cache.specs.Values.{Held}
@@ -11,7 +11,6 @@ use Rattle.reply_decisions.proofs.looking_on.look_on.Goals as goal
 
 pub returns : goal.returns
 returns g c =
-    let own = c.own.view_is ∙ c.wanted-own.ensures in
     record {
       more = c.in-Some.more;
       count =
@@ -20,9 +19,9 @@ returns g c =
           let sum = c.saturating_add-count.ensures in let left = c.in-Some.ensures in omega (arith, both, own, sum, left);
       is =
           c.in_ok-looked.ensures.exact
-          ∙ ap (λ (a : CacheAt). seen_of (look_up a.config.routes a.moment a.cache.entries c.in-Some.more [] c.from_octets-question.result)) c.cache_at.ensures
+          ∙ ap (λ (a : CacheAt). seen_of (look_up a.config.routes a.moment a.cache.entries c.in-Some.more [] c.question-question.result)) c.cache_at.ensures
           ∙ ap (λ (q : Question). seen_of (look_up c.args.turn.now.config.routes c.args.turn.now.moment c.args.turn.now.state.cache.entries c.in-Some.more [] q))
-          (c.from_octets-question.ensures ∙ (λ i. record { name = c.octets.ensures.labels i; kind = (own i).kind; class = (own i).class }));
+          c.question-question.ensures;
       few = c.in_ok-looked.ensures.few;
       from_cache = subst (λ (a : CacheAt). AllByRecursion (λ h. Among h a.cache.entries) c.in_ok-looked.looked.used) c.cache_at.ensures c.in_ok-looked.ensures.from_cache;
     }

@@ -33,7 +33,8 @@ returns g c = record {
         row = λ rooms.
             ap (offering_step c.args.turn.now.moment rooms (pieces_of c.args.carried.items))
             (sending_row g.row.A.Denot c.args.turn.now.moment c.args.turn.now.state c.args.answered.now fate
-            c.args.fates.each c.args.next c.in_ok-onward.used c.in_ok-sending.sending _ c.requires.on become
+            c.args.fates.each c.args.next c.in_ok-onward.used c.in_ok-sending.sending _ c.requires.on
+            c.in_ok-onward.ensures.sent become
             (ap (λ (v : Sending g.row.A.Denot). v.path) c.in_ok-sending.ensures.ok
             ∙ ap (λ (a : Ask). a.path) (c.ask.view_is ∙ c.ask-ask.ensures))
             (ap (λ (v : Sending g.row.A.Denot). v.preferred.route) c.in_ok-sending.ensures.ok

@@ -25,8 +25,8 @@ returns g c =
     ∙ (λ i. serving_route_of (c.turn.view_is i).config (c.question.view_is i).name)) in
     IfOk-weaker c.new_ask.result _ _ (λ ask is.
     is
-    ∙ (λ i. ask_by (c.turn.view_is i).moment c.args.question.now c.in-Served.route (c.preferred_then.ensures i) 1
-    (peer_at (c.turn.view_is i).config c.in-Served.route (c.preferred_then.ensures i)) (drawn i))
+    ∙ (λ i. ask_by c.args.turn.now.moment c.args.question.now c.in-Served.route (c.preferred_then.ensures i) 1
+    (peer_at c.args.turn.now.config c.in-Served.route (c.preferred_then.ensures i)) (drawn i))
     ∙ sym (ap (first_ask_on (from_state (closing_state c.args.answered.now c.args.turn.now.state) c.args.turn.now)
     c.args.question.now) on))
     c.new_ask.ensures

@@ -1,9 +1,10 @@
-use Rattle.std.proofs.Common.{◌∙◌, ◌++◌, ◌∷◌, [], ap, sym, refl}
-use Rattle.std.specs.Prelude.{map, None, Some}
-use Rattle.std.specs.List.{filter_map}
+use Rattle.std.proofs.Common.{◌∙◌, ◌++◌, ◌∷◌, [], ap, sym, subst, refl}
+use Rattle.std.specs.Prelude.{map, None}
+use Rattle.std.specs.List.{AllByRecursion, filter_map}
 use Rattle.std.proofs.lemmas.List.{append-nil, map-append, nil_from_length}
 use Rattle.step_values.specs.Values.{action_of, actions_of}
-use Rattle.reply_decisions.specs.Fates.{Fates, becomes, onward_in, reply_of}
+use Rattle.step_actions.specs.Fates.{becomes, IsSentOn}
+use Rattle.reply_decisions.specs.Fates.{Fates, onward_in, reply_of}
 use Rattle.reply_decisions.proofs.Parts.{next_reply, no_reply, next_onward}
 use Rattle.reply_decisions.proofs.fates.Fates.into_parts.Goals as goal
 
@@ -37,11 +38,11 @@ loop-fate-preserved g c = record {
   used = refl;
   actions =
       no_reply (actions_of c.loop-fate.actions) (becomes c.in-Some.fate) (map becomes c.loop-fate.fate-iterator.rest.items) (map becomes c.next.new.self.rest.items)
-      (ap (map becomes) c.in-Some.ensures.steps.0) (ap (λ f. reply_of (becomes f)) c.in-SentOn.is)
+      (ap (map becomes) c.in-Some.ensures.steps.0) (ap (λ f. reply_of (becomes f)) c.in-Waits.is)
       ∙ c.loop-fate.invariant.actions;
   onward =
-      next_onward c.loop-fate.onward.items c.push-in-SentOn.new.self.items (becomes c.in-Some.fate) (map becomes c.loop-fate.fate-iterator.rest.items) (map becomes c.next.new.self.rest.items) (Some c.in-SentOn.sent_on)
-      (ap (map becomes) c.in-Some.ensures.steps.0) c.in_ok-push-in-SentOn.ensures.items (ap (λ f. onward_in (becomes f)) c.in-SentOn.is)
+      next_onward c.loop-fate.onward.items c.push-in-Waits.new.self.items (becomes c.in-Some.fate) (map becomes c.loop-fate.fate-iterator.rest.items) (map becomes c.next.new.self.rest.items) c.in-Waits.sent_on
+      (ap (map becomes) c.in-Some.ensures.steps.0) c.in_ok-push-in-Waits.ensures.items (ap (λ f. onward_in (becomes f)) c.in-Waits.is)
       ∙ c.loop-fate.invariant.onward;
 }
 
@@ -56,3 +57,6 @@ returns-clause-onward g c =
     sym (append-nil c.loop-fate.onward.items)
     ∙ ap (λ bs. c.loop-fate.onward.items ++ map onward_in (map becomes bs)) (sym (nil_from_length c.loop-fate.fate-iterator.rest.items (sym c.loop-fate.fate-iterator.rest.ok.0 ∙ c.in-None.ensures.steps.0)))
     ∙ c.loop-fate.invariant.onward
+
+pub returns-clause-sent : goal.returns-clause-sent
+returns-clause-sent g c = subst (λ (f : Fates). AllByRecursion IsSentOn f.each) c.self.view_is c.self.invariant

@@ -2,7 +2,8 @@ use Rattle.std.proofs.Common.{◌≡◌, ◌++◌}
 use Rattle.std.specs.Prelude.{map}
 use Rattle.std.specs.List.{filter_map}
 use Rattle.step_values.specs.Values.{actions_of}
-use Rattle.reply_decisions.specs.Fates.{becomes, onward_in, reply_of}
+use Rattle.step_actions.specs.Fates.{becomes}
+use Rattle.reply_decisions.specs.Fates.{onward_in, reply_of}
 use Rattle.reply_decisions.proofs.fates.Fates.into_parts.Given as goal
 
 abbrev pub invariant-loop-fate : goal.invariant-loop-fate
