@@ -36,8 +36,8 @@ use outstanding::{Ask, KeyedAsk, QuestionKey, draw};
 use std::alloc::{AllocError, Allocator};
 use std::hash::BuildHasher;
 use step_actions::{
-    Attempt, Change, Decision, Fate, Opening, TurnRef, Wanted, ask as ask_action, by_udp, failure,
-    fate_of, new_ask, nothing, refusal,
+    Attempt, Change, Decision, Fate, Opening, TurnRef, ask as ask_action, by_udp, failure, fate_of,
+    new_ask, nothing, refusal,
 };
 use step_values::{Action, Actions, Client, Why};
 use suffix_routes::RouteId;
@@ -53,10 +53,8 @@ fn reply<'a, 's, H: BuildHasher + Drop, A: Allocator + Copy>(
     ensures decides { IfOk result (MeetsStep turn.now (reply_step turn.now.moment (action_of action)
         (with_promoted used.entry turn.now.state))) }
 {
-    let mut actions = Actions::new(turn.alloc);
-    actions.push(action)?;
     Ok(Decision {
-        actions,
+        actions: Actions::one(turn.alloc, action),
         used,
         change: Change::Nothing,
         carried: Vec::new(turn.alloc),
@@ -92,16 +90,14 @@ fn open<'a, 's, H: BuildHasher + Drop, A: Allocator + Copy>(
     ensures decides { IfOk result (MeetsStep turn.now (row_of_opening turn.now.moment waiting
         (with_promoted used.entry turn.now.state) (Some ask))) }
 {
-    let mut actions = Actions::new(turn.alloc);
     let action = ask_action(turn.alloc, &ask)?;
-    actions.push(action)?;
     let opening = Opening {
         waiting: KeyedWaiting::new(waiting, *key),
         ask: KeyedAsk::new(ask, *key),
     };
     let opening = Box::new(turn.alloc, opening)?;
     Ok(Decision {
-        actions,
+        actions: Actions::one(turn.alloc, action),
         used,
         change: Change::Open(opening),
         carried: Vec::new(turn.alloc),
@@ -159,12 +155,13 @@ fn asks_under_way<'a, H: BuildHasher + Drop, A: Allocator + Copy>(turn: &TurnRef
 fn ask_anew<'a, 's, H: BuildHasher + Drop, A: Allocator + Copy>(
     turn: &TurnRef<'a, H, A>,
     waiting: Waiting<A>,
-    wanted: &Wanted,
+    key: &QuestionKey,
+    route: RouteId,
     used: SlotsRef<'a, 's, A>,
 ) -> Result<Decision<'a, 's, A>, AllocError>
     requires new { of_question waiting.wanted turn.now.state.asks ≡ None }
-    requires on { serving_route_of turn.now.config waiting.wanted.name ≡ Some wanted.now.route }
-    requires keyed { wanted.now.key ≡ question_key waiting.wanted }
+    requires on { serving_route_of turn.now.config waiting.wanted.name ≡ Some route }
+    requires keyed { key.now ≡ question_key waiting.wanted }
     requires taken { waiting.taken ≡ turn.now.moment }
     requires aliases { HoldsEarlier turn.now.moment waiting }
     requires room { length turn.now.state.waiting < turn.now.config.limits.questions }
@@ -175,8 +172,8 @@ fn ask_anew<'a, 's, H: BuildHasher + Drop, A: Allocator + Copy>(
     if asks_under_way(turn) >= config.limits.inquiries {
         return refuse(turn, &waiting.request(), Why::InquiriesFull, used);
     }
-    match first_ask(turn, waiting.wanted(), wanted.route)? {
-        Some(ask) => open(turn, waiting, ask, &wanted.key, used),
+    match first_ask(turn, waiting.wanted(), route)? {
+        Some(ask) => open(turn, waiting, ask, key, used),
         None => refuse(turn, &waiting.request(), Why::NoPort, used),
     }
 }
@@ -185,11 +182,10 @@ fn ask_anew<'a, 's, H: BuildHasher + Drop, A: Allocator + Copy>(
 fn admit<'a, 's, H: BuildHasher + Drop, A: Allocator + Copy>(
     turn: &TurnRef<'a, H, A>,
     waiting: Waiting<A>,
-    wanted: &Wanted,
+    route: RouteId,
     used: SlotsRef<'a, 's, A>,
 ) -> Result<Decision<'a, 's, A>, AllocError>
-    requires on { serving_route_of turn.now.config waiting.wanted.name ≡ Some wanted.now.route }
-    requires keyed { wanted.now.key ≡ question_key waiting.wanted }
+    requires on { serving_route_of turn.now.config waiting.wanted.name ≡ Some route }
     requires taken { waiting.taken ≡ turn.now.moment }
     requires aliases { HoldsEarlier turn.now.moment waiting }
     requires room { length turn.now.state.waiting < turn.now.config.limits.questions }
@@ -197,23 +193,25 @@ fn admit<'a, 's, H: BuildHasher + Drop, A: Allocator + Copy>(
         (from_state (with_promoted used.entry turn.now.state) turn.now) waiting
         (of_question waiting.wanted turn.now.state.asks))) }
 {
-    match turn.inquiries.by_question(&wanted.key) {
-        Some(_) => join(turn, waiting, &wanted.key, used),
-        None => ask_anew(turn, waiting, wanted, used),
+    let key = QuestionKey::of(waiting.wanted());
+    match turn.inquiries.by_question(&key) {
+        Some(_) => join(turn, waiting, &key, used),
+        None => ask_anew(turn, waiting, &key, route, used),
     }
 }
 
-/// Decides a question without an answer in the cache. Its own name, or the one that it is sent on
-/// to, has a route. It fails with `QuestionsFull` at the limit of `limits.questions`.
+/// Decides a question without an answer in the cache. This route serves its own name, or the one
+/// that it is sent on to. It fails with `QuestionsFull` at the limit of `limits.questions`. Out of
+/// line: inlined, each answer would clear the memory of what it may hold.
+#[inline(never)]
 fn wait<'a, 's, H: BuildHasher + Drop, A: Allocator + Copy>(
     turn: &TurnRef<'a, H, A>,
     request: &Request<'_>,
     sent_on: Option<SentOn<A>>,
-    wanted: &Wanted,
+    route: RouteId,
     used: SlotsRef<'a, 's, A>,
 ) -> Result<Decision<'a, 's, A>, AllocError>
-    requires on { serving_route_of turn.now.config (waits_on sent_on request.now).wanted.name ≡ Some wanted.now.route }
-    requires keyed { wanted.now.key ≡ question_key (waits_on sent_on request.now).wanted }
+    requires on { serving_route_of turn.now.config (waits_on sent_on request.now).wanted.name ≡ Some route }
     requires aliases { HoldsEarlier turn.now.moment (waits_on sent_on request.now) }
     requires taken { request.now.taken ≡ turn.now.moment }
     ensures decides { IfOk result (MeetsStep turn.now (row_of_waiting
@@ -224,7 +222,7 @@ fn wait<'a, 's, H: BuildHasher + Drop, A: Allocator + Copy>(
         return refuse(turn, request, Why::QuestionsFull, used);
     }
     let waiting = request.to_waiting(turn.alloc, sent_on)?;
-    admit(turn, waiting, wanted, used)
+    admit(turn, waiting, route, used)
 }
 
 /// Decides a question by its fate: its reply goes out, or it waits.
@@ -241,7 +239,7 @@ fn decide_fate<'a, 's, H: BuildHasher + Drop, A: Allocator + Copy>(
 {
     match fate {
         Fate::Reply(action) => reply(turn, action, used),
-        Fate::Waits(sent_on, wanted) => wait(turn, request, sent_on, &wanted, used),
+        Fate::Waits(sent_on, route) => wait(turn, request, sent_on, route, used),
     }
 }
 

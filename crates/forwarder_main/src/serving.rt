@@ -69,12 +69,12 @@ where
     T: Write,
     // An `Err` comes of `serve`, and then nothing is written; or of the writer, and then all turns
     // were served.
-    ensures stops { IfErr result (StopsServing forwarder.old (telling (W.told wire.old) (W.fault_count wire.old)) turns
-        forwarder.new (telling (W.told wire.new) (W.fault_count wire.new)) (T.contents writer.old)
-        (T.contents writer.new)) }
-    ensures serves { OnOk result (ServesAndTells forwarder.old (telling (W.told wire.old) (W.fault_count wire.old)) turns
-        forwarder.new (telling (W.told wire.new) (W.fault_count wire.new)) (T.contents writer.old)
-        (T.contents writer.new)) }
+    ensures stops { IfErr result (StopsServing forwarder.old
+        (telling (W.told wire.old) (W.fault_count wire.old)) turns forwarder.new
+        (telling (W.told wire.new) (W.fault_count wire.new)) (T.contents writer.old) (T.contents writer.new)) }
+    ensures serves { OnOk result (ServesAndTells forwarder.old
+        (telling (W.told wire.old) (W.fault_count wire.old)) turns forwarder.new
+        (telling (W.told wire.new) (W.fault_count wire.new)) (T.contents writer.old) (T.contents writer.new)) }
 {
     let served = match serve(alloc, wire, forwarder, turns) {
         Ok(served) => served,

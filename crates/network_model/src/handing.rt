@@ -1,7 +1,7 @@
 //! Gives events to the forwarder, and puts the actions of their steps.
 
 ghost use Rattle.std.specs.Prelude.{◌≡◌, ◌∷◌, [], None, option_map};
-ghost use Rattle.step_values.specs.Values.{event_of, action_of, actions_of, ask_in, tick};
+ghost use Rattle.step_values.specs.Values.{event_of, action_of, actions_of, ask_in};
 ghost use Rattle.wires.specs.Wire.{telling};
 ghost use Rattle.network_model.specs.Serving.{standing};
 ghost use Rattle.network_model.specs.Handing.{Puts, Hands, HandsOn, Ticks};

@@ -12,6 +12,6 @@ mod streams;
 pub use counts::Served;
 pub use recorded::Recorded;
 pub use run::run_list;
-pub use script_wire::{ScriptTurn, ScriptWire};
+pub use script_wire::{ScriptRound, ScriptWire};
 pub use serving::serve;
 pub use wires::{Arrival, Wire, WireFault};

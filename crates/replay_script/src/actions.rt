@@ -19,7 +19,8 @@ pub(crate) fn print_all<A: Allocator + Copy, W: Write>(
     line: u32,
     actions: &Actions<A>,
 ) -> Result<(), ReplayFault>
-    ensures { Writes (W.contents writer.old) (printed_all line (actions_of actions.now)) result (W.contents writer.new) }
+    ensures { Writes (W.contents writer.old) (printed_all line (actions_of actions.now)) result
+        (W.contents writer.new) }
 {
     for place in 0..actions.len() {
         let Some(action) = actions.get(place) else {

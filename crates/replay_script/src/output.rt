@@ -29,7 +29,8 @@ pub(crate) fn write_text<W: Write>(writer: &mut W, text: &[u8]) -> Result<(), Re
 /// out; then nothing is written.
 fn write_some<W: Write>(writer: &mut W, text: &[u8]) -> Result<usize, ReplayFault>
     ensures within { IfOk result (λ count. count ≤ length text.now) }
-    ensures wrote { IfOk result (λ count. Appends (W.contents writer.old) (W.contents writer.new) (take count text.now)) }
+    ensures wrote { IfOk result (λ count. Appends (W.contents writer.old) (W.contents writer.new)
+        (take count text.now)) }
     ensures fault { IfErr result IsOfStream }
     ensures failed { IfErr result (λ fault. Appends (W.contents writer.old) (W.contents writer.new) []) }
 {

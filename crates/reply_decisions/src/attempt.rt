@@ -63,8 +63,7 @@ fn ask_again<'a, 's, H: BuildHasher + Drop, A: Allocator + Copy>(
     ensures decides { IfOk result (MeetsStep turn.now (row_of_attempt turn.now.moment ask.now turn.now.state
         (Some next))) }
 {
-    let mut actions = Actions::new(turn.alloc);
-    actions.push(close_path(ask.ask().path))?;
+    let mut actions = Actions::one(turn.alloc, close_path(ask.ask().path));
     let action = ask_action(turn.alloc, &next)?;
     actions.push(action)?;
     let next = Box::new(turn.alloc, next)?;

@@ -172,8 +172,7 @@ fn close_and_send_on<'a, 's, H: BuildHasher + Drop, A: Allocator + Copy>(
         (with_preferred_server answered.now turn.now.state))))) }
 {
     let ask = answered.ask();
-    let mut actions = Actions::new(turn.alloc);
-    actions.push(close_path(ask.path))?;
+    let mut actions = Actions::one(turn.alloc, close_path(ask.path));
     let (onward, used) = fates.into_parts(turn.alloc, &mut actions)?;
     put_next(turn.alloc, &mut actions, &next)?;
     let preferred = Preferred {

@@ -47,7 +47,7 @@ fn expire<'a, 's, H: BuildHasher + Drop, A: Allocator + Copy>(
         (drop 1 turn.now.state.waiting) turn.now.state.asks) turn.now.state)) }
 {
     let closed = left_alone(turn, oldest);
-    let mut actions = close_paths(turn.alloc, closed)?;
+    let mut actions = close_paths(turn.alloc, closed);
     let action = failure(turn.alloc, &oldest.request(), Why::Deadline)?;
     actions.push(action)?;
     Ok(Decision::without_cache(turn.alloc, actions, Change::Expire(closed)))

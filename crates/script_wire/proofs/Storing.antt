@@ -2,7 +2,7 @@
 use Rattle.std.proofs.Common.{◌≡◌, ◌∙◌, refl, sym, subst, ap, ℕ, ◌+◌, ◌-◌, ◌^◌, ◌<◌, ◌≤◌, inl, inr, arith, List, ◌++◌, Option, Some, None, Bool, true, false}
 use Rattle.std.specs.Prelude.{IfSome, [], ◌∷◌, map, slice_get, nat_lt, cond}
 use Rattle.std.proofs.lemmas.Bool.{ltb-false}
-use Rattle.script_wire.specs.declared.script_wire.ScriptTurn.{ScriptTurn}
+use Rattle.script_wire.specs.declared.script_wire.ScriptRound.{ScriptRound}
 use Rattle.wires.specs.Wire.{Arrival, Put, Told, ◌then◌, told_more, telling, TellsMore}
 use Rattle.script_wire.specs.Scripts.{stored, Script, standing, no_round, round_of, begun, calls_once, faults_once, refuses, Stores}
 
@@ -53,14 +53,14 @@ shows true a p m w xs o is same = subst (λ (v : Option Told). IfSome v (λ (tol
 shows false a p m w xs o is same = subst (λ (v : Option Told). IfSome v (λ (told : Told). xs ≡ told.puts)) is tt
 
 -- the round of a wire before its first one begins
-pub standing_some : {A : Type 0} (rounds : List (ScriptTurn A)) (round : ScriptTurn A) → slice_get rounds 0 ≡ Some round → standing (map round_of rounds) ≡ round_of round
+pub standing_some : {A : Type 0} (rounds : List (ScriptRound A)) (round : ScriptRound A) → slice_get rounds 0 ≡ Some round → standing (map round_of rounds) ≡ round_of round
 standing_some [] round is = absurd (cc)
 standing_some (first ∷ later) round is = ap round_of (some_is first round is)
   where
     some_is : {X : Type 0} (s t : X) → Some s ≡ Some t → s ≡ t
     some_is s t e = cc
 
-pub standing_none : {A : Type 0} (rounds : List (ScriptTurn A)) → slice_get rounds 0 ≡ None → standing (map round_of rounds) ≡ no_round
+pub standing_none : {A : Type 0} (rounds : List (ScriptRound A)) → slice_get rounds 0 ≡ None → standing (map round_of rounds) ≡ no_round
 standing_none [] none = refl
 standing_none (first ∷ later) none = absurd (cc)
 

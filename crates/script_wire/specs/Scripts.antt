@@ -5,7 +5,7 @@ use Rattle.std.specs.Prelude.{drop}
 use Rattle.std.specs.List.{list_any}
 use Rattle.step_values.specs.declared.action.Action.{Action as OwnedAction}
 use Rattle.step_values.specs.Values.{action_of}
-use Rattle.script_wire.specs.declared.script_wire.ScriptTurn.{ScriptTurn}
+use Rattle.script_wire.specs.declared.script_wire.ScriptRound.{ScriptRound}
 use Rattle.wires.specs.Wire.{Arrival, Put, Told, told_more, arrival_of}
 use Rattle.wires.specs.Wire.Arrival.{nothing}
 
@@ -27,7 +27,7 @@ pub record Round : Type 0 where
   pub words : List ℕ
 
 -- a round of the script as a plain value
-abbrev pub round_of : {A : Type 0} → ScriptTurn A → Round
+abbrev pub round_of : {A : Type 0} → ScriptRound A → Round
 round_of round = record { arrival = arrival_of round.arrival; moment = round.moment; words = round.words }
 
 -- A wire in memory: its report, and how many faults it counted; the rounds that have not begun; the

@@ -18,7 +18,7 @@ use wires::{Arrival, Wire, WireFault};
 
 /// A round of a script: its arrival, moment and words.
 #[derive(Drop)]
-pub struct ScriptTurn<A: Allocator = Global> {
+pub struct ScriptRound<A: Allocator = Global> {
     pub arrival: Arrival<A>,
     /// The moment of each step of the round, in milliseconds.
     pub moment: u64,
@@ -34,7 +34,7 @@ pub struct ScriptTurn<A: Allocator = Global> {
 #[derive(Drop)]
 pub struct ScriptWire<A: Allocator = Global> {
     /// The rounds that have not begun.
-    to_come: VecDeque<ScriptTurn<A>, A>,
+    to_come: VecDeque<ScriptRound<A>, A>,
     /// The moment of the round that began last; before the first one, of that one.
     moment: u64,
     /// The words of the same round.
@@ -67,7 +67,7 @@ impl<A: Allocator> Model for ScriptWire<A> {
 impl<A: Allocator + Copy> ScriptWire<A> {
     /// A wire that gives these rounds, and refuses the calls of `arrival` and `put` with these
     /// numbers, counted together from 0. It does not allocate.
-    pub fn new(alloc: A, turns: Vec<ScriptTurn<A>, A>, refuse: Vec<u64, A>) -> ScriptWire<A>
+    pub fn new(alloc: A, turns: Vec<ScriptRound<A>, A>, refuse: Vec<u64, A>) -> ScriptWire<A>
         ensures told { result.told ≡ Some silence }
         ensures faults { result.faults ≡ 0 }
         ensures script { result.to_come ≡ map round_of turns.items }
@@ -414,7 +414,7 @@ impl<A: Allocator + Copy> Stored<A> {
 
 /// The moment and the words of a wire of these rounds before the first one begins.
 #[tactic(auto, using(crate::proofs::Storing::standing_some, crate::proofs::Storing::standing_none))]
-fn stands_at<A: Allocator>(rounds: &[ScriptTurn<A>]) -> (u64, [u32; 8])
+fn stands_at<A: Allocator>(rounds: &[ScriptRound<A>]) -> (u64, [u32; 8])
     ensures { (result.0 ≡ (standing (map round_of rounds.now)).moment)
         × (result.1 ≡ (standing (map round_of rounds.now)).words) }
 {

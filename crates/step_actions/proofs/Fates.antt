@@ -9,7 +9,6 @@ use Rattle.dns_message.specs.Values.{Question}
 use Rattle.suffix_routes.specs.Values.{Config}
 use Rattle.suffix_routes.specs.Serving.{serving_route_of, is_local}
 use Rattle.suffix_routes.proofs.CallerLemmas.{serving_lowered, denied_lowered}
-use Rattle.outstanding.specs.Orders.{question_key}
 use Rattle.record_cache.specs.Values.{Held}
 use Rattle.answer_builder.specs.Answers.{IsEarlier}
 use Rattle.answer_builder.specs.Transports.{answer_of}
@@ -23,8 +22,7 @@ use Rattle.waiting_questions.specs.Onward.{waits_on}
 use Rattle.waiting_questions.specs.Values.{Waiting}
 use Rattle.step_table.specs.Steps.{gets, waits, gives_up, denied_locally, sends, transport_of}
 use Rattle.step_table.specs.Clients.{fate_missed, fate_at}
-use Rattle.step_actions.specs.declared.fate.Wanted.{Wanted}
-use Rattle.step_actions.specs.Fates.{Becomes, replied, stays, began_at, or_own, wanted_at, IfLed, IsWanted}
+use Rattle.step_actions.specs.Fates.{Becomes, replied, stays, began_at, or_own, wanted_at, IfLed, MayWait}
 
 -- ---- the wanted question
 
@@ -65,11 +63,11 @@ pub waits_so : (x : Waiting) (chain : List Held) (wanted : Option Question) → 
 waits_so x chain (Some q) own = refl
 waits_so x chain None own = λ i. record x { held = sym (own refl) i; wanted = x.wanted }
 
-pub is_wanted : (c : Config) (n : ℕ) (x y : Waiting) (chain : List Held) (wanted : Question) (w : Wanted)
-    → y ≡ record x { held = chain; wanted = wanted } → serving_route_of c wanted.name ≡ Some w.route
-    → w.key ≡ question_key wanted → AllByRecursion (IsEarlier n) chain → IsWanted c n y w
-is_wanted c n x y chain wanted w is route key earlier =
-    subst (λ (z : Waiting). IsWanted c n z w) (sym is) (record { route = route; key = key; aliases = earlier })
+pub may_wait : (c : Config) (n : ℕ) (x y : Waiting) (chain : List Held) (wanted : Question) (route : ℕ)
+    → y ≡ record x { held = chain; wanted = wanted } → serving_route_of c wanted.name ≡ Some route
+    → AllByRecursion (IsEarlier n) chain → MayWait c n y route
+may_wait c n x y chain wanted route is served earlier =
+    subst (λ (z : Waiting). MayWait c n z route) (sym is) (record { served = served; aliases = earlier })
 
 -- ---- what the configuration says of a key it says of the name
 

@@ -5,7 +5,6 @@ use Rattle.dns_message.specs.Values.{Question}
 use Rattle.dns_message.specs.Questions.{asked_at}
 use Rattle.suffix_routes.specs.Values.{Config}
 use Rattle.suffix_routes.specs.Serving.{serving_route_of}
-use Rattle.outstanding.specs.Orders.{question_key}
 use Rattle.record_cache.specs.Values.{Held}
 use Rattle.step_values.specs.Values.{Action, action_of}
 use Rattle.waiting_questions.specs.Values.{Waiting}
@@ -18,7 +17,6 @@ use Rattle.step_table.specs.Steps as steps
 use Rattle.step_actions.specs.Kept.{HoldsEarlier}
 use Rattle.step_actions.specs.declared.fate.Fate.{Fate}
 use Rattle.step_actions.specs.declared.fate.Fate.TheVariants.{Reply, Waits}
-use Rattle.step_actions.specs.declared.fate.Wanted.{Wanted}
 
 -- the fate of one: its reply, or the aliases and the question that it waits with, none where it
 -- waits for its own
@@ -29,24 +27,23 @@ pub data Becomes : Type 0 where
 -- the fate of a question, as a plain value
 abbrev pub becomes : {A : Type 0} → Fate A → Becomes
 becomes (Reply action) = replied (action_of action)
-becomes (Waits sent_on wanted) = stays sent_on
+becomes (Waits sent_on route) = stays sent_on
 
 -- the fate of a question
 abbrev pub fate_in : Waiting → Becomes → steps.Fate
 fate_in x (replied action) = steps.gets action
 fate_in x (stays sent_on) = steps.waits (waits_on sent_on x)
 
--- the key and the route are those of the question that it waits for, and no alias that it holds was
+-- this route serves the name of the question that it waits for, and no alias that it holds was
 -- accepted later
-pub record IsWanted (c : Config) (n : ℕ) (x : Waiting) (w : Wanted) : Type 0 where
-  pub route : serving_route_of c x.wanted.name ≡ Some w.route
-  pub key : w.key ≡ question_key x.wanted
+pub record MayWait (c : Config) (n : ℕ) (x : Waiting) (route : ℕ) : Type 0 where
+  pub served : serving_route_of c x.wanted.name ≡ Some route
   pub aliases : HoldsEarlier n x
 
 -- the same, if it waits
 abbrev pub IfWaits : {A : Type 0} → Config → ℕ → Waiting → Fate A → Type 0
 IfWaits c n x (Reply action) = Unit {0}
-IfWaits c n x (Waits sent_on wanted) = IsWanted c n (waits_on sent_on x) wanted
+IfWaits c n x (Waits sent_on route) = MayWait c n (waits_on sent_on x) route
 
 -- it does not wait for its own question without an alias
 abbrev pub IsSentOn : Becomes → Type 0

@@ -31,19 +31,13 @@ use step_values::{Action, Why};
 use suffix_routes::{RouteId, Routing};
 use waiting_questions::{Request, SentOn};
 
-/// The key of a wanted question, and the route that serves its name.
-#[derive(Clone, Copy)]
-pub struct Wanted {
-    pub key: QuestionKey,
-    pub route: RouteId,
-}
-
 /// How a question goes on after its look-up.
 #[derive(Drop)]
 pub enum Fate<A: Allocator = Global> {
     Reply(Action<A>),
-    /// It waits with these aliases for this question, or without an alias for its own.
-    Waits(Option<SentOn<A>>, Wanted),
+    /// It waits with these aliases for the question behind them, or without an alias for its own.
+    /// This route serves the name of that question.
+    Waits(Option<SentOn<A>>, RouteId),
 }
 
 /// The same question at another name.
@@ -65,7 +59,8 @@ fn wanted_after<'a, H: BuildHasher + Drop, A: Allocator + Copy>(
     looked: &LookUp<'_, '_, A>,
     lead: Option<&QuestionRef<'_>>,
 ) -> Result<Option<Question<A>>, AllocError>
-    ensures { IfOk result (λ wanted. wanted ≡ wanted_at request.now.wanted lead.entry (last_target looked.now.used)) }
+    ensures { IfOk result (λ wanted. wanted
+        ≡ wanted_at request.now.wanted lead.entry (last_target looked.now.used)) }
 {
     match (looked.target(turn.alloc)?, lead) {
         (Some(name), Some(lead)) => Ok(Some(at_name(lead, name))),
@@ -125,7 +120,7 @@ fn missed<'a, H: BuildHasher + Drop, A: Allocator + Copy>(
     match turn.config.routing_of_key(key.name()) {
         Routing::Served(route) => {
             let sent_on = sent_on_for(turn.alloc, chain, wanted)?;
-            Ok(Fate::Waits(sent_on, Wanted { key, route }))
+            Ok(Fate::Waits(sent_on, route))
         }
         Routing::Denied => {
             let action = local_answer(turn.alloc, request, chain, turn.moment)?;

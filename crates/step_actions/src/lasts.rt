@@ -93,8 +93,7 @@ pub fn last_replies<'a, H: BuildHasher + Drop, A: Allocator + Copy>(
         (runs_out turn.now.config turn.now.moment turn.now.state.cache.entries ask.now.question)
         (closes ask.now.path ∷ []) turn.now.state.waiting) }
 {
-    let mut actions = Actions::new(turn.alloc);
-    actions.push(close_path(ask.ask().path))?;
+    let mut actions = Actions::one(turn.alloc, close_path(ask.ask().path));
     let those = turn.waiting.for_ask(ask);
     for place in 0..those.len() {
         put_last(turn, &mut actions, those.get(place))?;

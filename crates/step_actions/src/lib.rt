@@ -17,7 +17,7 @@ mod turn;
 pub use answers::{Answers, answer};
 pub use attempts::{Attempt, by_tcp, by_udp, draw_connection, freed_port, new_ask, plan};
 pub use decision::{Change, Decision, Opening, Preferred, Sending};
-pub use fate::{Fate, Wanted, fate_of};
+pub use fate::{Fate, fate_of};
 pub use lasts::last_replies;
 pub use past_ends::{local_answer, stale_answer};
 pub use queries::ask;

@@ -31,18 +31,14 @@ pub fn close_path<A: Allocator>(path: Path) -> Action<A>
     }
 }
 
-/// The actions that give a path up, if any. `Err` where memory ran out.
-pub fn close_paths<A: Allocator + Copy>(
-    alloc: A,
-    closed: Option<Path>,
-) -> Result<Actions<A>, AllocError>
-    ensures { IfOk result (λ actions. actions_of actions ≡ closing_path closed) }
+/// The actions that give a path up, if any. It does not allocate.
+pub fn close_paths<A: Allocator + Copy>(alloc: A, closed: Option<Path>) -> Actions<A>
+    ensures { actions_of result ≡ closing_path closed }
 {
-    let mut actions = Actions::new(alloc);
-    if let Some(path) = closed {
-        actions.push(close_path(path))?;
+    match closed {
+        Some(path) => Actions::one(alloc, close_path(path)),
+        None => Actions::new(alloc),
     }
-    Ok(actions)
 }
 
 /// Puts the failure of a question last.
@@ -68,8 +64,7 @@ pub fn failures<A: Allocator + Copy>(
     ensures { IfOk result (λ actions. actions_of actions ≡ with_replies (fails why ask.now.question)
         (closes ask.now.path ∷ []) waiting.now.items) }
 {
-    let mut actions = Actions::new(alloc);
-    actions.push(close_path(ask.ask().path))?;
+    let mut actions = Actions::one(alloc, close_path(ask.ask().path));
     let those = waiting.for_ask(ask);
     for place in 0..those.len() {
         put_failure(alloc, &mut actions, those.get(place), why)?;
@@ -164,8 +159,7 @@ pub fn answers_to<A: Allocator + Copy>(
 {
     let chain = borrowed(alloc, held)?;
     let mut answers = Answers::new(alloc, &chain, moment);
-    let mut actions = Actions::new(alloc);
-    actions.push(close_path(ask.ask().path))?;
+    let mut actions = Actions::one(alloc, close_path(ask.ask().path));
     put_answers(alloc, &mut actions, ask, &mut answers, waiting)?;
     Ok(actions)
 }

@@ -50,6 +50,16 @@ impl<A: Allocator + Copy> Actions<A> {
         }
     }
 
+    /// This action alone. It does not allocate.
+    pub fn one(alloc: A, action: Action<A>) -> Actions<A>
+        ensures { result ≡ action ∷ [] }
+    {
+        Actions {
+            alloc,
+            listed: Listed::One(action),
+        }
+    }
+
     /// Puts an action last. The first one does not allocate. `Err` where memory ran out, and then
     /// nothing has changed.
     pub fn push(&mut self, action: Action<A>) -> Result<(), AllocError>

@@ -261,6 +261,10 @@ fn copies_of_inputs_are_equal(rt: HostRuntime) -> Result<(), Fail> {
 /// allocation changes nothing.
 fn are_listed(heap: Heap<'_>) -> Result<bool, AllocError> {
     heap.allow(0);
+    let only = Actions::one(heap, Action::CloseTcp { conn: 7 });
+    let is_only = only.len() == 1
+        && matches!(only.get(0), Some(Action::CloseTcp { conn: 7 }))
+        && only.get(1).is_none();
     let mut actions = Actions::new(heap);
     let is_empty = actions.is_empty() && actions.get(0).is_none();
     actions.push(Action::CloseUdp { port: 1032 })?;
@@ -274,7 +278,7 @@ fn are_listed(heap: Heap<'_>) -> Result<bool, AllocError> {
         && matches!(actions.get(0), Some(Action::CloseUdp { port: 1032 }))
         && matches!(actions.get(1), Some(Action::CloseTcp { conn: 7 }))
         && actions.get(2).is_none();
-    Ok(is_empty && is_refused && is_left && are_both)
+    Ok(is_only && is_empty && is_refused && is_left && are_both)
 }
 
 #[test]

@@ -4,7 +4,7 @@
 ghost use Rattle.std.specs.Prelude.{◌<◌, ◌≤◌, length};
 
 use crate::worked::{CLIENT, QUESTION, REPLY, SECOND, SERVER, serve_anew};
-use network_model::{Arrival, ScriptTurn, ScriptWire, Served, Wire};
+use network_model::{Arrival, ScriptRound, ScriptWire, Served, Wire};
 use plain_list::PlainList;
 use std::alloc::{AllocError, Allocator, Global};
 use std::test::Fail;
@@ -158,7 +158,7 @@ fn wire_without(alloc: Global, turns: &[Turn], call: u64) -> Result<ScriptWire, 
     let mut number = 0u8;
     for (moment, comes) in turns {
         number = number.saturating_add(1);
-        script.push(ScriptTurn {
+        script.push(ScriptRound {
             arrival: arrival(alloc, *comes)?,
             moment: *moment,
             words: words_of(number),

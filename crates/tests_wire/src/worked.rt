@@ -5,7 +5,7 @@ ghost use Rattle.std.specs.Prelude.{◌<◌, ◌≤◌, length};
 use dns_name::Name;
 use forwarder_core::Forwarder;
 use lru::DefaultHasher;
-use network_model::{Arrival, ScriptTurn, ScriptWire, Served, serve};
+use network_model::{Arrival, ScriptRound, ScriptWire, Served, serve};
 use plain_list::PlainList;
 use std::alloc::{AllocError, Allocator};
 use step_values::{Action, Client, Why};
@@ -116,14 +116,14 @@ pub(crate) fn turns<A: Allocator + Copy>(
     alloc: A,
     first: Arrival<A>,
     second: Arrival<A>,
-) -> Result<Vec<ScriptTurn<A>, A>, AllocError> {
+) -> Result<Vec<ScriptRound<A>, A>, AllocError> {
     let mut turns = Vec::new(alloc);
-    turns.push(ScriptTurn {
+    turns.push(ScriptRound {
         arrival: first,
         moment: 1000,
         words: WORDS,
     })?;
-    turns.push(ScriptTurn {
+    turns.push(ScriptRound {
         arrival: second,
         moment: 1020,
         words: WORDS,

@@ -1,6 +1,6 @@
 //! Puts a decision in place. All memory is allocated before anything changes.
 
-ghost use Rattle.outstanding.specs.Lists.{MayBegin, on_path as ask_on, without_path};
+ghost use Rattle.outstanding.specs.Lists.{on_path as ask_on, without_path};
 ghost use Rattle.std.specs.Prelude.{◌≡◌, ◌^◌, ◌<◌, ◌≤◌, ◌+◌, ◌∷◌, ◌++◌, [], Bool, List, drop, slice_set, length};
 ghost use Rattle.std.specs.Prelude.{nat_le, IfOk, OnOk, OnErr, IsOk, IsSome, Some};
 ghost use Rattle.std.specs.List.{AllByRecursion, list_any};

@@ -1,11 +1,10 @@
 //! The forwarder, and its step.
 
-ghost use Rattle.std.specs.Prelude.{◌≡◌, ◌^◌, ◌≤◌, ◌<◌, ◌+◌, ◌*◌, [], ◌∷◌, false, IfOk, IfSome, OnErr, IsOk, map};
-ghost use Rattle.suffix_routes.specs.Values.{IsConfig};
+ghost use Rattle.std.specs.Prelude.{◌≡◌, ◌^◌, ◌≤◌, ◌<◌, ◌+◌, ◌*◌, [], ◌∷◌, false, IfOk, OnErr, IsOk, map};
 ghost use Rattle.step_values.specs.Values.{event_of};
 ghost use Rattle.step_table.specs.State.{turn};
 ghost use Rattle.step_table.specs.Steps.{start};
-ghost use Rattle.step_table.specs.Row.{TakesNoMemory, effective, Row, is_due_at};
+ghost use Rattle.step_table.specs.Row.{TakesNoMemory, effective, Row};
 ghost use Rattle.step_table.specs.Progress.{left_to_do, ServesSomething, next_due, IsInOrder};
 ghost use Rattle.theorem_sound.specs.Runs.{StaysExplained};
 ghost use Rattle.theorem_sound.specs.Explains.{Explains};

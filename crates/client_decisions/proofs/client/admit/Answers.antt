@@ -1,5 +1,6 @@
 use Rattle.std.proofs.Common.{◌∙◌, sym, ap, refl}
 use Rattle.outstanding.specs.Lists.{of_question}
+use Rattle.outstanding.specs.Orders.{question_key}
 use Rattle.step_table.specs.State.{Turn}
 use Rattle.step_table.specs.Steps.{with_promoted}
 use Rattle.client_decisions.proofs.Clients.{joined_row, new_row}
@@ -12,7 +13,7 @@ join-requires-clause-waits g c = record { room = c.requires.room; taken = c.requ
 pub ask_anew-requires-clause-new : goal.ask_anew-requires-clause-new
 ask_anew-requires-clause-new g c =
     ap (λ (r : Turn). of_question c.args.waiting.wanted r.state.asks) (sym c.turn.view_is)
-    ∙ c.in-None.ensures.found c.args.waiting.wanted c.requires.keyed
+    ∙ c.in-None.ensures.found c.args.waiting.wanted (c.of-key.ensures ∙ ap question_key c.wanted.ensures)
 
 pub returns-in-Some : goal.returns-in-Some
 returns-in-Some g c = record {
@@ -22,7 +23,7 @@ returns-in-Some g c = record {
       (with_promoted c.args.used c.args.turn.now.state) (of_question c.args.waiting.wanted c.args.turn.now.state.asks) _
       _
       (ap (λ (r : Turn). of_question c.args.waiting.wanted r.state.asks) (sym c.turn.view_is)
-      ∙ c.in-Some.ensures.found c.args.waiting.wanted c.requires.keyed)
+      ∙ c.in-Some.ensures.found c.args.waiting.wanted (c.of-key.ensures ∙ ap question_key c.wanted.ensures))
       refl);
 }
 
@@ -33,6 +34,6 @@ returns-in-None g c = record {
       new_row c.args.turn.now.config c.args.turn.now.moment c.args.turn.now.words c.args.waiting
       (with_promoted c.args.used c.args.turn.now.state) (of_question c.args.waiting.wanted c.args.turn.now.state.asks) _
       (ap (λ (r : Turn). of_question c.args.waiting.wanted r.state.asks) (sym c.turn.view_is)
-      ∙ c.in-None.ensures.found c.args.waiting.wanted c.requires.keyed)
+      ∙ c.in-None.ensures.found c.args.waiting.wanted (c.of-key.ensures ∙ ap question_key c.wanted.ensures))
       refl);
 }

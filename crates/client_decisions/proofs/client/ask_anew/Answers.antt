@@ -22,7 +22,7 @@ returns g c = record {
       (failed (c.request-in-None.ensures.client i) (c.request-in-None.ensures.asked i) NoPort)
       (with_promoted c.args.used c.args.turn.now.state))
       ∙ opened_row c.args.turn.now.config c.args.turn.now.moment c.args.turn.now.words c.args.waiting
-      c.args.turn.now.state c.args.used c.args.wanted.now.route c.wanted.result.now None _
+      c.args.turn.now.state c.args.used c.args.route c.wanted.result.now None _
       (let count = c.asks_under_way.ensures.count in let limit : c.config.inside.limits.inquiries
       ≡ c.args.turn.now.config.limits.inquiries = (λ i. (c.config.view_is i).limits.inquiries)
       ∙ ap (λ (r : Turn). r.config.limits.inquiries) c.turn.view_is in let test =
@@ -35,7 +35,7 @@ returns-in-Some g c = record {
   decides =
       decides_by c.open.result _ _ _ c.open.ensures.decides (λ rooms.
       opened_row c.args.turn.now.config c.args.turn.now.moment c.args.turn.now.words c.args.waiting
-      c.args.turn.now.state c.args.used c.args.wanted.now.route c.wanted.result.now (Some c.in-Some.ask) _
+      c.args.turn.now.state c.args.used c.args.route c.wanted.result.now (Some c.in-Some.ask) _
       (let count = c.asks_under_way.ensures.count in let limit : c.config.inside.limits.inquiries
       ≡ c.args.turn.now.config.limits.inquiries = (λ i. (c.config.view_is i).limits.inquiries)
       ∙ ap (λ (r : Turn). r.config.limits.inquiries) c.turn.view_is in let test =
@@ -46,7 +46,7 @@ returns-in-Some g c = record {
 pub open-requires-clause-follows : goal.open-requires-clause-follows
 open-requires-clause-follows g c =
     subst (λ (r : Turn). CanFollow r.config r.moment r.state r.state.asks c.in-Some.ask) c.turn.view_is
-    (first_follows c.turn.inside.config.now c.turn.inside.moment c.turn.inside.words c.wanted.result.now c.args.wanted.now.route
+    (first_follows c.turn.inside.config.now c.turn.inside.moment c.turn.inside.words c.wanted.result.now c.args.route
     (record {
       cache = c.turn.inside.cache.now;
       asks = c.turn.inside.inquiries.now.asks;
@@ -56,8 +56,8 @@ open-requires-clause-follows g c =
       tcp_asks = c.turn.inside.tcp_asks;
     }) c.turn.inside.inquiries.now c.turn.inside.preferred.now c.in-Some.ask
     c.turn.invariant.0 refl
-    (subst (λ (q : Question). serving_route_of c.turn.inside.config.now q.name ≡ Some c.args.wanted.now.route) (sym c.wanted.ensures)
-    (subst (λ (r : Turn). serving_route_of r.config c.args.waiting.wanted.name ≡ Some c.args.wanted.now.route)
+    (subst (λ (q : Question). serving_route_of c.turn.inside.config.now q.name ≡ Some c.args.route) (sym c.wanted.ensures)
+    (subst (λ (r : Turn). serving_route_of r.config c.args.waiting.wanted.name ≡ Some c.args.route)
     (sym c.turn.view_is) c.requires.on))
     c.turn.invariant.1 c.turn.invariant.2
     (subst (λ (q : Question). of_question q c.turn.inside.inquiries.now.asks ≡ None) (sym c.wanted.ensures)
@@ -68,12 +68,12 @@ open-requires-clause-follows g c =
     (c.config.view_is i).limits.inquiries in let test = c.if-asks_under_way-config.false in omega
     (arith, count, asks, test, limit))
     (sym c.in-Some.is ∙ c.in_ok-ask.ensures ∙ ap (λ (r : Turn). first_ask
-    (turn r.config r.moment r.words r.state) c.wanted.result.now c.args.wanted.now.route) (sym c.turn.view_is)))
+    (turn r.config r.moment r.words r.state) c.wanted.result.now c.args.route) (sym c.turn.view_is)))
 
 -- it asks what the question wants
 pub open-requires-clause-same : goal.open-requires-clause-same
 open-requires-clause-same g c =
-    (ask_by-some c.args.turn.now.moment c.wanted.result.now c.args.wanted.now.route _ 1 _ _ c.in-Some.ask
+    (ask_by-some c.args.turn.now.moment c.wanted.result.now c.args.route _ 1 _ _ c.in-Some.ask
     (sym (sym c.in-Some.is ∙ c.in_ok-ask.ensures))).question ∙ c.wanted.ensures
 
 pub returns-then-asks_under_way-config : goal.returns-then-asks_under_way-config

@@ -1,4 +1,4 @@
-use Rattle.std.proofs.Common.{ap, sym, subst, refl, ◌∙◌, ◌++◌, ◌∷◌, []}
+use Rattle.std.proofs.Common.{ap, sym, subst, refl, ◌∙◌, ◌∷◌, []}
 use Rattle.std.specs.Prelude.{map}
 use Rattle.record_cache.specs.Values.{Held}
 use Rattle.step_values.specs.Values.{actions_of}
@@ -15,7 +15,7 @@ returns g c = record {
   decides = record {
     row = λ rooms.
         next_is {A = g.row.A.Denot} c.args.turn.now.moment rooms c.args.turn.now.state (record {
-          actions = c.push.new.self;
+          actions = c.one.result;
           used = c.args.used;
           change = Open c.in_ok-opening.opening;
           carried = c.new-4.result;
@@ -25,8 +25,7 @@ returns g c = record {
         c.args.waiting c.args.ask c.in_ok-opening.opening _
         (ap (λ (o : Opening g.row.A.Denot). o.waiting) c.in_ok-opening.ensures.ok ∙ c.new.ensures)
         (ap (λ (o : Opening g.row.A.Denot). o.ask) c.in_ok-opening.ensures.ok ∙ c.new-2.ensures)
-        (ap (λ xs. actions_of {A = g.row.A.Denot} xs) (c.in_ok-push.ensures.ok
-        ∙ ap (λ xs. xs ++ c.in_ok-action.action ∷ []) c.new-actions.ensures)
+        (ap (λ xs. actions_of {A = g.row.A.Denot} xs) c.one.ensures
         ∙ (λ i. c.in_ok-action.ensures i ∷ []));
     fits =
         carries_nothing c.args.turn.now.config c.args.turn.now.moment c.args.turn.now.state _

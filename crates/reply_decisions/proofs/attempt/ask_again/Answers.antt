@@ -19,8 +19,7 @@ returns g c = record {
         (again_row g.row.A.Denot c.args.turn.now.moment c.args.path c.args.turn.now.state c.args.ask.now c.args.next
         c.in_ok-next.next _ c.requires.on c.in_ok-next.ensures.ok
         (c.without_cache.ensures.actions ∙ ap (λ xs. actions_of {A = g.row.A.Denot} xs)
-        (c.in_ok-push-2.ensures.ok ∙ ap (λ xs. xs ++ c.in_ok-action.action ∷ [])
-        (c.in_ok-push.ensures.ok ∙ ap (λ xs. xs ++ c.close_path.result ∷ []) c.new-actions.ensures))
+        (c.in_ok-push.ensures.ok ∙ ap (λ xs. xs ++ c.in_ok-action.action ∷ []) c.one-actions.ensures)
         ∙ (λ i. (c.close_path.ensures ∙ ap (λ (a : Ask). closes a.path) (c.behind-ask.view_is ∙ c.ask.ensures)) i ∷ c.in_ok-action.ensures i
         ∷ [])));
     fits =

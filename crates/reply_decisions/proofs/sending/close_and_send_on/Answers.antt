@@ -48,8 +48,7 @@ returns g c = record {
             ∙ ap (λ (ys : List Action). ys ++ map asks (ask_list c.args.next))
             (c.in_ok-onward.ensures.replies
             ∙ ap (λ (ys : List Action). ys ++ filter_map reply_of c.args.fates.each)
-            (ap (λ xs. actions_of {A = g.row.A.Denot} xs) (c.in_ok-push.ensures.ok
-            ∙ ap (λ xs. xs ++ c.close_path.result ∷ []) c.new-actions.ensures)
+            (ap (λ xs. actions_of {A = g.row.A.Denot} xs) c.one-actions.ensures
             ∙ (λ i. (c.close_path.ensures ∙ ap (λ (a : Ask). closes a.path) (c.ask.view_is ∙ c.ask-ask.ensures)) i ∷ []))))
             ∙ ap (λ (slots : List Slot). closing_step c.args.turn.now.moment c.args.answered.now fate c.args.next
             (with_promoted slots (with_preferred_server c.args.answered.now c.args.turn.now.state)))

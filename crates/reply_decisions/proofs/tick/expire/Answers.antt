@@ -21,7 +21,7 @@ returns g c = record {
         (drop 1 c.args.turn.now.state.waiting) c.args.turn.now.state.asks) c.left_alone-closed.result _
         (rest_is c.args.turn.now.state.waiting c.args.oldest.now c.requires) c.left_alone-closed.ensures
         (c.without_cache.ensures.actions ∙ ap (λ xs. actions_of {A = g.row.A.Denot} xs) c.in_ok-push.ensures.ok
-        ∙ pushed g.row.A.Denot _ c.in_ok-action.action _ _ c.in_ok-actions.ensures
+        ∙ pushed g.row.A.Denot _ c.in_ok-action.action _ _ c.close_paths-actions.ensures
         (c.in_ok-action.ensures
         ∙ (λ i. failed (c.request.ensures.client i) (c.request.ensures.asked i) Deadline))));
     fits =

@@ -10,7 +10,7 @@ use Rattle.waiting_questions.specs.Values.{Waiting}
 use Rattle.step_table.specs.State.{Turn}
 use Rattle.step_table.specs.Steps.{denied_locally, gets, waits}
 use Rattle.step_actions.specs.Fates.{or_own}
-use Rattle.step_actions.proofs.Fates.{denied_by_key, denied_fate, is_wanted, served_by_key, served_fate, unrouted_fate, waits_so}
+use Rattle.step_actions.proofs.Fates.{denied_by_key, denied_fate, may_wait, served_by_key, served_fate, unrouted_fate, waits_so}
 use Rattle.step_actions.proofs.fate.missed.Goals as goal
 
 pub local_answer-requires : goal.local_answer-requires
@@ -33,13 +33,13 @@ pub returns-in_ok-sent_on-in-Served-clause-waits : goal.returns-in_ok-sent_on-in
 returns-in_ok-sent_on-in-Served-clause-waits g c =
     let x = c.args.request.now in
     let chain = lent c.args.chain.now in
-    is_wanted c.args.turn.now.config c.args.turn.now.moment x _ chain (or_own x.wanted c.args.wanted) _
+    may_wait c.args.turn.now.config c.args.turn.now.moment x _ chain (or_own x.wanted c.args.wanted) _
     (ap (λ (o : Option Onward). waits_on o x) c.in_ok-sent_on-in-Served.ensures
     ∙ waits_so x chain c.args.wanted c.requires.own)
     (sym (c.in-Served.ensures.served
     ∙ served_by_key c.turn.inside.config.now _ _ (c.name.ensures ∙ ap (λ (k : QuestionKey). k.name) c.key_of-key.ensures)
     ∙ (λ i. serving_route_of (c.turn.view_is i).config (or_own x.wanted c.args.wanted).name)))
-    c.key_of-key.ensures c.requires.earlier
+    c.requires.earlier
 
 pub returns-in_ok-action-in-Denied-clause-fate : goal.returns-in_ok-action-in-Denied-clause-fate
 returns-in_ok-action-in-Denied-clause-fate g c =
