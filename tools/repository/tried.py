@@ -1,0 +1,55 @@
+"""Where the prover refused which wrong bodies of the second tier: `wrong-bodies/tried` of a crate.
+
+A line has an edit's name and a digest of all that decides whether it is refused at a goal: the edit
+without its comments, the files of its crate and of all below it, and the toolchain.
+"""
+import hashlib
+import subprocess
+
+from repository.crates import uses
+
+PARTS = ("src", "specs", "proofs")
+HEAD = "# The text on which each edit was refused at a goal. tools/wrong_bodies writes this.\n"
+
+
+def digest(*parts):
+    """A digest of a list of octets; no other list has it."""
+    of_all = hashlib.sha256()
+    for part in parts:
+        of_all.update(len(part).to_bytes(8, "big") + part)
+    return of_all.hexdigest()[:16]
+
+
+def of_texts(top):
+    """A digest for each crate of the copy at `top`: its files, all below it, the toolchain."""
+    found, toolchain = {}, subprocess.run(["rt", "version"], capture_output=True, check=True).stdout
+    for name, used in uses().items():
+        crate, parts = top / "crates" / name, [toolchain, " ".join(used).encode()]
+        for file in sorted(path for part in PARTS for path in (crate / part).rglob("*")):
+            if file.is_file():
+                parts += [str(file.relative_to(crate)).encode(), file.read_bytes()]
+        found[name] = digest(*parts, *(found[each].encode() for each in used if each in found))
+    return found
+
+
+def of_edit(edit, text):
+    """The digest of an edit of the crate whose text has the digest `text`."""
+    lines = [line for line in edit.read_bytes().split(b"\n") if not line.startswith(b"#")]
+    return digest(text.encode(), *lines)
+
+
+def read(folder):
+    """The digests of a folder of edits, by their names."""
+    file = folder / "tried"
+    text = file.read_text(encoding="utf-8") if file.is_file() else ""
+    return dict(line.split() for line in text.splitlines() if not line.startswith("#"))
+
+
+def write(folder, digests):
+    """Writes the digests of a folder of edits; without any there is no file."""
+    file = folder / "tried"
+    lines = [f"{name} {digests[name]}\n" for name in sorted(digests)]
+    if lines:
+        file.write_text(HEAD + "".join(lines), encoding="utf-8")
+    else:
+        file.unlink(missing_ok=True)
