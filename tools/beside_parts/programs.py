@@ -83,9 +83,10 @@ class Program:
     @classmethod
     def version(cls):
         """The version of the Debian package that has the program; empty if none has."""
+        path = cls.path()
         with contextlib.suppress(OSError, subprocess.CalledProcessError):
-            owner = output("dpkg-query", "-S", os.path.realpath(cls.path())).partition(":")[0]
-            return output("dpkg-query", "-W", "-f", "${Version}", owner)
+            owner = output("dpkg-query", "-S", os.path.realpath(path)).partition(":")[0] if path else ""
+            return owner and output("dpkg-query", "-W", "-f", "${Version}", owner)
         return ""
 
     def words(self, folder):
