@@ -70,7 +70,7 @@ static int watching(int fd)
     return epoll;
 }
 
-/* Turns a question of so many octets into an answer with one address; its length. */
+/* Turns a question into an answer with one address; returns its length. */
 static size_t echoed(uint8_t *message, size_t length)
 {
     message[2] |= 0x80;

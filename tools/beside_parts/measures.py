@@ -43,7 +43,7 @@ def tree(pid):
 
 
 def fields(pid):
-    """The fields of /proc/PID/stat behind the command's name; the first is the third of proc(5)."""
+    """The fields of /proc/PID/stat after the command's name; the first is the third of proc(5)."""
     return pathlib.Path(f"/proc/{pid}/stat").read_text().rpartition(")")[2].split()
 
 

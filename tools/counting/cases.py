@@ -83,7 +83,7 @@ def cases():
     denied = [f"n{k}.corp.example" for k in range(10)]
     yield "a cached answer, ten names", FIRST_VERSION, ten, in_turn(ten), NO_ERROR
     yield "the same, with `stale_s` and a route that denies", SECOND_VERSION, ten, in_turn(ten), NO_ERROR
-    yield "behind one alias", FIRST_VERSION, aliases, in_turn(aliases), NO_ERROR
+    yield "the same, after one alias", FIRST_VERSION, aliases, in_turn(aliases), NO_ERROR
     yield "a denied name", FIRST_VERSION, ["gone.example"], in_turn(["gone.example"]), NAME_ERROR
     yield "two labels below a denied name", FIRST_VERSION, ["gone.example"], in_turn(below), NAME_ERROR
     yield "a name that the configuration denies", SECOND_VERSION, [], in_turn(denied), NAME_ERROR

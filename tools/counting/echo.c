@@ -1,4 +1,4 @@
-/* An echo over UDP that does as much beside as it is told: echo PORT CODE STACK STEPS
+/* An echo over UDP that does more than echo, as it is asked to: echo PORT CODE STACK STEPS
  *
  * Before each reply it runs through CODE lines of code of 64 octets (512 at most), writes to STACK lines of its stack
  * (512 at most), and makes STEPS turns of two instructions in one line. At SIGTERM it prints the answers, and the

@@ -1,7 +1,7 @@
 /* Asks an echo over UDP: load PORT MILLISECONDS OUTSTANDING SLEEPS
  *
- * It keeps so many questions of 40 octets on the way. Where SLEEPS is 0 it never sleeps: it asks the system again and
- * again whether an answer has come.
+ * It keeps OUTSTANDING questions of 40 octets on the way. If SLEEPS is 0 it never sleeps: it asks the
+ * system again and again whether an answer has come.
  */
 #include <arpa/inet.h>
 #include <stdlib.h>

@@ -1,4 +1,4 @@
-"""Asks with dnspython, and prints what is told as dig does: ask_dnspython.py PORT NAME TYPE udp|tcp"""
+"""Asks with dnspython, and prints the answer as dig does: ask_dnspython.py PORT NAME TYPE udp|tcp"""
 import sys
 
 import dns.message

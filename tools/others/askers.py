@@ -42,8 +42,8 @@ def answer_section(lines):
     return records
 
 
-def code_behind(mark, lines):
-    """What stands behind the mark, up to a comma or a semicolon."""
+def code_after(mark, lines):
+    """What follows the mark, up to a comma or a semicolon."""
     codes = [line.split(mark)[1].split(",")[0].split(";")[0].strip() for line in lines if mark in line]
     return codes[-1] if codes else "no reply"
 
@@ -58,7 +58,7 @@ class Dig:
 
     def ask(self, port, name, kind, tcp=False):
         lines = self.lines(port, name, kind, "+tcp" if tcp else "+notcp")
-        return Reply(code_behind("status: ", lines), answer_section(lines))
+        return Reply(code_after("status: ", lines), answer_section(lines))
 
 
 class Kdig(Dig):
@@ -72,7 +72,7 @@ class Drill:
 
     def ask(self, port, name, kind, tcp=False):
         lines = said("drill", *(["-t"] if tcp else ["-a"]), "-p", port, "@127.0.0.1", name, kind).splitlines()
-        return Reply(code_behind("rcode: ", lines), answer_section(lines))
+        return Reply(code_after("rcode: ", lines), answer_section(lines))
 
 
 class Host:
@@ -85,7 +85,7 @@ class Host:
         options = ["-v", *(["-T"] if tcp else []), "-p", port, "-t", kind]
         lines = said("host", *options, name + ".", "127.0.0.1").splitlines()
         failures = [line.split("(")[1].rstrip(")") for line in lines if " not found: " in line]
-        return Reply(failures[0] if failures else code_behind("status: ", lines), answer_section(lines))
+        return Reply(failures[0] if failures else code_after("status: ", lines), answer_section(lines))
 
 
 def has_dns(python):
@@ -106,7 +106,7 @@ class Dnspython:
 
     def ask(self, port, name, kind, tcp=False):
         lines = said(self.python, HERE / "ask_dnspython.py", port, name, kind, "tcp" if tcp else "udp").splitlines()
-        return Reply(code_behind("status: ", lines), answer_section(lines))
+        return Reply(code_after("status: ", lines), answer_section(lines))
 
 
 def installed(least):

@@ -10,7 +10,7 @@ from others import askers, zone
 
 
 class Place:
-    """A forwarder, by its port, which has just been started, and the name server behind it."""
+    """A forwarder, by its port, which has just been started, and the name server that it asks."""
 
     def __init__(self, forwarder, server):
         self.forwarder, self.server = forwarder, server
@@ -61,7 +61,7 @@ def types_of(server):
 
 
 def all_types(asker, place, tcp):
-    """Each type that the server holds, asked for anew or from the cache."""
+    """Each type that the server holds, asked of the server or from the cache."""
     names = {kind: f"type-{kind.lower()}.example" for kind in types_of(place.server)}
     return first_fault(compared(asker, place, names[kind], kind, tcp, "NOERROR") for kind in names)
 
@@ -108,13 +108,13 @@ def letter_case(place):
 
 
 def not_served(place):
-    """ANY and a zone transfer are told as not implemented, a name without route as refused."""
+    """ANY and a zone transfer are not implemented, a name without route is refused."""
     for name, kind, code in (("www.example", "ANY", "NOTIMP"), ("www.other", "A", "REFUSED")):
         met = askers.Dig().ask(place.forwarder, name, kind)
         if met.code != code:
             return f"{name} {kind}: {met} in place of {code}"
-    told = askers.said("dig", "@127.0.0.1", "-p", place.forwarder, "+tries=1", "example", "AXFR")
-    return None if "Transfer failed" in told else f"a zone transfer: {told}"
+    printed = askers.said("dig", "@127.0.0.1", "-p", place.forwarder, "+tries=1", "example", "AXFR")
+    return None if "Transfer failed" in printed else f"a zone transfer: {printed}"
 
 
 def question(number):
@@ -162,17 +162,17 @@ def all_answered(folder, place, mode):
     questions = folder / "questions"
     questions.write_text("".join(f"n{n}.example A\n" for n in range(100)) + "type-mx.example MX\n")
     where = ["-s", "127.0.0.1", "-p", place.forwarder]
-    told = askers.said("dnsperf", "-m", mode, *where, "-d", questions, "-l", "2", "-c", "4")
-    sums = dict(line.split(":") for line in told.splitlines() if line.count(":") == 1)
+    printed = askers.said("dnsperf", "-m", mode, *where, "-d", questions, "-l", "2", "-c", "4")
+    sums = dict(line.split(":") for line in printed.splitlines() if line.count(":") == 1)
     sums = {key.strip(): text.split() for key, text in sums.items()}
     completed, lost, codes = (sums.get(key, ["?"]) for key in ("Queries completed", "Queries lost", "Response codes"))
     if lost[0] != "0" or completed[0] in ("0", "?") or codes[:1] != ["NOERROR"] or len(codes) > 3:
-        return told
+        return printed
     return None
 
 
 def getent_can_ask():
-    """getent asks at port 53 alone, where /etc/resolv.conf says: both are had in a name space of its own, as root."""
+    """getent asks port 53 of what /etc/resolv.conf names: as root it has both in its own name space."""
     return os.geteuid() == 0 and shutil.which("getent") and shutil.which("unshare")
 
 
@@ -185,8 +185,8 @@ def getent(folder, serve):
     }
     with serve("127.0.0.153:53"):
         for name, wanted in addresses.items():
-            told = askers.said("unshare", "--mount", "--propagation", "private", "sh", "-c", script, "sh", name)
-            met = {line.split()[0] for line in told.splitlines()}
+            printed = askers.said("unshare", "--mount", "--propagation", "private", "sh", "-c", script, "sh", name)
+            met = {line.split()[0] for line in printed.splitlines()}
             if met != wanted:
                 return f"{name}: {met} in place of {wanted}"
     return None

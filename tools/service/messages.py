@@ -16,7 +16,7 @@ def question(text="a.example", kind=1, identifier=0x1234):
 
 
 def reply_to(query, address=b"\xc6\x33\x64\x05", flags=0x8580, seconds=0):
-    """An answer, as a rule for 0 seconds, which isn't kept (RFC 1035 3.2.1): so each question comes to the name servers."""
+    """An answer, by default for 0 seconds, so that it isn't kept (RFC 1035 3.2.1)."""
     answer = b"\xc0\x0c" + struct.pack(">2HIH", 1, 1, seconds, 4) + address
     return query[:2] + struct.pack(">5H", flags, 1, 1, 0, 0) + query[12:] + answer
 
@@ -28,7 +28,7 @@ def alias_reply_to(query, target, seconds=300):
 
 
 def long_reply_to(query, octets, seconds=0):
-    """A reply with a record of type 65280, which nothing is known of (RFC 3597), that has so many octets of data."""
+    """A reply with a record of the unknown type 65280 (RFC 3597), with `octets` octets of data."""
     answer = b"\xc0\x0c" + struct.pack(">2HIH", UNKNOWN, 1, seconds, octets) + DATA[:octets]
     return query[:2] + struct.pack(">5H", 0x8580, 1, 1, 0, 0) + query[12:] + answer
 
@@ -64,7 +64,7 @@ def take_frame(stream):
 
 
 def shown(value):
-    """A value as it is told: of a long one the beginning."""
+    """A value as a fault shows it: of a long one the beginning."""
     text = repr(value)
     return text if len(text) <= 400 else f"{text[:400]}.. ({len(value)} long)"
 

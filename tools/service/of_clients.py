@@ -65,7 +65,7 @@ def an_alias_that_leads_to_another_route(program):
             lived = 300 - struct.unpack(">I", answer[33:37])[0]
             expect(answer[12:33] + answer[37:], alias[:21] + alias[25:] + place + reply_to(asked)[29:])
             if not 0 <= lived <= 5:
-                raise AssertionError(f"it is told as {lived} s old")
+                raise AssertionError(f"its TTL says {lived} s old")
         expect([query[12:] for query in server.asked], [asked[12:]])
         expect([query[12:] for query in other.asked], [question("www.test")[12:]] * 2)
 

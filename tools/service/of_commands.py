@@ -1,4 +1,4 @@
-"""What the commands print, what they tell on standard error, and their statuses."""
+"""What the commands print, what they say on standard error, and their statuses."""
 import os
 import pathlib
 import re
@@ -9,7 +9,7 @@ import tempfile
 from .messages import expect
 from .running import MAIN, TOP, Forwarder, Server, case, run_of
 
-# Why the reader of TOML stops where no value stands.
+# Why the reader of TOML stops where there is no value.
 NO_VALUE = "invalid value, expected a string, number, boolean, date-time, array or inline table"
 
 
@@ -17,8 +17,8 @@ NO_VALUE = "invalid value, expected a string, number, boolean, date-time, array 
 def turns_and_statuses(program):
     server = Server()
     with Forwarder(program, [server.port], turns=20) as forwarder:
-        printed, told = forwarder.process.communicate(timeout=20)
-        expect((printed, told, forwarder.process.returncode), (b"turns 20 lost 0\n", b"", 0))
+        printed, errors = forwarder.process.communicate(timeout=20)
+        expect((printed, errors, forwarder.process.returncode), (b"turns 20 lost 0\n", b"", 0))
     with Forwarder(program, [server.port]) as forwarder:
         again = subprocess.run([program, "serve", forwarder.file.name, "1"], capture_output=True)
         in_use = f"127.0.0.1:{forwarder.port}: Address already in use (os error 98)\n".encode()
@@ -98,12 +98,12 @@ def what_is_said_where_the_system_refuses(program):
 
 
 def checked(program, octets):
-    """What `check` prints of a configuration and tells on standard error, line by line, and its status."""
+    """What `check` prints of a configuration and says on standard error, line by line, and its status."""
     with tempfile.NamedTemporaryFile() as file:
         file.write(octets)
         file.flush()
-        printed, told, status = run_of(program, "check", file.name)
-        return (printed + told).decode().splitlines(), status
+        printed, errors, status = run_of(program, "check", file.name)
+        return (printed + errors).decode().splitlines(), status
 
 
 def with_line(text, line):
@@ -220,12 +220,12 @@ def statuses_where_a_standard_stream_fails(program):
             (device, None, ["serve", other.file.name, "1"], {}),
         ]
         with open("/dev/full", "wb") as full:
-            for (told, status), instead, words, more in rows:
-                expect((words, *run_of(program, *words, **more)[1:]), (words, told, status))
-                for broken in ({"told": full}, {"told": None, "closed": 2}):
+            for (errors, status), instead, words, more in rows:
+                expect((words, *run_of(program, *words, **more)[1:]), (words, errors, status))
+                for broken in ({"errors": full}, {"errors": None, "closed": 2}):
                     expect((words, run_of(program, *words, **more, **broken)[2]), (words, status))
                 for broken in ({"out": full}, {"out": None, "closed": 1}):
-                    expect((words, *run_of(program, *words, **more, **broken)[1:]), (words, *(instead or (told, status))))
+                    expect((words, *run_of(program, *words, **more, **broken)[1:]), (words, *(instead or (errors, status))))
 
 
 @case

@@ -221,9 +221,9 @@ def events_that_find_no_memory_are_counted(program):
             for n in range(300):
                 client.send(question(f"n{n}.example", UNKNOWN))
                 time.sleep(0.002)
-        printed, told = forwarder.process.communicate(timeout=30)
+        printed, errors = forwarder.process.communicate(timeout=30)
         words = printed.split()
-        expect((words[:3], told, forwarder.process.returncode), ([b"turns", b"1500", b"lost"], b"", 0))
+        expect((words[:3], errors, forwarder.process.returncode), ([b"turns", b"1500", b"lost"], b"", 0))
         if int(words[3]) == 0:
             raise AssertionError("none was lost")
 
@@ -243,5 +243,5 @@ def a_stream_that_finds_no_memory_ends_the_service(program):
                 clients[-1].sendall(b"\xff\xff" + bytes(60000))
             except OSError:
                 break
-        printed, told = forwarder.process.communicate(timeout=30)
-        expect((printed, told, forwarder.process.returncode), (b"", b"memory\n", 4))
+        printed, errors = forwarder.process.communicate(timeout=30)
+        expect((printed, errors, forwarder.process.returncode), (b"", b"memory\n", 4))

@@ -62,7 +62,7 @@ def a_server_that_is_not_there(program):
         began = time.monotonic()
         expect(code(forwarder.ask_udp(question())), SERVFAIL)
         if time.monotonic() - began > 1:
-            raise AssertionError("the refusal was not told")
+            raise AssertionError("the refusal was not reported")
     with Forwarder(program, [gone, server.port]) as forwarder:
         forwarder.is_well()
 
@@ -118,12 +118,12 @@ def runs_draw_other_identifiers_and_ports(program):
         raise AssertionError(f"{' and '.join(str(len(run)) for run in runs)} pairs are {drawn} in all")
 
 
-def are_drawn_everywhere(drawn, first, behind):
+def are_drawn_everywhere(drawn, first, end):
     """Each quarter of the range has at least 80 of 600 random values: 150 are expected, with a deviation of 11."""
-    quarter = (behind - first) // 4
+    quarter = (end - first) // 4
     counts = [sum(first + k * quarter <= value < first + (k + 1) * quarter for value in drawn) for k in range(4)]
     if sum(counts) != len(drawn) or min(counts) < 80:
-        raise AssertionError(f"of {len(drawn)} from {first} to {behind - 1} the quarters have {counts}")
+        raise AssertionError(f"of {len(drawn)} from {first} to {end - 1} the quarters have {counts}")
 
 
 @case

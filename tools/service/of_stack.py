@@ -43,16 +43,16 @@ def many_addresses_for(query, count):
 
 def times_to_live(message, offset, count):
     """The TTL of each of the records of class IN that begin there."""
-    told = []
+    found = []
     for _ in range(count):
         while message[offset] & 0xC0 != 0xC0 and message[offset]:
             offset += message[offset] + 1
         offset += 2 if message[offset] else 1
         seconds, octets = struct.unpack(">IH", message[offset + 4:offset + 10])
-        told.append(seconds)
+        found.append(seconds)
         offset += 10 + octets
     expect(offset, len(message))
-    return told
+    return found
 
 
 def is_dead(forwarder):

@@ -159,15 +159,17 @@ class Forwarder:
         expect(self.process.poll(), None)
 
 
-def run_of(program, *words, given=b"", out=subprocess.PIPE, told=subprocess.PIPE, closed=None, memory=None):
-    """What a run prints on standard output and on standard error, and its status; `closed` is a descriptor to close first."""
+def run_of(program, *words, given=b"", out=subprocess.PIPE, errors=subprocess.PIPE, closed=None, memory=None):
+    """A run's standard output and standard error, and its status.
+
+    `closed` is a descriptor to close before."""
     def narrow():
         if memory:
             resource.setrlimit(resource.RLIMIT_AS, (memory, memory))
         if closed is not None:
             os.close(closed)
 
-    ended = subprocess.run([program, *words], input=given, stdout=out, stderr=told, preexec_fn=narrow)
+    ended = subprocess.run([program, *words], input=given, stdout=out, stderr=errors, preexec_fn=narrow)
     return ended.stdout, ended.stderr, ended.returncode
 
 

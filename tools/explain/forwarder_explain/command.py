@@ -179,11 +179,11 @@ def run(options, progress):
     if options.script:
         write_scripts(options, explained, traffic.events)
     summary = Summary(rows, traffic.events, cutter.history, explained)
-    tell(options, rows, summary)
+    show(options, rows, summary)
     return DIFFERENT if any(row.result.same == comparing.DIFFERENT for row in rows) else 0
 
 
-def tell(options, rows, summary):
+def show(options, rows, summary):
     """Prints what was asked for."""
     if options.json:
         for row in () if options.summary else rows:

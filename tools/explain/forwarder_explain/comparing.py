@@ -1,4 +1,4 @@
-"""A captured answer beside the step's reply to the same question."""
+"""A captured answer next to the step's reply to the same question."""
 import struct
 from collections import defaultdict
 

@@ -74,8 +74,8 @@ class Cache:
                     return denial
         return None
 
-    def look_up(self, asked, now, behind=0):
-        """Follows aliases; what is used is promoted."""
+    def look_up(self, asked, now, aliases=0):
+        """Follows aliases, of which the question has some already; what is used is promoted."""
         key, used = asked.key, []
         while True:
             held = self.find(key, asked.klass, asked.kind, now)
@@ -85,7 +85,7 @@ class Cache:
             used.append(held)
             if held.kind != CNAME or asked.kind == CNAME or held.denies:
                 return Found(tuple(used), True, key)
-            if len(used) + behind > MOST_ALIASES:
+            if len(used) + aliases > MOST_ALIASES:
                 return Found(tuple(used), True, key)
             key = held.rows[0].data.lower()
 

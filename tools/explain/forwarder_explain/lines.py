@@ -143,7 +143,7 @@ def reply_body(held, question):
     flags = 0x8580 if held.rank == 3 else 0x8180
     code = 3 if held.kind is None else 0
     counts = (1, 0, len(held.rows), 0) if held.denies else (1, len(held.rows), 0, 0)
-    if held.rank == 2:  # name servers beside an authoritative denial of a type that nobody has
+    if held.rank == 2:  # name servers next to an authoritative denial of a type that nobody has
         flags, counts = 0x8580, (1, 0, len(held.rows), 0)
     rows = b"".join(
         row.owner

@@ -52,7 +52,7 @@ class Pairing:
         return extra
 
     def pair_connections(self, connections, left):
-        """Connections that never carried a query are told by their server alone."""
+        """Connections that never carried a query are told apart by their server alone."""
         for server in {query.server for query in connections}:
             wanted = [query for query in connections if query.server == server]
             made = sorted((each for each in left if each.server == shown(server)), key=lambda each: each.line.order)

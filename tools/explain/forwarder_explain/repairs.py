@@ -13,7 +13,7 @@ from .messages import Malformed, code, records
 SLACK = 40  # milliseconds by which the service's clock and the capture's may part
 SOON = 60  # milliseconds in which an answer comes that needed no server
 HORIZON = 2_000_000  # microseconds after the first change of a run in which others are made
-STALE = 30  # seconds that expired data is told with
+STALE = 30  # seconds in the TTL of expired data
 STEPS = (3, 10, 30)  # milliseconds by which a line is moved, one after another
 
 
@@ -26,9 +26,10 @@ class Repairs:
         self.changed, self.touched = False, set()
 
     def after(self, outcome, pairing, answers, moved):
-        """The changes that a run calls for, in the order of time: what comes long after the first may be gone with it.
+        """The changes that a run calls for, in the order of time.
 
-        `answers` has the script's reply to each question, `moved` the queries that have just been paired anew."""
+        What comes long after the first one may be gone with it. `answers` has the script's reply to
+        each question, `moved` the queries that have just been paired again."""
         self.changed, self.touched = False, {query.asked.of() for query in moved if query.asked}
         self.outcome, self.pairing, self.answers = outcome, pairing, answers
         self.by_question = defaultdict(list)

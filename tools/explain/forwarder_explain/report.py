@@ -26,7 +26,7 @@ REASONS = {
 }
 
 MOST_SHOWN, MOST_CLIENTS = 10, 20  # of queries that are not the step's, and of the clients that asked most
-# What is told of questions that are not compared: the verb for one and for more, and the rest.
+# What is said of questions that are not compared: the verb for one and for more, and the rest.
 UNCOMPARED = (
     (comparing.BEFORE, ("rests", "rest"), "on what was kept before the capture began"),
     (comparing.UNANSWERED, ("got", "got"), "no answer that was captured, and the step gives one"),
@@ -77,7 +77,7 @@ class Row:
 
     def object(self):
         result = self.result
-        told = {
+        said = {
             "time": self.question.moment / 1_000_000,
             "client": self.client,
             "transport": self.transport,
@@ -101,8 +101,8 @@ class Row:
             ],
         }
         if result.same == comparing.DIFFERENT:
-            told["captured"], told["step"] = self.answer.octets.hex(), result.octets.hex()
-        return told
+            said["captured"], said["step"] = self.answer.octets.hex(), result.octets.hex()
+        return said
 
 
 class Summary:

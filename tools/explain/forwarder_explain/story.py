@@ -86,7 +86,7 @@ class Teller:
         if reason in PLAIN:
             return PLAIN[reason]
         if reason == 4:
-            return "no route has a suffix that the name is under" + self.behind(result.octets)
+            return "no route has a suffix that the name is under" + self.aliases(result.octets)
         if reason == 5:
             return f"{self.limits['questions']:,} questions were waiting, as many as may"
         if reason == 6:
@@ -94,21 +94,21 @@ class Teller:
         if reason == 13:
             name = last_name(question, result.octets)
             route = self.configuration.route_of(name.lower())
-            return f"denied by the configuration: route {route.shown if route else ''}" + self.behind(result.octets)
+            return f"denied by the configuration: route {route.shown if route else ''}" + self.aliases(result.octets)
         every = f"all {self.limits['tries']} tries" if self.limits["tries"] > 1 else "the only try"
         if reason == 8:
             return f"{every} failed: {self.tries(question, result)}"
         if reason == 9:
             return f"the deadline of {self.limits['deadline_ms']:,} ms: {self.tries(question, result)}"
         if reason == 12:
-            return f"expired data, since {every} failed: {self.tries(question, result)}" + self.behind(result.octets)
+            return f"expired data, since {every} failed: {self.tries(question, result)}" + self.aliases(result.octets)
         return self.answered(question, result)
 
     def answered(self, question, result):
         if result.attempts:
             verb = "joined a query under way to" if result.joined else "asked"
-            return f"{verb} {self.tries(question, result)}{self.behind(result.octets)}"
-        return self.from_cache(question, result) + self.behind(result.octets)
+            return f"{verb} {self.tries(question, result)}{self.aliases(result.octets)}"
+        return self.from_cache(question, result) + self.aliases(result.octets)
 
     def from_cache(self, question, result):
         found = self.history.found.get(question)
@@ -137,7 +137,7 @@ class Teller:
         return ", ".join(parts) or "no query is known"
 
     @staticmethod
-    def behind(octets):
+    def aliases(octets):
         """How many aliases an answer has, and where they lead."""
         aliases = aliases_of(octets)
         if not aliases:

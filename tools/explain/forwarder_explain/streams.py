@@ -48,7 +48,7 @@ class Side:
                 moved = True
 
     def skip_gap(self):
-        """Goes on behind octets that the capture lacks, where a segment begins a message."""
+        """Goes on after octets that the capture lacks, where a segment begins a message."""
         for sequence in sorted(self.waiting, key=lambda at: (at - self.next) & 0xFFFFFFFF):
             moment, octets = self.waiting.pop(sequence)
             if begins_message(octets):

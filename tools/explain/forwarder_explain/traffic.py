@@ -63,9 +63,9 @@ class Query(Event):
         super().__init__(moment)
         self.transport, self.server, self.source = transport, server, source
         self.replies, self.ending = [], None
-        self.tell(octets)
+        self.carry(octets)
 
-    def tell(self, octets):
+    def carry(self, octets):
         self.octets = octets
         self.asked = messages.question_in(octets[2:]) if octets else None
 
@@ -200,7 +200,7 @@ class Traffic:
                 self.answer(Answer(moment, client, octets))
         elif from_client:
             if connection.query.octets is None:
-                connection.query.tell(octets)
+                connection.query.carry(octets)
         else:
             self.reply(moment, connection.query, connection.server, octets)
 

@@ -1,4 +1,4 @@
-"""Cuts a capture into windows, since a script has at most 8,191 lines, and explains them one beside another."""
+"""Cuts a capture into windows, since a script has at most 8,191 lines, and explains them side by side."""
 import multiprocessing
 import os
 from collections import defaultdict
@@ -10,7 +10,7 @@ from .replay import MOST_LINES, MOST_OCTETS
 from .traffic import Answer, Question, Reply
 from .window import Window
 
-AIM_LINES, AIM_OCTETS = 3500, 4_000_000  # of a window, beside what was kept before it
+AIM_LINES, AIM_OCTETS = 3500, 4_000_000  # of a window, without what was kept before it
 SMALL_CACHE = 1000  # entries; a larger cache is carried into a window only as far as the window needs it
 
 
