@@ -73,7 +73,8 @@ def machine():
 
 
 def is_idle(found):
-    """Whether the processors had nothing to do. The load is that of the minute before, so it says less."""
+    """Whether the processors had nothing to do. The load is that of the minute before, so it says
+    less."""
     return found["busy"] < 5
 
 

@@ -35,7 +35,8 @@ def record(owner, kind, data):
 
 
 class Server(threading.Thread):
-    """A name server: an alias for names that begin with `alias`, a name error for `gone.example` and what is below it."""
+    """A name server: an alias for names that begin with `alias`, a name error for `gone.example`
+    and what is below it."""
 
     def __enter__(self):
         self.socket = socket.socket(socket.AF_INET, socket.SOCK_DGRAM)

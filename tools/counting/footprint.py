@@ -1,7 +1,7 @@
 """What an answer touches, from a trace of each instruction, load and store (`valgrind --tool=lackey`).
 
-The trace is cut at each `recvfrom`. A part that sends something is a part of an answer: for a cached answer there is
-one, for a miss there are two, the question and the reply.
+The trace is cut at each `recvfrom`. A part that sends something is a part of an answer: for a
+cached answer there is one, for a miss there are two, the question and the reply.
 """
 import pathlib
 import re
@@ -66,7 +66,8 @@ def parts_of(trace):
 
 
 def kinds_of(parts, count):
-    """The parts of an answer, by their calls, in the order in which they first come: those that many questions have."""
+    """The parts of an answer, by their calls, in the order in which they first come: those that
+    many questions have."""
     kinds = {}
     for part in parts:
         if "sendto" in part.calls and ROUND not in part.calls:
@@ -104,7 +105,8 @@ def footprint(program, case, count):
 
 
 def frames(program, touched):
-    """The functions of the program that an answer passes, with the octets of each one's frame, the largest first."""
+    """The functions of the program that an answer passes, with the octets of each one's frame, the
+    largest first."""
     listing = subprocess.run(["objdump", "-d", "-C", "--no-show-raw-insn", program], capture_output=True, text=True)
     is_fixed = b"EXEC" in subprocess.run(["readelf", "-h", program], capture_output=True).stdout
     base, found, name, is_passed = 0 if is_fixed else BASE, {}, None, False
@@ -123,8 +125,8 @@ def frames(program, touched):
 
 
 def frame_of(steps):
-    """The octets that a function's first instructions take off the stack. A large frame is taken page by page, in turn
-    or in a loop up to an address that is computed before."""
+    """The octets that a function's first instructions take off the stack. A large frame is taken
+    page by page, in turn or in a loop up to an address that is computed before."""
     frame, is_looped = 0, False
     for step in steps[:PROLOGUE]:
         end = re.match(r"(?:sub +\$0x([0-9a-f]+),|lea +-0x([0-9a-f]+)\(%rsp\),)%r11", step)

@@ -34,7 +34,8 @@ def ask(client, questions, code):
 
 @contextlib.contextmanager
 def served(program, config, tool):
-    """The program under valgrind with these words, from its start to its end by SIGTERM, and a client of it."""
+    """The program under valgrind with these words, from its start to its end by SIGTERM, and a
+    client of it."""
     with tempfile.TemporaryDirectory() as made:
         file = pathlib.Path(made) / "config"
         file.write_text(config)

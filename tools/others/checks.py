@@ -1,4 +1,5 @@
-"""What is checked of the forwarder between an asker and a name server. Each check gives None, or what is wrong."""
+"""What is checked of the forwarder between an asker and a name server. Each check gives None, or
+what is wrong."""
 import os
 import shutil
 import socket
@@ -40,7 +41,8 @@ def followed(asker, port, name, kind, tcp):
 
 
 def compared(asker, place, name, kind, tcp=False, code=None):
-    """The forwarder's answer has the records that the server gives, and none is older than the forwarder."""
+    """The forwarder's answer has the records that the server gives, and none is older than the
+    forwarder."""
     wanted = followed(asker, place.server.port, name, kind, tcp)
     met = asker.ask(place.forwarder, name, kind, tcp)
     if code is not None and met.code != code:
@@ -147,7 +149,8 @@ def pipelined(place):
 
 
 def stopped_and_started(place):
-    """Without its server what is cached is answered, and all else fails; with the server again all is answered."""
+    """Without its server what is cached is answered, and all else fails; with the server again all
+    is answered."""
     ask = askers.Dig().ask
     ask(place.forwarder, "n1.example", "A")
     place.server.stop()
@@ -177,7 +180,8 @@ def getent_can_ask():
 
 
 def getent(folder, serve):
-    """The C library's resolver finds both addresses of a name, an alias's target, and that a name is not there."""
+    """The C library's resolver finds both addresses of a name, an alias's target, and that a name
+    is not there."""
     (folder / "resolv.conf").write_text("nameserver 127.0.0.153\noptions timeout:8 attempts:1\n")
     script = f'mount --bind {folder}/resolv.conf /etc/resolv.conf && exec getent ahostsv4 "$1"'
     addresses = {

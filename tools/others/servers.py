@@ -58,7 +58,8 @@ zone "test" {{ type master; file "{folder}/test"; }};
 
 
 class Server:
-    """A name server that can be stopped and started again. `without` are the types that it can't hold."""
+    """A name server that can be stopped and started again. `without` are the types that it can't
+    hold."""
 
     command = ""
     without = ()

@@ -1,4 +1,5 @@
-"""What the name servers hold: two zones, `example` and `test`, with a record of each type that servers know."""
+"""What the name servers hold: two zones, `example` and `test`, with a record of each type that
+servers know."""
 
 LIFETIME = 300
 SOA = "ns.{zone}. hostmaster.{zone}. 2026112701 3600 600 86400 120"

@@ -1,8 +1,9 @@
-"""What the service did, held against its step: a capture of a case is explained, and no answer may differ.
+"""What the service did, held against its step: a capture of a case is explained, and no answer may
+differ.
 
-It takes root, tcpdump and python3-dpkt; without them cases run as ever, and that is said. `tools/explain` does the
-comparing. With KEEP in the environment the capture and the configuration of a case that differs are copied into that
-folder.
+It takes root, tcpdump and python3-dpkt; without them cases run as ever, and that is said.
+`tools/explain` does the comparing. With KEEP in the environment the capture and the configuration
+of a case that differs are copied into that folder.
 """
 import os
 import pathlib

@@ -3,7 +3,8 @@ import struct
 
 SERVFAIL, REFUSED = 2, 5
 UNKNOWN = 65280
-# Data of a large record. It is made once: a server that makes it for each reply is too slow on a busy machine.
+# Data of a large record. It is made once: a server that makes it for each reply is too slow on a
+# busy machine.
 DATA = bytes(range(251)) * 262
 
 
@@ -75,5 +76,6 @@ def expect(met, wanted):
 
 
 def is_answer(message, asked):
-    """The reply has the client's identifier, flags of an answer, the question as asked, and the address."""
+    """The reply has the client's identifier, flags of an answer, the question as asked, and the
+    address."""
     expect(message, asked[:2] + struct.pack(">5H", 0x8180, 1, 1, 0, 0) + reply_to(asked)[12:])

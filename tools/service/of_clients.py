@@ -116,8 +116,8 @@ def a_client_that_ended_its_sending_gets_its_answers(program):
 
 @case
 def a_client_that_ended_its_sending_beside_many_others(program):
-    """Next to 1,000 idle ones it has its reply within 50 ms, 10 of which the server takes, so that the end comes first.
-    One of fifteen may take longer, on a busy machine."""
+    """Next to 1,000 idle ones it has its reply within 50 ms, 10 of which the server takes, so that
+    the end comes first. One of fifteen may take longer, on a busy machine."""
     server = Server(by_udp=lambda query: time.sleep(0.01) or reply_to(query))
     with Forwarder(program, [server.port], descriptors=4096) as forwarder:
         others, took = [forwarder.tcp() for _ in range(1000)], []
@@ -138,8 +138,9 @@ def a_client_that_ended_its_sending_beside_many_others(program):
 
 @case
 def small_replies_are_not_held_back(program):
-    """Two replies on a connection, 5 ms apart, arrive so, as a rule. The client delays its acknowledgement of the first,
-    for which a sender might wait before it sends the second (RFC 1122 4.2.3.2 and 4.2.3.4)."""
+    """Two replies on a connection, 5 ms apart, arrive so, as a rule. The client delays its
+    acknowledgement of the first, for which a sender might wait before it sends the second (RFC 1122
+    4.2.3.2 and 4.2.3.4)."""
     server = Server(by_udp=lambda query: time.sleep(0.005) or reply_to(query) if b"late" in query else reply_to(query))
     with Forwarder(program, [server.port]) as forwarder, forwarder.tcp() as client:
         apart = []
@@ -272,8 +273,9 @@ def taken_by_the_system():
 
 @case
 def clients_that_read_late_or_not_at_all(program):
-    """Of answers of 60,000 octets the wire keeps some 800,000 that the system doesn't take. Who reads nothing is gone; who
-    reads them in small pieces, for longer than a client may take nothing, gets them all."""
+    """Of answers of 60,000 octets the wire keeps some 800,000 that the system doesn't take. Who
+    reads nothing is gone; who reads them in small pieces, for longer than a client may take
+    nothing, gets them all."""
     octets = 60000
     server = Server(by_udp=lambda query: long_reply_to(query, octets))
     count = taken_by_the_system() // octets + 14
@@ -316,8 +318,9 @@ while True:
 
 @case
 def a_question_over_tcp_beside_a_flood(program):
-    """While datagrams come as fast as three processes send them, a question over TCP is answered within 0.2 s, as a rule.
-    They ask for a name with eight aliases, which takes longer to answer than to ask."""
+    """While datagrams come as fast as three processes send them, a question over TCP is answered
+    within 0.2 s, as a rule. They ask for a name with eight aliases, which takes longer to answer
+    than to ask."""
     server = Server(by_udp=lambda query: chain_reply_to(query) if b"chain" in query else reply_to(query))
     with Forwarder(program, [server.port]) as forwarder, forwarder.tcp() as client:
         flood = [sys.executable, "-c", FLOOD, str(forwarder.port), question("chain0.example").hex()]

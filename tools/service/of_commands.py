@@ -61,7 +61,8 @@ def statuses_of_check(program):
 
 @case
 def examples_are_accepted(program):
-    """Each example, and the configuration of the package, is accepted with as many routes as it has headers."""
+    """Each example, and the configuration of the package, is accepted with as many routes as it has
+    headers."""
     examples = sorted((TOP / "examples").glob("*.toml"))
     if len(examples) < 5:
         raise AssertionError(f"there are only {len(examples)} examples")
@@ -79,7 +80,8 @@ def no_file(name):
 
 @case
 def what_is_said_where_the_system_refuses(program):
-    """A folder, a file with one octet too many, and an address of another machine are named with the reason."""
+    """A folder, a file with one octet too many, and an address of another machine are named with
+    the reason."""
     said = lambda what, reason: (f"{what}: {reason}\n".encode(), b"device\n", 5)
     with tempfile.TemporaryDirectory() as folder:
         expect(run_of(program, "check", folder), said(folder, "Is a directory (os error 21)"))
@@ -98,7 +100,8 @@ def what_is_said_where_the_system_refuses(program):
 
 
 def checked(program, octets):
-    """What `check` prints of a configuration and says on standard error, line by line, and its status."""
+    """What `check` prints of a configuration and says on standard error, line by line, and its
+    status."""
     with tempfile.NamedTemporaryFile() as file:
         file.write(octets)
         file.flush()
@@ -107,7 +110,8 @@ def checked(program, octets):
 
 
 def with_line(text, line):
-    """The configuration with this line in place of the one of its key; a key that it does not have comes second."""
+    """The configuration with this line in place of the one of its key; a key that it does not have
+    comes second."""
     lines, key = text.splitlines(), line.lstrip("[")[:5]
     places = [place for place, each in enumerate(lines) if each.lstrip("[").startswith(key)]
     version = lines.index("version = 1") + 1
@@ -117,7 +121,8 @@ def with_line(text, line):
 
 @case
 def what_the_page_for_administrators_shows(program):
-    """Each configuration of docs/ADMIN.md is accepted, or refused with the lines that the page has for it."""
+    """Each configuration of docs/ADMIN.md is accepted, or refused with the lines that the page has
+    for it."""
     page = (TOP / "docs" / "ADMIN.md").read_text()
     smallest = (TOP / "examples" / "smallest.toml").read_text()
     rows = re.findall(r"^\| `([^`]+)` \| (\d+) \| (`+)(.+?)\3 \| .+ \|$", page, re.MULTILINE)
@@ -138,7 +143,8 @@ def what_the_page_for_administrators_shows(program):
 
 @case
 def why_a_text_is_no_configuration(program):
-    """Where the reader of TOML stopped it says why, with a hint; of a missing `version`, which key may be meant."""
+    """Where the reader of TOML stopped it says why, with a hint; of a missing `version`, which key
+    may be meant."""
     missing = "`version` is missing, and has to be the integer 1 or 2"
     rows = [
         ("version = 1\nversion = 1\n", "the text is no TOML: see line 2, column 1: duplicate key", 1),
@@ -196,8 +202,9 @@ def a_name_of_a_file_of_4095_octets(program):
 
 @case
 def statuses_where_a_standard_stream_fails(program):
-    """Each status, if standard error is closed or full, and if standard output is. A command that has lines to print then
-    fails with `device`, also a script that is refused after such lines; any other keeps its status."""
+    """Each status, if standard error is closed or full, and if standard output is. A command that
+    has lines to print then fails with `device`, also a script that is refused after such lines; any
+    other keeps its status."""
     office, script = TOP / "examples" / "office.toml", pathlib.Path(MAIN / "stdin").read_bytes()
     head = script[:script.index(b"---\n") + 4]
     device, server = (b"device\n", 5), Server()

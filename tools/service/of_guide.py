@@ -30,8 +30,8 @@ def what_check_cannot_know(program):
 
 @case
 def repeats_of_one_silent_name_use_up_the_questions(program):
-    """Of equal questions each waits by itself: after 1,024 in 6 seconds a question of another route fails at once, and is
-    answered once the tries for the silent name are over."""
+    """Of equal questions each waits by itself: after 1,024 in 6 seconds a question of another route
+    fails at once, and is answered once the tries for the silent name are over."""
     silent, well = Server(by_udp=lambda query: None), Server()
     limits = "tries = 4\nask_ms = 1500\ndeadline_ms = 8000\n"
     with Forwarder(program, [silent.port], limits=limits, others=[("test", well.port)]) as forwarder, forwarder.udp() as client:

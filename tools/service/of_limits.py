@@ -45,7 +45,8 @@ def more_clients_than_may_be(program):
 
 @case
 def no_descriptor_is_left(program):
-    """Connections that have waited for nothing for a second give way to a query, and none that has just come does."""
+    """Connections that have waited for nothing for a second give way to a query, and none that has
+    just come does."""
     server = Server()
     with Forwarder(program, [server.port], descriptors=40) as forwarder:
         clients = [forwarder.tcp() for _ in range(40)]
@@ -63,7 +64,8 @@ def no_descriptor_is_left(program):
 
 @case
 def a_service_that_is_idle(program):
-    """It takes at most 3 % of a processor and wakes at most 300 times a second: 200 times if each wait is 5 ms."""
+    """It takes at most 3 % of a processor and wakes at most 300 times a second: 200 times if each
+    wait is 5 ms."""
     server = Server()
     with Forwarder(program, [server.port]) as forwarder:
         pid = forwarder.process.pid
@@ -114,7 +116,8 @@ def is_served(client):
 
 @case
 def a_client_that_rests_while_a_server_cannot_be_reached(program):
-    """It stays open, since descriptors are left. Sending to a broadcast address is not permitted (EACCES)."""
+    """It stays open, since descriptors are left. Sending to a broadcast address is not permitted
+    (EACCES)."""
     server = Server()
     with Forwarder(program, [server.port], others=[("test", "255.255.255.255:53")]) as forwarder, rests(forwarder) as client:
         expect(code(forwarder.ask_udp(question("away.test"))), SERVFAIL)
@@ -135,8 +138,8 @@ def a_client_that_rests_while_no_network_is_there(program):
 
 @case
 def a_client_that_rests_while_drawn_ports_are_taken(program):
-    """It stays open while other programs have up to 4,000 of the 64,512 ports. Of 200 questions with one try each, those
-    whose query draws such a port fail."""
+    """It stays open while other programs have up to 4,000 of the 64,512 ports. Of 200 questions
+    with one try each, those whose query draws such a port fail."""
     server, most = Server(), resource.getrlimit(resource.RLIMIT_NOFILE)[0]
     limits = "ask_ms = 1500\ndeadline_ms = 5000\ntries = 1\n"
     with Forwarder(program, [server.port], limits=limits) as forwarder, rests(forwarder) as client:
@@ -160,7 +163,8 @@ def a_client_that_rests_while_drawn_ports_are_taken(program):
 
 @case
 def a_client_comes_where_no_descriptor_is_left(program):
-    """Connections that have waited for nothing for a second give way to it, and to those that wait to be accepted."""
+    """Connections that have waited for nothing for a second give way to it, and to those that wait
+    to be accepted."""
     server = Server()
     with Forwarder(program, [server.port], descriptors=64) as forwarder:
         clients = [forwarder.tcp() for _ in range(100)]
@@ -212,7 +216,8 @@ def has_memory(pid):
 
 @case
 def events_that_find_no_memory_are_counted(program):
-    """With room for few answers of 60,000 octets in the cache, some of the replies that would be kept are lost."""
+    """With room for few answers of 60,000 octets in the cache, some of the replies that would be
+    kept are lost."""
     server = Server(by_udp=lambda query: long_reply_to(query, 60000, seconds=300))
     with Forwarder(program, [server.port], turns=1500, limits="ask_ms = 200\ntries = 1\n") as forwarder:
         room = has_memory(forwarder.process.pid) + 4_000_000
@@ -230,7 +235,8 @@ def events_that_find_no_memory_are_counted(program):
 
 @case
 def a_stream_that_finds_no_memory_ends_the_service(program):
-    """Clients that begin messages of 65,535 octets use up the memory that is left: it ends with status 4."""
+    """Clients that begin messages of 65,535 octets use up the memory that is left: it ends with
+    status 4."""
     server = Server()
     with Forwarder(program, [server.port], descriptors=4096) as forwarder:
         forwarder.is_well()

@@ -101,8 +101,9 @@ def long_replies_by_udp(program):
 
 @case
 def runs_draw_other_identifiers_and_ports(program):
-    """Of 200 queries each, asked for in one go, three runs draw no pair of both in common (RFC 5452 9.2): a stranger who
-    knows what one run drew learns nothing of another. Of runs with the same random words two ask at the same draws."""
+    """Of 200 queries each, asked for in one go, three runs draw no pair of both in common (RFC 5452
+    9.2): a stranger who knows what one run drew learns nothing of another. Of runs with the same
+    random words two ask at the same draws."""
     runs = []
     for _ in range(3):
         server = Server(by_udp=lambda query: None)
@@ -119,7 +120,8 @@ def runs_draw_other_identifiers_and_ports(program):
 
 
 def are_drawn_everywhere(drawn, first, end):
-    """Each quarter of the range has at least 80 of 600 random values: 150 are expected, with a deviation of 11."""
+    """Each quarter of the range has at least 80 of 600 random values: 150 are expected, with a
+    deviation of 11."""
     quarter = (end - first) // 4
     counts = [sum(first + k * quarter <= value < first + (k + 1) * quarter for value in drawn) for k in range(4)]
     if sum(counts) != len(drawn) or min(counts) < 80:
@@ -128,7 +130,8 @@ def are_drawn_everywhere(drawn, first, end):
 
 @case
 def ports_and_identifiers_are_drawn_from_all_that_there_are(program):
-    """600 queries leave from ports of 1,024 to 65,535, and their identifiers use all 16 bits (RFC 5452 9.2)."""
+    """600 queries leave from ports of 1,024 to 65,535, and their identifiers use all 16 bits (RFC
+    5452 9.2)."""
     server = Server()
     with Forwarder(program, [server.port]) as forwarder:
         for n in range(600):
@@ -145,7 +148,8 @@ def ports_and_identifiers_are_drawn_from_all_that_there_are(program):
 
 @case
 def a_query_that_the_system_refuses_to_send(program):
-    """The try fails (EPERM), and the next server is asked at once, not after the five seconds that a query may take."""
+    """The try fails (EPERM), and the next server is asked at once, not after the five seconds that
+    a query may take."""
     refused = free_port()
 
     def body():
@@ -163,7 +167,8 @@ def a_query_that_the_system_refuses_to_send(program):
 
 @case
 def a_client_over_tcp_waits_to_the_deadline(program):
-    """Its question is asked sixteen times at most, a second each; it gets its reply at its deadline, and not before."""
+    """Its question is asked sixteen times at most, a second each; it gets its reply at its
+    deadline, and not before."""
     server = Server(by_udp=lambda query: None)
     with Forwarder(program, [server.port], limits="ask_ms = 1000\ntries = 16\ndeadline_ms = 13000\n") as forwarder:
         began = time.monotonic()

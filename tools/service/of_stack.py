@@ -60,7 +60,8 @@ def is_dead(forwarder):
 
 
 def serves_with(program, kibibytes):
-    """UDP, TCP, replies of 60,000 and 65,000 octets, 4,000 addresses, a denied name, and an expired chain of aliases."""
+    """UDP, TCP, replies of 60,000 and 65,000 octets, 4,000 addresses, a denied name, and an expired
+    chain of aliases."""
     silent = False
 
     def by_udp(query):

@@ -30,7 +30,8 @@ class NotHere(Exception):
 
 
 def free_port():
-    """A port that is free by UDP and TCP, below those that the system gives out by itself; each is given once."""
+    """A port that is free by UDP and TCP, below those that the system gives out by itself; each is
+    given once."""
     for port in PORTS:
         with socket.socket(socket.AF_INET, socket.SOCK_DGRAM) as by_udp, socket.socket() as over_tcp:
             try:
@@ -95,7 +96,8 @@ class Forwarder:
     def __init__(
             self, program, servers, turns=WHOLE_LIFE, limits="ask_ms = 1500\ndeadline_ms = 5000\n", descriptors=None, others=(),
             address="127.0.0.1"):
-        """The servers are those of `example`; each of the others is the suffix of a route more, and its server."""
+        """The servers are those of `example`; each of the others is the suffix of a route more, and
+        its server."""
         self.address, self.port = address, free_port()
         self.file = tempfile.NamedTemporaryFile("w", suffix=".toml")
         self.file.write(f'version = 1\nlisten = "{address}:{self.port}"\n[limits]\n{limits}{route("example", servers)}')
@@ -193,7 +195,8 @@ CLONE_NEWNET = 0x40000000
 
 
 def in_a_network_of_its_own(rules, body):
-    """Runs the body in a network that has a loopback alone, under these rules for nft(8). Only root may make one."""
+    """Runs the body in a network that has a loopback alone, under these rules for nft(8). Only root
+    may make one."""
     if not shutil.which("nft") or not shutil.which("ip"):
         raise NotHere("it wants nft and ip")
     faults = []

@@ -14,7 +14,8 @@ class Unreadable(Exception):
 
 
 class Packet(NamedTuple):
-    """A packet: when it was captured, in microseconds since 1970, its link type, and the octets that were kept."""
+    """A packet: when it was captured, in microseconds since 1970, its link type, and the octets
+    that were kept."""
 
     moment: int
     link: int
@@ -22,7 +23,8 @@ class Packet(NamedTuple):
 
 
 class Source(io.BytesIO):
-    """A capture as a file. dpkt passes over both: a read that got less than it wanted, and a size that can't be."""
+    """A capture as a file. dpkt passes over both: a read that got less than it wanted, and a size
+    that can't be."""
 
     def read(self, size=-1):
         if size > MOST_OCTETS:
@@ -59,7 +61,8 @@ class Capture:
             for moment, octets in reader:
                 if source.is_short:
                     raise dpkt.NeedData
-                # Nanoseconds come as a Decimal, microseconds as a float, which is off by less than half of one.
+                # Nanoseconds come as a Decimal, microseconds as a float, which is off by less than
+                # half of one.
                 exact = round if isinstance(moment, float) else int
                 yield Packet(exact(moment * 1_000_000), reader.datalink() & 0xFFFF, octets)
         except dpkt.NeedData:
@@ -68,8 +71,9 @@ class Capture:
             self.notes.append(str(fault))
 
     def _next_generation(self):
-        """Without dpkt: its reader has each packet on the first interface, with the link type and the clock of that
-        one, passes over what a capture lost, and takes a block that the file's end cuts for a whole one."""
+        """Without dpkt: its reader has each packet on the first interface, with the link type and
+        the clock of that one, passes over what a capture lost, and takes a block that the file's
+        end cuts for a whole one."""
         order, interfaces, at, end = "<", [], 0, len(self.octets)
         while at + 12 <= end:
             kind = struct.unpack_from(order + "I", self.octets, at)[0]

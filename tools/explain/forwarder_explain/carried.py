@@ -1,4 +1,5 @@
-"""What one reply carries for the question that was asked: the sets and denials that the forwarder keeps of it."""
+"""What one reply carries for the question that was asked: the sets and denials that the forwarder
+keeps of it."""
 from typing import NamedTuple
 
 from . import messages
@@ -8,7 +9,8 @@ LONGEST, LONGEST_DENIAL, MOST_ALIASES = 604_800, 10_800, 8
 
 
 class Held(NamedTuple):
-    """A set of records, or a denial with its SOA if any: `kind` is None where the name itself is denied."""
+    """A set of records, or a denial with its SOA if any: `kind` is None where the name itself is
+    denied."""
 
     key: bytes
     klass: int
@@ -30,7 +32,8 @@ class Held(NamedTuple):
 
 
 class Walk(NamedTuple):
-    """The pieces of a reply; `leads_to` is a name that it leaves open; a lame one neither answers nor denies."""
+    """The pieces of a reply; `leads_to` is a name that it leaves open; a lame one neither answers
+    nor denies."""
 
     pieces: tuple
     leads_to: object

@@ -77,7 +77,8 @@ def note(path, text):
 
 
 def moment_of(text, first):
-    """A time of the command line, in microseconds since 1970; without a date on the day of the capture's beginning."""
+    """A time of the command line, in microseconds since 1970; without a date on the day of the
+    capture's beginning."""
     if re.fullmatch(r"\d{9,}(\.\d+)?", text):
         return int(float(text) * 1_000_000)
     day = datetime.datetime.fromtimestamp(first / 1_000_000).date()
@@ -99,7 +100,8 @@ def moment_of(text, first):
 
 
 def packets_of(path, progress):
-    """What the packets of a capture carry, by time, what is to be noted of it, and the moment of its last packet."""
+    """What the packets of a capture carry, by time, what is to be noted of it, and the moment of
+    its last packet."""
     try:
         if path == "-":
             octets = sys.stdin.buffer.read()
@@ -142,8 +144,8 @@ def chosen(options, questions, first):
 
 
 def cut_and_explained(settings, events, span, wanted, program, progress):
-    """The history and the results; windows become smaller where one has too many lines. `span` is from the first event, in
-    milliseconds, to the last packet, in microseconds."""
+    """The history and the results; windows become smaller where one has too many lines. `span` is
+    from the first event, in milliseconds, to the last packet, in microseconds."""
     aim = None
     while True:
         cutter = Cutter(settings, events, span, *([aim] if aim else []))

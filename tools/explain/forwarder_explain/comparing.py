@@ -32,7 +32,8 @@ def replies_of(questions, outcome, line_of):
 
 
 def fits(question, line, octets):
-    """Whether a reply is this question's: made by its own line, or later, and with its question if it has one."""
+    """Whether a reply is this question's: made by its own line, or later, and with its question if
+    it has one."""
     if line.event is question:
         return True
     return line.kind != "client" and (question.asked is None or octets[24:].startswith(question.asked.name.hex()))
@@ -41,7 +42,8 @@ def fits(question, line, octets):
 def compare(question, octets, rests_on_before, may_come):
     """One word for how the captured answer and the step's are to each other.
 
-    `may_come` says whether the capture goes on long enough for an answer of a question that was taken."""
+    `may_come` says whether the capture goes on long enough for an answer of a question that was
+    taken."""
     if question.answer is None:
         if not question.wants_answer():
             return DROPPED

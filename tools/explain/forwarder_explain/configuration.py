@@ -1,4 +1,5 @@
-"""The configuration of the forwarder, as far as an explanation needs it. The program says whether it is right."""
+"""The configuration of the forwarder, as far as an explanation needs it. The program says whether
+it is right."""
 import subprocess
 import tomllib
 from typing import NamedTuple
@@ -18,7 +19,8 @@ DEFAULTS = {
 
 
 class Route(NamedTuple):
-    """A suffix with the servers that are asked for the names at and below it; none where it denies them."""
+    """A suffix with the servers that are asked for the names at and below it; none where it denies
+    them."""
 
     suffix: bytes
     shown: str

@@ -56,7 +56,8 @@ class Cache:
             self.denials -= 1
 
     def find(self, key, klass, kind, now):
-        """The living entry that answers this name, or the alias that leads on; None where there is none."""
+        """The living entry that answers this name, or the alias that leads on; None where there is
+        none."""
         there = self.entries.get((key, klass, kind))
         if there and not there.denies and now < there.end():
             return there
@@ -143,7 +144,8 @@ class History:
         return question not in self.answered and question.moment >= since
 
     def lead_on(self, of, target, now):
-        """Those who wait for a query want the name that its reply led on to, or what is kept of that leads to."""
+        """Those who wait for a query want the name that its reply led on to, or what is kept of
+        that leads to."""
         onward = self.cache.look_up(messages.Question(target, target.lower(), of[1], of[2]), now)
         for name in {target.lower(), onward.missed}:
             self.wanting[name, of[1], of[2]] += self.wanting[of]
@@ -271,7 +273,8 @@ class History:
         return pieces
 
     def before(self, key, klass, kind, owner, rows, denies, left, now):
-        """A set or denial kept since before the capture, with `left` seconds at a moment; None if that can't be."""
+        """A set or denial kept since before the capture, with `left` seconds at a moment; None if
+        that can't be."""
         if any(
             (above, klass, kind) in self.ever_carried for above in (messages.parents(key) if kind is None else (key,))
         ):

@@ -9,10 +9,11 @@ HEADER = "000001000001000000000000"  # of its questions
 
 
 class Line:
-    """An event line. `order` puts it among the others: microseconds, and a number for lines of one moment.
+    """An event line. `order` puts it among the others: microseconds, and a number for lines of one
+    moment.
 
-    `event` is what was captured; `target` the line whose query a reply or a failure is for, where no event says so, and
-    `server` whom that query asks.
+    `event` is what was captured; `target` the line whose query a reply or a failure is for, where
+    no event says so, and `server` whom that query asks.
     """
 
     __slots__ = ("order", "moment", "kind", "event", "target", "text", "number", "note", "server")
@@ -45,7 +46,8 @@ class Maker:
         return line
 
     def take(self, event):
-        """The line of an event that came; a tick for one that left, unless what had just come explains it."""
+        """The line of an event that came; a tick for one that left, unless what had just come
+        explains it."""
         moment = self.moment(event)
         if isinstance(event, Question):
             line = self.add(moment, "client", event, text=f"client {event.client} {event.octets.hex() or '-'}\n")
@@ -106,7 +108,8 @@ class Maker:
         self.add(moment + 1, "tick", answer)
 
     def put_before(self, held, server):
-        """Two lines that put a set or denial into the cache: its question, and a reply that carries just it."""
+        """Two lines that put a set or denial into the cache: its question, and a reply that carries
+        just it."""
         moment = held.accepted - self.first + FIRST_MOMENT
         kind = held.kind if held.kind is not None else 1
         question = held.owner if not held.denies else held.key
@@ -129,7 +132,8 @@ class Maker:
         )
 
     def prefer(self, route, steps, server, kind):
-        """Lines after which a route prefers another server: a question whose first tries fail, and then a denial."""
+        """Lines after which a route prefers another server: a question whose first tries fail, and
+        then a denial."""
         body = route.suffix + kind.to_bytes(2, "big") + b"\0\1"
         asked = self.add(0, "client", order=0, note="before", text=f"client udp {HELPER} {HEADER}{body.hex()}\n")
         for _ in range(steps):

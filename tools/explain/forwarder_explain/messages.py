@@ -1,4 +1,5 @@
-"""Messages of the DNS (RFC 1035 4.1), as far as an explanation needs them. Names are in octets, as in a message."""
+"""Messages of the DNS (RFC 1035 4.1), as far as an explanation needs them. Names are in octets, as
+in a message."""
 import functools
 import struct
 from typing import NamedTuple
@@ -210,7 +211,8 @@ def written_out(octets, kind, start, end):
 
 
 def text(name):
-    """A name in letters; what is no letter, digit, hyphen or underscore is escaped as RFC 1035 5.1 has it."""
+    """A name in letters; what is no letter, digit, hyphen or underscore is escaped as RFC 1035 5.1
+    has it."""
     labels, at = [], 0
     while name[at]:
         label = name[at + 1 : at + 1 + name[at]]

@@ -1,4 +1,5 @@
-"""What packets carry: datagrams of UDP, segments of TCP, and ICMP's news that a datagram reached nobody."""
+"""What packets carry: datagrams of UDP, segments of TCP, and ICMP's news that a datagram reached
+nobody."""
 import struct
 from typing import NamedTuple
 
@@ -92,7 +93,8 @@ class Decoder:
         return carried(moment, ip)
 
     def is_double(self, moment, octets):
-        """Whether the same packet was just seen on another interface, as it happens with `tcpdump -i any`."""
+        """Whether the same packet was just seen on another interface, as it happens with `tcpdump
+        -i any`."""
         last = self.seen.get(octets)
         self.seen[octets] = moment
         if len(self.seen) > 4096:

@@ -1,4 +1,5 @@
-"""Which captured query is which query of the script: same server, transport and octets, in order, at about one time."""
+"""Which captured query is which query of the script: same server, transport and octets, in order,
+at about one time."""
 from collections import defaultdict
 
 from .configuration import shown
@@ -25,7 +26,8 @@ class Pairing:
     """Pairs of one run."""
 
     def __init__(self, queries, asked, latest, moment):
-        """`queries` are captured, `asked` are the script's; `latest` is how many ms late a captured one may be."""
+        """`queries` are captured, `asked` are the script's; `latest` is how many ms late a captured
+        one may be."""
         self.line_of, self.query_of, self.unexplained, self.unseen = {}, {}, [], []
         self.moment, self.latest = moment, latest
         by_key = defaultdict(lambda: ([], []))
@@ -44,7 +46,8 @@ class Pairing:
         self.unseen.sort(key=lambda each: each.line.order)
 
     def pair(self, wanted, made):
-        """Notes the pairs of one server, transport and text; gives the script's queries that have none."""
+        """Notes the pairs of one server, transport and text; gives the script's queries that have
+        none."""
         pairs, left, extra = align(wanted, made, self.latest, self.moment, lambda each: each.moment)
         for query, each in pairs:
             self.line_of[query], self.query_of[each] = each.line, query

@@ -1,8 +1,9 @@
 """Small changes of a script where it and the capture part, for what a capture can't show.
 
-The two clocks are not in phase, what came at about one moment may have been taken in another order, and a query that
-could not be sent is in no capture. Each change moves something by some milliseconds, or ends a try earlier. None of them
-changes an octet, nor can it hide an answer that is past its end, of another route or of another question.
+The two clocks are not in phase, what came at about one moment may have been taken in another order,
+and a query that could not be sent is in no capture. Each change moves something by some
+milliseconds, or ends a try earlier. None of them changes an octet, nor can it hide an answer that
+is past its end, of another route or of another question.
 """
 from collections import defaultdict
 
@@ -47,7 +48,8 @@ class Repairs:
         return self.changed
 
     def open_points(self):
-        """Where the script and the capture part: when, what is asked there, and what may be done about it."""
+        """Where the script and the capture part: when, what is asked there, and what may be done
+        about it."""
         number = 0
         for number, query in enumerate(self.pairing.unexplained):
             if query.asked and self.window.is_on_route(query):
@@ -76,7 +78,8 @@ class Repairs:
                 yield line.order[0], number, None, self.take_out, line
 
     def take_out(self, line):
-        """A failure whose query is another one by now: another server is preferred, or it was captured after all."""
+        """A failure whose query is another one by now: another server is preferred, or it was
+        captured after all."""
         self.window.lines.remove(line)
         self.touched.discard(None)
         return True
@@ -151,7 +154,8 @@ class Repairs:
         )
 
     def end_try(self, each, event, moment):
-        """Ends a try of the script before an event that left: by its time if that is near, else as failed unseen."""
+        """Ends a try of the script before an event that left: by its time if that is near, else as
+        failed unseen."""
         due = each.moment + self.limits["ask_ms"]
         if moment + 1 >= due - SLACK:
             if not self.may((event, "tick"), 6):
@@ -260,7 +264,8 @@ class Repairs:
         return [event for event in self.window.arrivals_of.get(of, ()) if since <= event.moment <= until]
 
     def reorder(self, question, of):
-        """A question that was taken before a reply that the capture has just before it: it joined what was open."""
+        """A question that was taken before a reply that the capture has just before it: it joined
+        what was open."""
         near = self.arrivals_near(of, question.moment - 20_000, question.moment)
         line = self.window.maker.line_of.get(question)
         if not near or line is None or not self.may((question, "before"), 1):
@@ -270,7 +275,8 @@ class Repairs:
         return True
 
     def keep_longer(self, of, moment):
-        """A set that expires within milliseconds of being asked for: it was accepted some milliseconds later."""
+        """A set that expires within milliseconds of being asked for: it was accepted some
+        milliseconds later."""
         for _ in range(MOST_ALIASES):
             for reply in reversed(self.window.replies_of.get(of, ())):
                 walk = self.window.history.walks.get(reply)
@@ -303,7 +309,8 @@ class Repairs:
         return False
 
     def late_reply(self, reply):
-        """A reply that did nothing, since its query was over by time some milliseconds before: it was taken first."""
+        """A reply that did nothing, since its query was over by time some milliseconds before: it
+        was taken first."""
         line = self.window.maker.line_of[reply]
         target = self.window.pairs.get(reply.query)
         each = self.outcome.by_line.get(target)

@@ -1,4 +1,5 @@
-"""Streams of TCP, put together by sequence numbers and cut into messages by their lengths (RFC 1035 4.2.2)."""
+"""Streams of TCP, put together by sequence numbers and cut into messages by their lengths (RFC 1035
+4.2.2)."""
 import struct
 
 from .packets import FIN, RST, SYN
@@ -87,7 +88,8 @@ class Connection:
         return from_client, messages
 
     def finish(self):
-        """The messages after gaps that nothing filled: when each came, whether the client sent it, and its octets."""
+        """The messages after gaps that nothing filled: when each came, whether the client sent it,
+        and its octets."""
         found = []
         for from_client, side in self.sides.items():
             while side.waiting:

@@ -1,4 +1,5 @@
-"""Who sent what: clients their questions, servers their replies, and the forwarder what it sent to them."""
+"""Who sent what: clients their questions, servers their replies, and the forwarder what it sent to
+them."""
 from . import messages
 from .configuration import shown
 from .packets import FIN, RST, SYN, Datagram, Segment, Unreachable, counted
@@ -55,7 +56,8 @@ class Answer(Event):
 
 
 class Query(Event):
-    """What was asked of a server; of a connection that could not be opened the octets are not known (None)."""
+    """What was asked of a server; of a connection that could not be opened the octets are not known
+    (None)."""
 
     __slots__ = ("transport", "server", "source", "octets", "asked", "replies", "ending")
 
@@ -109,7 +111,8 @@ class Traffic:
         self.events.sort(key=lambda event: event.moment)
 
     def own_peers(self, listen, packets):
-        """Where clients reach the forwarder: one peer, or with 0.0.0.0 the port at each of its own addresses."""
+        """Where clients reach the forwarder: one peer, or with 0.0.0.0 the port at each of its own
+        addresses."""
         if listen[0] != ANY_ADDRESS:
             return {listen}
         own = {packet.source[0] for packet in packets if isinstance(packet, Datagram) and packet.target in self.servers}
@@ -229,7 +232,8 @@ class Traffic:
             self.pending.setdefault(key, []).append(question)
 
     def answer(self, answer):
-        """Notes the answer with the first open question that it fits, by client, identifier and question."""
+        """Notes the answer with the first open question that it fits, by client, identifier and
+        question."""
         waiting = self.pending.get((answer.client, answer.octets[:2]), [])
         body = answer.octets[12:]
         for place, question in enumerate(waiting):

@@ -1,4 +1,5 @@
-"""A part of a capture as one script: run, paired and repaired until nothing changes; then each answer is compared."""
+"""A part of a capture as one script: run, paired and repaired until nothing changes; then each
+answer is compared."""
 from collections import defaultdict
 from typing import NamedTuple
 
@@ -25,7 +26,8 @@ class Attempt(NamedTuple):
 
 
 class Result(NamedTuple):
-    """What became of a question. `same` is one of comparing's words; `reason` the number of forwarder(8), or None."""
+    """What became of a question. `same` is one of comparing's words; `reason` the number of
+    forwarder(8), or None."""
 
     same: str
     reason: object
@@ -39,9 +41,11 @@ class Window:
     """Events of a capture with what was kept when they began."""
 
     def __init__(self, configuration, history, program, events, judged, before, span):
-        """`before` are Held to begin with, and the servers that routes prefer; `judged` the questions to give results for.
+        """`before` are Held to begin with, and the servers that routes prefer; `judged` the
+        questions to give results for.
 
-        `span` is when the window begins, before which `events` are there for what is open, and when the capture ends.
+        `span` is when the window begins, before which `events` are there for what is open, and when
+        the capture ends.
         """
         self.configuration, self.history, self.judged = configuration, history, judged
         self.begins, self.ends = span
@@ -157,7 +161,8 @@ class Window:
         return {question: self.result(question) for question in self.judged}
 
     def exchange_twins(self):
-        """Of questions that a client sent twice under one identifier nobody can say which answer is whose."""
+        """Of questions that a client sent twice under one identifier nobody can say which answer is
+        whose."""
         for twins in in_order(self.questions, lambda question: (question.client, question.octets)).values():
             for one in twins:
                 for other in twins:
@@ -191,7 +196,8 @@ class Window:
         return Result(same, reason, octets, own.number if own else 0, attempts, joined)
 
     def attempts(self, question, line):
-        """The tries that led to a reply of the script, in order, and whether the first was under way before."""
+        """The tries that led to a reply of the script, in order, and whether the first was under
+        way before."""
         own = self.maker.line_of[question]
         if line is own:
             return (), False

@@ -1,4 +1,5 @@
-"""Cuts a capture into windows, since a script has at most 8,191 lines, and explains them side by side."""
+"""Cuts a capture into windows, since a script has at most 8,191 lines, and explains them side by
+side."""
 import multiprocessing
 import os
 from collections import defaultdict
@@ -103,7 +104,8 @@ class Cutter:
         return bool(query.asked) and query.moment >= wanted.get(query.asked.of(), query.moment + 1)
 
     def needed(self, cut, end, events):
-        """What was kept when the window begins, and what its own answers show to have been kept before the capture."""
+        """What was kept when the window begins, and what its own answers show to have been kept
+        before the capture."""
         own = [held for held, place in self.history.from_before if cut.place <= place < end]
         if len(cut.entries) <= SMALL_CACHE:
             return cut.entries + own

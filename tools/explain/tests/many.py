@@ -7,7 +7,8 @@ OWN_PORTS = 60000
 
 
 def many(count, each=1.0):
-    """Questions, one each millisecond: the first for a name is asked, the others are answered from the cache."""
+    """Questions, one each millisecond: the first for a name is asked, the others are answered from
+    the cache."""
     scene, known, number = Scene(), {}, 1
     for place in range(count):
         at = place * each

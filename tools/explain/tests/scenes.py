@@ -1,4 +1,5 @@
-"""The captures of the tests: who sends what, at which millisecond. Answers are worked out from the rules, by hand."""
+"""The captures of the tests: who sends what, at which millisecond. Answers are worked out from the
+rules, by hand."""
 from making import (
     ANY,
     CNAME,
@@ -67,7 +68,8 @@ class Scene(Capturing):
         self.udp(at, server, f"10.0.0.53:{port}", message(identifier or port, flags, question, answers, authority))
 
     def fetched(self, at, client, identifier, question, seconds, numbers, server=FIRST):
-        """A question that is asked, replied to 10 ms later with an address, and answered 1 ms after that."""
+        """A question that is asked, replied to 10 ms later with an address, and answered 1 ms after
+        that."""
         self.question(at, client, identifier, question)
         port = self.query(at + 0.2, server, question)
         self.reply(at + 10.2, server, port, question, answers=[address(seconds, *numbers)])
@@ -75,7 +77,8 @@ class Scene(Capturing):
 
 
 def answers():
-    """What the cache answers, denies and joins; aliases; what the configuration denies; what is not served."""
+    """What the cache answers, denies and joins; aliases; what the configuration denies; what is not
+    served."""
     scene = Scene()
     www = asked("www.example.com")
     scene.question(0, ONE, 1, www)
@@ -85,7 +88,8 @@ def answers():
     # Accepted at 12 ms; at 2500 ms there are 300 - 2.488 s left, so 297 whole ones.
     scene.question(2500, OTHER, 2, www)
     scene.answer(2500.3, OTHER, 2, www, answers=[address(297, 192, 0, 2, 80)])
-    # A denial lives as long as the SOA's MINIMUM. A second later there are 599 whole seconds, also for names below.
+    # A denial lives as long as the SOA's MINIMUM. A second later there are 599 whole seconds, also
+    # for names below.
     gone, below = asked("gone.example.com"), asked("x.gone.example.com", MX)
     scene.question(3000, ONE, 3, gone)
     port = scene.query(3000.4, FIRST, gone)
@@ -93,7 +97,8 @@ def answers():
     scene.answer(3008, ONE, 3, gone, 0x8183, authority=[octets(DENIAL.replace("00000e10", "00000258"))])
     scene.question(4000, ONE, 4, below)
     scene.answer(4000.2, ONE, 4, below, 0x8183, authority=[octets(DENIAL.replace("00000e10", "00000257"))])
-    # The alias leads to the other route, where the name is held: at 5020 ms there are 300 - 5.008 s left of it.
+    # The alias leads to the other route, where the name is held: at 5020 ms there are 300 - 5.008 s
+    # left of it.
     web = asked("web.corp.example")
     alias = record(b"\xc0\x0c", CNAME, 60, name("www.example.com"))
     scene.question(5000, ONE, 5, web)
@@ -120,7 +125,8 @@ def answers():
 
 
 def failures():
-    """Servers that are silent, refuse, have no open port; expired data; a try that never left; the deadline."""
+    """Servers that are silent, refuse, have no open port; expired data; a try that never left; the
+    deadline."""
     scene = Scene()
     www = asked("www.example.com")
     scene.fetched(0, ONE, 1, www, 5, (192, 0, 2, 80))
@@ -130,7 +136,8 @@ def failures():
     port = scene.query(10001.2, SECOND, www)
     scene.reply(10004.2, SECOND, port, www, 0x8185)
     scene.answer(10005, ONE, 2, www, answers=[address(30, 192, 0, 2, 80)])
-    # The first server was preferred, so it is asked first. Its port is closed, and the second gives a referral.
+    # The first server was preferred, so it is asked first. Its port is closed, and the second gives
+    # a referral.
     other = asked("other.example.com")
     scene.question(20000, ONE, 3, other)
     port = scene.query(20000.2, FIRST, other)
@@ -161,11 +168,13 @@ def failures():
 
 
 def connections():
-    """Over TCP: two questions in pieces that come in another order, a cut reply, a refused connection."""
+    """Over TCP: two questions in pieces that come in another order, a cut reply, a refused
+    connection."""
     scene = Scene(COOKED_2)
     www, text = asked("www.example.com"), asked("text.example.com", TXT)
     scene.fetched(0, ONE, 1, www, 300, (192, 0, 2, 80))
-    # Questions 2 and 3 on one connection: its second half arrives first. At 1003 ms there are 300 - 0.993 s left.
+    # Questions 2 and 3 on one connection: its second half arrives first. At 1003 ms there are 300 -
+    # 0.993 s left.
     stream = framed(message(2, QUERY, www)) + framed(message(3, QUERY, text))
     client = "10.0.0.9:50000"
     scene.tcp(1000, client, FORWARDER, 100, SYN)
@@ -216,7 +225,8 @@ def kept_before():
 
 
 def past_its_end():
-    """A fault: what ended at 5010 ms is answered at 6500 ms, with no second left, and nobody is asked."""
+    """A fault: what ended at 5010 ms is answered at 6500 ms, with no second left, and nobody is
+    asked."""
     scene = Scene()
     www = asked("www.example.com")
     scene.fetched(0, ONE, 1, www, 5, (192, 0, 2, 80))
@@ -226,7 +236,8 @@ def past_its_end():
 
 
 def another_route():
-    """A fault: a name of corp.example is asked of a server of the other route, and its reply is answered."""
+    """A fault: a name of corp.example is asked of a server of the other route, and its reply is
+    answered."""
     scene = Scene()
     scene.fetched(0, ONE, 1, asked("db.corp.example"), 60, (203, 0, 113, 1), FIRST)
     return scene.pcap()
@@ -259,7 +270,8 @@ def joined_unequal():
 
 
 def gaps():
-    """Streams and fragments with parts missing, a packet cut short, and the end of the file in another."""
+    """Streams and fragments with parts missing, a packet cut short, and the end of the file in
+    another."""
     scene = Scene()
     www = asked("www.example.com")
     scene.fetched(0, ONE, 1, www, 300, (192, 0, 2, 80))
