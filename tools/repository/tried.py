@@ -13,7 +13,7 @@ HEAD = "# The text on which each edit was refused at a goal. tools/wrong_bodies 
 
 
 def digest(*parts):
-    """A digest of a list of octets; no other list has it."""
+    """A digest of a list of octets. Their lengths keep the parts apart."""
     of_all = hashlib.sha256()
     for part in parts:
         of_all.update(len(part).to_bytes(8, "big") + part)
