@@ -19,6 +19,7 @@ NOT_HELD = {
     "a_client_that_never_reads": "it sends as fast as it can, which is more than a capture takes",
     "a_question_over_tcp_beside_a_flood": "more datagrams come than a capture or the service takes",
     "events_that_find_no_memory_are_counted": "events are lost for want of memory",
+    "memory_of_datagrams_and_connections_is_used_again": "explaining 22,000 questions takes longer than all else",
 }
 
 

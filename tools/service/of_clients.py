@@ -116,19 +116,18 @@ def a_client_that_ended_its_sending_gets_its_answers(program):
 
 @case
 def a_client_that_ended_its_sending_beside_many_others(program):
-    """Next to 1,000 idle ones it has its reply within 50 ms, 10 of which the server takes, so that
-    the end comes first. One of fifteen may take longer, on a busy machine."""
-    server = Server(by_udp=lambda query: time.sleep(0.01) or reply_to(query))
+    """Next to 1,000 idle ones it has its reply of 6,000 octets within 50 ms, 10 of which the server
+    takes, so that the end comes first. One of fifteen may take longer, on a busy machine."""
+    server = Server(by_udp=lambda query: time.sleep(0.01) or long_reply_to(query, 6000))
     with Forwarder(program, [server.port], descriptors=4096) as forwarder:
         others, took = [forwarder.tcp() for _ in range(1000)], []
-        forwarder.is_well()
         for n in range(15):
-            asked = question(f"n{n}.example")
+            asked = question(f"n{n}.example", UNKNOWN)
             with forwarder.tcp() as client:
                 began = time.monotonic()
                 client.sendall(framed(asked))
                 client.shutdown(socket.SHUT_WR)
-                is_answer(take_frame(client), asked)
+                is_long_answer(take_frame(client), asked, 6000)
                 took.append(time.monotonic() - began)
         for client in others:
             client.close()
@@ -211,6 +210,7 @@ def a_client_that_never_reads(program):
 
 @case
 def silent_clients_are_closed(program):
+    """A client that comes after that may pause between two questions."""
     server = Server(by_udp=lambda query: None if b"never" in query else reply_to(query))
     limits = "ask_ms = 10000\ndeadline_ms = 12000\n"
     with Forwarder(program, [server.port], limits=limits) as forwarder:
@@ -224,6 +224,11 @@ def silent_clients_are_closed(program):
                     raise AssertionError(f"closed after {time.monotonic() - began:.1f} s")
             expect(code(take_frame(waits)), SERVFAIL)
             forwarder.is_well()
+        with forwarder.tcp() as client:
+            for text in ("first.example", "second.example"):
+                client.sendall(framed(question(text)))
+                is_answer(take_frame(client), question(text))
+                time.sleep(1)
 
 
 def reset(client):

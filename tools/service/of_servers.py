@@ -4,14 +4,26 @@ import struct
 import time
 
 from .messages import SERVFAIL, UNKNOWN, code, cut_reply_to, expect, framed, is_answer, is_long_answer, long_reply_to, question, reply_to
-from .running import Forwarder, Server, case, free_port, in_a_network_of_its_own
+from .running import Forwarder, Server, case, descriptors, free_port, in_a_network_of_its_own
 
 
 @case
 def a_cut_reply_is_asked_for_over_tcp(program):
-    server = Server(by_udp=cut_reply_to)
+    """The server sees the end of the connection within a second after its reply."""
+    ends = []
+
+    def sees_the_end(stream, query):
+        stream.settimeout(1)
+        stream.sendall(framed(reply_to(query)))
+        ends.append(stream.recv(1))
+
+    server = Server(by_udp=cut_reply_to, over_tcp=sees_the_end)
     with Forwarder(program, [server.port]) as forwarder:
         forwarder.is_well()
+        until = time.monotonic() + 1.5
+        while len(ends) < 2 and time.monotonic() < until:
+            time.sleep(0.01)
+        expect(ends, [b"", b""])
 
 
 @case
@@ -30,7 +42,14 @@ def servers_over_tcp(program):
     def twice(stream, query):
         stream.sendall(framed(reply_to(query)) * 2)
 
-    for over_tcp in (in_two_pieces, another_first, twice):
+    def unless_the_client_has_ended(stream, query):
+        stream.settimeout(0.1)
+        try:
+            expect(stream.recv(1), None)
+        except TimeoutError:
+            stream.sendall(framed(reply_to(query)))
+
+    for over_tcp in (in_two_pieces, another_first, twice, unless_the_client_has_ended):
         server = Server(by_udp=cut_reply_to, over_tcp=over_tcp)
         with Forwarder(program, [server.port]) as forwarder:
             forwarder.is_well()
@@ -140,26 +159,33 @@ def ports_and_identifiers_are_drawn_from_all_that_there_are(program):
     expect(len(identifiers), 600)
     are_drawn_everywhere(server.asked_from, 1024, 65536)
     are_drawn_everywhere(identifiers, 0, 65536)
-    for bit in range(16):
-        ones = sum(value >> bit & 1 for value in identifiers)
-        if not 200 < ones < 400:
-            raise AssertionError(f"bit {bit} is set in {ones} of 600 identifiers")
+    for what, values in (("identifiers", identifiers), ("ports", server.asked_from)):
+        for bit in range(16):
+            ones = sum(value >> bit & 1 for value in values)
+            if not 200 < ones < 400:
+                raise AssertionError(f"bit {bit} is set in {ones} of 600 {what}")
 
 
 @case
 def a_query_that_the_system_refuses_to_send(program):
     """The try fails (EPERM), and the next server is asked at once, not after the five seconds that
-    a query may take."""
+    a query may take. After 200 such queries no descriptor more is open."""
     refused = free_port()
 
     def body():
         first, second = Server(port=refused), Server()
+        limits = "ask_ms = 5000\ndeadline_ms = 9000\ntries = 1\n"
+        with Forwarder(program, [first.port], limits=limits, descriptors=64) as forwarder:
+            before = descriptors(forwarder.process.pid)
+            for n in range(200):
+                expect(code(forwarder.ask_udp(question(f"n{n}.example"))), SERVFAIL)
+            expect(descriptors(forwarder.process.pid), before)
         with Forwarder(program, [first.port, second.port], limits="ask_ms = 5000\ndeadline_ms = 9000\n") as forwarder:
             began = time.monotonic()
             is_answer(forwarder.ask_udp(question()), question())
             if time.monotonic() - began > 1:
                 raise AssertionError(f"answered after {time.monotonic() - began:.1f} s")
-            expect(first.asked, [])
+        expect(first.asked, [])
 
     chain = "add table ip own; add chain ip own sent { type filter hook output priority 0; }"
     in_a_network_of_its_own(f"{chain}; add rule ip own sent udp dport {refused} drop", body)

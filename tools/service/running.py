@@ -45,13 +45,15 @@ def free_port():
 class Server:
     """A name server: what it does with a query, by UDP and over TCP, is chosen by the case."""
 
-    def __init__(self, by_udp=reply_to, over_tcp=lambda stream, query: stream.sendall(framed(reply_to(query))), port=None):
+    def __init__(
+            self, by_udp=reply_to, over_tcp=lambda stream, query: stream.sendall(framed(reply_to(query))), port=None,
+            address="127.0.0.1"):
         self.by_udp, self.over_tcp = by_udp, over_tcp
         self.asked, self.asked_from = [], []
         self.port = port or free_port()
-        self.tcp = socket.create_server(("127.0.0.1", self.port), backlog=64)
+        self.tcp = socket.create_server((address, self.port), backlog=64)
         self.udp = socket.socket(socket.AF_INET, socket.SOCK_DGRAM)
-        self.udp.bind(("127.0.0.1", self.port))
+        self.udp.bind((address, self.port))
         for serve in (self.serve_udp, self.serve_tcp):
             threading.Thread(target=serve, daemon=True).start()
 
@@ -189,6 +191,30 @@ def waits(pid):
 def descriptors(pid):
     """How many descriptors a process has open."""
     return len(os.listdir(f"/proc/{pid}/fd"))
+
+
+def resident(pid):
+    """How many octets of memory a process has in use."""
+    pages = int(pathlib.Path(f"/proc/{pid}/statm").read_text().split()[1])
+    return pages * resource.getpagesize()
+
+
+PIDFD_GETFD = 438  # the number of the system call on x86-64; Python has no call of that name
+
+
+def sockets_of(pid):
+    """The sockets of another process, as sockets of this one too: pidfd_getfd(2)."""
+    process, found = os.pidfd_open(pid), []
+    try:
+        for descriptor in map(int, os.listdir(f"/proc/{pid}/fd")):
+            if os.readlink(f"/proc/{pid}/fd/{descriptor}").startswith("socket:"):
+                own = ctypes.CDLL(None, use_errno=True).syscall(PIDFD_GETFD, process, descriptor, 0)
+                if own < 0:
+                    raise NotHere(f"a look at the sockets of another process: {os.strerror(ctypes.get_errno())}")
+                found.append(socket.socket(fileno=own))
+    finally:
+        os.close(process)
+    return found
 
 
 CLONE_NEWNET = 0x40000000

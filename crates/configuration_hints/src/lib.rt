@@ -6,8 +6,6 @@ mod hint;
 mod keys;
 mod opened;
 mod strings;
-#[cfg(test)]
-mod tests;
 mod toml_text;
 
 pub use hint::Hint;

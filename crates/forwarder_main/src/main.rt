@@ -3,25 +3,11 @@
 //! TURNS` serves clients over sockets.
 #![tactic(auto)]
 
-mod arguments;
-#[cfg(test)]
-mod command_tests;
-mod commands;
-mod counted;
-mod fault;
-mod files;
-mod refused;
-mod saying;
-mod serving;
-#[cfg(test)]
-mod tests;
-
-pub use replay_script::{ReplayFault, replay_run};
-pub use socket_wire::MioWire;
+use forwarder_commands::run;
 use std::process::ExitCode;
 
 fn main(rt: HostRuntime) -> ExitCode {
-    match commands::run(&rt) {
+    match run(&rt) {
         Ok(()) => ExitCode::SUCCESS,
         Err(fault) => {
             // If standard error fails too, only the status says so.

@@ -52,7 +52,7 @@ fn hand_beginnings<'a, W: Write>(
 }
 
 /// The octets that an event carries.
-fn octets_of<'e>(event: &'e Event<Heap<'_>>) -> &'e [u8] {
+pub(crate) fn octets_of<'e>(event: &'e Event<Heap<'_>>) -> &'e [u8] {
     match event {
         Event::Client { bytes, .. } | Event::Delivery { bytes, .. } => bytes.as_slice(),
         Event::PathFailed { .. } | Event::Tick | Event::Restart => &[],

@@ -5,6 +5,7 @@ mod beginnings;
 mod comparison;
 mod folder;
 mod manner;
+mod narrow;
 mod probing;
 mod restarting;
 mod rows;

@@ -1,30 +1,21 @@
 //! How the file of a row is run.
 
-use crate::probing::run_probed;
+use crate::narrow::is_wide;
+use crate::probing::run_stepped;
+use crate::script::Way;
 use replay_script::{ReplayFault, read_config, replay_run};
 use std::alloc::Global;
 use std::io::{Read, Write};
 use std::rt::Files;
 use std::{fs, io};
 
-/// The words of a script's first line: identifier 8 and port 1032 by the first word, and by each
-/// further one the next identifier and the next port.
-const FIRST_WORDS: [u32; 8] = [
-    524_296, 589_833, 655_370, 720_907, 786_444, 851_981, 917_518, 983_055,
-];
-
 /// How the file of a row is run.
 #[derive(Clone, Copy)]
 pub(crate) enum Manner {
     /// It is a script, which is replayed.
     Plain,
-    /// It is a script that is probed while it runs: each allocation of each step is refused in
-    /// turn. If it is short, a restart is tried after each line, and the beginnings of each message
-    /// in its place.
-    Probed,
-    /// It is a script whose lines have the words of the first one. It is probed too, and each line
-    /// after which more is due is reported.
-    SameWords,
+    /// It is a script, whose lines are run one by one in this way.
+    Stepped(Way),
     /// It is a configuration, which is checked.
     Check,
 }
@@ -34,10 +25,17 @@ impl Manner {
     pub(crate) fn name(self) -> &'static str {
         match self {
             Manner::Plain => "replayed",
-            Manner::Probed => "replayed and probed",
-            Manner::SameWords => "stepped and probed",
+            Manner::Stepped(Way::OwnWords) => "replayed and probed",
+            Manner::Stepped(Way::SameWords) => "stepped and probed",
+            Manner::Stepped(Way::Counted) => "stepped and counted",
+            Manner::Stepped(Way::Narrow) => "replayed with little memory",
             Manner::Check => "checked",
         }
+    }
+
+    /// Whether a row is not run in this manner.
+    pub(crate) fn leaves_out(self, row: &str) -> bool {
+        matches!(self, Manner::Stepped(Way::Narrow)) && is_wide(row)
     }
 }
 
@@ -62,8 +60,7 @@ pub(crate) fn told_by<R: Files + AllocGlobal>(
     let mut stdout = Vec::new(alloc);
     let ended = match manner {
         Manner::Plain => replay_run(alloc, alloc, &mut reader, &mut stdout),
-        Manner::Probed => run_probed(alloc, reader, None, &mut stdout),
-        Manner::SameWords => run_probed(alloc, reader, Some(FIRST_WORDS), &mut stdout),
+        Manner::Stepped(way) => run_stepped(alloc, reader, way, &mut stdout),
         Manner::Check => check(alloc, &mut reader, &mut stdout),
     };
     let stderr = match ended {

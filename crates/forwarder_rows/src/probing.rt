@@ -1,8 +1,9 @@
-//! Scripts that are probed while they run.
+//! Scripts, run line by line.
 
 use crate::beginnings::tell_beginnings;
+use crate::narrow::run_narrow;
 use crate::restarting::tell_restart;
-use crate::script::{Heap, Runner, Script, begin, script_in};
+use crate::script::{Heap, Runner, Script, Way, begin, script_in};
 use crate::sparing::run_line;
 use refusing_allocator::Refusing;
 use replay_script::{MOST_LINES, ReplayFault};
@@ -15,29 +16,27 @@ const MOST_RESTARTED: u32 = 64;
 /// The most lines of a script in which the beginnings of its messages are tried.
 const MOST_CUT: u32 = 16;
 
-/// Runs a script and prints its actions, as with ample memory, while each allocation of each step
-/// is refused in turn. If `words` are given, each line has these, and each line after which more
-/// is due is reported. Prints one more line for each fault: of the refused allocations, and in a
-/// short script of a restart after each line and of the beginnings of each message.
-pub(crate) fn run_probed<W: Write>(
+/// Runs a script in this way. Prints its actions, as with ample memory, what the way reports of
+/// each line, and one more line for each fault that a probe finds.
+pub(crate) fn run_stepped<W: Write>(
     alloc: Global,
     text: &[u8],
-    words: Option<[u32; 8]>,
+    way: Way,
     writer: &mut W,
 ) -> Result<(), ReplayFault> {
     let heap = Refusing::new(alloc);
-    run_within(alloc, &heap, text, words, writer)
+    run_within(alloc, &heap, text, way, writer)
 }
 
-/// Runs a script as [`run_probed`], with the memory of this heap.
+/// Runs a script as [`run_stepped`], with the memory of this heap.
 fn run_within<W: Write>(
     alloc: Global,
     heap: Heap<'_>,
     text: &[u8],
-    words: Option<[u32; 8]>,
+    way: Way,
     writer: &mut W,
 ) -> Result<(), ReplayFault> {
-    let script = script_in(alloc, heap, text, words)?;
+    let script = script_in(alloc, heap, text, way)?;
     let mut forwarder = begin(script)?;
     if script.count == 0 {
         return Ok(());
@@ -56,6 +55,10 @@ fn run_lines<'a, W: Write>(
             Ok(before) if before < MOST_LINES => before + 1,
             _ => return Err(ReplayFault::Line(MOST_LINES + 1)),
         };
+        if script.way == Way::Narrow {
+            run_narrow(script, forwarder, number, line, writer)?;
+            continue;
+        }
         run_line(script, forwarder, number, line, writer)?;
         if script.count <= MOST_RESTARTED {
             tell_restart(script, number, writer)?;

@@ -3,6 +3,7 @@
 use crate::comparison::differing_line;
 use crate::folder::{has, names_in};
 use crate::manner::{Manner, told_by};
+use crate::script::Way;
 use crate::tally::Tally;
 use std::rt::Files;
 use std::{fs, io};
@@ -14,6 +15,10 @@ enum Kind {
     Replay,
     /// A script whose lines have the same words.
     Steps,
+    /// A script whose lines have the same words, and whose refused allocations are counted.
+    Counted,
+    /// A long script, which is not probed.
+    Long,
     /// A configuration.
     Check,
 }
@@ -24,6 +29,8 @@ impl Kind {
         match self {
             Kind::Replay => "replay",
             Kind::Steps => "steps",
+            Kind::Counted => "counted",
+            Kind::Long => "long",
             Kind::Check => "check",
         }
     }
@@ -31,8 +38,14 @@ impl Kind {
     /// The manners in which each row of this kind is run; its output has to be the same each time.
     fn manners(self) -> &'static [Manner] {
         match self {
-            Kind::Replay => &[Manner::Plain, Manner::Probed],
-            Kind::Steps => &[Manner::SameWords],
+            Kind::Replay => &[
+                Manner::Plain,
+                Manner::Stepped(Way::OwnWords),
+                Manner::Stepped(Way::Narrow),
+            ],
+            Kind::Steps => &[Manner::Stepped(Way::SameWords)],
+            Kind::Counted => &[Manner::Stepped(Way::Counted)],
+            Kind::Long => &[Manner::Plain],
             Kind::Check => &[Manner::Check],
         }
     }
@@ -53,7 +66,14 @@ pub(crate) fn run_all<R: Files + Print + AllocGlobal + Clone + Drop>(
     folder: &str,
 ) -> io::Result<Tally> {
     let mut tally = Tally::default();
-    for kind in [Kind::Replay, Kind::Steps, Kind::Check] {
+    let kinds = [
+        Kind::Replay,
+        Kind::Steps,
+        Kind::Counted,
+        Kind::Long,
+        Kind::Check,
+    ];
+    for kind in kinds {
         let name = kind.folder();
         let rows = format!(in rt.alloc(); "{folder}/{name}")?;
         run_folder(rt, kind, rows.as_str(), &mut tally)?;
@@ -119,6 +139,9 @@ fn run_row<R: Files + Print + AllocGlobal>(
     tally.count_row();
     let mut is_well = true;
     for manner in folder.kind.manners() {
+        if manner.leaves_out(row) {
+            continue;
+        }
         is_well = is_as_expected(rt, *manner, row, folder.names)? && is_well;
     }
     if !is_well {

@@ -16,8 +16,39 @@ pub(crate) type Heap<'a> = &'a Refusing<Global>;
 /// A forwarder whose memory can be refused.
 pub(crate) type Runner<'a> = Forwarder<DefaultHasher, Heap<'a>>;
 
-/// A script, the memory that its run takes, and the words of each of its lines where they are not
-/// the line's own.
+/// The words of a script's first line: identifier 8 and port 1032 by the first word, and by each
+/// further one the next identifier and the next port.
+const FIRST_WORDS: [u32; 8] = [
+    524_296, 589_833, 655_370, 720_907, 786_444, 851_981, 917_518, 983_055,
+];
+
+/// How the lines of a script are run. All but `Narrow` probe them: each allocation of each step is
+/// refused in turn. If the script is short, a restart is tried after each line, and the beginnings
+/// of each message in its place.
+#[derive(Clone, Copy, PartialEq, Eq)]
+pub(crate) enum Way {
+    /// Each has the words of its number.
+    OwnWords,
+    /// Each has the words of the first one, and each after which more is due is reported.
+    SameWords,
+    /// Each has the words of the first one, and each after which more is due is reported. The
+    /// refused allocations of each are counted.
+    Counted,
+    /// Each has the words of its number, and no large block of memory.
+    Narrow,
+}
+
+impl Way {
+    /// The words of each line, where all have the first one's.
+    fn words(self) -> Option<[u32; 8]> {
+        match self {
+            Way::OwnWords | Way::Narrow => None,
+            Way::SameWords | Way::Counted => Some(FIRST_WORDS),
+        }
+    }
+}
+
+/// A script, the memory that its run takes, and how its lines are run.
 #[derive(Clone, Copy)]
 pub(crate) struct Script<'a, 's> {
     /// The memory of what is printed.
@@ -30,8 +61,8 @@ pub(crate) struct Script<'a, 's> {
     pub events: &'s [u8],
     /// How many event lines there are.
     pub count: u32,
-    /// The words of each line, where all have the same.
-    pub words: Option<[u32; 8]>,
+    /// How its lines are run.
+    pub way: Way,
 }
 
 /// A script's parts, with the memory of its run; `Line(0)` where it has no line `---`.
@@ -39,7 +70,7 @@ pub(crate) fn script_in<'a, 's>(
     alloc: Global,
     heap: Heap<'a>,
     text: &'s [u8],
-    words: Option<[u32; 8]>,
+    way: Way,
 ) -> Result<Script<'a, 's>, ReplayFault> {
     let (config, events) = parts(text).ok_or(ReplayFault::Line(0))?;
     let lines = events.strip_suffix(b"\n".as_slice()).unwrap_or(events);
@@ -54,7 +85,7 @@ pub(crate) fn script_in<'a, 's>(
         config,
         events: lines,
         count,
-        words,
+        way,
     })
 }
 
@@ -118,7 +149,7 @@ pub(crate) fn handed_in<'a>(
     requires { number ≤ MOST_LINES }
 {
     let mut handed = handed_by(script.heap, number, line)?;
-    handed.words = script.words.unwrap_or(handed.words);
+    handed.words = script.way.words().unwrap_or(handed.words);
     Ok(handed)
 }
 
@@ -134,7 +165,7 @@ pub(crate) fn lines_of<'a>(
             print(script.heap, &mut lines, number, action)?;
         }
     }
-    if outcome.more && script.words.is_some() {
+    if outcome.more && script.way.words().is_some() {
         writeln!(lines, "{number} more")?;
     }
     Ok(lines)

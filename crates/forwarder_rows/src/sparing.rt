@@ -2,7 +2,7 @@
 
 ghost use Rattle.std.specs.Prelude.{◌≤◌};
 
-use crate::script::{Heap, Runner, Script, handed_in, lines_of, run_first};
+use crate::script::{Heap, Runner, Script, Way, handed_in, lines_of, run_first};
 use forwarder_core::{Event, Handed, Outcome};
 use replay_script::{MOST_LINES, ReplayFault};
 use std::io::Write;
@@ -65,6 +65,26 @@ enum End {
     Again,
 }
 
+/// The steps with allocations refused, counted.
+#[derive(Clone, Copy, Default, PartialEq, Eq)]
+struct Counts {
+    /// Those that were refused.
+    refused: u32,
+    /// Those that left a piece unkept.
+    unkept: u32,
+}
+
+impl Counts {
+    /// Counts a step that left this many pieces unkept, or that was refused, where it left none.
+    fn count(&mut self, unkept: u32) {
+        if unkept > 0 {
+            self.unkept = self.unkept.saturating_add(1);
+        } else {
+            self.refused = self.refused.saturating_add(1);
+        }
+    }
+}
+
 /// A step that was made.
 #[derive(Drop)]
 struct Made {
@@ -78,7 +98,8 @@ struct Made {
 }
 
 /// Runs one line and prints its actions. Then makes its step again with each of its allocations
-/// refused in turn, alone and with all after it, and prints a line for each fault of these steps.
+/// refused in turn, alone and with all after it. Prints a line for each fault of these steps, and
+/// their counts where the script has them.
 pub(crate) fn run_line<'a, W: Write>(
     script: Script<'a, '_>,
     forwarder: &mut Runner<'a>,
@@ -97,10 +118,7 @@ pub(crate) fn run_line<'a, W: Write>(
     let whole = made_with(&trial, forwarder, Refused::One(0))?;
     tell_first(writer, number, is_of_client(&handed.event), &whole)?;
     writer.write_all(&whole.lines)?;
-    if whole.end == End::Again {
-        refuse_each(&trial, &whole, writer)?;
-    }
-    Ok(())
+    refuse_each(&trial, &whole, writer)
 }
 
 /// Whether an event is a client's message: its question may wait with others, which allocates and
@@ -129,8 +147,8 @@ fn tell_first<W: Write>(
     Ok(())
 }
 
-/// Makes a step again and again, with each of its allocations refused in turn. `whole` is the step
-/// with nothing refused.
+/// Makes a step again and again, with each of its allocations refused in turn, and tells the
+/// counts. `whole` is the step with nothing refused.
 fn refuse_each<W: Write>(
     trial: &Trial<'_, '_, '_>,
     whole: &Made,
@@ -138,15 +156,43 @@ fn refuse_each<W: Write>(
 ) -> Result<(), ReplayFault>
     requires { trial.now.number ≤ MOST_LINES }
 {
+    let (mut alone, mut rest) = (Counts::default(), Counts::default());
+    if whole.end != End::Again {
+        return tell_counts(trial, alone, rest, writer);
+    }
     let mut unkept = 0;
     for granted in 0..MOST_GROWTHS {
         let end = refuse_one(trial, whole, granted, writer)?;
         if end == End::Spared {
-            return Ok(());
+            return tell_counts(trial, alone, rest, writer);
         }
+        alone.count(u32::from(end == End::Borne));
         unkept = refuse_rest(trial, whole, granted, unkept, writer)?;
+        rest.count(unkept);
     }
     Err(ReplayFault::Memory)
+}
+
+/// Prints the counts of the steps with one allocation refused alone, where the script has them.
+/// Also prints a line where those with all later ones refused too have other counts.
+fn tell_counts<W: Write>(
+    trial: &Trial<'_, '_, '_>,
+    alone: Counts,
+    rest: Counts,
+    writer: &mut W,
+) -> Result<(), ReplayFault> {
+    let number = trial.number;
+    if trial.script.way == Way::Counted {
+        let Counts { refused, unkept } = alone;
+        writeln!(writer, "{number} counts {refused} {unkept}")?;
+    }
+    if alone != rest {
+        writeln!(
+            writer,
+            "{number} is refused otherwise with all later growths"
+        )?;
+    }
+    Ok(())
 }
 
 /// Makes a step with the allocation after `granted` ones refused alone. Prints a line unless it is

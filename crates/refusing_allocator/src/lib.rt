@@ -1,5 +1,5 @@
 //! An allocator for tests: it grants a given number of allocations, and then refuses each one, or
-//! the next one alone.
+//! the next one alone. It may also refuse each large one.
 #![tactic(auto)]
 
 use std::alloc::{AllocError, Allocator};
@@ -25,12 +25,13 @@ pub struct Refusing<B: Allocator> {
     growths: Growths,
 }
 
-/// The number of allocations that are still granted before one is refused, and the number after
-/// each that is refused.
+/// The number of allocations that are still granted before one is refused, the number after each
+/// that is refused, and the most octets of one that is granted.
 #[derive(Drop)]
 struct Growths {
     left: Cell<u64>,
     refill: Cell<u64>,
+    most: Cell<usize>,
 }
 
 impl<B: Allocator> Refusing<B> {
@@ -41,6 +42,7 @@ impl<B: Allocator> Refusing<B> {
             growths: Growths {
                 left: Cell::new(AMPLE),
                 refill: Cell::new(0),
+                most: Cell::new(usize::MAX),
             },
         }
     }
@@ -57,6 +59,12 @@ impl<B: Allocator> Refusing<B> {
     pub fn refuse_one(&self, count: u64) {
         self.growths.left.set(count);
         self.growths.refill.set(AMPLE);
+    }
+
+    /// From now on refuses each allocation of more than this number of octets, too. Those are not
+    /// counted. At `usize::MAX`, as at first, none is refused for its size.
+    pub fn refuse_above(&self, octets: usize) {
+        self.growths.most.set(octets);
     }
 }
 
@@ -75,12 +83,18 @@ fn is_spent(growths: &Growths) -> bool {
     }
 }
 
+/// Whether the next allocation, of this number of octets, is refused. Counts it where it is not too
+/// large.
+fn is_refused(growths: &Growths, size: usize) -> bool {
+    size > growths.most.get() || is_spent(growths)
+}
+
 unsafe impl<B: Allocator> Allocator for Refusing<B> {
     // A block is the inner allocator's own, so the right to free it is too.
     ghost dealloc_token = { λ heap layout block. B.dealloc_token heap.inner layout block };
 
     fn allocate(&self, size: usize, align: usize) -> Result<*mut u8, AllocError> {
-        if is_spent(&self.growths) {
+        if is_refused(&self.growths, size) {
             return Err(AllocError);
         }
         self.inner.allocate(size, align)
@@ -88,84 +102,5 @@ unsafe impl<B: Allocator> Allocator for Refusing<B> {
 
     unsafe fn deallocate(&self, ptr: *mut u8, size: usize, align: usize) {
         self.inner.deallocate(ptr, size, align);
-    }
-}
-
-#[cfg(test)]
-mod tests {
-    use super::*;
-    use std::alloc::Global;
-    use std::test::Fail;
-
-    /// Asks for three blocks of one octet each; returns the number granted.
-    fn blocks(heap: &Refusing<Global>) -> u8 {
-        let first = Box::new(heap, 1u8);
-        let second = Box::new(heap, 2u8);
-        let third = Box::new(heap, 3u8);
-        u8::from(first.is_ok()) + u8::from(second.is_ok()) + u8::from(third.is_ok())
-    }
-
-    #[test]
-    fn each_growth_after_the_count_is_refused(rt: HostRuntime) {
-        let heap = Refusing::new(rt.alloc());
-        assert_eq!(rt; blocks(&heap), 3, "ample from the start");
-        for (count, granted) in [(0, 0), (1, 1), (2, 2), (3, 3), (u64::MAX, 3)] {
-            heap.allow(count);
-            assert_eq!(rt; blocks(&heap), granted, "of three, with {count} allowed");
-            assert_eq!(rt;
-                Box::new(&heap, 4u8).is_ok(),
-                count == u64::MAX,
-                "a fourth, with {count} allowed"
-            );
-        }
-        heap.allow(4);
-        assert_eq!(rt; blocks(&heap), 3, "three of four");
-        assert_eq!(rt; blocks(&heap), 1, "one of four is left");
-        heap.allow(u64::MAX);
-        for _again in 0..100u8 {
-            assert_eq!(rt; blocks(&heap), 3, "ample again");
-        }
-    }
-
-    #[test]
-    fn one_growth_alone_is_refused(rt: HostRuntime) {
-        let heap = Refusing::new(rt.alloc());
-        for (count, granted) in [(0, 2), (1, 2), (2, 2), (3, 3), (u64::MAX, 3)] {
-            heap.refuse_one(count);
-            assert_eq!(rt;
-                blocks(&heap),
-                granted,
-                "of three, with one refused after {count}"
-            );
-            assert_eq!(rt;
-                Box::new(&heap, 4u8).is_ok(),
-                count != 3,
-                "a fourth, with one refused after {count}"
-            );
-            assert_eq!(rt; blocks(&heap), 3, "ample after the refused one");
-        }
-        heap.allow(0);
-        assert_eq!(rt; blocks(&heap), 0, "none again");
-    }
-
-    #[test]
-    fn what_was_held_outlives_a_refusal(rt: HostRuntime) -> Result<(), Fail> {
-        let heap = Refusing::new(rt.alloc());
-        let mut octets = Vec::new(&heap);
-        octets.push(7u8)?;
-        let room = octets.capacity();
-        heap.allow(0);
-        let mut refused = 0u8;
-        for octet in 0..100u8 {
-            if octets.push(octet).is_err() {
-                refused = refused.saturating_add(1);
-            }
-        }
-        assert_eq!(rt; octets.len(), room, "what had room was taken");
-        assert!(rt; refused > 0);
-        heap.allow(1);
-        assert!(rt; octets.push(8).is_ok(), "one growth is one call");
-        assert_eq!(rt; octets.first(), Some(&7));
-        Ok(())
     }
 }

@@ -1,5 +1,7 @@
 //! Random calls of a cache and of a plain list.
 
+ghost use Rattle.std.specs.Prelude.{◌<◌};
+
 use crate::plain::{Entry, PlainCache};
 use crate::samples::Denial;
 use dns_name::NameFault;
@@ -8,6 +10,7 @@ use rand_core::utils::NextWord;
 use rand_pcg::Pcg32;
 use record_cache::{Cache, Held};
 use std::alloc::Global;
+use std::mem::forget;
 use std::test::Fail;
 
 const NAMES: [&str; 16] = [
@@ -138,27 +141,57 @@ fn are_the_same(
     )
 }
 
+/// The first of the random calls that they answer otherwise, and the first after which they are not
+/// the same, if any. Another capacity has other calls.
+fn partings(
+    alloc: Global,
+    cache: &mut Cache<DefaultHasher>,
+    plain: &mut PlainCache,
+) -> Result<(Option<u64>, Option<u64>), Fail> {
+    let mut random = Pcg32::new(plain.capacity as u64, 1);
+    for call in 0..CALLS {
+        let word = random.next_word();
+        if !call_both(alloc, cache, plain, word, call * 400)? {
+            return Ok((Some(call), None));
+        }
+        if !are_the_same(alloc, cache, plain)? {
+            return Ok((None, Some(call)));
+        }
+    }
+    Ok((None, None))
+}
+
+/// The number of entries that are left once it is cleared, and whether there is a name error.
+fn left(cache: &mut Cache<DefaultHasher>) -> (usize, bool) {
+    cache.clear();
+    (cache.len(), cache.has_name_error(10))
+}
+
+/// Two calls with which a cache and a list part, if any; then the number of entries that are left
+/// once the cache is cleared, and whether there is a name error.
+type Compared = ((Option<u64>, Option<u64>), (usize, bool));
+
+/// The same of a new cache with this capacity. It is forgotten, as the list is: dropping them would
+/// have to be proved here.
+fn compared_anew(alloc: Global, capacity: usize) -> Result<Compared, Fail>
+    requires { 0 < capacity }
+{
+    let mut cache = Cache::new(alloc, capacity, DefaultHasher::default())?;
+    let mut plain = PlainCache::new(alloc, capacity);
+    let partings = partings(alloc, &mut cache, &mut plain);
+    let left = left(&mut cache);
+    forget((cache, plain));
+    Ok((partings?, left))
+}
+
 #[test]
 fn a_cache_and_a_plain_list_agree(rt: HostRuntime) -> Result<(), Fail> {
-    let alloc = rt.alloc();
     for capacity in [1usize, 2, 16] {
-        let mut random = Pcg32::new(capacity as u64, 1);
-        let mut cache = Cache::new(alloc, capacity, DefaultHasher::default())?;
-        let mut plain = PlainCache::new(alloc, capacity);
-        for call in 0..CALLS {
-            let word = random.next_word();
-            assert!(rt;
-                call_both(alloc, &mut cache, &mut plain, word, call * 400)?,
-                "call {call} at capacity {capacity}"
-            );
-            assert!(rt;
-                are_the_same(alloc, &cache, &plain)?,
-                "after call {call} at capacity {capacity}"
-            );
-        }
-        cache.clear();
-        assert_eq!(rt; cache.len(), 0);
-        assert!(rt; !cache.has_name_error(10));
+        let ((answered, after), (count, has_name_error)) = compared_anew(rt.alloc(), capacity)?;
+        assert_eq!(rt; answered, None, "at capacity {capacity}");
+        assert_eq!(rt; after, None, "at capacity {capacity}");
+        assert_eq!(rt; count, 0, "at capacity {capacity}");
+        assert!(rt; !has_name_error, "at capacity {capacity}");
     }
     Ok(())
 }

@@ -5,6 +5,7 @@ use dns_message::{DataRef, Record};
 use lru::DefaultHasher;
 use record_cache::{Cache, Offered};
 use std::alloc::Global;
+use std::mem::forget;
 use std::test::Fail;
 use trust_rank::{Body, Piece, Rows, Slot};
 
@@ -59,25 +60,35 @@ fn is_same(piece: &Piece, other: &Piece) -> bool {
         && piece.route == other.route
 }
 
-/// The number of pieces that a reply carries, and the number of their copies that are the same.
-fn equal_copies(alloc: Global, digits: &str) -> Result<(usize, usize), Fail> {
-    let pieces = pieces_of(alloc, digits)?;
+/// Whether the copy of a piece is the same.
+fn is_copied(alloc: Global, piece: &Piece) -> Result<bool, Fail> {
+    let copy = piece.copy(alloc)?;
+    Ok(is_same(&copy, piece))
+}
+
+/// The number of pieces, and the number of their copies that are the same.
+fn equal_copies(alloc: Global, pieces: &[Piece]) -> Result<(usize, usize), Fail> {
     let mut equal = 0usize;
-    for piece in pieces.as_slice() {
-        let copy = piece.copy(alloc)?;
-        equal = equal.saturating_add(usize::from(is_same(&copy, piece)));
+    for piece in pieces {
+        equal = equal.saturating_add(usize::from(is_copied(alloc, piece)?));
     }
-    Ok((pieces.as_slice().len(), equal))
+    Ok((pieces.len(), equal))
+}
+
+/// The same of the pieces that a reply carries.
+fn equal_copies_of(alloc: Global, digits: &str) -> Result<(usize, usize), Fail> {
+    let pieces = pieces_of(alloc, digits)?;
+    equal_copies(alloc, pieces.as_slice())
 }
 
 /// An alias and a set of two addresses, NODATA with its SOA, and a name error with its own.
 #[test]
 fn copies_are_equal_in_each_part(rt: HostRuntime) -> Result<(), Fail> {
     let alloc = rt.alloc();
-    let address = equal_copies(alloc, ADDRESS)?;
-    let sets = equal_copies(alloc, ALIAS)?;
-    let no_data = equal_copies(alloc, NO_DATA)?;
-    let name_error = equal_copies(alloc, NAME_ERROR)?;
+    let address = equal_copies_of(alloc, ADDRESS)?;
+    let sets = equal_copies_of(alloc, ALIAS)?;
+    let no_data = equal_copies_of(alloc, NO_DATA)?;
+    let name_error = equal_copies_of(alloc, NAME_ERROR)?;
     assert!(rt; (address, sets, no_data, name_error) == ((1, 1), (2, 2), (1, 1), (1, 1)));
     Ok(())
 }
@@ -99,35 +110,42 @@ fn is_worked(piece: &Piece) -> bool {
         && (piece.lifetime, piece.rank, piece.route.place) == (300, 3, 0)
 }
 
-/// Offers a copy of the piece: the number of entries before, what came of it, and the number after.
+/// The cache gets a copy of the only piece: the number of entries before, what came of the offer,
+/// the number after, and whether the cache has the worked piece in its slot, accepted at the moment
+/// of the offer.
 fn offered_copy(
-    cache: &mut Cache<DefaultHasher>,
     alloc: Global,
-    piece: &Piece,
-) -> Result<(usize, Offered, usize), Fail> {
+    cache: &mut Cache<DefaultHasher>,
+    pieces: &[Piece],
+) -> Result<(usize, Offered, usize, bool), Fail> {
+    let [set] = pieces else {
+        return Err(Fail::from("a set alone"));
+    };
     let before = cache.len();
-    let answer = cache.offer(piece.copy(alloc)?, 1020);
-    Ok((before, answer, cache.len()))
-}
-
-/// Whether the cache has the worked piece in this slot, accepted at the moment of the offer.
-fn is_found(cache: &Cache<DefaultHasher>, slot: &Slot) -> bool {
-    match cache.peek(slot) {
+    let answer = cache.offer(set.copy(alloc)?, 1020);
+    let is_found = match cache.peek(&set.slot()) {
         Some(held) => held.accepted == 1020 && is_worked(&held.piece),
         None => false,
-    }
+    };
+    Ok((before, answer, cache.len(), is_found))
+}
+
+/// The same of a new cache with room for two, which is forgotten.
+fn offered_to_new(alloc: Global, pieces: &[Piece]) -> Result<(usize, Offered, usize, bool), Fail> {
+    let mut cache = Cache::new(alloc, 2, DefaultHasher::default())?;
+    let offered = offered_copy(alloc, &mut cache, pieces);
+    forget(cache);
+    offered
+}
+
+/// The same of the first worked reply.
+fn offered_of_worked(alloc: Global) -> Result<(usize, Offered, usize, bool), Fail> {
+    let pieces = pieces_of(alloc, ADDRESS)?;
+    offered_to_new(alloc, pieces.as_slice())
 }
 
 #[test]
 fn a_cache_of_two_keeps_a_copy_of_the_worked_set(rt: HostRuntime) -> Result<(), Fail> {
-    let alloc = rt.alloc();
-    let pieces = pieces_of(alloc, ADDRESS)?;
-    let [set] = pieces.as_slice() else {
-        return Err(Fail::from("a set alone"));
-    };
-    let mut cache = Cache::new(alloc, 2, DefaultHasher::default())?;
-    let offered = offered_copy(&mut cache, alloc, set)?;
-    let is_found = is_found(&cache, &set.slot());
-    assert!(rt; offered == (0, Offered::Kept, 1) && is_found);
+    assert!(rt; offered_of_worked(rt.alloc())? == (0, Offered::Kept, 1, true));
     Ok(())
 }

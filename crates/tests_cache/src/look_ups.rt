@@ -6,8 +6,10 @@ use lru::DefaultHasher;
 use negative_cache::{Found, find, find_stale};
 use record_cache::Cache;
 use std::alloc::Global;
+use std::mem::forget;
 use std::test::Fail;
 use suffix_routes::Config;
+use trust_rank::Piece;
 
 /// Names whose address is asked for, the finding of each a second after it was kept, and the
 /// finding with a window of an hour when all have expired: the set five minutes and the alias one
@@ -34,35 +36,65 @@ fn word(found: &Found<'_>) -> &'static str {
     }
 }
 
-/// An alias `a.example`, the addresses of `b.example`, NODATA of `n.example` and a name error of
-/// `x.example`.
-fn filled(alloc: Global) -> Result<Cache<DefaultHasher>, Fail> {
-    let mut cache = Cache::new(alloc, 8, DefaultHasher::default())?;
-    for piece in pieces_of(alloc, ALIAS)?.as_slice() {
+/// Offers pieces, an alias `a.example` and the addresses of `b.example`; then NODATA of `n.example`
+/// and a name error of `x.example`.
+fn fill(alloc: Global, cache: &mut Cache<DefaultHasher>, pieces: &[Piece]) -> Result<(), Fail> {
+    for piece in pieces {
         cache.offer(piece.copy(alloc)?, 1000);
     }
-    Denial::of("n.example", Some(1)).offer(alloc, &mut cache, 1000)?;
-    Denial::of("x.example", None).offer(alloc, &mut cache, 1000)?;
-    Ok(cache)
+    Denial::of("n.example", Some(1)).offer(alloc, cache, 1000)?;
+    Denial::of("x.example", None).offer(alloc, cache, 1000)?;
+    Ok(())
 }
 
-/// The number of look-ups that find what they have to, alive and expired.
-fn right_look_ups(alloc: Global) -> Result<(usize, usize), Fail> {
-    let config = Config::read(alloc, alloc, DENYING)?;
-    let cache = filled(alloc)?;
+/// The findings of a name, alive and expired.
+fn words(
+    alloc: Global,
+    cache: &Cache<DefaultHasher>,
+    config: &Config,
+    name: &str,
+) -> Result<(&'static str, &'static str), Fail> {
+    let name = Name::from_text(alloc, name)?;
+    let found = find(cache, &name, 1, 1, 2000, config);
+    let expired = find_stale(cache, &name, 1, 1, 3_660_000, 3600);
+    Ok((word(&found), word(&expired)))
+}
+
+/// The number of look-ups that find what they have to, alive and expired, in this cache, which gets
+/// these pieces and denials.
+fn right_look_ups(
+    alloc: Global,
+    cache: &mut Cache<DefaultHasher>,
+    config: &Config,
+    pieces: &[Piece],
+) -> Result<(usize, usize), Fail> {
+    fill(alloc, cache, pieces)?;
     let (mut alive, mut past) = (0usize, 0usize);
     for (name, wanted, wanted_past) in &LOOK_UPS {
-        let name = Name::from_text(alloc, name)?;
-        let found = find(&cache, &name, 1, 1, 2000, &config);
-        let expired = find_stale(&cache, &name, 1, 1, 3_660_000, 3600);
-        alive = alive.saturating_add(usize::from(word(&found) == *wanted));
-        past = past.saturating_add(usize::from(word(&expired) == *wanted_past));
+        let (found, expired) = words(alloc, cache, config, name)?;
+        alive = alive.saturating_add(usize::from(found == *wanted));
+        past = past.saturating_add(usize::from(expired == *wanted_past));
     }
     Ok((alive, past))
 }
 
+/// The same in a new cache, which is forgotten.
+fn right_in_new(alloc: Global, config: &Config, pieces: &[Piece]) -> Result<(usize, usize), Fail> {
+    let mut cache = Cache::new(alloc, 8, DefaultHasher::default())?;
+    let right = right_look_ups(alloc, &mut cache, config, pieces);
+    forget(cache);
+    right
+}
+
+/// The same with the pieces of a reply, and a configuration that denies.
+fn right(alloc: Global) -> Result<(usize, usize), Fail> {
+    let config = Config::read(alloc, alloc, DENYING)?;
+    let pieces = pieces_of(alloc, ALIAS)?;
+    right_in_new(alloc, &config, pieces.as_slice())
+}
+
 #[test]
 fn each_look_up_finds_what_is_there(rt: HostRuntime) -> Result<(), Fail> {
-    assert!(rt; right_look_ups(rt.alloc())? == (6, 6));
+    assert!(rt; right(rt.alloc())? == (6, 6));
     Ok(())
 }

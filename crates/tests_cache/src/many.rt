@@ -1,69 +1,53 @@
 //! Many names.
 
+ghost use Rattle.std.specs.Prelude.{◌<◌};
+
 use crate::samples::{Denial, set};
 use lru::DefaultHasher;
 use record_cache::{Cache, Offered};
 use refusing_allocator::Refusing;
-use std::alloc::{Allocator, Global};
+use std::alloc::Global;
+use std::mem::forget;
 use std::test::Fail;
-use trust_rank::{Body, Slot};
+use trust_rank::{Body, Piece, Slot};
+
+type Heap<'a> = &'a Refusing<Global>;
 
 /// The slot of the addresses of the name with this number.
-fn slot_numbered<A: Allocator + Copy>(alloc: A, number: u32) -> Result<Slot, Fail> {
-    let name = format!(in alloc; "n{number}.example")?;
-    Ok(Denial::of(name.as_str(), Some(1)).slot(alloc)?)
+fn slot_numbered(heap: Heap<'_>, number: u32) -> Result<Slot, Fail> {
+    let name = format!(in heap; "n{number}.example")?;
+    Ok(Denial::of(name.as_str(), Some(1)).slot(heap)?)
 }
 
-/// Offers an address of the name with this number.
-fn offer_set_numbered<A: Allocator + Copy>(
-    alloc: A,
-    cache: &mut Cache<DefaultHasher, A>,
-    number: u32,
-) -> Result<Offered, Fail> {
-    let name = format!(in alloc; "n{number}.example")?;
-    Ok(cache.offer(set(alloc, name.as_str())?, 1000))
+/// An address of the name with this number.
+fn set_numbered<'a>(heap: Heap<'a>, number: u32) -> Result<Piece<Heap<'a>>, Fail> {
+    let name = format!(in heap; "n{number}.example")?;
+    set(heap, name.as_str())
 }
 
 /// The cache holds an address of the name with this number.
-fn holds_set_numbered<A: Allocator + Copy>(
-    alloc: A,
-    cache: &Cache<DefaultHasher, A>,
+fn holds_set_numbered<'a>(
+    heap: Heap<'a>,
+    cache: &Cache<DefaultHasher, Heap<'a>>,
     number: u32,
 ) -> Result<bool, Fail> {
-    let slot = slot_numbered(alloc, number)?;
+    let slot = slot_numbered(heap, number)?;
     match cache.peek(&slot) {
         Some(held) => Ok(matches!(held.piece.body, Body::Rows(_))),
         None => Ok(false),
     }
 }
 
-#[test]
-fn the_set_of_the_first_of_4097_names_is_gone(rt: HostRuntime) -> Result<(), Fail> {
-    let alloc = rt.alloc();
-    let mut cache = Cache::new(alloc, 4096, DefaultHasher::default())?;
-    for number in 0..4097u32 {
-        let answer = offer_set_numbered(alloc, &mut cache, number)?;
-        assert_eq!(rt; answer, Offered::Kept, "name {number}");
-    }
-    assert_eq!(rt; cache.len(), 4096);
-    for number in 0..4097u32 {
-        let is_held = holds_set_numbered(alloc, &cache, number)?;
-        assert_eq!(rt; is_held, number > 0, "name {number}");
-    }
-    Ok(())
-}
-
 /// Offers an address of the name with this number, with one allocation more granted from try to
 /// try; whether each refusal left the cache as it was, and the last try kept it.
 fn is_kept_at_last<'a>(
-    heap: &'a Refusing<Global>,
-    cache: &mut Cache<DefaultHasher, &'a Refusing<Global>>,
+    heap: Heap<'a>,
+    cache: &mut Cache<DefaultHasher, Heap<'a>>,
     number: u32,
 ) -> Result<bool, Fail> {
     let before = cache.len();
-    let name = format!(in heap; "n{number}.example")?;
     for growths in 0..64u64 {
-        let piece = set(heap, name.as_str())?;
+        let piece = set_numbered(heap, number)?;
         heap.allow(growths);
         let answer = cache.offer(piece, 1000);
         heap.allow(u64::MAX);
@@ -76,18 +60,110 @@ fn is_kept_at_last<'a>(
     Ok(false)
 }
 
+/// The names that a cache gets.
+#[derive(Clone, Copy)]
+enum Names {
+    /// One name more than a cache for 4,096 entries holds.
+    OneTooMany,
+    /// 4,200 in the largest cache, with each allocation refused in turn.
+    Refused,
+}
+
+/// Whether an address of the name with this number is kept as it has to be.
+fn is_kept<'a>(
+    heap: Heap<'a>,
+    cache: &mut Cache<DefaultHasher, Heap<'a>>,
+    names: Names,
+    number: u32,
+) -> Result<bool, Fail> {
+    match names {
+        Names::OneTooMany => Ok(cache.offer(set_numbered(heap, number)?, 1000) == Offered::Kept),
+        Names::Refused => is_kept_at_last(heap, cache, number),
+    }
+}
+
+/// The first of `count` names that is not kept as it has to be, if any.
+fn first_unkept<'a>(
+    heap: Heap<'a>,
+    cache: &mut Cache<DefaultHasher, Heap<'a>>,
+    names: Names,
+    count: u32,
+) -> Result<Option<u32>, Fail> {
+    for number in 0..count {
+        if !is_kept(heap, cache, names, number)? {
+            return Ok(Some(number));
+        }
+    }
+    Ok(None)
+}
+
+/// The first and the last of `count` names that the cache holds; `None` if it holds none, or not
+/// all between them.
+fn held_of<'a>(
+    heap: Heap<'a>,
+    cache: &Cache<DefaultHasher, Heap<'a>>,
+    count: u32,
+) -> Result<Option<(u32, u32)>, Fail> {
+    let mut held = None;
+    for number in 0..count {
+        if holds_set_numbered(heap, cache, number)? {
+            held = match held {
+                None => Some((number, number)),
+                Some((first, last)) if last.saturating_add(1) == number => Some((first, number)),
+                Some(_) => return Ok(None),
+            };
+        }
+    }
+    Ok(held)
+}
+
+/// What a cache is like that got many names: the first that was not kept, the number of entries,
+/// and the first and the last name that it holds.
+type Seen = (Option<u32>, usize, Option<(u32, u32)>);
+
+/// The same of this cache, which gets `count` names.
+fn seen_in<'a>(
+    heap: Heap<'a>,
+    cache: &mut Cache<DefaultHasher, Heap<'a>>,
+    names: Names,
+    count: u32,
+) -> Result<Seen, Fail> {
+    let unkept = first_unkept(heap, cache, names, count)?;
+    Ok((unkept, cache.len(), held_of(heap, cache, count)?))
+}
+
+/// The same of a new cache, which is forgotten: dropping it would have to be proved here.
+fn seen_in_new(heap: Heap<'_>, capacity: usize, names: Names, count: u32) -> Result<Seen, Fail>
+    requires { 0 < capacity }
+{
+    let mut cache = Cache::new(heap, capacity, DefaultHasher::default())?;
+    let seen = seen_in(heap, &mut cache, names, count);
+    forget(cache);
+    seen
+}
+
+fn seen_with(alloc: Global, names: Names) -> Result<Seen, Fail> {
+    let heap = Refusing::new(alloc);
+    match names {
+        Names::OneTooMany => seen_in_new(&heap, 4096, names, 4097),
+        Names::Refused => seen_in_new(&heap, 65_536, names, 4200),
+    }
+}
+
+#[test]
+fn the_set_of_the_first_of_4097_names_is_gone(rt: HostRuntime) -> Result<(), Fail> {
+    let (unkept, count, held) = seen_with(rt.alloc(), Names::OneTooMany)?;
+    assert_eq!(rt; unkept, None);
+    assert_eq!(rt; count, 4096);
+    assert_eq!(rt; held, Some((1, 4096)));
+    Ok(())
+}
+
 #[test]
 fn each_growth_of_4200_names_in_the_largest_cache_is_refused(rt: HostRuntime) -> Result<(), Fail> {
-    let heap = Refusing::new(rt.alloc());
-    let mut cache = Cache::new(&heap, 65_536, DefaultHasher::default())?;
-    for number in 0..4200u32 {
-        assert!(rt;
-            is_kept_at_last(&heap, &mut cache, number)?,
-            "name {number}"
-        );
-    }
-    for number in 0..4200u32 {
-        assert!(rt; holds_set_numbered(&heap, &cache, number)?, "name {number}");
-    }
+    let (unkept, count, held) = seen_with(rt.alloc(), Names::Refused)?;
+    assert_eq!(rt; unkept, None);
+    assert_eq!(rt; count, 4200);
+    assert_eq!(rt; held, Some((0, 4199)));
     Ok(())
 }

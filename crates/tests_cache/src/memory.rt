@@ -7,14 +7,47 @@ use negative_cache::{CacheAt, Found, find, shown};
 use record_cache::{Cache, Offered};
 use refusing_allocator::Refusing;
 use std::alloc::Global;
+use std::mem::forget;
 use std::test::Fail;
 use suffix_routes::Config;
 
+type Heap<'a> = &'a Refusing<Global>;
+
+/// Whether a new cache is made with `growths` allocations granted. It is forgotten: dropping it
+/// would have to be proved here.
+fn is_made(heap: Heap<'_>, growths: u64) -> bool {
+    heap.allow(growths);
+    let made = Cache::new(heap, 2, DefaultHasher::default());
+    let is_made = made.is_ok();
+    forget(made);
+    is_made
+}
+
+/// The number of allocations of a new cache that are refused one after another, until it is made.
+fn refused_of_new(alloc: Global) -> u64 {
+    let heap = Refusing::new(alloc);
+    for growths in 0..100u64 {
+        if is_made(&heap, growths) {
+            return growths;
+        }
+    }
+    100
+}
+
+#[test]
+fn each_growth_of_a_new_cache_is_refused(rt: HostRuntime) {
+    assert_eq!(rt;
+        refused_of_new(rt.alloc()),
+        6,
+        "those of the table, and the two ends of the order"
+    );
+}
+
 /// Offers a denial with `growths` allocations granted, its own octets aside.
 fn offer_within<'a>(
-    heap: &'a Refusing<Global>,
+    heap: Heap<'a>,
     growths: u64,
-    cache: &mut Cache<DefaultHasher, &'a Refusing<Global>>,
+    cache: &mut Cache<DefaultHasher, Heap<'a>>,
     denial: Denial<'_>,
     moment: u64,
 ) -> Result<Offered, NameFault> {
@@ -25,144 +58,229 @@ fn offer_within<'a>(
     Ok(answer)
 }
 
-#[test]
-fn each_growth_of_a_new_cache_is_refused(rt: HostRuntime) {
-    let heap = Refusing::new(rt.alloc());
-    let mut refused = 0u64;
-    for count in 0..100u64 {
-        heap.allow(count);
-        if Cache::new(&heap, 2, DefaultHasher::default()).is_ok() {
-            break;
-        }
-        refused = refused.saturating_add(1);
-    }
-    assert_eq!(rt;
-        refused,
-        6,
-        "those of the table, and the two ends of the order"
-    );
+/// What is done with a new cache for two entries.
+#[derive(Clone, Copy)]
+enum Calls {
+    /// A name is offered, and a second one with this number of allocations granted.
+    Second(u64),
+    /// A set is offered, and no allocation is granted to offers at its slot.
+    SameSlot,
+    /// It is cleared, with one allocation granted.
+    ClearUnused,
+    /// All calls that do not allocate are made, with one allocation granted.
+    Others,
+    /// Names are looked up, with one allocation granted.
+    LookUps,
 }
 
-/// Offers a second name with `growths` allocations granted; returns the result, and whether the
-/// cache is then as it has to be.
-fn second_within(heap: &Refusing<Global>, growths: u64) -> Result<(Offered, bool), Fail> {
-    let mut cache = Cache::new(heap, 2, DefaultHasher::default())?;
+/// The result of these calls.
+#[derive(Clone, Copy, PartialEq, Eq, Debug)]
+enum Came {
+    /// All that they have to do.
+    Whole,
+    /// The second name is not kept, and the cache is as it was.
+    Unkept,
+    /// The call with this number, from 0, did anything else.
+    Other(usize),
+}
+
+/// The result, if these are as they have to be.
+const fn came_if(is_whole: bool) -> Came {
+    if is_whole {
+        Came::Whole
+    } else {
+        Came::Other(0)
+    }
+}
+
+fn came_of_second<'a>(
+    heap: Heap<'a>,
+    cache: &mut Cache<DefaultHasher, Heap<'a>>,
+    growths: u64,
+) -> Result<Came, NameFault> {
     let first = Denial::of("a.example", None);
     let second = Denial::of("b.c.example", None);
-    first.offer(heap, &mut cache, 1000)?;
-    let answer = offer_within(heap, growths, &mut cache, second, 2000)?;
+    first.offer(heap, cache, 1000)?;
+    let answer = offer_within(heap, growths, cache, second, 2000)?;
     let kept = answer == Offered::Kept;
-    let right = cache.peek(&first.slot(heap)?).is_some()
+    let is_right = cache.peek(&first.slot(heap)?).is_some()
         && cache.peek(&second.slot(heap)?).is_some() == kept
         && cache.len() == 1 + usize::from(kept)
         && cache.has_name_error(12) == kept;
-    Ok((answer, right))
+    match answer {
+        Offered::Kept if is_right => Ok(Came::Whole),
+        Offered::Unkept if is_right => Ok(Came::Unkept),
+        _ => Ok(Came::Other(1)),
+    }
+}
+
+/// Offers at the slot of a set of rank 3 and 300 seconds: the rank and the lifetime of each, and
+/// how it ends.
+const OFFERS: [(u8, u16, Offered); 5] = [
+    (1, 300, Offered::Outranked),
+    (3, 300, Offered::Kept),
+    (3, 0, Offered::NotKept),
+    (3, 0, Offered::NotKept),
+    (3, 300, Offered::Unkept),
+];
+
+fn came_of_same_slot<'a>(
+    heap: Heap<'a>,
+    cache: &mut Cache<DefaultHasher, Heap<'a>>,
+) -> Result<Came, NameFault> {
+    Denial::of("a.example", Some(1)).offer(heap, cache, 1000)?;
+    for (number, (rank, lifetime, wanted)) in OFFERS.iter().enumerate() {
+        let next = Denial {
+            owner: "A.Example",
+            kind: Some(1),
+            lifetime: *lifetime,
+            rank: *rank,
+        };
+        if offer_within(heap, 0, cache, next, 2000)? != *wanted {
+            return Ok(Came::Other(number));
+        }
+    }
+    Ok(Came::Whole)
+}
+
+/// Whether one allocation is left, and no more.
+fn is_one_left(heap: Heap<'_>) -> bool {
+    Box::new(heap, 0u8).is_ok() && Box::new(heap, 0u8).is_err()
+}
+
+fn came_of_clear<'a>(heap: Heap<'a>, cache: &mut Cache<DefaultHasher, Heap<'a>>) -> Came {
+    heap.allow(1);
+    cache.clear();
+    came_if(cache.len() == 0 && is_one_left(heap))
+}
+
+fn came_of_others<'a>(
+    heap: Heap<'a>,
+    cache: &mut Cache<DefaultHasher, Heap<'a>>,
+) -> Result<Came, NameFault> {
+    let first = Denial::of("a.example", Some(1));
+    let slot = first.slot(heap)?;
+    first.offer(heap, cache, 1000)?;
+    heap.allow(1);
+    cache.promote(&slot);
+    let is_there = cache.peek(&slot).is_some() && !cache.has_name_error(10) && cache.len() == 1;
+    cache.forget(&slot);
+    cache.clear();
+    Ok(came_if(is_there && is_one_left(heap)))
+}
+
+/// A name that the configuration denies, one under a name error and one next to it are found as
+/// they have to be, and the second one is shown, all with one allocation granted, which is left.
+fn are_found<'a>(
+    heap: Heap<'a>,
+    cache: &mut Cache<DefaultHasher, Heap<'a>>,
+    config: &Config<Heap<'a>>,
+    names: &[Name<Heap<'a>>; 3],
+) -> bool {
+    let [local, under, beside] = names;
+    heap.allow(1);
+    let is_local = matches!(find(&*cache, &*local, 1, 1, 2000, &*config), Found::Local);
+    let is_denied = matches!(
+        find(&*cache, &*under, 1, 1, 2000, &*config),
+        Found::Denied(_)
+    );
+    let at = CacheAt {
+        cache: &*cache,
+        config: &*config,
+        moment: 2000,
+    };
+    let is_missed = matches!(find(&*cache, &*beside, 1, 1, 2000, &*config), Found::Miss)
+        && matches!(found_past(&at, &*under, 60), Found::Miss);
+    shown(cache, &*under, 1);
+    is_local && is_denied && is_missed && is_one_left(heap)
+}
+
+fn came_of_look_ups<'a>(
+    heap: Heap<'a>,
+    cache: &mut Cache<DefaultHasher, Heap<'a>>,
+    config: &Config<Heap<'a>>,
+) -> Result<Came, NameFault> {
+    Denial::of("x.example", None).offer(heap, cache, 1000)?;
+    let names = [
+        Name::from_text(heap, "h.lan")?,
+        Name::from_text(heap, "a.x.example")?,
+        Name::from_text(heap, "y.example")?,
+    ];
+    Ok(came_if(are_found(heap, cache, config, &names)))
+}
+
+/// The result of these calls of this cache, with a configuration.
+fn came_of<'a>(
+    heap: Heap<'a>,
+    cache: &mut Cache<DefaultHasher, Heap<'a>>,
+    config: &Config<Heap<'a>>,
+    calls: Calls,
+) -> Result<Came, NameFault> {
+    match calls {
+        Calls::Second(growths) => came_of_second(heap, cache, growths),
+        Calls::SameSlot => came_of_same_slot(heap, cache),
+        Calls::ClearUnused => Ok(came_of_clear(heap, cache)),
+        Calls::Others => came_of_others(heap, cache),
+        Calls::LookUps => came_of_look_ups(heap, cache, config),
+    }
+}
+
+/// The same of a new cache, which is forgotten.
+fn came_of_new<'a>(heap: Heap<'a>, config: &Config<Heap<'a>>, calls: Calls) -> Result<Came, Fail> {
+    let mut cache = Cache::new(heap, 2, DefaultHasher::default())?;
+    let came = came_of(heap, &mut cache, config, calls);
+    forget(cache);
+    Ok(came?)
+}
+
+/// The same with a configuration that denies.
+fn done(alloc: Global, calls: Calls) -> Result<Came, Fail> {
+    let heap = Refusing::new(alloc);
+    let config = Config::read(alloc, &heap, DENYING)?;
+    came_of_new(&heap, &config, calls)
+}
+
+/// The number of allocations of the second offer that are refused one after another, until it is
+/// kept, and the result then.
+fn refused_of_second(alloc: Global) -> Result<(u64, Came), Fail> {
+    for growths in 0..100u64 {
+        let came = done(alloc, Calls::Second(growths))?;
+        if came != Came::Unkept {
+            return Ok((growths, came));
+        }
+    }
+    Ok((100, Came::Unkept))
 }
 
 #[test]
 fn each_growth_of_an_offer_at_a_new_slot_is_refused(rt: HostRuntime) -> Result<(), Fail> {
-    let heap = Refusing::new(rt.alloc());
-    let mut refused = 0u64;
-    for count in 0..100u64 {
-        let (answer, right) = second_within(&heap, count)?;
-        assert!(rt; right, "with {count} granted");
-        if answer == Offered::Kept {
-            break;
-        }
-        assert_eq!(rt; answer, Offered::Unkept);
-        refused = refused.saturating_add(1);
-    }
+    let (refused, came) = refused_of_second(rt.alloc())?;
+    assert_eq!(rt; came, Came::Whole, "with {refused} granted");
     assert_eq!(rt; refused, 1, "the entry");
     Ok(())
 }
 
 #[test]
 fn offers_at_a_slot_that_is_there_take_no_memory(rt: HostRuntime) -> Result<(), Fail> {
-    let heap = Refusing::new(rt.alloc());
-    let mut cache = Cache::new(&heap, 2, DefaultHasher::default())?;
-    let first = Denial::of("a.example", Some(1));
-    first.offer(&heap, &mut cache, 1000)?;
-    for (rank, lifetime, answer) in [
-        (1u8, 300u16, Offered::Outranked),
-        (3, 300, Offered::Kept),
-        (3, 0, Offered::NotKept),
-        (3, 0, Offered::NotKept),
-        (3, 300, Offered::Unkept),
-    ] {
-        let next = Denial {
-            owner: "A.Example",
-            kind: Some(1),
-            lifetime,
-            rank,
-        };
-        let told = offer_within(&heap, 0, &mut cache, next, 2000)?;
-        assert_eq!(rt; told, answer, "rank {rank} and {lifetime} seconds");
-    }
+    assert_eq!(rt; done(rt.alloc(), Calls::SameSlot)?, Came::Whole);
     Ok(())
-}
-
-/// Whether one allocation is left, and no more.
-fn is_one_left(heap: &Refusing<Global>) -> bool {
-    Box::new(heap, 0u8).is_ok() && Box::new(heap, 0u8).is_err()
 }
 
 #[test]
 fn a_cache_that_was_never_used_is_cleared_without_memory(rt: HostRuntime) -> Result<(), Fail> {
-    let heap = Refusing::new(rt.alloc());
-    let mut cache = Cache::new(&heap, 2, DefaultHasher::default())?;
-    heap.allow(1);
-    cache.clear();
-    assert!(rt; cache.len() == 0 && is_one_left(&heap));
+    assert_eq!(rt; done(rt.alloc(), Calls::ClearUnused)?, Came::Whole);
     Ok(())
 }
 
 /// One allocation is granted, and stays unspent over all calls that do not allocate.
 #[test]
 fn other_calls_take_no_memory(rt: HostRuntime) -> Result<(), Fail> {
-    let heap = Refusing::new(rt.alloc());
-    let mut cache = Cache::new(&heap, 2, DefaultHasher::default())?;
-    let first = Denial::of("a.example", Some(1));
-    let slot = first.slot(&heap)?;
-    first.offer(&heap, &mut cache, 1000)?;
-    heap.allow(1);
-    cache.promote(&slot);
-    let is_there = cache.peek(&slot).is_some() && !cache.has_name_error(10) && cache.len() == 1;
-    cache.forget(&slot);
-    cache.clear();
-    assert!(rt; is_there && is_one_left(&heap));
+    assert_eq!(rt; done(rt.alloc(), Calls::Others)?, Came::Whole);
     Ok(())
-}
-
-/// A cache with a name error, granted one allocation, looks up a name that the configuration
-/// denies, names under the name error and next to it, and then shows the one under it.
-fn look_up<'a>(
-    heap: &'a Refusing<Global>,
-    cache: &mut Cache<DefaultHasher, &'a Refusing<Global>>,
-    config: &Config<&'a Refusing<Global>>,
-) -> Result<bool, NameFault> {
-    Denial::of("x.example", None).offer(heap, cache, 1000)?;
-    let under = Name::from_text(heap, "a.x.example")?;
-    let beside = Name::from_text(heap, "y.example")?;
-    let local = Name::from_text(heap, "h.lan")?;
-    heap.allow(1);
-    let is_local = matches!(find(cache, &local, 1, 1, 2000, config), Found::Local);
-    let is_denied = matches!(find(cache, &under, 1, 1, 2000, config), Found::Denied(_));
-    let at = CacheAt {
-        cache,
-        config,
-        moment: 2000,
-    };
-    let is_missed = matches!(find(cache, &beside, 1, 1, 2000, config), Found::Miss)
-        && matches!(found_past(&at, &under, 60), Found::Miss);
-    shown(cache, &under, 1);
-    Ok(is_local && is_denied && is_missed && is_one_left(heap))
 }
 
 #[test]
 fn look_ups_take_no_memory(rt: HostRuntime) -> Result<(), Fail> {
-    let heap = Refusing::new(rt.alloc());
-    let config = Config::read(rt.alloc(), &heap, DENYING)?;
-    let mut cache = Cache::new(&heap, 2, DefaultHasher::default())?;
-    assert!(rt; look_up(&heap, &mut cache, &config)?);
+    assert_eq!(rt; done(rt.alloc(), Calls::LookUps)?, Came::Whole);
     Ok(())
 }

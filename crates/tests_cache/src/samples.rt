@@ -133,14 +133,23 @@ fn set_of<A: Allocator>(owner: Name<A>, rows: Rows<A>) -> Piece<A>
 }
 
 /// The pieces that a message carries as the reply to its own question.
-pub(crate) fn pieces_of(alloc: Global, digits: &str) -> Result<PlainList<Piece, Global>, Fail> {
-    let config = Config::read(alloc, alloc, CONFIG)?;
-    let octets = hex::decode(alloc, digits)?;
-    let view = MessageRef::view(octets.as_slice())?;
-    let message = view.read_whole(alloc)?;
+fn pieces_in(
+    alloc: Global,
+    config: &Config,
+    octets: &[u8],
+) -> Result<PlainList<Piece, Global>, Fail> {
+    let view = MessageRef::view(octets)?;
     let question = view.question(alloc)?;
-    let walk = pieces(alloc, &message, &question, RouteId { place: 0 }, &config)?;
+    let message = view.read_whole(alloc)?;
+    let walk = pieces(alloc, &message, &question, RouteId { place: 0 }, config)?;
     Ok(walk.pieces)
+}
+
+/// The same of a message in hexadecimal digits, with a configuration that serves all names.
+pub(crate) fn pieces_of(alloc: Global, digits: &str) -> Result<PlainList<Piece, Global>, Fail> {
+    let octets = hex::decode(alloc, digits)?;
+    let config = Config::read(alloc, alloc, CONFIG)?;
+    pieces_in(alloc, &config, &octets)
 }
 
 /// What is found of the address of a name, expired entries too, with a window in seconds.

@@ -1,12 +1,14 @@
 //! Replies in octets, and what no contract can say: that allocations succeed where there is memory.
 
+ghost use Rattle.dns_message.specs.Messages.{HasShapes};
+
 use crate::samples::{ALIAS, CONFIG, NAME_ERROR};
-use dns_message::MessageRef;
+use dns_message::{Message, MessageRef, Question};
 use refusing_allocator::Refusing;
 use std::alloc::Global;
 use std::test::Fail;
 use suffix_routes::{Config, RouteId};
-use trust_rank::{Piece, Walk, pieces};
+use trust_rank::{Piece, pieces};
 
 /// Forty addresses of a.example are counted.
 const FORTY: &str = "0008850000010028000000000161076578616d706c650000010001";
@@ -23,48 +25,22 @@ fn twenty_twice(heap: Global) -> Result<Vec<u8>, Fail> {
     Ok(octets)
 }
 
-/// The pieces of a message as the reply to its own question, with `growths` allocations
-/// granted; `None` where one more was needed.
-fn walked<'h>(
-    table_heap: Global,
-    heap: &'h Refusing<Global>,
-    octets: &[u8],
-    growths: u64,
-) -> Result<Option<Walk<&'h Refusing<Global>>>, Fail> {
-    let config = Config::read(table_heap, heap, CONFIG)?;
-    let view = MessageRef::view(octets)?;
-    let message = view.read_whole(heap)?;
-    let question = view.question(heap)?;
-    heap.allow(growths);
-    let walk = pieces(heap, &message, &question, RouteId { place: 0 }, &config);
-    heap.allow(u64::MAX);
-    Ok(walk.ok())
+type Heap<'a> = &'a Refusing<Global>;
+
+/// What is made, with each allocation refused in turn.
+#[derive(Clone, Copy)]
+enum Made {
+    /// The pieces of a reply.
+    Pieces,
+    /// A copy of each of them, of which there are at most three.
+    Copies,
 }
 
-/// The number of allocations of the call that are refused one after another, until it is done.
-fn refusals(table_heap: Global, octets: &[u8]) -> Result<u64, Fail> {
-    let heap = Refusing::new(table_heap);
-    let mut refused = 0u64;
-    for growths in 0..200u64 {
-        if walked(table_heap, &heap, octets, growths)?.is_some() {
-            break;
-        }
-        refused = refused.saturating_add(1);
-    }
-    Ok(refused)
-}
+/// For each that is made the number of allocations that are refused one after another.
+type Refused = [Option<u64>; 3];
 
-#[test]
-fn each_growth_is_refused(rt: HostRuntime) -> Result<(), Fail> {
-    let alias = refusals(rt.alloc(), &hex::decode(rt.alloc(), ALIAS)?)?;
-    let name_error = refusals(rt.alloc(), &hex::decode(rt.alloc(), NAME_ERROR)?)?;
-    let twenty = refusals(rt.alloc(), &twenty_twice(rt.alloc())?)?;
-    assert_eq!(rt; (alias, name_error, twenty), (5, 3, 6));
-    Ok(())
-}
-
-/// The number of allocations of a copy that are refused one after another, until it is made.
-fn refused_copies<'h>(heap: &'h Refusing<Global>, piece: &Piece<&'h Refusing<Global>>) -> u64 {
+/// The number of allocations of a copy.
+fn refused_copies<'h>(heap: Heap<'h>, piece: &Piece<Heap<'h>>) -> u64 {
     for growths in 0..100u64 {
         heap.allow(growths);
         let is_made = piece.copy(heap).is_ok();
@@ -76,27 +52,111 @@ fn refused_copies<'h>(heap: &'h Refusing<Global>, piece: &Piece<&'h Refusing<Glo
     100
 }
 
-/// The same of each piece that a message carries.
-fn copies_of(table_heap: Global, digits: &str) -> Result<Vec<u64>, Fail> {
-    let heap = Refusing::new(table_heap);
-    let octets = hex::decode(table_heap, digits)?;
-    let Some(walk) = walked(table_heap, &heap, &octets, u64::MAX)? else {
-        return Err(Fail::from("no walk"));
-    };
-    let mut counts = Vec::new(table_heap);
-    for piece in walk.pieces.as_slice() {
-        counts.push(refused_copies(&heap, piece))?;
+/// The same of a copy of each piece.
+fn refused_of_copies<'h>(heap: Heap<'h>, pieces: &[Piece<Heap<'h>>]) -> Result<Refused, Fail> {
+    let mut refused = [None; 3];
+    if pieces.len() > refused.len() {
+        return Err(Fail::from("more than three pieces"));
     }
-    Ok(counts)
+    for (count, piece) in refused.iter_mut().zip(pieces) {
+        *count = Some(refused_copies(heap, piece));
+    }
+    Ok(refused)
+}
+
+/// The number of allocations of the pieces of this message as the reply to this question.
+fn refused_of_pieces<'h>(
+    heap: Heap<'h>,
+    message: &Message<Heap<'h>>,
+    question: &Question<Heap<'h>>,
+    config: &Config<Heap<'h>>,
+) -> u64
+    requires { HasShapes message.now }
+{
+    for growths in 0..200u64 {
+        heap.allow(growths);
+        let is_made = pieces(heap, message, question, RouteId { place: 0 }, config).is_ok();
+        heap.allow(u64::MAX);
+        if is_made {
+            return growths;
+        }
+    }
+    200
+}
+
+/// The allocations of what is made of this message.
+fn refused_in<'h>(
+    heap: Heap<'h>,
+    message: &Message<Heap<'h>>,
+    question: &Question<Heap<'h>>,
+    config: &Config<Heap<'h>>,
+    made: Made,
+) -> Result<Refused, Fail>
+    requires { HasShapes message.now }
+{
+    match made {
+        Made::Pieces => {
+            let refused = refused_of_pieces(heap, message, question, config);
+            Ok([Some(refused), None, None])
+        }
+        Made::Copies => {
+            let walk = pieces(heap, message, question, RouteId { place: 0 }, config)?;
+            refused_of_copies(heap, walk.pieces.as_slice())
+        }
+    }
+}
+
+/// The same of a message in octets, as the reply to its own question.
+fn refused_of<'h>(
+    heap: Heap<'h>,
+    config: &Config<Heap<'h>>,
+    octets: &[u8],
+    made: Made,
+) -> Result<Refused, Fail> {
+    let view = MessageRef::view(octets)?;
+    let question = view.question(heap)?;
+    let message = view.read_whole(heap)?;
+    refused_in(heap, &message, &question, config, made)
+}
+
+/// The same with a configuration that serves all names.
+fn refused_of_octets(alloc: Global, octets: &[u8], made: Made) -> Result<Refused, Fail> {
+    let heap = Refusing::new(alloc);
+    let config = Config::read(alloc, &heap, CONFIG)?;
+    refused_of(&heap, &config, octets, made)
+}
+
+/// The same of a message in hexadecimal digits.
+fn refused_of_digits(alloc: Global, digits: &str, made: Made) -> Result<Refused, Fail> {
+    let octets = hex::decode(alloc, digits)?;
+    refused_of_octets(alloc, &octets, made)
+}
+
+/// The same of [`twenty_twice`].
+fn refused_of_twenty(alloc: Global) -> Result<Refused, Fail> {
+    let octets = twenty_twice(alloc)?;
+    refused_of_octets(alloc, &octets, Made::Pieces)
+}
+
+#[test]
+fn each_growth_is_refused(rt: HostRuntime) -> Result<(), Fail> {
+    let alias = refused_of_digits(rt.alloc(), ALIAS, Made::Pieces)?;
+    let name_error = refused_of_digits(rt.alloc(), NAME_ERROR, Made::Pieces)?;
+    let twenty = refused_of_twenty(rt.alloc())?;
+    assert_eq!(rt;
+        (alias[0], name_error[0], twenty[0]),
+        (Some(5), Some(3), Some(6))
+    );
+    Ok(())
 }
 
 /// Names and data of at most 30 octets do not allocate. One allocation goes to the list of a set of
 /// more than one record; those of a denial to the data of its SOA and to the box that it is in.
 #[test]
 fn each_growth_of_a_copy_is_refused(rt: HostRuntime) -> Result<(), Fail> {
-    let alias = copies_of(rt.alloc(), ALIAS)?;
-    assert_eq!(rt; alias.as_slice(), [0, 1].as_slice());
-    let name_error = copies_of(rt.alloc(), NAME_ERROR)?;
-    assert_eq!(rt; name_error.as_slice(), [2].as_slice());
+    let alias = refused_of_digits(rt.alloc(), ALIAS, Made::Copies)?;
+    assert_eq!(rt; alias, [Some(0), Some(1), None]);
+    let name_error = refused_of_digits(rt.alloc(), NAME_ERROR, Made::Copies)?;
+    assert_eq!(rt; name_error, [Some(2), None, None]);
     Ok(())
 }

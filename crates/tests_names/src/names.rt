@@ -13,11 +13,18 @@ fn label_count(heap: Global, text: &str) -> Result<usize, NameFault> {
 }
 
 /// Texts, and the number of labels of their names, or the first fault.
-const TEXTS: [(&str, Result<usize, NameFault>); 13] = [
+const TEXTS: [(&str, Result<usize, NameFault>); 20] = [
     (".", Ok(0)),
     ("a.example", Ok(2)),
     ("a.example.", Ok(2)),
     ("_dns-1.A0", Ok(2)),
+    ("-a.example", Ok(2)),
+    ("a-.example", Ok(2)),
+    ("0.example", Ok(2)),
+    ("_a.example", Ok(2)),
+    ("-", Ok(1)),
+    ("_", Ok(1)),
+    ("9", Ok(1)),
     ("", Err(NameFault::EmptyLabel)),
     ("..", Err(NameFault::EmptyLabel)),
     (".a", Err(NameFault::EmptyLabel)),

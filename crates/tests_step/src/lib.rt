@@ -1,15 +1,7 @@
 //! Tests of the step, of its values and of its runs from outside, for what no contract says: that
-//! memory is there, how much of it a step takes, and which calls do not allocate.
+//! memory is there, how much of it a run takes, and which calls do not allocate.
 #![tactic(auto)]
 
-#[cfg(test)]
-mod growths;
-#[cfg(test)]
-mod hits;
-#[cfg(test)]
-mod lines;
-#[cfg(test)]
-mod many;
 #[cfg(test)]
 mod quiet;
 #[cfg(test)]

@@ -2,27 +2,41 @@
 //! left after the step. So a body that copies a stranger's octets is found even where it ignores
 //! the refusal.
 
-use crate::worked::{PATH, REPLY, SECOND, SERVER, WORDS, asked, config, delivers, sends};
+use crate::worked::{PATH, REPLY, SECOND, SERVER, WORDS, ask, delivers, new, sends};
 use forwarder_core::Forwarder;
 use lru::DefaultHasher;
 use refusing_allocator::Refusing;
 use std::alloc::{AllocError, Allocator, Global};
+use std::mem::forget;
 use std::test::Fail;
-use step_values::{Event, Path};
+use step_values::{Event, Outcome, Path};
 use suffix_routes::Peer;
+
+/// Whether one allocation that is allowed is left. Then all are.
+fn is_left(heap: &Refusing<Global>) -> bool {
+    let is_left = Box::new(heap, 0u8).is_ok();
+    heap.allow(u64::MAX);
+    is_left
+}
+
+/// Whether a step was made that has no action.
+fn is_empty<A: Allocator + Copy>(outcome: &Result<Outcome<A>, AllocError>) -> bool {
+    match outcome {
+        Ok(outcome) => outcome.actions.is_empty(),
+        Err(_) => false,
+    }
+}
 
 /// Whether the step of this event has no action and does not allocate.
 fn is_quiet<'a>(
     heap: &'a Refusing<Global>,
     forwarder: &mut Forwarder<DefaultHasher, &'a Refusing<Global>>,
     now: u64,
-    event: Event<&'a Refusing<Global>>,
-) -> Result<bool, AllocError> {
+    event: &Event<&'a Refusing<Global>>,
+) -> bool {
     heap.allow(1);
-    let outcome = forwarder.step(now, WORDS, &event);
-    let is_left = Box::new(heap, 0u8).is_ok();
-    heap.allow(u64::MAX);
-    Ok(is_left && outcome?.actions.is_empty())
+    let outcome = forwarder.step(now, WORDS, event);
+    is_left(heap) && is_empty(&outcome)
 }
 
 /// An event whose octets are in the table.
@@ -90,50 +104,113 @@ fn is_quiet_row<'a>(
     row: Row,
 ) -> Result<bool, AllocError> {
     let event = event(heap, row)?;
-    is_quiet(heap, forwarder, now, event)
+    Ok(is_quiet(heap, forwarder, now, &event))
+}
+
+/// The calls of a forwarder.
+#[derive(Clone, Copy, PartialEq, Eq)]
+enum Calls {
+    /// After the query was sent, the step of each row.
+    Rows,
+    /// After the query was sent, a restart.
+    Restart,
+    /// A restart of a new forwarder.
+    RestartOfNew,
+    /// After the query was sent, what is due next.
+    NextDue,
+}
+
+/// The result of these calls.
+#[derive(Clone, Copy, PartialEq, Eq, Debug)]
+enum Came {
+    /// No call allocates, no step has an action, and this is due next if it was asked for.
+    Quiet(Option<u64>),
+    /// The first call, from 0, that allocates or has an action.
+    Loud(usize),
+}
+
+/// The result of a call that returned this.
+fn came_if_left(heap: &Refusing<Global>, due: Option<u64>) -> Came {
+    if is_left(heap) {
+        Came::Quiet(due)
+    } else {
+        Came::Loud(0)
+    }
+}
+
+/// The result of the rows.
+fn came_of_rows<'a>(
+    heap: &'a Refusing<Global>,
+    forwarder: &mut Forwarder<DefaultHasher, &'a Refusing<Global>>,
+) -> Result<Came, AllocError> {
+    for (number, (now, row)) in ROWS.iter().enumerate() {
+        if !is_quiet_row(heap, forwarder, *now, *row)? {
+            return Ok(Came::Loud(number));
+        }
+    }
+    Ok(Came::Quiet(None))
+}
+
+/// The result of these calls of a new forwarder.
+fn came_of<'a>(
+    heap: &'a Refusing<Global>,
+    forwarder: &mut Forwarder<DefaultHasher, &'a Refusing<Global>>,
+    calls: Calls,
+) -> Result<Came, AllocError> {
+    if calls != Calls::RestartOfNew {
+        ask(heap, forwarder)?;
+    }
+    match calls {
+        Calls::Rows => came_of_rows(heap, forwarder),
+        Calls::Restart | Calls::RestartOfNew => {
+            heap.allow(1);
+            forwarder.restart();
+            Ok(came_if_left(heap, None))
+        }
+        Calls::NextDue => {
+            heap.allow(1);
+            let due = forwarder.next_due();
+            Ok(came_if_left(heap, due))
+        }
+    }
+}
+
+/// The same. The forwarder is forgotten: dropping it would have to be proved here.
+fn came_of_new(alloc: Global, calls: Calls) -> Result<Came, AllocError> {
+    let heap = Refusing::new(alloc);
+    let mut forwarder = new(&heap)?;
+    let came = came_of(&heap, &mut forwarder, calls);
+    forget(forwarder);
+    came
 }
 
 #[test]
 fn what_calls_for_nothing_takes_no_memory(rt: HostRuntime) -> Result<(), Fail> {
-    let heap = Refusing::new(rt.alloc());
-    let mut forwarder = asked(&heap)?;
-    for (number, (now, row)) in ROWS.iter().enumerate() {
-        assert!(rt;
-            is_quiet_row(&heap, &mut forwarder, *now, *row)?,
-            "row {number}"
-        );
-    }
+    assert_eq!(rt; came_of_new(rt.alloc(), Calls::Rows)?, Came::Quiet(None));
     Ok(())
 }
 
 #[test]
 fn a_restart_by_its_call_takes_no_memory(rt: HostRuntime) -> Result<(), Fail> {
-    let heap = Refusing::new(rt.alloc());
-    let mut forwarder = asked(&heap)?;
-    heap.allow(1);
-    forwarder.restart();
-    assert!(rt; Box::new(&heap, 0u8).is_ok());
+    assert_eq!(rt; came_of_new(rt.alloc(), Calls::Restart)?, Came::Quiet(None));
     Ok(())
 }
 
 #[test]
 fn a_restart_of_a_new_forwarder_takes_no_memory(rt: HostRuntime) -> Result<(), Fail> {
-    let heap = Refusing::new(rt.alloc());
-    let mut forwarder = Forwarder::new(&heap, config(&heap)?, DefaultHasher::default())?;
-    heap.allow(1);
-    forwarder.restart();
-    assert!(rt; Box::new(&heap, 0u8).is_ok());
+    assert_eq!(rt;
+        came_of_new(rt.alloc(), Calls::RestartOfNew)?,
+        Came::Quiet(None)
+    );
     Ok(())
 }
 
 /// The next moment that is due is 1,500 milliseconds after the query was sent.
 #[test]
 fn what_is_due_next_takes_no_memory(rt: HostRuntime) -> Result<(), Fail> {
-    let heap = Refusing::new(rt.alloc());
-    let forwarder = asked(&heap)?;
-    heap.allow(1);
-    let due = forwarder.next_due();
-    assert!(rt; Box::new(&heap, 0u8).is_ok());
-    assert_eq!(rt; due, Some(2500));
+    assert_eq!(rt;
+        came_of_new(rt.alloc(), Calls::NextDue)?,
+        Came::Quiet(Some(2500))
+    );
     Ok(())
 }

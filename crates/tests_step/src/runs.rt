@@ -1,12 +1,15 @@
 //! The worked question and its reply as a run over a list, and step by step next to the stored
 //! history.
 
-use crate::worked::{QUERY, QUESTION, WORDS, answer_whole, config, replies, send_alone, sends};
+use crate::worked::{
+    QUERY, QUESTION, WORDS, answer_whole, config, new, replies, send_alone, sends,
+};
 use forwarder_core::Forwarder;
 use lru::DefaultHasher;
 use network_model::{Recorded, run_list};
 use refusing_allocator::Refusing;
 use std::alloc::{AllocError, Allocator, Global};
+use std::mem::forget;
 use std::test::Fail;
 use step_values::{Handed, Outcome, Step};
 
@@ -52,22 +55,39 @@ fn is_done<A: Allocator>(outcome: &Outcome<A>, unkept: u32) -> bool {
     outcome.unkept == unkept && !outcome.more
 }
 
-/// The same two steps by calls of a forwarder's own.
-fn are_worked_by_calls(alloc: Global) -> Result<bool, AllocError> {
-    let mut forwarder = Forwarder::new(alloc, config(alloc)?, DefaultHasher::default())?;
-    let asks = forwarder.step(1000, WORDS, &sends(alloc, &QUESTION)?)?;
-    let answers = forwarder.step(1020, WORDS, &replies(alloc)?)?;
-    Ok(
-        send_alone(&asks.actions, &QUERY)
-            && answer_whole(&answers.actions)
-            && is_done(&asks, 0)
-            && is_done(&answers, 0),
-    )
+/// Whether the step of this forwarder asks the query.
+fn is_asked(
+    alloc: Global,
+    forwarder: &mut Forwarder<DefaultHasher, Global>,
+) -> Result<bool, AllocError> {
+    let event = sends(alloc, &QUESTION)?;
+    let outcome = forwarder.step(1000, WORDS, &event)?;
+    Ok(send_alone(&outcome.actions, &QUERY) && is_done(&outcome, 0))
+}
+
+/// Whether its next step answers.
+fn is_answered(
+    alloc: Global,
+    forwarder: &mut Forwarder<DefaultHasher, Global>,
+) -> Result<bool, AllocError> {
+    let event = replies(alloc)?;
+    let outcome = forwarder.step(1020, WORDS, &event)?;
+    Ok(answer_whole(&outcome.actions) && is_done(&outcome, 0))
+}
+
+/// The same two steps by calls of a forwarder's own: whether it asks, and whether it answers. It is
+/// forgotten: dropping it would have to be proved here.
+fn worked_by_calls(alloc: Global) -> Result<(bool, bool), AllocError> {
+    let mut forwarder = new(alloc)?;
+    let asked = is_asked(alloc, &mut forwarder);
+    let answered = is_answered(alloc, &mut forwarder);
+    forget(forwarder);
+    Ok((asked?, answered?))
 }
 
 #[test]
 fn the_steps_by_calls(rt: HostRuntime) -> Result<(), Fail> {
-    assert!(rt; are_worked_by_calls(rt.alloc())?);
+    assert_eq!(rt; worked_by_calls(rt.alloc())?, (true, true));
     Ok(())
 }
 
@@ -90,113 +110,44 @@ impl Refused {
     }
 }
 
-/// The inputs, in their order.
-fn handed_in<'a>(
-    heap: &'a Refusing<Global>,
-) -> Result<Vec<Handed<&'a Refusing<Global>>, &'a Refusing<Global>>, AllocError> {
-    let mut handed = Vec::new(heap);
-    handed.push(first(heap)?)?;
-    handed.push(second(heap)?)?;
-    Ok(handed)
+/// The result of a run in which allocations are refused.
+#[derive(Clone, Copy)]
+enum Fate {
+    /// A step was refused.
+    Lost,
+    /// Each step was made, but a piece was not kept.
+    Unkept,
+    /// Each step was made whole.
+    Whole,
+    Other,
 }
 
-/// Each allocation of a run over the list is refused in turn: the number with which the run is
-/// refused, and the number with which a piece is not kept. `None` where it does anything else.
-fn refusals_of_list(
-    heap: &Refusing<Global>,
-    refused: Refused,
-) -> Result<Option<(u64, u64)>, AllocError> {
-    let config = config(heap)?;
-    let handed = handed_in(heap)?;
-    let (mut lost, mut unkept) = (0u64, 0u64);
-    for granted in 0..200 {
-        refused.begin(heap, granted);
-        let steps = run_list(heap, &config, &handed);
-        heap.allow(u64::MAX);
-        match steps {
-            Err(_) => lost = lost.saturating_add(1),
-            Ok(steps) if are_worked(&steps, 0) => return Ok(Some((lost, unkept))),
-            Ok(steps) if are_worked(&steps, 1) => unkept = unkept.saturating_add(1),
-            Ok(_) => return Ok(None),
-        }
+/// The result of a run that made these steps.
+fn fate_of_steps<A: Allocator + Copy>(steps: &[Step<A>]) -> Fate {
+    if are_worked(steps, 0) {
+        Fate::Whole
+    } else if are_worked(steps, 1) {
+        Fate::Unkept
+    } else {
+        Fate::Other
     }
-    Ok(None)
 }
 
-/// The configuration makes 2 allocations and a new forwarder 7, all but one for its cache; a step
-/// makes one more for the copy of its input, and the first for the list. Of the 11 of the first
-/// step, whose one action makes none, 5 are for the ask and 4 for the question that waits: a slab
-/// and lists of keys. With the last allocation refused, the set is not kept.
-#[test]
-fn a_run_over_a_list(rt: HostRuntime) -> Result<(), Fail> {
-    let heap = Refusing::new(rt.alloc());
-    let one = refusals_of_list(&heap, Refused::One)?;
-    let rest = refusals_of_list(&heap, Refused::Rest)?;
-    assert_eq!(rt; rest, Some((2 + 7 + (11 + 2) + (8 + 1), 1)));
-    assert_eq!(rt; one, rest);
-    Ok(())
-}
-
-/// A new forwarder, with an allocation refused after `granted`; whether it was made. Its
-/// configuration has ample memory.
-fn is_forwarder_with(
+/// The result of a run over the list, with an allocation refused after `granted`.
+fn fate_of_list(
     heap: &Refusing<Global>,
     refused: Refused,
     granted: u64,
-) -> Result<bool, AllocError> {
+) -> Result<Fate, AllocError> {
+    let handed = [first(heap)?, second(heap)?];
     let config = config(heap)?;
     refused.begin(heap, granted);
-    let forwarder = Forwarder::new(heap, config, DefaultHasher::default());
+    let steps = run_list(heap, &config, &handed);
     heap.allow(u64::MAX);
-    Ok(forwarder.is_ok())
-}
-
-/// The same of a run that has made no step.
-fn is_recorded_with(
-    heap: &Refusing<Global>,
-    refused: Refused,
-    granted: u64,
-) -> Result<bool, AllocError> {
-    let config = config(heap)?;
-    refused.begin(heap, granted);
-    let recorded = Recorded::new(heap, config, DefaultHasher::default());
-    heap.allow(u64::MAX);
-    Ok(recorded.is_ok())
-}
-
-/// The fewest allocations granted before one is refused with which both are made; `None` where one
-/// of them is made with fewer than the other.
-fn growths_of_new(heap: &Refusing<Global>, refused: Refused) -> Result<Option<u64>, AllocError> {
-    for granted in 0..64 {
-        let is_forwarder = is_forwarder_with(heap, refused, granted)?;
-        let is_recorded = is_recorded_with(heap, refused, granted)?;
-        if is_forwarder && is_recorded {
-            return Ok(Some(granted));
-        }
-        if is_forwarder || is_recorded {
-            return Ok(None);
-        }
+    match &steps {
+        Ok(steps) => Ok(fate_of_steps(steps)),
+        Err(_) => Ok(Fate::Lost),
     }
-    Ok(None)
-}
-
-/// All but one are for the cache, and the list of steps takes none.
-#[test]
-fn each_growth_of_a_new_forwarder_is_refused(rt: HostRuntime) -> Result<(), Fail> {
-    let heap = Refusing::new(rt.alloc());
-    let one = growths_of_new(&heap, Refused::One)?;
-    let rest = growths_of_new(&heap, Refused::Rest)?;
-    assert_eq!(rt; (one, rest), (Some(7), Some(7)));
-    Ok(())
-}
-
-/// A run that has made the first step.
-fn begun<'a>(
-    heap: &'a Refusing<Global>,
-) -> Result<Recorded<DefaultHasher, &'a Refusing<Global>>, AllocError> {
-    let mut recorded = Recorded::new(heap, config(heap)?, DefaultHasher::default())?;
-    recorded.step(first(heap)?)?;
-    Ok(recorded)
 }
 
 /// The second step, with an allocation refused after `granted`; whether it was made.
@@ -224,48 +175,58 @@ fn is_made_again<'a>(
     Ok(was_first_alone && are_worked(recorded.steps(), 0))
 }
 
-/// The result of a step.
-#[derive(Clone, Copy)]
-enum Fate {
-    /// It was refused, and made again.
-    Again,
-    /// It was made, but a piece was not kept.
-    Unkept,
-    /// It was made whole.
-    Whole,
-    Other,
+/// The result of the second step of a recorded run, with an allocation refused after `granted`. A
+/// step that is refused has to be made again.
+fn fate_of_second<'a>(
+    heap: &'a Refusing<Global>,
+    recorded: &mut Recorded<DefaultHasher, &'a Refusing<Global>>,
+    refused: Refused,
+    granted: u64,
+) -> Result<Fate, AllocError> {
+    recorded.step(first(heap)?)?;
+    if made_with(heap, recorded, refused, granted)? {
+        return Ok(fate_of_steps(recorded.steps()));
+    }
+    let is_made = is_made_again(heap, recorded)?;
+    Ok(if is_made { Fate::Lost } else { Fate::Other })
 }
 
-/// The result of the second step, with an allocation refused after `granted`.
-fn fate_of_second(
+/// The same of a new run, which is forgotten.
+fn fate_of_recorded(
     heap: &Refusing<Global>,
     refused: Refused,
     granted: u64,
 ) -> Result<Fate, AllocError> {
-    let mut recorded = begun(heap)?;
-    if !made_with(heap, &mut recorded, refused, granted)? {
-        let is_made = is_made_again(heap, &mut recorded)?;
-        return Ok(if is_made { Fate::Again } else { Fate::Other });
-    }
-    Ok(if are_worked(recorded.steps(), 0) {
-        Fate::Whole
-    } else if are_worked(recorded.steps(), 1) {
-        Fate::Unkept
-    } else {
-        Fate::Other
-    })
+    let mut recorded = Recorded::new(heap, config(heap)?, DefaultHasher::default())?;
+    let fate = fate_of_second(heap, &mut recorded, refused, granted);
+    forget(recorded);
+    fate
 }
 
-/// Each allocation of the second step is refused in turn: the number with which it is refused, and
-/// the number with which a piece is not kept. `None` where it does anything else.
-fn refusals_of_second(
+/// A run of the two steps.
+#[derive(Clone, Copy)]
+enum Run {
+    /// Over a list.
+    List,
+    /// Recorded. It has ample memory up to its second step.
+    Recorded,
+}
+
+/// Each allocation of a run is refused in turn: the number with which a step is refused, and the
+/// number with which a piece is not kept. `None` if it does anything else.
+fn refusals_of(
     heap: &Refusing<Global>,
+    run: Run,
     refused: Refused,
 ) -> Result<Option<(u64, u64)>, AllocError> {
     let (mut lost, mut unkept) = (0u64, 0u64);
     for granted in 0..200 {
-        match fate_of_second(heap, refused, granted)? {
-            Fate::Again => lost = lost.saturating_add(1),
+        let fate = match run {
+            Run::List => fate_of_list(heap, refused, granted)?,
+            Run::Recorded => fate_of_recorded(heap, refused, granted)?,
+        };
+        match fate {
+            Fate::Lost => lost = lost.saturating_add(1),
             Fate::Unkept => unkept = unkept.saturating_add(1),
             Fate::Whole => return Ok(Some((lost, unkept))),
             Fate::Other => return Ok(None),
@@ -274,31 +235,122 @@ fn refusals_of_second(
     Ok(None)
 }
 
-/// Those of the step alone: its input is kept as it is.
+/// The same with one allocation alone refused, and with each one after it.
+fn refusals(alloc: Global, run: Run) -> Result<[Option<(u64, u64)>; 2], AllocError> {
+    let heap = Refusing::new(alloc);
+    let one = refusals_of(&heap, run, Refused::One)?;
+    let rest = refusals_of(&heap, run, Refused::Rest)?;
+    Ok([one, rest])
+}
+
+/// The configuration makes 2 allocations and a new forwarder 7, all but one for its cache; a step
+/// makes one more for the copy of its input, and the first for the list. Of the 11 of the first
+/// step, whose one action makes none, 5 are for the ask and 4 for the question that waits: a slab
+/// and lists of keys. With the last allocation refused, the set is not kept.
+#[test]
+fn a_run_over_a_list(rt: HostRuntime) -> Result<(), Fail> {
+    let [one, rest] = refusals(rt.alloc(), Run::List)?;
+    assert_eq!(rt; rest, Some((2 + 7 + (11 + 2) + (8 + 1), 1)));
+    assert_eq!(rt; one, rest);
+    Ok(())
+}
+
+/// Those of the second step alone: its input is kept as it is.
 #[test]
 fn a_recorded_run(rt: HostRuntime) -> Result<(), Fail> {
-    let heap = Refusing::new(rt.alloc());
-    let one = refusals_of_second(&heap, Refused::One)?;
-    let rest = refusals_of_second(&heap, Refused::Rest)?;
+    let [one, rest] = refusals(rt.alloc(), Run::Recorded)?;
     assert_eq!(rt; rest, Some((8, 1)));
     assert_eq!(rt; one, rest);
     Ok(())
 }
 
-/// The steps so far, of which there is one, are seen without allocating: of one allocation that is
-/// allowed, one is left.
-fn are_seen_without_memory(heap: &Refusing<Global>) -> Result<bool, AllocError> {
-    let recorded = begun(heap)?;
+/// A new forwarder, with an allocation refused after `granted`; whether it was made. Its
+/// configuration has ample memory.
+fn is_forwarder_with(
+    heap: &Refusing<Global>,
+    refused: Refused,
+    granted: u64,
+) -> Result<bool, AllocError> {
+    let config = config(heap)?;
+    refused.begin(heap, granted);
+    let forwarder = Forwarder::new(heap, config, DefaultHasher::default());
+    heap.allow(u64::MAX);
+    let is_made = forwarder.is_ok();
+    forget(forwarder);
+    Ok(is_made)
+}
+
+/// The same of a run that has made no step.
+fn is_recorded_with(
+    heap: &Refusing<Global>,
+    refused: Refused,
+    granted: u64,
+) -> Result<bool, AllocError> {
+    let config = config(heap)?;
+    refused.begin(heap, granted);
+    let recorded = Recorded::new(heap, config, DefaultHasher::default());
+    heap.allow(u64::MAX);
+    let is_made = recorded.is_ok();
+    forget(recorded);
+    Ok(is_made)
+}
+
+/// The fewest allocations granted before one is refused with which both are made; `None` where one
+/// of them is made with fewer than the other.
+fn growths_of_new(heap: &Refusing<Global>, refused: Refused) -> Result<Option<u64>, AllocError> {
+    for granted in 0..64 {
+        let is_forwarder = is_forwarder_with(heap, refused, granted)?;
+        let is_recorded = is_recorded_with(heap, refused, granted)?;
+        if is_forwarder && is_recorded {
+            return Ok(Some(granted));
+        }
+        if is_forwarder || is_recorded {
+            return Ok(None);
+        }
+    }
+    Ok(None)
+}
+
+/// The same with one allocation alone refused, and with each one after it.
+fn growths(alloc: Global) -> Result<[Option<u64>; 2], AllocError> {
+    let heap = Refusing::new(alloc);
+    let one = growths_of_new(&heap, Refused::One)?;
+    let rest = growths_of_new(&heap, Refused::Rest)?;
+    Ok([one, rest])
+}
+
+/// All but one are for the cache, and the list of steps takes none.
+#[test]
+fn each_growth_of_a_new_forwarder_is_refused(rt: HostRuntime) -> Result<(), Fail> {
+    assert_eq!(rt; growths(rt.alloc())?, [Some(7), Some(7)]);
+    Ok(())
+}
+
+/// The number of steps of a run once it has made the first one, and whether they are seen without
+/// allocating: of one allocation that is allowed, one is left.
+fn seen_after_first<'a>(
+    heap: &'a Refusing<Global>,
+    recorded: &mut Recorded<DefaultHasher, &'a Refusing<Global>>,
+) -> Result<(usize, bool), AllocError> {
+    recorded.step(first(heap)?)?;
     heap.allow(1);
     let count = recorded.steps().len();
     let is_left = Box::new(heap, 0u8).is_ok();
     heap.allow(u64::MAX);
-    Ok(count == 1 && is_left)
+    Ok((count, is_left))
+}
+
+/// The same of a new run, which is forgotten.
+fn seen(alloc: Global) -> Result<(usize, bool), AllocError> {
+    let heap = Refusing::new(alloc);
+    let mut recorded = Recorded::new(&heap, config(&heap)?, DefaultHasher::default())?;
+    let seen = seen_after_first(&heap, &mut recorded);
+    forget(recorded);
+    seen
 }
 
 #[test]
 fn steps_are_seen_without_memory(rt: HostRuntime) -> Result<(), Fail> {
-    let heap = Refusing::new(rt.alloc());
-    assert!(rt; are_seen_without_memory(&heap)?);
+    assert_eq!(rt; seen(rt.alloc())?, (1, true));
     Ok(())
 }

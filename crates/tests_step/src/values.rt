@@ -171,119 +171,188 @@ fn refuse(heap: &Refusing<Global>, is_alone: bool) {
     }
 }
 
-/// Whether the copy of an event is equal to it, and is refused out of memory where it has octets.
-fn is_event_copied(
-    heap: &Refusing<Global>,
-    place: u8,
+/// Whether the copy of this event is equal to it, and is refused out of memory if it has octets.
+fn is_event_copied<'a>(
+    heap: Heap<'a>,
+    event: &Event<Heap<'a>>,
     has_octets: bool,
     is_alone: bool,
 ) -> Result<bool, AllocError> {
-    heap.allow(u64::MAX);
-    let event = event(heap, place)?;
     refuse(heap, is_alone);
     let is_refused = event.copy(heap).is_err();
     heap.allow(u64::from(has_octets));
     let copy = event.copy(heap)?;
-    Ok(is_refused == has_octets && is_equal_event(&event, &copy))
+    Ok(is_refused == has_octets && is_equal_event(event, &copy))
 }
 
 /// The same of an action.
-fn is_action_copied(
-    heap: &Refusing<Global>,
-    place: u8,
+fn is_action_copied<'a>(
+    heap: Heap<'a>,
+    action: &Action<Heap<'a>>,
     has_octets: bool,
     is_alone: bool,
 ) -> Result<bool, AllocError> {
-    heap.allow(u64::MAX);
-    let action = action(heap, place)?;
     refuse(heap, is_alone);
     let is_refused = action.copy(heap).is_err();
     heap.allow(u64::from(has_octets));
     let copy = action.copy(heap)?;
-    Ok(is_refused == has_octets && is_equal_action(&action, &copy))
+    Ok(is_refused == has_octets && is_equal_action(action, &copy))
+}
+
+/// What is copied.
+#[derive(Clone, Copy)]
+enum Kind {
+    Event,
+    Action,
+}
+
+/// Whether what is at a place is copied right, with one allocation refused alone or with all.
+fn is_copied(
+    heap: Heap<'_>,
+    kind: Kind,
+    row: (u8, bool),
+    is_alone: bool,
+) -> Result<bool, AllocError> {
+    let (place, has_octets) = row;
+    heap.allow(u64::MAX);
+    match kind {
+        Kind::Event => {
+            let event = event(heap, place)?;
+            is_event_copied(heap, &event, has_octets, is_alone)
+        }
+        Kind::Action => {
+            let action = action(heap, place)?;
+            is_action_copied(heap, &action, has_octets, is_alone)
+        }
+    }
+}
+
+/// The first of these places that is not copied right, if any.
+fn first_uncopied(
+    alloc: Global,
+    kind: Kind,
+    rows: &[(u8, bool)],
+    is_alone: bool,
+) -> Result<Option<u8>, AllocError> {
+    let heap = Refusing::new(alloc);
+    for row in rows {
+        if !is_copied(&heap, kind, *row, is_alone)? {
+            return Ok(Some(row.0));
+        }
+    }
+    Ok(None)
 }
 
 #[test]
 fn copies_of_events_are_equal(rt: HostRuntime) -> Result<(), Fail> {
-    let heap = Refusing::new(rt.alloc());
-    for (place, has_octets) in &EVENTS {
-        assert!(rt;
-            is_event_copied(&heap, *place, *has_octets, false)?,
-            "event {place}"
-        );
-        assert!(rt;
-            is_event_copied(&heap, *place, *has_octets, true)?,
-            "event {place}"
-        );
-    }
+    assert_eq!(rt;
+        first_uncopied(rt.alloc(), Kind::Event, &EVENTS, false)?,
+        None
+    );
+    assert_eq!(rt;
+        first_uncopied(rt.alloc(), Kind::Event, &EVENTS, true)?,
+        None
+    );
     Ok(())
 }
 
 #[test]
 fn copies_of_actions_are_equal(rt: HostRuntime) -> Result<(), Fail> {
-    let heap = Refusing::new(rt.alloc());
-    for (place, has_octets) in &ACTIONS {
-        assert!(rt;
-            is_action_copied(&heap, *place, *has_octets, false)?,
-            "action {place}"
-        );
-        assert!(rt;
-            is_action_copied(&heap, *place, *has_octets, true)?,
-            "action {place}"
-        );
-    }
+    assert_eq!(rt;
+        first_uncopied(rt.alloc(), Kind::Action, &ACTIONS, false)?,
+        None
+    );
+    assert_eq!(rt;
+        first_uncopied(rt.alloc(), Kind::Action, &ACTIONS, true)?,
+        None
+    );
     Ok(())
 }
 
-/// Whether the input of a step is copied whole, and a refused allocation of that is reported.
-fn is_handed_copied(heap: Heap<'_>) -> Result<bool, AllocError> {
-    let handed = Handed {
-        now: 1020,
-        words: [7; 8],
-        event: event(heap, 2)?,
-    };
+/// Whether this input of a step is copied whole, and a refused allocation of that is reported.
+fn is_handed_copied<'a>(
+    heap: Heap<'a>,
+    handed: &Handed<Heap<'a>>,
+) -> Result<(bool, bool), AllocError> {
     heap.allow(0);
     let is_refused = handed.copy(heap).is_err();
     heap.allow(1);
     let copy = handed.copy(heap)?;
     let is_equal = copy.now == 1020 && copy.words == [7; 8];
-    Ok(is_refused && is_equal && is_equal_event(&handed.event, &copy.event))
+    Ok((
+        is_refused,
+        is_equal && is_equal_event(&handed.event, &copy.event),
+    ))
+}
+
+/// The same of a delivery.
+fn is_delivery_copied(alloc: Global) -> Result<(bool, bool), AllocError> {
+    let heap = Refusing::new(alloc);
+    let handed = Handed {
+        now: 1020,
+        words: [7; 8],
+        event: event(&heap, 2)?,
+    };
+    is_handed_copied(&heap, &handed)
 }
 
 #[test]
 fn copies_of_inputs_are_equal(rt: HostRuntime) -> Result<(), Fail> {
-    let heap = Refusing::new(rt.alloc());
-    assert!(rt; is_handed_copied(&heap)?);
+    assert_eq!(rt; is_delivery_copied(rt.alloc())?, (true, true));
     Ok(())
 }
 
-/// Whether actions are listed in their order, the first without an allocation, and a refused
-/// allocation changes nothing.
-fn are_listed(heap: Heap<'_>) -> Result<bool, AllocError> {
+/// Whether the list has one action, which closes this path.
+fn closes_alone<A: Allocator + Copy>(actions: &Actions<A>, path: Path) -> bool {
+    actions.len() == 1 && closes(actions.get(0), path) && actions.get(1).is_none()
+}
+
+/// Whether the action closes this path.
+fn closes<A: Allocator>(action: Option<&Action<A>>, path: Path) -> bool {
+    match action {
+        Some(Action::CloseUdp { port }) => path == Path::Udp(*port),
+        Some(Action::CloseTcp { conn }) => path == Path::Tcp(*conn),
+        _ => false,
+    }
+}
+
+/// Whether a list of one action is made without an allocation.
+fn is_only(heap: Heap<'_>) -> bool {
     heap.allow(0);
     let only = Actions::one(heap, Action::CloseTcp { conn: 7 });
-    let is_only = only.len() == 1
-        && matches!(only.get(0), Some(Action::CloseTcp { conn: 7 }))
-        && only.get(1).is_none();
-    let mut actions = Actions::new(heap);
+    closes_alone(&only, Path::Tcp(7))
+}
+
+/// Whether this list, which is empty, gets its first action without an allocation, and a refused
+/// allocation for the second changes nothing; then whether both are listed in their order.
+fn are_listed<'a>(
+    heap: Heap<'a>,
+    actions: &mut Actions<Heap<'a>>,
+) -> Result<(bool, bool), AllocError> {
+    heap.allow(0);
     let is_empty = actions.is_empty() && actions.get(0).is_none();
     actions.push(Action::CloseUdp { port: 1032 })?;
     let is_refused = actions.push(Action::CloseTcp { conn: 7 }).is_err();
-    let is_left = actions.len() == 1
-        && matches!(actions.get(0), Some(Action::CloseUdp { port: 1032 }))
-        && actions.get(1).is_none();
+    let is_left = closes_alone(actions, Path::Udp(1032));
     heap.allow(1);
     actions.push(Action::CloseTcp { conn: 7 })?;
     let are_both = actions.len() == 2
-        && matches!(actions.get(0), Some(Action::CloseUdp { port: 1032 }))
-        && matches!(actions.get(1), Some(Action::CloseTcp { conn: 7 }))
+        && closes(actions.get(0), Path::Udp(1032))
+        && closes(actions.get(1), Path::Tcp(7))
         && actions.get(2).is_none();
-    Ok(is_only && is_empty && is_refused && is_left && are_both)
+    Ok((is_empty && is_refused && is_left, are_both))
+}
+
+/// Both, of a list of one action and of a new list.
+fn lists(alloc: Global) -> Result<(bool, bool, bool), AllocError> {
+    let heap = Refusing::new(alloc);
+    let mut actions = Actions::new(&heap);
+    let (is_first_kept, are_both) = are_listed(&heap, &mut actions)?;
+    Ok((is_only(&heap), is_first_kept, are_both))
 }
 
 #[test]
 fn actions_are_listed_in_order(rt: HostRuntime) -> Result<(), Fail> {
-    let heap = Refusing::new(rt.alloc());
-    assert!(rt; are_listed(&heap)?);
+    assert_eq!(rt; lists(rt.alloc())?, (true, true, true));
     Ok(())
 }

@@ -92,12 +92,29 @@ pub(crate) fn replies<A: Allocator + Copy>(alloc: A) -> Result<Event<A>, AllocEr
     delivers(alloc, PATH, SERVER, REPLY)
 }
 
+/// A new forwarder.
+pub(crate) fn new<A: Allocator + Copy>(
+    alloc: A,
+) -> Result<Forwarder<DefaultHasher, A>, AllocError> {
+    Forwarder::new(alloc, config(alloc)?, DefaultHasher::default())
+}
+
+/// The forwarder sends the query.
+pub(crate) fn ask<A: Allocator + Copy>(
+    alloc: A,
+    forwarder: &mut Forwarder<DefaultHasher, A>,
+) -> Result<(), AllocError> {
+    let event = sends(alloc, &QUESTION)?;
+    let _outcome = forwarder.step(1000, WORDS, &event)?;
+    Ok(())
+}
+
 /// A forwarder that has sent the query.
 pub(crate) fn asked<A: Allocator + Copy>(
     alloc: A,
 ) -> Result<Forwarder<DefaultHasher, A>, AllocError> {
-    let mut forwarder = Forwarder::new(alloc, config(alloc)?, DefaultHasher::default())?;
-    let _outcome = forwarder.step(1000, WORDS, &sends(alloc, &QUESTION)?)?;
+    let mut forwarder = new(alloc)?;
+    ask(alloc, &mut forwarder)?;
     Ok(forwarder)
 }
 

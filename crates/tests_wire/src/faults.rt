@@ -1,139 +1,172 @@
 //! Turns over a wire that refuses calls, and turns without memory.
 
-use crate::turns::is_asked_alone;
-use crate::worked::{
-    SECOND, SERVER, answers, asks_at, closes, counted, fails, forwarder, gives_up, question, reply,
-    serve_anew, wire, wire_of_two_pieces,
-};
-use network_model::{Arrival, Served, Wire, serve};
+use crate::puts::{Puts, puts_of};
+use crate::scripts::{Comes, Run, Turn, counted, ran_anew, wire_of};
+use crate::turns::TWO_PIECES;
+use crate::worked::{CLIENT, QUESTION, REPLY, SECOND, forwarder};
+use forwarder_core::Forwarder;
+use lru::DefaultHasher;
+use network_model::{ScriptWire, Served, serve};
 use refusing_allocator::Refusing;
-use std::alloc::{AllocError, Allocator, Global};
+use std::alloc::{AllocError, Global};
+use std::mem::forget;
 use std::test::Fail;
-use step_values::Action;
 
-/// The ask that is refused, the close of its path, the ask of the second server, which answers.
-fn is_answered_by_the_second<A: Allocator>(puts: &[(Action<A>, bool)]) -> bool {
-    match puts {
-        [first, second, third, fourth, fifth] => {
-            asks_at(first, SERVER, false)
-                && closes(second)
-                && asks_at(third, SECOND, true)
-                && closes(fourth)
-                && answers(fifth)
-        }
-        _ => false,
-    }
-}
+/// The second server answers the question.
+const BY_SECOND: [Turn; 2] = [
+    (1000, Comes::Question(CLIENT, &QUESTION)),
+    (1020, Comes::Reply(1032, SECOND, REPLY)),
+];
 
 /// The first call is the arrival of the question, the second one the ask. A refused ask is no
 /// refused put: its path has failed.
 #[test]
 fn behind_a_refused_ask_the_next_server_is_asked(rt: HostRuntime) -> Result<(), Fail> {
-    let heap = Refusing::new(rt.alloc());
-    let mut wire = wire(&heap, question(&heap)?, reply(&heap, SECOND)?, &[1])?;
-    let served = serve_anew(&heap, &mut wire, &[SERVER, SECOND], 3)?;
-    assert_eq!(rt; served, counted(3, 0));
-    assert_eq!(rt; wire.faults(), 1);
-    assert!(rt; is_answered_by_the_second(wire.puts()));
+    let run = Run {
+        script: &BY_SECOND,
+        refuse: &[1],
+        has_second: true,
+        turns: 3,
+    };
+    let ran = ran_anew(rt.alloc(), &run)?;
+    assert_eq!(rt; ran.served, counted(3, 0));
+    assert_eq!(rt; ran.faults, 1);
+    assert_eq!(rt; ran.puts, Puts::AnsweredBySecond);
     Ok(())
 }
 
-/// The actions of a turn of which every put is refused: of each try the ask and the close, in turn
-/// to both servers.
-fn is_refused<A: Allocator>(place: usize, put: &(Action<A>, bool)) -> bool {
-    match place {
-        0 | 4 => asks_at(put, SERVER, false),
-        2 | 6 => asks_at(put, SECOND, false),
-        8 => fails(put),
-        _ => gives_up(put, false),
-    }
-}
+/// The question, and nothing else.
+const QUESTION_ALONE: [Turn; 1] = [(1000, Comes::Question(CLIENT, &QUESTION))];
 
 /// No ask counts as a refused put: those are the four closes and the reply.
 #[test]
 fn every_put_is_refused(rt: HostRuntime) -> Result<(), Fail> {
-    let heap = Refusing::new(rt.alloc());
-    let calls = [1, 2, 3, 4, 5, 6, 7, 8, 9];
-    let mut wire = wire(&heap, question(&heap)?, Arrival::Nothing, &calls)?;
-    let served = serve_anew(&heap, &mut wire, &[SERVER, SECOND], 1)?;
-    assert_eq!(rt; served, counted(1, 5));
-    assert_eq!(rt; wire.puts().len(), 9);
-    for (place, put) in wire.puts().iter().enumerate() {
-        assert!(rt; is_refused(place, put));
-    }
+    let run = Run {
+        script: &QUESTION_ALONE,
+        refuse: &[1, 2, 3, 4, 5, 6, 7, 8, 9],
+        has_second: true,
+        turns: 1,
+    };
+    let ran = ran_anew(rt.alloc(), &run)?;
+    assert_eq!(rt; ran.served, counted(1, 5));
+    assert_eq!(rt; ran.puts, Puts::Refused);
+    assert_eq!(rt; ran.unsent, (9, 4), "all, and the asks");
     Ok(())
 }
 
-/// Serves two turns in which the question arrives in two pieces, while this heap grants the readers
-/// of pieces `count` allocations. Returns whether the question was asked, and no more; `None` where
-/// memory ran out.
-fn is_asked_with<'a>(
-    ample: &'a Refusing<Global>,
-    heap: &'a Refusing<Global>,
-    count: u64,
-) -> Result<Option<bool>, AllocError> {
-    let mut forwarder = forwarder(ample)?;
-    let mut wire = wire_of_two_pieces(ample)?;
-    heap.allow(count);
-    match serve(heap, &mut wire, &mut forwarder, 2) {
-        Ok(_) => Ok(Some(is_asked_alone(wire.puts()))),
-        Err(_) => Ok(None),
+type Heap<'a> = &'a Refusing<Global>;
+
+/// The memory of a forwarder, of its wire, and of the readers of pieces; and the one of these that
+/// grants a number of allocations, and then none.
+#[derive(Clone, Copy)]
+struct Memory<'a> {
+    forwarder: Heap<'a>,
+    wire: Heap<'a>,
+    readers: Heap<'a>,
+    short: Heap<'a>,
+    granted: u64,
+}
+
+/// Serves `turns` turns with this memory. Returns what was counted and put; `None` if the call
+/// ended without memory.
+fn served_by<'a>(
+    memory: Memory<'a>,
+    wire: &mut ScriptWire<Heap<'a>>,
+    forwarder: &mut Forwarder<DefaultHasher, Heap<'a>>,
+    turns: u64,
+) -> Option<(Served, Puts)> {
+    memory.short.allow(memory.granted);
+    let served = serve(memory.readers, wire, forwarder, turns);
+    memory.short.allow(u64::MAX);
+    match served {
+        Ok(served) => Some((served, puts_of(wire.puts()))),
+        Err(_) => None,
     }
+}
+
+/// The same over a wire with these turns, all of which are served. The wire is forgotten.
+fn served_over<'a>(
+    memory: Memory<'a>,
+    script: &[Turn],
+    forwarder: &mut Forwarder<DefaultHasher, Heap<'a>>,
+) -> Result<Option<(Served, Puts)>, AllocError> {
+    let mut wire = wire_of(memory.wire, script, &[])?;
+    let served = served_by(memory, &mut wire, forwarder, script.len() as u64);
+    forget(wire);
+    Ok(served)
+}
+
+/// The same with a new forwarder, which is forgotten, too.
+fn served_with(memory: Memory<'_>, script: &[Turn]) -> Result<Option<(Served, Puts)>, AllocError> {
+    let mut forwarder = forwarder(memory.forwarder)?;
+    let served = served_over(memory, script, &mut forwarder);
+    forget(forwarder);
+    served
+}
+
+/// The fewest allocations granted to the readers of pieces with which the call does not end without
+/// memory, and what is put then. The question comes in two pieces.
+fn first_granted(alloc: Global) -> Result<Option<(u64, Puts)>, AllocError> {
+    let ample = Refusing::new(alloc);
+    let heap = Refusing::new(alloc);
+    for granted in 0..64 {
+        let memory = Memory {
+            forwarder: &ample,
+            wire: &ample,
+            readers: &heap,
+            short: &heap,
+            granted,
+        };
+        if let Some((_, puts)) = served_with(memory, &TWO_PIECES)? {
+            return Ok(Some((granted, puts)));
+        }
+    }
+    Ok(None)
 }
 
 #[test]
 fn a_reader_without_memory_ends_the_call(rt: HostRuntime) -> Result<(), Fail> {
-    let ample = Refusing::new(rt.alloc());
-    let heap = Refusing::new(rt.alloc());
-    for count in 0..4 {
-        assert_eq!(rt;
-            is_asked_with(&ample, &heap, count)?,
-            None,
-            "with {count} growths"
-        );
-    }
-    assert_eq!(rt; is_asked_with(&ample, &heap, 4)?, Some(true));
+    let (granted, puts) = first_granted(rt.alloc())?.ok_or("a call that does not end")?;
+    assert_eq!(rt; granted, 4);
+    assert_eq!(rt; puts, Puts::Asked);
     Ok(())
 }
 
-/// Serves one turn with the question, while this heap refuses every allocation.
-fn serve_refused<'a>(
-    own: &'a Refusing<Global>,
-    of_wire: &'a Refusing<Global>,
-    refusing: &'a Refusing<Global>,
-) -> Result<Served, AllocError> {
-    let mut forwarder = forwarder(own)?;
-    let mut wire = wire(of_wire, question(of_wire)?, Arrival::Nothing, &[])?;
-    refusing.allow(0);
-    let served = serve(own, &mut wire, &mut forwarder, 1);
-    refusing.allow(u64::MAX);
-    served
+/// What is counted if a forwarder has no memory, and if a wire has none.
+fn served_without(alloc: Global) -> Result<[Option<(Served, Puts)>; 2], AllocError> {
+    let ample = Refusing::new(alloc);
+    let heap = Refusing::new(alloc);
+    let of_wire = Memory {
+        forwarder: &ample,
+        wire: &heap,
+        readers: &ample,
+        short: &heap,
+        granted: 0,
+    };
+    let of_forwarder = Memory {
+        forwarder: &heap,
+        wire: &ample,
+        readers: &heap,
+        ..of_wire
+    };
+    let lost = served_with(of_forwarder, &QUESTION_ALONE)?;
+    let refused = served_with(of_wire, &QUESTION_ALONE)?;
+    Ok([lost, refused])
 }
 
 /// A forwarder without memory loses the event, a wire without memory refuses the arrival.
 #[test]
 fn without_memory_an_event_is_lost(rt: HostRuntime) -> Result<(), Fail> {
-    let ample = Refusing::new(rt.alloc());
-    let heap = Refusing::new(rt.alloc());
-    let lost = serve_refused(&heap, &ample, &heap)?;
-    assert_eq!(rt;
-        lost,
-        Served {
-            turns: 1,
-            lost: 1,
-            refused_puts: 0,
-            refused_arrivals: 0
-        }
-    );
-    let refused = serve_refused(&ample, &heap, &heap)?;
-    assert_eq!(rt;
-        refused,
-        Served {
-            turns: 1,
-            lost: 0,
-            refused_puts: 0,
-            refused_arrivals: 1
-        }
-    );
+    let [lost, refused] = served_without(rt.alloc())?;
+    let event_lost = Served {
+        lost: 1,
+        ..counted(1, 0)
+    };
+    let arrival_refused = Served {
+        refused_arrivals: 1,
+        ..counted(1, 0)
+    };
+    assert_eq!(rt; lost, Some((event_lost, Puts::Nothing)));
+    assert_eq!(rt; refused, Some((arrival_refused, Puts::Nothing)));
     Ok(())
 }

@@ -6,7 +6,11 @@
 #[cfg(test)]
 mod faults;
 #[cfg(test)]
+mod puts;
+#[cfg(test)]
 mod refusals;
+#[cfg(test)]
+mod scripts;
 #[cfg(test)]
 mod sockets;
 #[cfg(test)]

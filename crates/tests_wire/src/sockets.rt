@@ -2,8 +2,8 @@
 //! client are the test's own, and turns are made one after another, so there is one thread. Ports
 //! 15353 to 15356 have to be free.
 //!
-//! A wire is forgotten, since each test has a process of its own: dropping one would have to be
-//! proved here.
+//! Wire and forwarder are forgotten, since each test has a process of its own: dropping them would
+//! have to be proved here.
 
 use crate::worked::{ANSWER, QUERY, QUESTION, REPLY};
 use forwarder_core::Forwarder;
@@ -127,24 +127,6 @@ fn answer_by_udp(
     Err(Fail::from("no answer came"))
 }
 
-/// The question by UDP, over a wire that listens at 15353.
-fn ask_by_udp(rt: &HostRuntime, wire: &mut MioWire<'_, HostRuntime>) -> Result<(), Fail> {
-    let server = UdpSocket::bind(rt, address(15354))?;
-    let client = UdpSocket::bind(rt, address(0))?;
-    let mut forwarder = forwarder_of(rt.alloc(), BY_UDP)?;
-    client.send_to(&QUESTION, address(15353))?;
-    reply_to_query(rt.alloc(), wire, &mut forwarder, 1, &server)?;
-    answer_by_udp(rt.alloc(), wire, &mut forwarder, &client)
-}
-
-#[test]
-fn a_question_by_udp(rt: HostRuntime) -> Result<(), Fail> {
-    let mut wire = MioWire::new(&rt, rt.alloc(), local(15353), &limits())?;
-    let asked = ask_by_udp(&rt, &mut wire);
-    forget(wire);
-    asked
-}
-
 /// Reads what has come over TCP into the answer, after its first `count` octets. Returns how many
 /// octets came.
 fn received(client: &mut TcpStream, answer: &mut [u8], count: usize) -> usize {
@@ -180,20 +162,112 @@ fn send_in_two_pieces(client: &mut TcpStream) -> Result<(), Fail> {
     expected(client.write(&QUESTION[1..])? == 26)
 }
 
-/// The question over TCP in two pieces, over a wire that listens at 15355.
-fn ask_over_tcp(rt: &HostRuntime, wire: &mut MioWire<'_, HostRuntime>) -> Result<(), Fail> {
-    let server = UdpSocket::bind(rt, address(15356))?;
-    let mut forwarder = forwarder_of(rt.alloc(), OVER_TCP)?;
-    let mut client = TcpStream::connect(rt, address(15355))?;
-    send_in_two_pieces(&mut client)?;
-    reply_to_query(rt.alloc(), wire, &mut forwarder, 20, &server)?;
-    answer_over_tcp(rt.alloc(), wire, &mut forwarder, &mut client)
+/// How the question comes.
+#[derive(Clone, Copy)]
+enum By {
+    Udp,
+    Tcp,
+}
+
+impl By {
+    fn config(self) -> &'static str {
+        match self {
+            By::Udp => BY_UDP,
+            By::Tcp => OVER_TCP,
+        }
+    }
+
+    /// The port at which the wire listens.
+    fn listen(self) -> u16 {
+        match self {
+            By::Udp => 15353,
+            By::Tcp => 15355,
+        }
+    }
+
+    /// The port of the server.
+    fn server(self) -> u16 {
+        match self {
+            By::Udp => 15354,
+            By::Tcp => 15356,
+        }
+    }
+}
+
+/// The question by UDP.
+fn ask_by_udp(
+    rt: &HostRuntime,
+    wire: &mut MioWire<'_, HostRuntime>,
+    forwarder: &mut Forwarder<DefaultHasher>,
+    server: &UdpSocket,
+    client: &UdpSocket,
+) -> Result<(), Fail> {
+    client.send_to(&QUESTION, address(15353))?;
+    reply_to_query(rt.alloc(), wire, forwarder, 1, server)?;
+    answer_by_udp(rt.alloc(), wire, forwarder, client)
+}
+
+/// The question over TCP, in two pieces.
+fn ask_over_tcp(
+    rt: &HostRuntime,
+    wire: &mut MioWire<'_, HostRuntime>,
+    forwarder: &mut Forwarder<DefaultHasher>,
+    server: &UdpSocket,
+    client: &mut TcpStream,
+) -> Result<(), Fail> {
+    send_in_two_pieces(client)?;
+    reply_to_query(rt.alloc(), wire, forwarder, 20, server)?;
+    answer_over_tcp(rt.alloc(), wire, forwarder, client)
+}
+
+/// The question of a new client.
+fn ask_anew(
+    rt: &HostRuntime,
+    by: By,
+    wire: &mut MioWire<'_, HostRuntime>,
+    forwarder: &mut Forwarder<DefaultHasher>,
+    server: &UdpSocket,
+) -> Result<(), Fail> {
+    match by {
+        By::Udp => {
+            let client = UdpSocket::bind(rt, address(0))?;
+            ask_by_udp(rt, wire, forwarder, server, &client)
+        }
+        By::Tcp => {
+            let mut client = TcpStream::connect(rt, address(15355))?;
+            ask_over_tcp(rt, wire, forwarder, server, &mut client)
+        }
+    }
+}
+
+/// The same over a new wire, which is forgotten.
+fn ask_over_wire(
+    rt: &HostRuntime,
+    by: By,
+    forwarder: &mut Forwarder<DefaultHasher>,
+    server: &UdpSocket,
+) -> Result<(), Fail> {
+    let mut wire = MioWire::new(rt, rt.alloc(), local(by.listen()), &limits())?;
+    let asked = ask_anew(rt, by, &mut wire, forwarder, server);
+    forget(wire);
+    asked
+}
+
+/// The same with a new server, and with a new forwarder, which is forgotten, too.
+fn ask(rt: &HostRuntime, by: By) -> Result<(), Fail> {
+    let server = UdpSocket::bind(rt, address(by.server()))?;
+    let mut forwarder = forwarder_of(rt.alloc(), by.config())?;
+    let asked = ask_over_wire(rt, by, &mut forwarder, &server);
+    forget(forwarder);
+    asked
+}
+
+#[test]
+fn a_question_by_udp(rt: HostRuntime) -> Result<(), Fail> {
+    ask(&rt, By::Udp)
 }
 
 #[test]
 fn a_question_over_tcp_in_two_pieces(rt: HostRuntime) -> Result<(), Fail> {
-    let mut wire = MioWire::new(&rt, rt.alloc(), local(15355), &limits())?;
-    let asked = ask_over_tcp(&rt, &mut wire);
-    forget(wire);
-    asked
+    ask(&rt, By::Tcp)
 }

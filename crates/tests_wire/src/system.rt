@@ -3,6 +3,8 @@
 //! 15369 have to be free. A wire is forgotten, as in `sockets`.
 
 use crate::worked::{QUERY, forwarder};
+use forwarder_core::Forwarder;
+use lru::DefaultHasher;
 use mio::net::TcpStream;
 use network_model::{Arrival, Wire, serve};
 use plain_list::PlainList;
@@ -249,16 +251,22 @@ fn put_where_refused(
     (is_sent, is_closed)
 }
 
+/// A client sends this.
+fn send(client: &mut TcpStream, octets: &[u8]) -> Result<(), Fail> {
+    client.set_nodelay(true)?;
+    expected(
+        client.write(octets)? == octets.len(),
+        "octets that were not taken",
+    )
+}
+
 /// The results of queries where a port is taken, a network can't be reached and no descriptor is
-/// left, while a client's connection has been idle for a second.
-fn puts_beside_a_resting_client(
+/// left, once a client has come whose connection has then been idle for a second.
+fn puts_beside_a_client(
     system: &System<'_>,
     wire: &mut MioWire<'_, System<'_>>,
     query: &Action,
 ) -> Result<[(bool, bool); 3], Fail> {
-    let mut client = TcpStream::connect(system.host, address(Ipv4Addr::LOCALHOST, 15363))?;
-    client.set_nodelay(true)?;
-    expected(client.write(b"\x00")? == 1, "an octet that was not taken")?;
     expected(client_that_came(wire) == Some(0), "no client came")?;
     system.time.set(Duration::from_millis(8_000));
     expected(moment_in_turn(wire) == 1_000, "another moment")?;
@@ -267,6 +275,17 @@ fn puts_beside_a_resting_client(
         put_where_refused(system, wire, query, NO_NETWORK),
         put_where_refused(system, wire, query, NO_DESCRIPTOR),
     ])
+}
+
+/// The same with a client that sends an octet.
+fn puts_beside_a_resting_client(
+    system: &System<'_>,
+    wire: &mut MioWire<'_, System<'_>>,
+    query: &Action,
+) -> Result<[(bool, bool); 3], Fail> {
+    let mut client = TcpStream::connect(system.host, address(Ipv4Addr::LOCALHOST, 15363))?;
+    send(&mut client, b"\x00")?;
+    puts_beside_a_client(system, wire, query)
 }
 
 #[test]
@@ -283,35 +302,57 @@ fn a_resting_client_is_closed_for_a_descriptor_alone(rt: HostRuntime) -> Result<
 /// Whether calls of a turn run out of memory for the frames of a client, while this heap has none
 /// for them.
 fn ends_without_memory<'a>(
+    heap: &'a Refusing<Global>,
+    wire: &mut MioWire<'_, HostRuntime, &'a Refusing<Global>>,
+    forwarder: &mut Forwarder<DefaultHasher, &'a Refusing<Global>>,
+) -> bool {
+    heap.allow(0);
+    for _ in 0..TURNS {
+        if serve(heap, wire, forwarder, 1).is_err() {
+            return true;
+        }
+    }
+    false
+}
+
+/// The same with a client that sends the beginning of a frame.
+fn ends_with_a_client<'a>(
+    rt: &HostRuntime,
+    heap: &'a Refusing<Global>,
+    wire: &mut MioWire<'_, HostRuntime, &'a Refusing<Global>>,
+    forwarder: &mut Forwarder<DefaultHasher, &'a Refusing<Global>>,
+) -> Result<bool, Fail> {
+    let mut client = TcpStream::connect(rt, address(Ipv4Addr::LOCALHOST, 15365))?;
+    send(&mut client, b"\x00\x1b\x12")?;
+    Ok(ends_without_memory(heap, wire, forwarder))
+}
+
+/// The same over a new wire with ample memory, which is forgotten.
+fn ends_over_wire<'a>(
     rt: &HostRuntime,
     ample: &'a Refusing<Global>,
     heap: &'a Refusing<Global>,
-    wire: &mut MioWire<'_, HostRuntime, &'a Refusing<Global>>,
+    forwarder: &mut Forwarder<DefaultHasher, &'a Refusing<Global>>,
 ) -> Result<bool, Fail> {
-    let mut forwarder = forwarder(ample)?;
-    let mut client = TcpStream::connect(rt, address(Ipv4Addr::LOCALHOST, 15365))?;
-    client.set_nodelay(true)?;
-    expected(
-        client.write(b"\x00\x1b\x12")? == 3,
-        "octets that were not taken",
-    )?;
-    heap.allow(0);
-    for _ in 0..TURNS {
-        if serve(heap, wire, &mut forwarder, 1).is_err() {
-            return Ok(true);
-        }
-    }
-    Ok(false)
+    let mut wire = MioWire::new(rt, ample, local(15365), &Limits::defaults())?;
+    let ended = ends_with_a_client(rt, heap, &mut wire, forwarder);
+    forget(wire);
+    ended
 }
 
-/// The program ends with status 4 then, which is `forwarder_main`'s.
-#[test]
-fn a_stream_without_memory_ends_the_service(rt: HostRuntime) -> Result<(), Fail> {
+/// The same with a new forwarder with ample memory, which is forgotten, too.
+fn ends(rt: &HostRuntime) -> Result<bool, Fail> {
     let ample = Refusing::new(rt.alloc());
     let heap = Refusing::new(rt.alloc());
-    let mut wire = MioWire::new(&rt, &ample, local(15365), &Limits::defaults())?;
-    let ended = ends_without_memory(&rt, &ample, &heap, &mut wire);
-    forget(wire);
-    assert!(rt; ended?);
+    let mut forwarder = forwarder(&ample)?;
+    let ended = ends_over_wire(rt, &ample, &heap, &mut forwarder);
+    forget(forwarder);
+    ended
+}
+
+/// The program ends with status 4 then, which is `forwarder_commands`'.
+#[test]
+fn a_stream_without_memory_ends_the_service(rt: HostRuntime) -> Result<(), Fail> {
+    assert!(rt; ends(&rt)?);
     Ok(())
 }

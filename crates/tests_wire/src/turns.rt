@@ -1,97 +1,104 @@
 //! Turns over a wire that refuses nothing.
 
-use crate::worked::{
-    SERVER, answers, asks, closes, counted, question, reply, serve_anew, turns, wire,
-    wire_of_two_pieces,
+use crate::puts::{Puts, puts_of};
+use crate::scripts::{
+    Comes, FIRST, Ran, Run, Turn, counted, ran_anew, rounds_of, serve_anew, wire_of,
 };
-use network_model::{ScriptWire, Wire};
+use network_model::ScriptWire;
 use refusing_allocator::Refusing;
-use std::alloc::{AllocError, Allocator, Global};
+use std::alloc::{AllocError, Global};
+use std::mem::forget;
 use std::test::Fail;
-use step_values::Action;
-
-/// The question is asked, the port closed and the question answered.
-fn are_worked<A: Allocator>(puts: &[(Action<A>, bool)]) -> bool {
-    match puts {
-        [first, second, third] => asks(first) && closes(second) && answers(third),
-        _ => false,
-    }
-}
 
 #[test]
 fn a_question_is_asked_and_answered(rt: HostRuntime) -> Result<(), Fail> {
-    let heap = Refusing::new(rt.alloc());
-    let mut wire = wire(&heap, question(&heap)?, reply(&heap, SERVER)?, &[])?;
-    let served = serve_anew(&heap, &mut wire, &[SERVER], 3)?;
-    assert_eq!(rt; served, counted(3, 0));
-    assert_eq!(rt; wire.faults(), 0);
-    assert!(rt; are_worked(wire.puts()));
+    let run = Run {
+        script: &FIRST,
+        refuse: &[],
+        has_second: false,
+        turns: 3,
+    };
+    let ran = ran_anew(rt.alloc(), &run)?;
+    assert_eq!(rt; ran.served, counted(3, 0));
+    assert_eq!(rt; ran.faults, 0);
+    assert_eq!(rt; ran.puts, Puts::Answered);
     Ok(())
 }
 
-/// The question is asked, and nothing else is put.
-pub(crate) fn is_asked_alone<A: Allocator>(puts: &[(Action<A>, bool)]) -> bool {
-    match puts {
-        [put] => asks(put),
-        _ => false,
-    }
+/// The question comes over a client's connection in two pieces, one in each turn.
+pub(crate) const TWO_PIECES: [Turn; 2] = [
+    (1000, Comes::Piece(3, b"\x00\x1b\x12")),
+    (1020, Comes::Piece(3, REST)),
+];
+
+/// The question without its first octet.
+const REST: &[u8] =
+    b"\x34\x01\x00\x00\x01\x00\x00\x00\x00\x00\x00\x01a\x07example\x00\x00\x01\x00\x01";
+
+/// What `turns` turns of it come to.
+fn ran_in_pieces(alloc: Global, turns: u64) -> Result<Ran, AllocError> {
+    let run = Run {
+        script: &TWO_PIECES,
+        refuse: &[],
+        has_second: false,
+        turns,
+    };
+    ran_anew(alloc, &run)
 }
 
-/// The question comes over a client's connection in two pieces, one in each turn: the second turn
-/// asks it.
-fn is_asked_in_the_second(heap: &Refusing<Global>) -> Result<bool, AllocError> {
-    let mut wire = wire_of_two_pieces(heap)?;
-    let served = serve_anew(heap, &mut wire, &[SERVER], 2)?;
-    Ok(served == counted(2, 0) && is_asked_alone(wire.puts()))
-}
-
-/// A call of one turn over the same wire, made again, puts nothing.
-fn is_silent_in_the_first(heap: &Refusing<Global>) -> Result<bool, AllocError> {
-    let mut wire = wire_of_two_pieces(heap)?;
-    let served = serve_anew(heap, &mut wire, &[SERVER], 1)?;
-    Ok(served == counted(1, 0) && wire.puts().is_empty())
-}
-
+/// The second turn asks the question. A call of one turn over a wire like it puts nothing.
 #[test]
 fn a_frame_in_two_pieces_is_one_question(rt: HostRuntime) -> Result<(), Fail> {
-    let heap = Refusing::new(rt.alloc());
-    let in_second = is_asked_in_the_second(&heap)?;
-    let in_first = is_silent_in_the_first(&heap)?;
-    assert!(rt; in_second);
-    assert!(rt; in_first);
+    let second = ran_in_pieces(rt.alloc(), 2)?;
+    let first = ran_in_pieces(rt.alloc(), 1)?;
+    assert_eq!(rt; (second.served, second.puts), (counted(2, 0), Puts::Asked));
+    assert_eq!(rt; (first.served, first.puts), (counted(1, 0), Puts::Nothing));
     Ok(())
 }
 
-/// A wire is made of turns that exist already, and its puts are seen, without allocating: of one
-/// allocation that is allowed, one is left.
-fn is_made_without_memory(heap: &Refusing<Global>) -> Result<bool, AllocError> {
-    let turns = turns(heap, question(heap)?, reply(heap, SERVER)?)?;
-    let refuse = Vec::from_slice(heap, &[1u64])?;
-    heap.allow(1);
-    let wire = ScriptWire::new(heap, turns, refuse);
-    let is_silent = wire.puts().is_empty();
-    let is_left = Box::new(heap, 0u8).is_ok();
-    heap.allow(u64::MAX);
-    Ok(is_silent && is_left)
+type Heap<'a> = &'a Refusing<Global>;
+
+/// What was put on the wire, and whether one allocation that was allowed is left then.
+fn seen<'a>(heap: Heap<'a>, wire: &ScriptWire<Heap<'a>>) -> (Puts, bool) {
+    let puts = puts_of(wire.puts());
+    (puts, Box::new(heap, 0u8).is_ok())
 }
 
-/// The puts of a wire that was served are seen without allocating.
-fn are_seen_without_memory(heap: &Refusing<Global>) -> Result<bool, AllocError> {
-    let mut wire = wire_of_two_pieces(heap)?;
-    let _served = serve_anew(heap, &mut wire, &[SERVER], 2)?;
+/// The same of a wire that is made of turns that exist already, with one allocation allowed. It is
+/// forgotten.
+fn seen_of_new(alloc: Global) -> Result<(Puts, bool), AllocError> {
+    let heap = Refusing::new(alloc);
+    let refuse = Vec::from_slice(&heap, &[1u64])?;
+    let rounds = rounds_of(&heap, &FIRST)?;
     heap.allow(1);
-    let is_asked = is_asked_alone(wire.puts());
-    let is_left = Box::new(heap, 0u8).is_ok();
-    heap.allow(u64::MAX);
-    Ok(is_asked && is_left)
+    let wire = ScriptWire::new(&heap, rounds, refuse);
+    let seen = seen(&heap, &wire);
+    forget(wire);
+    Ok(seen)
+}
+
+/// The same of this wire, once it has served, with one allocation allowed from then on.
+fn seen_served<'a>(
+    heap: Heap<'a>,
+    wire: &mut ScriptWire<Heap<'a>>,
+) -> Result<(Puts, bool), AllocError> {
+    serve_anew(heap, wire, false, 2)?;
+    heap.allow(1);
+    Ok(seen(heap, wire))
+}
+
+/// The same of a wire on which the question comes in two pieces.
+fn seen_of_served(alloc: Global) -> Result<(Puts, bool), AllocError> {
+    let heap = Refusing::new(alloc);
+    let mut wire = wire_of(&heap, &TWO_PIECES, &[])?;
+    let seen = seen_served(&heap, &mut wire);
+    forget(wire);
+    seen
 }
 
 #[test]
 fn a_wire_is_made_and_seen_without_memory(rt: HostRuntime) -> Result<(), Fail> {
-    let heap = Refusing::new(rt.alloc());
-    let made = is_made_without_memory(&heap)?;
-    let seen = are_seen_without_memory(&heap)?;
-    assert!(rt; made);
-    assert!(rt; seen);
+    assert_eq!(rt; seen_of_new(rt.alloc())?, (Puts::Nothing, true));
+    assert_eq!(rt; seen_of_served(rt.alloc())?, (Puts::Asked, true));
     Ok(())
 }

@@ -1,12 +1,14 @@
 """Captures as tcpdump and Wireshark write them: classic pcap, and pcapng."""
-import io
 import struct
 from typing import NamedTuple
 
 import dpkt
 
 MOST_OCTETS = 1 << 18  # of one packet, by any system's limits
-SECTION, INTERFACE, OLD_PACKET, SIMPLE_PACKET, STATISTICS, PACKET = 0x0A0D0D0A, 1, 2, 3, 5, 6
+LATEST = 253_402_300_800_000_000  # microseconds: the beginning of the year 10000
+BLOCK = 12  # octets of a block of pcapng at least
+INTERFACE, OLD_PACKET, SIMPLE_PACKET, STATISTICS, PACKET = 1, 2, 3, 5, 6
+SECTION = b"\x0a\x0d\x0d\x0a"  # in either order
 
 
 class Unreadable(Exception):
@@ -22,28 +24,37 @@ class Packet(NamedTuple):
     octets: bytes
 
 
-class Source(io.BytesIO):
-    """A capture as a file. dpkt passes over both: a read that got less than it wanted, and a size
-    that can't be."""
+class Source:
+    """A capture that is read from its beginning to its end.
 
-    def read(self, size=-1):
+    dpkt passes over both: a read that got less than it wanted, and a size that can't be."""
+
+    def __init__(self, file):
+        self.file, self.at, self.is_short = file, 0, False
+        self.ahead = file.read(4)
+
+    def read(self, size):
         if size > MOST_OCTETS:
-            raise dpkt.UnpackError(f"a packet of {size} octets can't be: reading stops at octet {self.tell() - 16}")
-        octets = super().read(size)
+            raise dpkt.UnpackError(f"a packet of {size} octets can't be: reading stops at octet {self.at - 16}")
+        octets, self.ahead = self.ahead[:size], self.ahead[size:]
+        if len(octets) < size:
+            octets += self.file.read(size - len(octets))
         self.is_short = len(octets) < size
+        self.at += len(octets)
         return octets
 
 
 class Capture:
     """The packets of a capture, and in `notes` what was wrong with it, a line each."""
 
-    def __init__(self, octets):
-        self.octets, self.notes = octets, []
-        if len(octets) == 0:
+    def __init__(self, file):
+        self.source, self.notes = Source(file), []
+        begins = self.source.ahead
+        if not begins:
             raise Unreadable("is empty")
-        if octets[:4] == b"\x0a\x0d\x0d\x0a":
+        if begins == SECTION:
             self.reader = self._next_generation
-        elif int.from_bytes(octets[:4], "big") in dpkt.pcap.MAGIC_TO_PKT_HDR:
+        elif int.from_bytes(begins, "big") in dpkt.pcap.MAGIC_TO_PKT_HDR:
             self.reader = self._classic
         else:
             raise Unreadable("is no capture: neither pcap nor pcapng")
@@ -53,13 +64,13 @@ class Capture:
         return self.reader()
 
     def _classic(self):
-        if len(self.octets) < dpkt.pcap.FileHdr.__hdr_len__:
-            raise Unreadable("ends within its header")
-        source = Source(self.octets)
-        reader = dpkt.pcap.Reader(source)
+        try:
+            reader = dpkt.pcap.Reader(self.source)
+        except dpkt.NeedData:
+            raise Unreadable("ends within its header") from None
         try:
             for moment, octets in reader:
-                if source.is_short:
+                if self.source.is_short:
                     raise dpkt.NeedData
                 # Nanoseconds come as a Decimal, microseconds as a float, which is off by less than
                 # half of one.
@@ -74,19 +85,24 @@ class Capture:
         """Without dpkt: its reader has each packet on the first interface, with the link type and
         the clock of that one, passes over what a capture lost, and takes a block that the file's
         end cuts for a whole one."""
-        order, interfaces, at, end = "<", [], 0, len(self.octets)
-        while at + 12 <= end:
-            kind = struct.unpack_from(order + "I", self.octets, at)[0]
-            if kind == SECTION:
-                order = ">" if self.octets[at + 8 : at + 12] == b"\x1a\x2b\x3c\x4d" else "<"
+        order, interfaces = "<", []
+        while True:
+            at = self.source.at
+            head = self.source.read(BLOCK)
+            if not head:
+                return
+            if len(head) < BLOCK:
+                break
+            if head[:4] == SECTION:
+                order = ">" if head[8:] == b"\x1a\x2b\x3c\x4d" else "<"
                 interfaces = []
-            size = struct.unpack_from(order + "I", self.octets, at + 4)[0]
-            if size < 12 or size % 4 or size > 16 * MOST_OCTETS:
+            kind, size = struct.unpack_from(order + "2I", head)
+            if size < BLOCK or size % 4 or size > 16 * MOST_OCTETS:
                 self.notes.append(f"a block of {size} octets can't be: reading stops at octet {at}")
                 return
-            if at + size > end:
+            body = (head[8:] + self.rest(size - BLOCK))[: size - BLOCK]
+            if self.source.is_short:
                 break
-            body = self.octets[at + 8 : at + size - 4]
             try:
                 packet = self._block(order, kind, body, interfaces)
             except (struct.error, IndexError):
@@ -94,9 +110,15 @@ class Capture:
                 packet = None
             if packet is not None:
                 yield packet
-            at += size
-        if at < end:
-            self.notes.append("the capture ends within a block; what is before it was read")
+        self.notes.append("the capture ends within a block; what is before it was read")
+
+    def rest(self, size):
+        """The next octets; a block may have more than a packet."""
+        parts = []
+        while size > 0 and not self.source.is_short:
+            parts.append(self.source.read(min(size, MOST_OCTETS)))
+            size -= len(parts[-1])
+        return b"".join(parts)
 
     def _block(self, order, kind, body, interfaces):
         """The packet of a block, or None; an interface is put into the list."""
@@ -110,7 +132,9 @@ class Capture:
                 number = struct.unpack_from(order + "H", body)[0]
             link, (units, per), offset = interfaces[number]
             moment = ((high << 32) | low) * units // per + struct.unpack(order + "q", offset)[0] * 1_000_000
-            return Packet(moment, link, body[20 : 20 + kept])
+            if 0 <= moment < LATEST:
+                return Packet(moment, link, body[20 : 20 + kept])
+            self.note_once("packets with a time that can't be are left out")
         elif kind == SIMPLE_PACKET:
             self.note_once("packets without a time (simple packet blocks) are left out")
         elif kind == STATISTICS:

@@ -1,56 +1,24 @@
-"""The command `forwarder-explain`: its arguments, what it prints, and its status."""
-import argparse
-import datetime
-import re
+"""The command `forwarder-explain`: what it prints, and its status."""
+import os
 import sys
 import time
 
-from . import comparing, configuration, messages
+from . import comparing, configuration
 from .capture import Capture, Unreadable
-from .configuration import address_text, shown
-from .packets import Decoder, counted
+from .configuration import shown
+from .files import captures_in, first_moment, opened, size_of
+from .leaps import straightened
+from .options import arguments, chosen, moment_of, span_of
+from .packets import Decoder
 from .report import Row, Summary, written
 from .story import Teller, clock
 from .traffic import Question, Traffic
 from .windows import Cutter, TooLong, explain
+from .wording import moment_text
 
 DIFFERENT, UNREADABLE = 1, 2
 SOON = 1.0  # seconds before progress is shown
-
-
-def arguments(words):
-    parser = argparse.ArgumentParser(
-        prog="forwarder-explain",
-        description="Explain what the DNS forwarder did, from a capture of its traffic: have its proved step answer the "
-        "same questions, with the replies that its servers gave, say what became of each, and compare each answer.",
-        epilog="Status: 0 if no answer differs from the step's, 1 if one does, 2 if something can't be read. "
-        "See forwarder-explain(1).",
-    )
-    parser.add_argument("configuration", metavar="CONFIG", help="the configuration that the forwarder had")
-    parser.add_argument(
-        "capture", metavar="CAPTURE", help="a file of tcpdump -w, in pcap or pcapng; - for standard input"
-    )
-    parser.add_argument(
-        "--from",
-        dest="since",
-        metavar="TIME",
-        help="questions from this time on: 14:03, 14:03:02.5, 2026-11-28T14:03, or seconds since 1970",
-    )
-    parser.add_argument("--to", dest="until", metavar="TIME", help="questions before this time")
-    parser.add_argument(
-        "--client", metavar="ADDRESS", help="questions of this client alone: 10.0.0.7 or 10.0.0.7:40000"
-    )
-    parser.add_argument("--name", metavar="NAME", help="questions for this name and those below it alone")
-    parser.add_argument("--failures", action="store_true", help="failed questions alone, and answers that differ")
-    parser.add_argument(
-        "--summary", action="store_true", help="counts by reason, server and client, and no line for each question"
-    )
-    parser.add_argument("--script", metavar="FILE", help="write the script of the questions, for forwarder replay")
-    parser.add_argument("--json", action="store_true", help="one JSON object a line, for programs")
-    parser.add_argument(
-        "--program", metavar="PATH", default="forwarder", help="the forwarder's program (default: forwarder)"
-    )
-    return parser.parse_args(words)
+AFTER = 60_000_000  # microseconds in which a file has answers to questions of the one before it
 
 
 class Progress:
@@ -76,111 +44,65 @@ def note(path, text):
     print(f"forwarder-explain: {path}: {text}", file=sys.stderr)
 
 
-def moment_of(text, first):
-    """A time of the command line, in microseconds since 1970; without a date on the day of the
-    capture's beginning."""
-    if re.fullmatch(r"\d{9,}(\.\d+)?", text):
-        return int(float(text) * 1_000_000)
-    day = datetime.datetime.fromtimestamp(first / 1_000_000).date()
-    for form, dated in (
-        ("%Y-%m-%dT%H:%M:%S.%f", True),
-        ("%Y-%m-%dT%H:%M:%S", True),
-        ("%Y-%m-%dT%H:%M", True),
-        ("%H:%M:%S.%f", False),
-        ("%H:%M:%S", False),
-        ("%H:%M", False),
-    ):
-        try:
-            found = datetime.datetime.strptime(text, form)
-        except ValueError:
-            continue
-        found = found if dated else datetime.datetime.combine(day, found.time())
-        return int(found.timestamp() * 1_000_000)
-    raise Unreadable("is no time; 14:03, 14:03:02.5 and 2026-11-28T14:03 are", text)
-
-
-def packets_of(path, progress):
-    """What the packets of a capture carry, by time, what is to be noted of it, and the moment of
-    its last packet."""
-    try:
-        if path == "-":
-            octets = sys.stdin.buffer.read()
-        else:
-            with open(path, "rb") as file:
-                octets = file.read()
-    except OSError as fault:
-        raise Unreadable(fault.strerror, path) from None
-    capture, decoder, packets, done, last = Capture(octets), Decoder(), [], 0, 0
-    for number, packet in enumerate(capture.packets()):
-        found, last = decoder.read(packet), max(last, packet.moment)
-        if found is not None:
-            packets.append(found)
-        done += 16 + len(packet.octets)
-        if number % 10_000 == 0:
-            progress("reading", done, len(octets))
-    notes = capture.notes + list(decoder.notes())
+def packets_of(files, progress):
+    """What the packets of captures carry, by time, what is to be noted of them, and the moment of
+    the last packet."""
+    decoder, packets, last, notes = Decoder(), [], 0, []
+    for file in files:
+        capture, size = Capture(file), size_of(file)
+        for number, packet in enumerate(capture.packets()):
+            found, last = decoder.read(packet), max(last, packet.moment)
+            if found is not None:
+                packets.append(found)
+            if number % 10_000 == 0:
+                progress("reading", min(size, capture.source.at), size)
+        notes += capture.notes
+    packets, leaps = straightened(packets, moment_text)
     packets.sort(key=lambda found: found.moment)
-    return packets, notes, last
+    last = packets[-1].moment if leaps else last
+    return packets, notes + list(decoder.notes()) + leaps, last
 
 
-def chosen(options, questions, first):
-    """The questions that the options choose."""
-    since = moment_of(options.since, first) if options.since else None
-    until = moment_of(options.until, first) if options.until else None
-    suffix = messages.from_text(options.name) if options.name else None
-    if options.name and suffix is None:
-        raise Unreadable("is no name", options.name)
-
-    def is_chosen(question):
-        if since is not None and question.moment < since or until is not None and question.moment >= until:
-            return False
-        if options.client:
-            address = address_text(question.peer[0])
-            if options.client not in (address, f"{address}:{question.peer[1]}"):
-                return False
-        return suffix is None or question.asked is not None and messages.is_under(question.asked.key, suffix)
-
-    return [question for question in questions if is_chosen(question)]
-
-
-def cut_and_explained(settings, events, span, wanted, program, progress):
-    """The history and the results; windows become smaller where one has too many lines. `span` is
-    from the first event, in milliseconds, to the last packet, in microseconds."""
-    aim = None
+def explained_by(cutter, wanted, options, progress):
+    """The results; windows become smaller where one has too many lines."""
     while True:
-        cutter = Cutter(settings, events, span, *([aim] if aim else []))
         try:
-            return cutter, explain(cutter, wanted, program, lambda done, total: progress("replaying", done, total))
+            show_progress = lambda done, total: progress("replaying", done, total)  # noqa: E731
+            return explain(cutter, wanted, options.program, show_progress, bool(options.script))
         except TooLong:
-            aim = cutter.aim // 2
-            if aim < 10:
+            if cutter.aim < 20:
                 raise Unreadable("has too much in flight at one time for a script") from None
+            cutter.cut_smaller()
 
 
-def run(options, progress):
-    """Does all of it; gives the status."""
-    settings = configuration.read(options.configuration, options.program)
-    packets, notes, last = packets_of(options.capture, progress)
+def run(options, settings, files, progress):
+    """Explains captures, which follow one another; gives the status."""
+    packets, notes, last = packets_of(files, progress)
+    first = packets[0].moment if packets else 0
     traffic = Traffic(settings, packets)
+    del packets
     for text in [*notes, *traffic.notes(settings)]:
         note(options.capture, text)
     questions = [event for event in traffic.events if isinstance(event, Question)]
     if not questions:
         raise Unreadable(f"has no question to {shown(settings.listen)}, where the configuration listens")
-    span = traffic.events[0].moment // 1000, last
-    wanted = chosen(options, questions, packets[0].moment)
-    cutter, explained = cut_and_explained(settings, traffic.events, span, set(wanted), options.program, progress)
+    wanted = chosen(options, questions, first)
+    if not wanted:
+        span = " to ".join(moment_text(question.moment) for question in (questions[0], questions[-1]))
+        note(options.capture, f"no question is chosen; the capture has those from {span}")
+    restarted = [moment_of(text, first) for text in options.restarted]
+    cutter = Cutter(settings, traffic, last, restarted)
+    explained = explained_by(cutter, set(wanted), options, progress)
     progress.end()
-    foreign = len(cutter.history.foreign)
-    if foreign:
-        note(options.capture, f"left out: {counted(foreign, 'query')} for which no question called: another program's")
+    for text in cutter.notes():
+        note(options.capture, text)
     teller = Teller(settings, cutter.history)
     rows = [Row(traffic.events[place], result, teller) for place, result in sorted(explained.results.items())]
     if options.failures:
         rows = [row for row in rows if row.failed()]
     if options.script:
         write_scripts(options, explained, traffic.events)
-    summary = Summary(rows, traffic.events, cutter.history, explained)
+    summary = Summary(rows, traffic.events, cutter, explained)
     show(options, rows, summary)
     return DIFFERENT if any(row.result.same == comparing.DIFFERENT for row in rows) else 0
 
@@ -225,10 +147,33 @@ def write_scripts(options, explained, events):
             raise Unreadable(fault.strerror, path) from None
 
 
+def read_and_run(options, progress):
+    """Does all of it; gives the status."""
+    settings = configuration.read(options.configuration, options.program)
+    return run(options, settings, opened_in_turn(options), progress)
+
+
+def opened_in_turn(options):
+    """The files of the captures that matter, each open until the next one is."""
+    until = None
+    if os.path.isdir(options.capture):
+        first = first_moment(captures_in(options.capture, None)[0])
+        until = span_of(options, first)[1]
+    for path in captures_in(options.capture, until and until + AFTER):
+        with opened(path) as file:
+            yield file
+
+
 def main(words):
-    options, progress = arguments(words), Progress()
+    options = arguments(words)
+    return guarded(options, lambda progress: read_and_run(options, progress))
+
+
+def guarded(options, work):
+    """The status of some work, also if something can't be read, which is said."""
+    progress = Progress()
     try:
-        return run(options, progress)
+        return work(progress)
     except Unreadable as fault:
         progress.end()
         text, path = fault.args[0], fault.args[1] if len(fault.args) > 1 else options.capture

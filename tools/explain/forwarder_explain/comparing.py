@@ -1,11 +1,12 @@
 """A captured answer next to the step's reply to the same question."""
-import struct
 from collections import defaultdict
 
 from . import messages
+from .answering import text_of
 
 SAME, SECOND, DIFFERENT = "same", "second", "different"
 BEFORE, UNANSWERED, GONE, OPEN, DROPPED = "before", "unanswered", "gone", "open", "dropped"
+REFUSED, ENDED, LOST = "refused", "ended", "lost"
 
 
 def replies_of(questions, outcome, line_of):
@@ -36,40 +37,54 @@ def fits(question, line, octets):
     it has one."""
     if line.event is question:
         return True
-    return line.kind != "client" and (question.asked is None or octets[24:].startswith(question.asked.name.hex()))
+    return line.kind != "client" and octets[24:].startswith(text_of(question).hex())
 
 
-def compare(question, octets, rests_on_before, may_come):
-    """One word for how the captured answer and the step's are to each other.
+def without_answer(question, octets, may_come, has_ended):
+    """One word for a question that got no answer.
 
     `may_come` says whether the capture goes on long enough for an answer of a question that was
-    taken."""
-    if question.answer is None:
-        if not question.wants_answer():
-            return DROPPED
-        connection = question.connection
-        if connection and (connection.reset or False in connection.fin):
-            return GONE
-        return UNANSWERED if octets and may_come else OPEN
-    captured = question.answer.octets
+    taken, `has_ended` whether the service ended while it was open."""
+    if question.refused:
+        return REFUSED
+    if not question.wants_answer():
+        return DROPPED
+    connection = question.connection
+    if connection and (connection.reset or False in connection.fin):
+        return GONE
+    if has_ended and not octets:
+        return ENDED
+    return UNANSWERED if octets and may_come else OPEN
+
+
+def compare(captured, octets, rests_on, waited):
+    """One word for how a captured answer and the step's are to each other.
+
+    `rests_on` is BEFORE or LOST if it rests on what the capture does not have; `waited` are the
+    milliseconds by which the question or its reply was read late: the lifetimes of any moment of
+    them are right.
+    """
     if captured == octets:
-        return BEFORE if rests_on_before else SAME
-    if octets and differ_by_a_second(captured, octets):
-        return BEFORE if rests_on_before else SECOND
-    if rests_on_before and not octets:
+        return rests_on or SAME
+    if octets and differ_by_seconds(captured, octets, 1 + -(-waited // 1000)):
+        return rests_on or SECOND
+    if rests_on == BEFORE and not octets:
         return BEFORE
     return DIFFERENT
 
 
-def differ_by_a_second(one, other):
-    """Whether two answers are equal but for a second in the lifetimes of their records."""
+def differ_by_seconds(one, other, more=1):
+    """Whether two answers are equal but for a second in the lifetimes of their records; `more` is
+    how many of them the first one may have more."""
     if len(one) != len(other):
         return False
     try:
         left, right = messages.records(one), messages.records(other)
-    except (messages.Malformed, struct.error):
+    except messages.Malformed:
         return False
-    if len(left) != len(right) or any(a.at != b.at or abs(a.seconds - b.seconds) > 1 for a, b in zip(left, right)):
+    if len(left) != len(right) or any(
+        a.at != b.at or not -1 <= a.seconds - b.seconds <= more for a, b in zip(left, right)
+    ):
         return False
     for record in left:
         one = one[: record.at] + bytes(4) + one[record.at + 4 :]

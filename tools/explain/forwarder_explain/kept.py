@@ -1,22 +1,31 @@
 """What the forwarder keeps at each moment of a capture, followed along its events.
 
-This serves explanations, and the beginnings of scripts. What is right the script's run says, never this.
+This serves explanations, and the beginnings of scripts. What is right the script's run says, never
+this.
 """
 from collections import OrderedDict, defaultdict
 from typing import NamedTuple
 
-from . import carried, messages
+from . import carried, comparing, messages
 from .carried import MOST_ALIASES, Held
+from .eras import Eras
 from .messages import CNAME, SOA
-from .traffic import Answer, Ending, Query, Question, Reply
+from .strangers import strangeness
+from .traffic import Answer, Ending, Query, Question, Refusal, Reply
 
+UNSERVED, ANY_CLASS = frozenset((0, 41, *range(128, 256))), 255  # types, and a class
 BEFORE = 1000  # milliseconds before the capture in which what was kept before is put into a script
+MOST_LATE = 9000  # milliseconds beyond the deadline in which a query may leave for a question
+PROMPT = 50  # milliseconds in which a query leaves for a question that has come
+NEAR_END = 1000  # milliseconds before its end in which what is kept may count as ended
 
 
 class Found(NamedTuple):
-    """A look-up: what was used in order, whether that answers, and otherwise the name that is missed.
+    """A look-up: what was used in order, whether that answers, and otherwise the name that is
+    missed.
 
-    `was_asked` says whether that was being asked for already, `expired` what was kept of it in vain.
+    `was_asked` says whether that was being asked for already, `expired` what was kept of it in
+    vain.
     """
 
     used: tuple
@@ -91,57 +100,134 @@ class Cache:
             key = held.rows[0].data.lower()
 
 
-class History:
-    """Follows the events: notes for each question what was found, and for each reply what it was."""
+def is_looked_up(question):
+    """Whether the service looks for an answer: not if it does not serve that (forwarder(8))."""
+    asked = question.asked
+    if asked is None or not question.wants_answer() or question.refused:
+        return False
+    return not (messages.operation(question.octets) or asked.kind in UNSERVED or asked.klass == ANY_CLASS)
 
-    def __init__(self, configuration, events, first):
-        self.configuration, self.events = configuration, events
+
+def looked_up(asked, found):
+    """What would be asked for each name of a look-up, and what was found there."""
+    name = asked.key
+    for held in found.used:
+        yield (name, asked.kind, asked.klass), held
+        if held.kind == CNAME and not held.denies:
+            name = held.rows[0].data.lower()
+
+
+class History:
+    """Follows the events: notes for each question what was found, and for each reply what it was.
+
+    `restarts` are the events with which the service began anew; `losses` finds what the capture
+    lost, which is put into `lost`.
+    """
+
+    def __init__(self, configuration, events, first, losses, restarts=()):
+        self.configuration, self.events, self.restarts = configuration, events, restarts
+        self.losses, self.lost = losses, []
         self.cache = Cache(configuration)
-        self.first = first
+        self.first, self.had_before = first, True
         self.open, self.last_asked, self.ever_carried = {}, {}, set()
         self.found, self.verdicts, self.walks, self.closed = {}, {}, {}, {}
-        self.from_before, self.rests_on_before = [], set()
-        self.preferred, self.place = {}, 0
-        self.wanting, self.answered, self.foreign = defaultdict(list), set(), set()
+        self.from_before, self.rests_on = [], {}
+        self.preferred, self.place, self.last_output = {}, 0, 0
+        self.wanting, self.served = defaultdict(list), defaultdict(list)
+        self.answered, self.foreign, self.uncalled = set(), set(), {}
+        self.needless = set()  # questions that what is kept answers, and for which a query left
+        self.eras = Eras()
 
     def follow(self, at_event=lambda place, cache: None):
-        """Goes through all events; `at_event` is called before each with its place and the cache."""
+        """Goes through all events; `at_event` is called before each, with its place and the cache."""
         by_kind = {
             Question: self.question,
             Answer: self.answer,
             Query: self.query,
             Reply: self.reply,
             Ending: self.ending,
+            Refusal: self.refusal,
         }
         for place, event in enumerate(self.events):
             self.place = place
+            if event in self.restarts:
+                self.begin_anew(event.read // 1000)
             at_event(place, self.cache)
-            by_kind[type(event)](event, event.moment // 1000)
+            by_kind[type(event)](event, event.read // 1000)
+
+    def begin_anew(self, now):
+        """Nothing is kept, nothing is open, and nothing can have been kept since before the
+        capture."""
+        self.cache, self.preferred, self.had_before = Cache(self.configuration), {}, False
+        for query in list(self.open.values()):
+            self.close(query, now, "ended")
+        self.wanting.clear()
+        self.served.clear()
 
     def question(self, question, now):
-        if question.asked is None or not question.wants_answer():
+        if not is_looked_up(question):
             return
         found = self.cache.look_up(question.asked, now)
         wanted = found.missed, question.asked.kind, question.asked.klass
         self.found[question] = found._replace(was_asked=wanted in self.open)
         if not found.answers:
             self.wanting[wanted].append(question)
+        for of, _ in looked_up(question.asked, found):
+            self.served[of].append(question)
+            if of in self.open:
+                self.needless.add(question)
 
     def query(self, query, now):
         """Notes a query as open; one that no question calls for is another program's."""
         if query.asked is None:
             return
-        since = query.moment - 1000 * (self.configuration.limits["deadline_ms"] + 1000)
-        waiting = [question for question in self.wanting[query.asked.of()] if self.waits(question, since)]
-        self.wanting[query.asked.of()] = waiting
-        if not waiting:
+        of = query.asked.of()
+        since = query.moment - 1000 * (self.configuration.limits["deadline_ms"] + MOST_LATE)
+        missed = [question for question in self.wanting[of] if self.waits(question, since)]
+        served = [question for question in self.served.pop(of, ()) if self.waits(question, since)]
+        self.wanting[of] = missed + served
+        if not missed and not served:
             self.foreign.add(query)
+            self.uncalled[of] = query
             return
-        self.open[query.asked.of()] = query
-        self.last_asked[query.asked.of()] = query.moment
+        youngest = max(self.wanting[of], key=lambda question: question.moment)
+        if youngest in served:
+            self.look_for_loss(query, of, youngest)
+        else:
+            self.look_for_twice(query, of, youngest)
+        self.needless.update(served)
+        self.open[of] = query
+        self.last_asked[of] = self.last_output = query.moment
 
     def waits(self, question, since):
         return question not in self.answered and question.moment >= since
+
+    def look_for_loss(self, query, of, question):
+        """A query for what is kept: the service does not have it. Unless that ends about now, it
+        has begun anew."""
+        held = dict(looked_up(question.asked, self.found[question]))[of]
+        if held.end() - query.moment // 1000 > NEAR_END:
+            self.eras.began(held.source.moment if held.source else 0, question.moment)
+
+    def look_for_twice(self, query, of, question):
+        """What is being asked is not asked again for a question that has just come, unless by a new
+        process.
+
+        A try that failed unseen is followed by another one, too, but then its question is answered
+        later.
+        """
+        first = self.open.get(of)
+        if (
+            first is not None
+            and first.moment < question.moment
+            and query.moment - question.moment <= 1000 * PROMPT
+            and query.moment - first.moment < 1000 * (self.configuration.limits["ask_ms"] - PROMPT)
+        ):
+            self.eras.began(first.moment, question.moment)
+
+    def refusal(self, refusal, now):
+        """Nothing listened: the process of before has ended."""
+        self.eras.began(self.last_output, refusal.moment)
 
     def lead_on(self, of, target, now):
         """Those who wait for a query want the name that its reply led on to, or what is kept of
@@ -175,6 +261,8 @@ class History:
             return
         self.close(query, now, verdict)
         if verdict == "answered":
+            if reply.is_lost:
+                self.rests_on.update((question, comparing.LOST) for question in self.wanting[asked.of()])
             self.preferred[self.configuration.route_of(asked.key)] = query.server
             if self.walks[reply].leads_to is not None:
                 self.lead_on(asked.of(), self.walks[reply].leads_to, now)
@@ -183,14 +271,8 @@ class History:
                 self.ever_carried.add(piece.slot())
 
     def judge(self, reply, asked, now):
-        octets, query = reply.octets, reply.query
-        if (
-            len(octets) < 12
-            or octets[:2] != query.octets[:2]
-            or octets[2] & 0xF8 != 0x80
-            or reply.source != query.server
-            or (messages.question_of(octets) or asked._replace(kind=-1)).of() != asked.of()
-        ):
+        octets = reply.octets
+        if strangeness(reply):
             return "stranger"
         if messages.is_cut(octets):
             return "cut"
@@ -206,30 +288,67 @@ class History:
         return "answered"
 
     def answer(self, answer, now):
-        """Looks whether an answer came of nothing that the capture has: then that was kept before."""
+        """Looks whether an answer came of nothing that the capture has: then that was kept before.
+        """
         question = answer.question
         self.answered.add(question)
+        self.last_output = answer.moment
+        self.forget(question)
         found = self.found.get(question)
+        self.note_span(question, answer, found)
         if found is None or messages.code(answer.octets) not in (0, 3):
             return
-        if any(held.source is None for held in found.used):
-            self.rests_on_before.add(question)
+        for held in found.used:
+            if held.source is None or held.source.is_lost:
+                self.rests_on[question] = comparing.LOST if held.source else comparing.BEFORE
+        if not found.answers:
+            self.missed(question, answer, found)
+
+    def missed(self, question, answer, found):
+        """An answer to a question that what is kept does not answer: of a query, of what the
+        capture lost, or of what was kept before it began."""
         wanted = found.missed, question.asked.kind, question.asked.klass
-        if found.answers or found.was_asked or self.last_asked.get(wanted, 0) >= question.moment:
-            return
+        query = self.open.get(wanted)
+        if found.was_asked or self.last_asked.get(wanted, 0) >= question.moment:
+            lost = self.losses.reply_lost(query, answer) if query else []
+        else:
+            lost = self.losses.query_lost(question, answer, wanted)
+            if not lost and wanted in self.uncalled:
+                lost = self.losses.question_lost(self.uncalled.pop(wanted), answer)
+            if not lost:
+                self.keep_from_before(question, answer, found)
+        self.lost += lost
+
+    def forget(self, question):
+        """Takes an answered question out of those that what is kept answers."""
+        found = self.found.get(question)
+        for of, _ in looked_up(question.asked, found) if found else ():
+            waiting = self.served.get(of)
+            if waiting and question in waiting:
+                waiting.remove(question)
+
+    def note_span(self, question, answer, found):
+        """One process took the question and answered it, and had what the answer rests on."""
+        since, is_answered = question.moment, messages.code(answer.octets) in (0, 3)
+        if found and found.answers and is_answered and question not in self.needless:
+            since = min([since, *(held.source.moment for held in found.used if held.source)])
+        self.eras.lasted(since, answer.moment)
+
+    def keep_from_before(self, question, answer, found):
+        """Notes what an answer has that was kept before the capture began."""
         route = self.configuration.route_of(found.missed)
-        if route is None or route.denies:
+        if not self.had_before or route is None or route.denies:
             return
         if messages.is_cut(answer.octets):
             if not any(slot[0] == found.missed for slot in self.ever_carried):
-                self.rests_on_before.add(question)
+                self.rests_on[question] = comparing.BEFORE
             return
         try:
             pieces = self.pieces_of(question.asked, answer.octets, found.missed, question.moment // 1000)
         except messages.Malformed:
             return
         for held in pieces:
-            self.rests_on_before.add(question)
+            self.rests_on[question] = comparing.BEFORE
             self.from_before.append((held, self.place))
             self.cache.offer(held, question.moment // 1000)
         if pieces:

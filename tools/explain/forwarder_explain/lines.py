@@ -1,6 +1,6 @@
 """The event lines of a script, made of what was captured."""
 from .configuration import shown
-from .traffic import Ending, Query, Question, Reply
+from .traffic import Ending, Query, Question, Refusal, Reply
 
 PROMPT = 50  # milliseconds within which what left is taken as caused by what had just come
 FIRST_MOMENT = 10_000  # of the capture's first event, in a script
@@ -24,7 +24,8 @@ class Line:
 
 
 class Maker:
-    """Makes the lines of events, and guesses which line makes the forwarder send each captured query."""
+    """Makes the lines of events, and guesses which line makes the forwarder send each captured
+    query."""
 
     def __init__(self, history, first):
         self.history, self.first = history, first
@@ -33,6 +34,11 @@ class Maker:
         self.count = 0
 
     def moment(self, event):
+        """The script's moment at which something was read, or left."""
+        return event.read // 1000 - self.first + FIRST_MOMENT
+
+    def came(self, event):
+        """The script's moment at which something came."""
         return event.moment // 1000 - self.first + FIRST_MOMENT
 
     def micros(self, moment):
@@ -48,6 +54,8 @@ class Maker:
     def take(self, event):
         """The line of an event that came; a tick for one that left, unless what had just come
         explains it."""
+        if isinstance(event, Refusal) or isinstance(event, Question) and event.refused:
+            return
         moment = self.moment(event)
         if isinstance(event, Question):
             line = self.add(moment, "client", event, text=f"client {event.client} {event.octets.hex() or '-'}\n")

@@ -74,6 +74,7 @@ CODES = (
 )
 CNAME, SOA, NS, OPT = 5, 6, 2, 41
 ANSWER, AUTHORITY = 0, 1
+HEADER = 12  # octets
 
 
 class Malformed(Exception):
@@ -92,9 +93,14 @@ class Question(NamedTuple):
         """What makes questions equal."""
         return self.key, self.kind, self.klass
 
+    def written(self):
+        """The octets of a question, the name as it is spelled."""
+        return self.name + struct.pack(">2H", self.kind, self.klass)
+
 
 class Record(NamedTuple):
-    """A record; `at` is the offset of its lifetime in the message, `data` has its names written out."""
+    """A record; `at` is the offset of its lifetime in the message, `data` has its names written
+    out."""
 
     section: int
     owner: bytes
@@ -115,20 +121,27 @@ def is_response(octets):
 
 
 def is_cut(octets):
-    return bool(octets[2] & 2)
+    return len(octets) >= HEADER and bool(octets[2] & 2)
 
 
 def is_authoritative(octets):
-    return bool(octets[2] & 4)
+    return len(octets) >= HEADER and bool(octets[2] & 4)
+
+
+def operation(octets):
+    return octets[2] >> 3 & 15
 
 
 def code(octets):
-    return octets[3] & 15
+    """The result code; None of what is too short for a message."""
+    return octets[3] & 15 if len(octets) >= HEADER else None
 
 
 def name_at(octets, at):
-    """The name at an offset, and the offset after it."""
-    parts, end, total = [], None, 1
+    """The name at an offset, and the offset after it.
+
+    A pointer leads to before the run of labels that it ends."""
+    parts, end, total, start = [], None, 1, at
     try:
         while True:
             size = octets[at]
@@ -137,9 +150,9 @@ def name_at(octets, at):
             if size >= 192:
                 target = ((size & 63) << 8) | octets[at + 1]
                 end = at + 2 if end is None else end
-                if target >= at:
+                if target >= start:
                     raise Malformed("a pointer leads forward")
-                at = target
+                at = start = target
                 continue
             total += size + 1
             if size > 63 or total > 255 or at + 1 + size > len(octets):
@@ -153,24 +166,35 @@ def name_at(octets, at):
 @functools.lru_cache(maxsize=100_000)
 def question_in(body):
     """The one question of a message without its identifier, or None."""
-    if len(body) < 10 or body[2:4] != b"\0\1":
+    return read_question(b"\0\0" + body)
+
+
+def read_question(octets):
+    """The one question of a message, or None."""
+    if len(octets) < HEADER or octets[4:6] != b"\0\1":
         return None
     try:
-        name, at = name_at(b"\0\0" + body, 12)
-        kind, klass = struct.unpack_from(">2H", body, at - 2)
+        name, at = name_at(octets, HEADER)
+        kind, klass = struct.unpack_from(">2H", octets, at)
     except (Malformed, struct.error):
         return None
     return Question(name, name.lower(), kind, klass)
 
 
 def question_of(octets):
-    """The first question of a message, where there is exactly one that can be read; else None."""
+    """The first question of a message, where there is exactly one that can be read; else None.
+
+    A pointer in it leads into the header, and so perhaps to the identifier."""
+    if max(octets[HEADER : HEADER + 255], default=0) >= 0xC0:
+        return read_question(octets)
     found = question_in(octets[2:512])
     return found if found or len(octets) <= 512 else question_in(octets[2:])
 
 
 def records(octets):
     """The records of the answer and authority sections; raises where they can't be read."""
+    if len(octets) < HEADER:
+        raise Malformed("a header")
     counts = struct.unpack_from(">4H", octets, 4)
     at, found = 12, []
     try:

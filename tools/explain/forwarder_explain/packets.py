@@ -17,6 +17,7 @@ from dpkt.tcp import TH_SYN as SYN
 from dpkt.udp import UDP
 
 from .capture import Unreadable
+from .wording import counted
 
 LINKS = {
     pcap.DLT_EN10MB: Ethernet,
@@ -25,6 +26,15 @@ LINKS = {
     **dict.fromkeys((12, 14, 101, pcap.DLT_IPV4), IP),
     pcap.DLT_LINUX_SLL: SLL,
     pcap.DLT_LINUX_SLL2: SLL2,
+}
+TRANSPORTS = {IP_PROTO_TCP: "tcp", IP_PROTO_UDP: "udp"}
+ANY_INTERFACE = (pcap.DLT_LINUX_SLL, pcap.DLT_LINUX_SLL2)
+# Of link types: where the protocol is, if anywhere, and where IP begins.
+PLAIN_LINKS = {
+    pcap.DLT_EN10MB: (12, 14),
+    pcap.DLT_LINUX_SLL: (14, 16),
+    pcap.DLT_LINUX_SLL2: (0, 20),
+    **dict.fromkeys((12, 14, 101, pcap.DLT_IPV4), (None, 0)),
 }
 SAME_PACKET = 5000  # microseconds within which a packet is seen on several interfaces
 
@@ -50,13 +60,17 @@ class Segment(NamedTuple):
 
 
 class Unreachable(NamedTuple):
-    """ICMP: a datagram or segment from `source` did not reach `target`; `code` is that of RFC 792."""
+    """ICMP: a datagram or segment from `source` did not reach `target`; `code` is that of RFC 792.
+
+    `sender` says so; `octets` are the beginning of what the datagram carried."""
 
     moment: int
     source: tuple
     target: tuple
-    protocol: int
+    transport: str
     code: int
+    sender: bytes
+    octets: bytes
 
 
 class Decoder:
@@ -72,6 +86,15 @@ class Decoder:
         """A Datagram, a Segment, an Unreachable, or None."""
         moment, link, octets = packet
         self.links[link] = self.links.get(link, 0) + 1
+        whole = plain_datagram(link, octets)
+        if whole is None:
+            return self.read_by_dpkt(moment, link, octets)
+        if link in ANY_INTERFACE and self.is_double(moment, whole):
+            return None
+        return datagram(moment, whole)
+
+    def read_by_dpkt(self, moment, link, octets):
+        """Any packet that dpkt knows."""
         try:
             frame = LINKS[link](octets)
             ip = frame if isinstance(frame, IP) else frame.data
@@ -80,7 +103,7 @@ class Decoder:
             octets = octets[len(frame) - len(ip) :][: ip.len or None]  # a length of 0 is left to the network card
         except Exception:  # dpkt reads all protocols that it knows, and refuses with more than errors of its own
             return None
-        if isinstance(frame, (SLL, SLL2)) and self.is_double(moment, octets[:8] + octets[9:10] + octets[12:]):
+        if link in ANY_INTERFACE and self.is_double(moment, octets):
             return None
         if len(octets) < ip.len:
             self.cut += 1
@@ -95,6 +118,7 @@ class Decoder:
     def is_double(self, moment, octets):
         """Whether the same packet was just seen on another interface, as it happens with `tcpdump
         -i any`."""
+        octets = octets[:8] + octets[9:10] + octets[12:]  # without what each router changes
         last = self.seen.get(octets)
         self.seen[octets] = moment
         if len(self.seen) > 4096:
@@ -136,10 +160,27 @@ class Decoder:
             yield f"left out: {counted(len(self.pieces), 'datagram')} in fragments of which some are missing"
 
 
-def counted(number, noun):
-    """A number with its noun: 1 gap, 2 gaps, 3 queries."""
-    plural = noun[:-1] + "ies" if noun.endswith("y") else noun + "s"
-    return f"{number:,} {noun if number == 1 else plural}"
+def plain_datagram(link, octets):
+    """The IP packet of a whole UDP datagram that is no fragment, which most packets are; else None.
+    It takes a tenth of dpkt's time."""
+    if link not in PLAIN_LINKS:
+        return None
+    kind, at = PLAIN_LINKS[link]
+    if len(octets) < at + 28 or kind is not None and octets[kind : kind + 2] != b"\x08\0":
+        return None
+    head, _, size, _, fragment, _, protocol = struct.unpack_from(">2B3H2B", octets, at)
+    start = at + 4 * (head & 15)
+    if head >> 4 != 4 or start < at + 20 or protocol != IP_PROTO_UDP or fragment & 0x3FFF:
+        return None
+    return octets[at : at + size] if start + 8 <= at + size <= len(octets) else None
+
+
+def datagram(moment, octets):
+    """The datagram of an IP packet."""
+    at = 4 * (octets[0] & 15)
+    from_port, to_port, size = struct.unpack_from(">3H", octets, at)
+    source, target = (octets[12:16], from_port), (octets[16:20], to_port)
+    return Datagram(moment, source, target, octets[at + 8 : at + max(8, size)])
 
 
 def carried(moment, ip):
@@ -150,14 +191,17 @@ def carried(moment, ip):
     if isinstance(data, TCP):
         return Segment(moment, (ip.src, data.sport), (ip.dst, data.dport), data.seq, data.flags, data.data)
     if isinstance(data, ICMP) and data.type == ICMP_UNREACH and isinstance(data.data, ICMP.Unreach):
-        return unreachable(moment, data.code, data.data.ip)
+        return unreachable(moment, data.code, ip.src, data.data.ip)
     return None
 
 
-def unreachable(moment, code, ip):
+def unreachable(moment, code, sender, ip):
     """The news of ICMP about a packet, of which it has the beginning."""
-    octets = bytes(ip.data) if ip.v == 4 and ip.p in (IP_PROTO_TCP, IP_PROTO_UDP) else b""
+    if ip.v != 4 or ip.p not in TRANSPORTS:
+        return None
+    octets = bytes(ip.data)
     if len(octets) < 4:
         return None
     from_port, to_port = struct.unpack_from(">2H", octets)
-    return Unreachable(moment, (ip.src, from_port), (ip.dst, to_port), ip.p, code)
+    carried_ = octets[8:] if ip.p == IP_PROTO_UDP else b""
+    return Unreachable(moment, (ip.src, from_port), (ip.dst, to_port), TRANSPORTS[ip.p], code, sender, carried_)

@@ -7,27 +7,28 @@ from .configuration import shown
 EARLIER = 60  # milliseconds that a captured query may be before the script's
 
 
-def align(wanted, made, latest, when_wanted, when_made):
-    """Pairs two lists that are in order of time; gives pairs, and what is left of each."""
-    pairs, left, extra, place = [], [], [], 0
-    for each in wanted:
-        while place < len(made) and when_wanted(each) - when_made(made[place]) > latest:
-            extra.append(made[place])
-            place += 1
-        if place < len(made) and when_wanted(each) - when_made(made[place]) >= -EARLIER:
-            pairs.append((each, made[place]))
-            place += 1
-        else:
+def align(wanted, made, may_be, distance):
+    """Pairs two lists that are in order of time, each with the nearest that it may be; gives pairs,
+    and what is left of each."""
+    pairs, left, free = [], [], len(made)
+    taken = set()
+    for before, each in reversed(list(enumerate(wanted))):
+        fitting = [place for place in range(min(before, free), free) if may_be(each, made[place])]
+        if not fitting:
             left.append(each)
-    return pairs, left, extra + made[place:]
+            continue
+        free = min(fitting, key=lambda place: distance(each, made[place]))
+        taken.add(free)
+        pairs.append((each, made[free]))
+    return pairs[::-1], left[::-1], [each for place, each in enumerate(made) if place not in taken]
 
 
 class Pairing:
     """Pairs of one run."""
 
     def __init__(self, queries, asked, latest, moment):
-        """`queries` are captured, `asked` are the script's; `latest` is how many ms late a captured
-        one may be."""
+        """`queries` are captured, `asked` are the script's; `latest` says until when one of these
+        may have left."""
         self.line_of, self.query_of, self.unexplained, self.unseen = {}, {}, [], []
         self.moment, self.latest = moment, latest
         by_key = defaultdict(lambda: ([], []))
@@ -48,7 +49,13 @@ class Pairing:
     def pair(self, wanted, made):
         """Notes the pairs of one server, transport and text; gives the script's queries that have
         none."""
-        pairs, left, extra = align(wanted, made, self.latest, self.moment, lambda each: each.moment)
+        until = {each: self.latest(each) for each in made} if wanted else {}
+        pairs, left, extra = align(
+            wanted,
+            made,
+            lambda query, each: each.moment - EARLIER <= self.moment(query) <= until[each],
+            lambda query, each: abs(self.moment(query) - each.moment),
+        )
         for query, each in pairs:
             self.line_of[query], self.query_of[each] = each.line, query
         self.unexplained += left

@@ -8,11 +8,12 @@ is past its end, of another route or of another question.
 from collections import defaultdict
 
 from .carried import MOST_ALIASES
-from .lines import Line
+from .lateness import LATE, SOON, Lateness
+from .lines import FIRST_MOMENT, Line
 from .messages import Malformed, code, records
+from .stalls import at
 
 SLACK = 40  # milliseconds by which the service's clock and the capture's may part
-SOON = 60  # milliseconds in which an answer comes that needed no server
 HORIZON = 2_000_000  # microseconds after the first change of a run in which others are made
 STALE = 30  # seconds in the TTL of expired data
 STEPS = (3, 10, 30)  # milliseconds by which a line is moved, one after another
@@ -25,6 +26,7 @@ class Repairs:
         self.window, self.limits = window, window.configuration.limits
         self.tried = defaultdict(int)
         self.changed, self.touched = False, set()
+        self.lateness = Lateness(window, self.may)
 
     def after(self, outcome, pairing, answers, moved):
         """The changes that a run calls for, in the order of time.
@@ -33,6 +35,7 @@ class Repairs:
         each question, `moved` the queries that have just been paired again."""
         self.changed, self.touched = False, {query.asked.of() for query in moved if query.asked}
         self.outcome, self.pairing, self.answers = outcome, pairing, answers
+        self.lateness.after(outcome, pairing, dict(filter(self.may_be_late, answers.items())))
         self.by_question = defaultdict(list)
         for each in outcome.asked:
             self.by_question[self.window.asked_in(each)].append(each)
@@ -73,6 +76,11 @@ class Repairs:
                 and self.window.verdicts.get(reply) not in ("stranger", "late")
             ):
                 yield reply.moment, number, reply.query.asked.of(), self.late_reply, reply
+        for number, (line, event) in enumerate(self.lateness.late(), number):
+            yield line.order[0], number, line, self.lateness.move, (line, event)
+        for number, (question, (line, *_)) in enumerate(self.answers.items(), number):
+            if question.answer and question.asked and line.kind == "reply" and self.says_failure(question.answer):
+                yield question.answer.moment, number, question.asked.of(), self.failed_late, question
         for number, line in enumerate(self.window.lines, number):
             if line.server is not None and not self.is_meant(line):
                 yield line.order[0], number, None, self.take_out, line
@@ -96,9 +104,11 @@ class Repairs:
         self.window.lines.append(line)
 
     def let_time_pass(self):
-        """Ticks where the script leaves something undone for long that was due: the service never does.
+        """Ticks where the script leaves something undone for long that was due: the service never
+        does.
 
-        Such ticks are taken out again where they do nothing."""
+        Such ticks are taken out again where they do nothing.
+        """
         lines, dues = self.window.lines, {}
         lines[:] = [
             line
@@ -107,22 +117,37 @@ class Repairs:
         ]
         for each in self.outcome.asked:
             due = each.moment + self.limits["ask_ms"]
-            if self.is_late(due, each.closed):
+            if self.is_late(self.seen(due), each.closed):
                 dues[due] = dues.get(due, 0) + 1
         for question in self.window.questions:
             line = self.window.maker.line_of.get(question)
             if line is not None and question.asked and question.wants_answer():
                 due = self.outcome.moments[line.number - 1] + self.limits["deadline_ms"]
-                if self.is_late(due, self.answers.get(question, (None,))[0]):
+                if self.is_late(self.seen(due), self.answers.get(question, (None,))[0]):
                     dues[due] = dues.get(due, 0) + 1
         for due, count in dues.items():
             for _ in range(count):
-                self.insert((self.window.maker.micros(due), 0), due, "tick")
+                self.insert(self.order_of(due), self.seen(due), "tick")
         self.changed |= bool(dues)
+
+    def stall_at(self, moment):
+        return at(self.window.stalls, self.window.maker.micros(moment))
+
+    def seen(self, due):
+        """When the service saw that a moment of the script had come."""
+        stall = self.stall_at(due)
+        return due if stall is None else stall.until // 1000 - self.window.maker.first + FIRST_MOMENT
+
+    def order_of(self, due):
+        """The place of a tick: after a stall once the first thing that came in it is taken."""
+        stall = self.stall_at(due)
+        return (self.window.maker.micros(due), 0) if stall is None else (stall.first, 1e9)
 
     def is_late(self, due, line):
         """Whether something that was due happened long after, or not before the end."""
         last = self.outcome.moments[-1]
+        if line is not None and line.note == LATE:
+            return False
         return due <= last and (line is None or self.outcome.moments[line.number - 1] > due + SOON)
 
     def is_meant(self, line):
@@ -134,7 +159,8 @@ class Repairs:
         )
 
     def says_failure(self, answer):
-        """Whether an answer is what clients get once all tries failed: a failure, or expired data."""
+        """Whether an answer is what clients get once all tries failed: a failure, or expired data.
+        """
         if code(answer.octets) not in (0, 3):
             return True
         try:
@@ -180,12 +206,31 @@ class Repairs:
         for question in self.asking(of, query.moment - SOON * 1000, query.moment):
             if self.take_later(question, of, query):
                 return True
-        return False
+        return self.lateness.drop(of, query)
+
+    def may_be_late(self, found):
+        """Whether a captured answer may be the script's and shows when the service made it: it is
+        no failure in its place. Over TCP it leaves as the client reads, which may be later."""
+        question, (_, _, octets) = found
+        answer = question.answer
+        if answer is None or question.connection is not None:
+            return False
+        return answer.octets == octets or not self.says_failure(answer)
+
+    def failed_late(self, question):
+        """A question that failed, and that the script answers by a reply: it may have been read too
+        late."""
+        found = self.answers[question]
+        if question.answer.octets == found[2]:
+            return False
+        return any(self.lateness.drop(of, question.answer) for of in self.window.chain(question))
 
     def take_later(self, question, of, query):
-        """A question that the script joins or answers, and for which the capture has a query of its own.
+        """A question that the script joins or answers, and for which the capture has a query of its
+        own.
 
-        What it used had ended by some milliseconds, or the reply that came with it was taken first."""
+        What it used had ended by some milliseconds, or the reply that came with it was taken first.
+        """
         line, found = self.window.maker.line_of.get(question), self.answers.get(question)
         if (
             line is None
@@ -232,6 +277,7 @@ class Repairs:
             each_
             for each_ in self.window.waiting_for(of)
             if each_.moment <= micros + 1000 * SOON
+            and each_.answer
             and micros <= each_.answer.moment < until
             and self.says_failure(each_.answer)
         ]
@@ -249,7 +295,8 @@ class Repairs:
         return self.window.maker.moment(event) + 1 < each.moment + self.limits["ask_ms"] - SLACK
 
     def not_taken(self, question, micros):
-        """A question that got nothing, and for which nothing was asked: the service never read it."""
+        """A question that got nothing, and for which nothing was asked: the service never read it.
+        """
         if self.window.ends - micros < 1000 * SOON or not self.may((question, "taken"), 1):
             return False
         self.window.drop(question)

@@ -49,7 +49,8 @@ class Outcome:
 
 
 class Script:
-    """A configuration and event lines; `pairs` leads from a captured query to the line that makes it."""
+    """A configuration and event lines; `pairs` leads from a captured query to the line that makes
+    it."""
 
     def __init__(self, program, configuration_text):
         self.program, self.head = program, configuration_text.rstrip("\n") + "\n---\n"
@@ -91,7 +92,8 @@ class Script:
         return f"reply {path} {source_text(event)} {number:04x}{octets[2:].hex()}\n"
 
     def run(self, lines, pairs):
-        """The outcome of the script; which numbers its connections have is noted for the next run."""
+        """The outcome of the script; which numbers its connections have is noted for the next run.
+        """
         ran = subprocess.run([self.program, "replay"], input=self.text(lines, pairs).encode(), capture_output=True)
         if ran.returncode:
             said = ran.stderr.decode("utf-8", "replace").strip()

@@ -4,9 +4,10 @@ from collections import Counter, defaultdict
 
 from . import comparing, messages, story
 from .configuration import address_text, shown
-from .packets import counted
-from .story import clock, duration
+from .story import clock
+from .strangers import strangeness
 from .traffic import Query
+from .wording import counted, duration
 
 REASONS = {
     0: "answered",
@@ -29,26 +30,56 @@ MOST_SHOWN, MOST_CLIENTS = 10, 20  # of queries that are not the step's, and of 
 # What is said of questions that are not compared: the verb for one and for more, and the rest.
 UNCOMPARED = (
     (comparing.BEFORE, ("rests", "rest"), "on what was kept before the capture began"),
+    (comparing.LOST, ("rests", "rest"), "on a reply that the capture lost"),
     (comparing.UNANSWERED, ("got", "got"), "no answer that was captured, and the step gives one"),
     (comparing.GONE, ("got", "got"), "no answer, since the connection had ended"),
     (comparing.OPEN, ("got", "got"), "no answer: the capture ended, or the question was not taken"),
     (comparing.DROPPED, ("was", "were"), "dropped: no question"),
+    (comparing.REFUSED, ("was", "were"), "refused by the service's machine"),
+    (comparing.ENDED, ("got", "got"), "no answer, since the service ended first"),
 )
 
 
 class Row:
-    """A question with its result, in words."""
+    """A question with its result, in words, which are made when they are wanted."""
+
+    __slots__ = ("question", "result", "teller")
 
     def __init__(self, question, result, teller):
-        self.question, self.result = question, result
-        self.asked, self.answer = question.asked, question.answer
-        self.code = messages.CODES[messages.code(self.answer.octets)] if self.answer else "-"
-        self.took = (self.answer.moment - question.moment) / 1000 if self.answer else None
-        self.client = f"{address_text(question.peer[0])}:{question.peer[1]}"
-        self.transport = question.client.split(" ")[0]
-        self.name = messages.text(self.asked.name) if self.asked else "-"
-        self.kind = messages.kind_text(self.asked.kind, self.asked.klass) if self.asked else "-"
-        self.words = teller.words(question, result)
+        self.question, self.result, self.teller = question, result, teller
+
+    @property
+    def answer(self):
+        return self.question.answer
+
+    @property
+    def code(self):
+        return code_text(self.answer.octets) if self.answer else "-"
+
+    @property
+    def took(self):
+        return (self.answer.moment - self.question.moment) / 1000 if self.answer else None
+
+    @property
+    def client(self):
+        return f"{address_text(self.question.peer[0])}:{self.question.peer[1]}"
+
+    @property
+    def transport(self):
+        return self.question.client.split(" ")[0]
+
+    @property
+    def name(self):
+        return messages.text(self.question.asked.name) if self.question.asked else "-"
+
+    @property
+    def kind(self):
+        asked = self.question.asked
+        return messages.kind_text(asked.kind, asked.klass) if asked else "-"
+
+    @property
+    def words(self):
+        return self.teller.words(self.question, self.result)
 
     def failed(self):
         """Whether `--failures` shows it."""
@@ -88,6 +119,7 @@ class Row:
             "reason": result.reason,
             "words": self.words,
             "compared": result.same,
+            "read_late_milliseconds": result.late,
             "script_line": result.line,
             "tries": [
                 {
@@ -96,6 +128,7 @@ class Row:
                     "transport": attempt.transport,
                     "milliseconds": attempt.lasted,
                     "how": attempt.how,
+                    **({"unfit": list(attempt.unfit)} if attempt.unfit else {}),
                 }
                 for attempt in result.attempts
             ],
@@ -108,11 +141,12 @@ class Row:
 class Summary:
     """Counts over rows and queries."""
 
-    def __init__(self, rows, events, history, explained):
-        self.rows, self.explained = rows, explained
+    def __init__(self, rows, events, cutter, explained):
+        self.rows, self.explained, self.history = rows, explained, cutter.history
         self.same = Counter(row.result.same for row in rows)
-        self.queries = [event for event in events if isinstance(event, Query) and event not in history.foreign]
-        self.history = history
+        queries = [event for event in events if isinstance(event, Query) and not event.is_lost]
+        self.queries = [query for query in queries if query not in self.history.foreign]
+        self.beginnings = list(cutter.beginnings())
 
     def verdict(self):
         """The last lines: how many answers are the step's own octets."""
@@ -124,6 +158,15 @@ class Summary:
         for word, verb, text in UNCOMPARED:
             if same[word]:
                 yield f"{same[word]:,} {verb[same[word] != 1]} {text}"
+        late = sum(1 for row in self.rows if row.result.late >= story.STILL)
+        if late:
+            rest = f"{late:,} {'rests' if late == 1 else 'rest'} on what was read {story.STILL} ms late or more"
+            yield f"{rest}: the service stood still, or was short of time"
+        for moment, has_begun in self.beginnings:
+            if has_begun:
+                yield f"the service has begun anew by {clock(moment)}: its cache was empty"
+            else:
+                yield f"the service had ended by {clock(moment)}"
         yield from self.queries_text()
 
     def queries_text(self):
@@ -179,7 +222,7 @@ class Summary:
                 if reply:
                     took.append((reply.moment - query.moment) / 1000)
                 if verdict != "answered":
-                    how[verdict] += 1
+                    how[silence(query) if verdict == "silent" else verdict] += 1
             failed = ", ".join(f"{count} {word}" for word, count in how.most_common()) or "-"
             yield server, (
                 f"{len(queries):,}",
@@ -212,8 +255,20 @@ class Summary:
                 "queries_of_the_step": self.explained.paired,
                 "other_queries": len(self.explained.others),
                 "never_left": self.explained.never_left,
+                "begun_anew_by": [moment / 1_000_000 for moment, has_begun in self.beginnings if has_begun],
             }
         }
+
+
+def silence(query):
+    """How a query ended to which no reply was used."""
+    reply = next(iter(query.replies), None)
+    return f"replied {strangeness(reply) or 'late'}" if reply else "silent"
+
+
+def code_text(octets):
+    """The result code of a message; one that is too short has none."""
+    return messages.CODES[messages.code(octets)] if len(octets) >= messages.HEADER else f"{len(octets)} octets"
 
 
 def are(number):

@@ -1,8 +1,10 @@
 """What became of a question, in words."""
 import time
+from collections import Counter
 
 from . import comparing, messages
-from .messages import CNAME
+from .messages import CNAME, HEADER
+from .wording import duration
 
 FAILED = {
     "silent": "silent for {} ms",
@@ -12,11 +14,15 @@ FAILED = {
     "referral": "a referral after {} ms",
     "lame": "a reply that neither answers nor denies after {} ms",
     "answered": "answered in {} ms",
+    "query lost": "answered; the capture lost the query",
+    "reply lost": "answered; the capture lost the reply",
     "never left": "could not be sent",
     "open": "no reply",
     "unasked": "the capture has no such query",
     "unseen": "given up after {} ms, for a reason that the capture does not have",
 }
+STILL = 300  # milliseconds by which something is read late if the service stood still
+MOST_UNFIT = 3  # kinds of replies that are named
 PLAIN = {
     1: "not exactly one question that can be read",
     2: "an operation that is not served",
@@ -33,11 +39,6 @@ def clock(micros):
     return time.strftime("%H:%M:%S", time.localtime(seconds)) + f".{rest // 1000:03}"
 
 
-def duration(milliseconds):
-    """Milliseconds: below ten with one decimal."""
-    return f"{milliseconds:.1f}" if 0 < milliseconds < 10 else f"{milliseconds:,.0f}"
-
-
 class Teller:
     """Puts results into words."""
 
@@ -52,6 +53,8 @@ class Teller:
             said = self.by_reason(question, result)
             if question.answer and messages.is_cut(question.answer.octets) and result.reason in (0, 12):
                 said += "; cut, since it has more than 512 octets"
+        if result.late >= STILL:
+            said += f"; read {result.late:,} ms late"
         if result.same == comparing.UNANSWERED:
             said += "; no answer was captured"
         elif result.same == comparing.GONE:
@@ -62,8 +65,13 @@ class Teller:
 
     def unjudged(self, question, result):
         """Words where the step gives no reply."""
+        if result.same == comparing.REFUSED:
+            went_on = self.history.eras.latest(question.refused) < question.refused
+            return "refused: by a packet filter, since the service went on" if went_on else "refused: nothing listened"
+        if result.same == comparing.ENDED:
+            return "no answer: the service ended first"
         if result.same == comparing.DROPPED:
-            return "dropped: " + ("fewer than 12 octets" if len(question.octets) < 12 else "a response")
+            return "dropped: " + ("fewer than 12 octets" if len(question.octets) < HEADER else "a response")
         if result.same == comparing.OPEN:
             return "no answer: the capture ended, or the question was not taken"
         if result.reason is None:
@@ -95,14 +103,24 @@ class Teller:
             name = last_name(question, result.octets)
             route = self.configuration.route_of(name.lower())
             return f"denied by the configuration: route {route.shown if route else ''}" + self.aliases(result.octets)
-        every = f"all {self.limits['tries']} tries" if self.limits["tries"] > 1 else "the only try"
+        failed = self.failed(result)
         if reason == 8:
-            return f"{every} failed: {self.tries(question, result)}"
+            return f"{failed}: {self.tries(question, result)}"
         if reason == 9:
             return f"the deadline of {self.limits['deadline_ms']:,} ms: {self.tries(question, result)}"
         if reason == 12:
-            return f"expired data, since {every} failed: {self.tries(question, result)}" + self.aliases(result.octets)
+            return f"expired data, since {failed}: {self.tries(question, result)}" + self.aliases(result.octets)
         return self.answered(question, result)
+
+    def failed(self, result):
+        """That all tries failed, also those before a question came that joined."""
+        tries = self.limits["tries"]
+        said = f"all {tries} tries failed" if tries > 1 else "the only try failed"
+        names = [attempt.name.lower() for attempt in result.attempts]
+        before = tries - names.count(names[-1]) if names else 0
+        if before <= 0:
+            return said
+        return f"{said}, the first {'one' if before == 1 else before} before this question joined"
 
     def answered(self, question, result):
         if result.attempts:
@@ -115,7 +133,9 @@ class Teller:
         if not found or not found.answers or not found.used:
             return "from the cache"
         held = found.used[-1]
-        left = max(0, held.end() - question.moment // 1000) // 1000
+        left = left_in(result.octets)
+        if left is None:
+            left = max(0, held.end() - question.moment // 1000) // 1000
         if held.source is None:
             origin = f"kept since before the capture, {left:,} s left"
         else:
@@ -129,7 +149,7 @@ class Teller:
         """Each try, in order."""
         asked, parts = question.asked.key if question.asked else b"", []
         for attempt in result.attempts:
-            how = FAILED.get(attempt.how, attempt.how + " after {} ms").format(duration(attempt.lasted))
+            how = how_text(attempt)
             name = ""
             if attempt.name.lower() != asked:
                 name, asked = f"for {messages.text(attempt.name)} ", attempt.name.lower()
@@ -143,6 +163,29 @@ class Teller:
         if not aliases:
             return ""
         return f"; {len(aliases)} alias{'es' if len(aliases) > 1 else ''} to {messages.text(aliases[-1])}"
+
+
+def left_in(octets):
+    """The seconds that the last record of an answer has left; None if it has none."""
+    found = messages.records(octets)
+    return found[-1].seconds if found else None
+
+
+def how_text(attempt):
+    """How a try ended, and why the replies that came to it were not used."""
+    if attempt.unfit:
+        return f"no reply that fits; {unfit_text(attempt.unfit)}"
+    return FAILED.get(attempt.how, attempt.how + " after {} ms").format(duration(attempt.lasted))
+
+
+def unfit_text(unfit):
+    """The replies that were not used, those of one kind together: one came from 10.0.0.11:53, 2
+    with another identifier."""
+    parts = [f"{'one' if count == 1 else f'{count:,}'} {why}" for why, count in Counter(unfit).items()]
+    parts[0] = parts[0].replace(" ", " came ", 1)
+    if len(parts) > MOST_UNFIT:
+        parts[MOST_UNFIT:] = [f"{len(parts) - MOST_UNFIT:,} more"]
+    return ", ".join(parts)
 
 
 def aliases_of(octets):

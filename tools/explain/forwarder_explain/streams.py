@@ -70,12 +70,18 @@ class Side:
 
 
 class Connection:
-    """A connection: whoever began it is the client. `ends` says how each side ended it."""
+    """A connection: whoever began it is the client. `fin` and `reset` say how each side ended it.
+
+    `number` is that of a client's connection, `query` that of a connection to a server, and `first`
+    the sequence number with which it began, if the capture has that.
+    """
 
     def __init__(self, client, server, moment):
         self.client, self.server, self.began = client, server, moment
         self.sides = {True: Side(), False: Side()}
         self.fin, self.reset = {}, None
+        self.number = self.query = self.first = None
+        self.is_refused = False
 
     def take(self, segment):
         """The messages that this segment completes, and whether the client sent them."""

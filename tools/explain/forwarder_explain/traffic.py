@@ -1,18 +1,22 @@
 """Who sent what: clients their questions, servers their replies, and the forwarder what it sent to
 them."""
 from . import messages
+from .answering import Answering
 from .configuration import shown
-from .packets import FIN, RST, SYN, Datagram, Segment, Unreachable, counted
+from .messages import HEADER
+from .packets import FIN, RST, SYN, Datagram, Segment, Unreachable
 from .streams import Connection
+from .wording import counted
 
 ACK = 16
 QUERY_FLAGS = b"\x01\0\0\1\0\0\0\0\0\0"  # RD, and one question, as the forwarder asks
 ANY_ADDRESS = bytes(4)
+PORT_CLOSED = 3
 UNREACHABLE = {
     0: "network unreachable",
     1: "host unreachable",
     2: "no such protocol",
-    3: "port closed",
+    PORT_CLOSED: "port closed",
     4: "too large for the way",
     9: "network forbidden",
     10: "host forbidden",
@@ -21,28 +25,38 @@ UNREACHABLE = {
 
 
 class Event:
-    """What was seen at a moment, in microseconds since 1970."""
+    """What was seen at a moment, in microseconds since 1970; `read` is when the service read it."""
 
-    __slots__ = ("moment",)
+    __slots__ = ("moment", "read")
 
     def __init__(self, moment):
-        self.moment = moment
+        self.moment = self.read = moment
+
+    def enter(self, answering):
+        """Takes part in the pairing of questions and answers."""
 
 
 class Question(Event):
-    """A client's message: `client` as a script has it, `answer` what it got, `connection` over TCP."""
+    """A client's message: `client` as a script has it, `answer` what it got, `connection` over TCP.
 
-    __slots__ = ("client", "peer", "octets", "asked", "answer", "connection")
+    `refused` is when the service's machine said that nothing listens. Of a connection that was
+    refused no octets are known. One that `is_lost` is not in the capture.
+    """
+
+    __slots__ = ("client", "peer", "octets", "asked", "answer", "connection", "refused", "is_lost")
 
     def __init__(self, moment, client, peer, octets, connection=None):
         super().__init__(moment)
         self.client, self.peer, self.octets, self.connection = client, peer, octets, connection
-        self.asked = messages.question_of(octets) if len(octets) >= 12 else None
-        self.answer = None
+        self.asked = messages.question_of(octets) if len(octets) >= HEADER else None
+        self.answer, self.refused, self.is_lost = None, None, False
 
     def wants_answer(self):
         """Shorter messages, and responses, are dropped (forwarder(8))."""
-        return len(self.octets) >= 12 and not messages.is_response(self.octets)
+        return len(self.octets) >= HEADER and not messages.is_response(self.octets)
+
+    def enter(self, answering):
+        answering.question(self)
 
 
 class Answer(Event):
@@ -54,17 +68,20 @@ class Answer(Event):
         super().__init__(moment)
         self.client, self.octets, self.question = client, octets, None
 
+    def enter(self, answering):
+        answering.answer(self)
+
 
 class Query(Event):
     """What was asked of a server; of a connection that could not be opened the octets are not known
-    (None)."""
+    (None). One that `is_lost` is not in the capture."""
 
-    __slots__ = ("transport", "server", "source", "octets", "asked", "replies", "ending")
+    __slots__ = ("transport", "server", "source", "octets", "asked", "replies", "ending", "is_lost")
 
     def __init__(self, moment, transport, server, source, octets=None):
         super().__init__(moment)
         self.transport, self.server, self.source = transport, server, source
-        self.replies, self.ending = [], None
+        self.replies, self.ending, self.is_lost = [], None, False
         self.carry(octets)
 
     def carry(self, octets):
@@ -73,13 +90,14 @@ class Query(Event):
 
 
 class Reply(Event):
-    """A message on the path of a query, from whomever it came."""
+    """A message on the path of a query, from whomever it came. One that `is_lost` is not in the
+    capture."""
 
-    __slots__ = ("query", "source", "octets")
+    __slots__ = ("query", "source", "octets", "is_lost")
 
     def __init__(self, moment, query, source, octets):
         super().__init__(moment)
-        self.query, self.source, self.octets = query, source, octets
+        self.query, self.source, self.octets, self.is_lost = query, source, octets, False
 
 
 class Ending(Event):
@@ -92,13 +110,23 @@ class Ending(Event):
         self.query, self.why = query, why
 
 
+class Refusal(Event):
+    """The service's machine says that nothing listens for this question."""
+
+    __slots__ = ("question",)
+
+    def __init__(self, moment, question):
+        super().__init__(moment)
+        self.question = question
+
+
 class Traffic:
     """All events of the forwarder in a list of packets, by time."""
 
     def __init__(self, configuration, packets):
-        self.servers, self.events = configuration.servers, []
-        self.paths, self.connections, self.pending = {}, {}, {}
-        self.clients = self.foreign = self.unasked = self.gaps = self.late = 0
+        self.servers, self.events, self.orphans = configuration.servers, [], []
+        self.paths, self.connections, self.last_of, self.known = {}, {}, {}, {}
+        self.clients = self.foreign = self.gaps = self.late = 0
         self.listen = self.own_peers(configuration.listen, packets)
         for packet in packets:
             if isinstance(packet, Datagram):
@@ -109,6 +137,9 @@ class Traffic:
                 self.unreachable(packet)
         self.finish()
         self.events.sort(key=lambda event: event.moment)
+        self.unasked = Answering(self.events, configuration.limits["deadline_ms"]).unasked
+        unasked = set(self.unasked)
+        self.events = [event for event in self.events if event not in unasked]
 
     def own_peers(self, listen, packets):
         """Where clients reach the forwarder: one peer, or with 0.0.0.0 the port at each of its own
@@ -123,8 +154,7 @@ class Traffic:
             and packet.source[1] == listen[1]
             and packet.source not in self.servers
             and packet.target[0] not in own
-            and len(packet.octets) >= 12
-            and messages.is_response(packet.octets)
+            and is_response(packet.octets)
         }
         loopback = {
             packet.target[0] for packet in packets if not isinstance(packet, Unreachable) and packet.target[0][0] == 127
@@ -132,23 +162,59 @@ class Traffic:
         return {(address, listen[1]) for address in own | loopback}
 
     def datagram(self, packet):
+        """Takes a datagram. A server may be a client, too, and ask from the port at which it is
+        asked."""
         moment, source, target, octets = packet
         if target in self.listen:
-            self.question(Question(moment, f"udp {shown(source)}", source, octets))
+            self.question(Question(moment, *self.client(source), octets))
+        elif source in self.listen and (target not in self.servers or is_response(octets)):
+            self.events.append(Answer(moment, self.client(target)[0], octets))
         elif target in self.servers:
             if octets[2:12] == QUERY_FLAGS and messages.question_in(octets[2:]):
-                self.query(Query(moment, "udp", target, source, octets), source)
+                self.query(Query(moment, "udp", target, source, octets))
             else:
                 self.foreign += 1
-        elif source in self.listen:
-            self.answer(Answer(moment, f"udp {shown(target)}", octets))
-        elif target in self.paths:
-            self.reply(moment, self.paths[target], source, octets)
+                self.paths["udp", source] = None
+        elif ("udp", target) in self.paths:
+            query = self.paths["udp", target]
+            if query:
+                self.reply(moment, query, source, octets)
+        elif source in self.servers and is_response(octets):
+            self.orphan(packet)
+
+    def client(self, peer):
+        """A client of UDP as a script has it, and its peer; there is one of each."""
+        if peer not in self.known:
+            self.known[peer] = f"udp {shown(peer)}", peer
+        return self.known[peer]
+
+    def orphan(self, packet):
+        """Notes a reply to a query that the capture does not have."""
+        asked = messages.question_of(packet.octets)
+        if asked:
+            octets = packet.octets[:2] + QUERY_FLAGS + asked.written()
+            query = Query(packet.moment, "udp", packet.source, packet.target, octets)
+            self.orphans.append(Reply(packet.moment, query, packet.source, packet.octets))
 
     def unreachable(self, packet):
-        query = self.paths.get(packet.source)
+        """Takes ICMP's news: of a query, or of a question if the service's own machine sends it."""
+        transport = packet.transport
+        query = self.paths.get((transport, packet.source))
         if query and query.server == packet.target:
             self.ending(packet.moment, query, UNREACHABLE.get(packet.code, "unreachable"))
+        elif (
+            packet.target in self.listen
+            and packet.sender == packet.target[0]
+            and packet.code == PORT_CLOSED
+            and transport == "udp"
+        ):
+            question = self.last_of.get(f"udp {shown(packet.source)}")
+            if question and packet.octets[:2] in (b"", question.octets[:2]):
+                self.refuse(packet.moment, question)
+
+    def refuse(self, moment, question):
+        question.refused = question.refused or moment
+        self.events.append(Refusal(moment, question))
 
     def segment(self, packet):
         connection = self.connection_of(packet)
@@ -158,12 +224,20 @@ class Traffic:
         from_client, found = connection.take(packet)
         for octets in found:
             self.message(packet.moment, connection, from_client, octets)
-        if connection.query and not from_client and packet.flags & (RST | FIN):
+        if from_client or not packet.flags & (RST | FIN):
+            return
+        if connection.query:
             why = "connection closed" if packet.flags & FIN else "connection reset" if opened else "port closed"
             self.ending(packet.moment, connection.query, why)
+        elif packet.flags & RST and not opened and not connection.is_refused:
+            connection.is_refused = True
+            question = Question(connection.began, f"tcp {connection.number}", connection.client, b"", connection)
+            self.question(question)
+            self.refuse(packet.moment, question)
 
     def connection_of(self, packet):
-        """The connection of a segment that is a client's or a query's; a new one if it begins one."""
+        """The connection of a segment that is a client's or a query's; a new one if it begins one.
+        """
         begins = packet.flags & SYN and not packet.flags & ACK
         known = self.connections.get((packet.source, packet.target)) or self.connections.get(
             (packet.target, packet.source)
@@ -172,26 +246,33 @@ class Traffic:
             return known
         if packet.flags & RST:
             return None
-        to_us = packet.target in self.listen or packet.target in self.servers
-        if not to_us and packet.source not in self.listen and packet.source not in self.servers:
+        ends = self.ends_of(packet)
+        if ends is None:
             return None
-        client, server = (packet.source, packet.target) if to_us else (packet.target, packet.source)
+        client, server = ends
         if known:
             self.finish_connection(known)
         connection = Connection(client, server, packet.moment)
         connection.first = packet.sequence if begins else None
-        connection.query, connection.number = None, None
         if server in self.listen:
             connection.number, self.clients = self.clients, self.clients + 1
         elif begins:
             connection.query = Query(packet.moment, "tcp", server, client)
-            self.query(connection.query, ("tcp", client, server))
-            self.paths[client] = connection.query
+            self.query(connection.query)
         else:
             self.late += 1
             return None
         self.connections[client, server] = connection
         return connection
+
+    def ends_of(self, packet):
+        """Who began the connection of a segment, and with whom; None if it is another program's."""
+        for peers in (self.listen, self.servers):
+            if packet.target in peers:
+                return packet.source, packet.target
+            if packet.source in peers:
+                return packet.target, packet.source
+        return None
 
     def message(self, moment, connection, from_client, octets):
         """A message over TCP."""
@@ -200,7 +281,7 @@ class Traffic:
             if from_client:
                 self.question(Question(moment, client, connection.client, octets, connection))
             else:
-                self.answer(Answer(moment, client, octets))
+                self.events.append(Answer(moment, client, octets))
         elif from_client:
             if connection.query.octets is None:
                 connection.query.carry(octets)
@@ -227,32 +308,11 @@ class Traffic:
 
     def question(self, question):
         self.events.append(question)
-        if question.wants_answer():
-            key = question.client, question.octets[:2]
-            self.pending.setdefault(key, []).append(question)
+        self.last_of[question.client] = question
 
-    def answer(self, answer):
-        """Notes the answer with the first open question that it fits, by client, identifier and
-        question."""
-        waiting = self.pending.get((answer.client, answer.octets[:2]), [])
-        body = answer.octets[12:]
-        for place, question in enumerate(waiting):
-            if answer.octets[4:6] == b"\0\0" or question.asked is None or body.startswith(question.asked.name):
-                answer.question, question.answer = question, answer
-                del waiting[place]
-                break
-        else:
-            if waiting:  # of another question than the one that was asked: that is to be seen
-                answer.question, waiting[0].answer = waiting[0], answer
-                del waiting[0]
-            else:
-                self.unasked += 1
-                return
-        self.events.append(answer)
-
-    def query(self, query, path):
+    def query(self, query):
         self.events.append(query)
-        self.paths[path] = query
+        self.paths[query.transport, query.source] = query
 
     def reply(self, moment, query, source, octets):
         reply = Reply(moment, query, source, octets)
@@ -267,9 +327,10 @@ class Traffic:
     def notes(self, configuration):
         """What is to be said of the traffic, a line each."""
         if self.foreign:
-            yield f"left out: {counted(self.foreign, 'query')} to servers, not of the forwarder's form: another program's"
+            foreign = f"{counted(self.foreign, 'query')} to servers, not of the forwarder's form"
+            yield f"left out: {foreign}: another program's"
         if self.unasked:
-            yield f"left out: {counted(self.unasked, 'answer')} without a question in the capture"
+            yield f"left out: {counted(len(self.unasked), 'answer')} without a question in the capture"
         if self.gaps:
             yield f"{counted(self.gaps, 'gap')} in streams over TCP: messages are missing"
         if self.late:
@@ -278,6 +339,10 @@ class Traffic:
         if self.events and not asked and any(isinstance(event, Question) for event in self.events):
             servers = ", ".join(sorted(map(shown, configuration.servers)))
             yield f"no server of the configuration was asked ({servers})"
+
+
+def is_response(octets):
+    return len(octets) >= HEADER and messages.is_response(octets)
 
 
 def is_foreign(event):

@@ -1,21 +1,29 @@
 """A part of a capture as one script: run, paired and repaired until nothing changes; then each
 answer is compared."""
-from collections import defaultdict
+from collections import Counter, defaultdict
 from typing import NamedTuple
 
 from . import comparing
-from .lines import Maker
+from .answering import exchange
+from .lines import FIRST_MOMENT, Maker
 from .messages import question_in
 from .pairing import Pairing
 from .repairs import SOON, Repairs, in_order
 from .replay import Script
+from .strangers import strangeness
 from .traffic import Ending, Query, Question, Reply
+from .wording import duration
 
-MOST_RUNS = 150
+MOST_RUNS, MOST_EQUAL = 150, 3  # of a script, and of one with equal lines
+INPUTS = ("client", "reply", "failed")  # the lines of what came to the service
 
 
 class Attempt(NamedTuple):
-    """A try for a question: what was asked of whom, when, for how long, and how it ended."""
+    """A try for a question: what was asked of whom, when, for how long, and how it ended.
+
+    `unfit` says of each reply that came and was not used why; `late` is by how many milliseconds
+    one was read late.
+    """
 
     name: bytes
     transport: str
@@ -23,11 +31,13 @@ class Attempt(NamedTuple):
     moment: int
     lasted: int
     how: str
+    unfit: tuple = ()
+    late: int = 0
 
 
 class Result(NamedTuple):
     """What became of a question. `same` is one of comparing's words; `reason` the number of
-    forwarder(8), or None."""
+    forwarder(8), or None. `late` is by how many milliseconds what it rests on was read late."""
 
     same: str
     reason: object
@@ -35,6 +45,7 @@ class Result(NamedTuple):
     line: int
     attempts: tuple
     joined: bool
+    late: int
 
 
 class Window:
@@ -69,7 +80,7 @@ class Window:
         self.queries = [event for event in events if isinstance(event, Query)]
         self.endings = [event for event in events if isinstance(event, Ending)]
         self.index()
-        self.runs = 0
+        self.runs, self.has_ended, self.unheard, self.stalls = 0, False, frozenset(), []
 
     def put_preferred(self, preferred):
         """Lines by which each route prefers the server that it preferred when the window began."""
@@ -93,7 +104,7 @@ class Window:
         self.asked_by_body = {}
         self.waiting = defaultdict(list)
         for question in self.questions:
-            if question.answer and question.asked and question.answer.moment - question.moment > 0:
+            if question.asked and not question.refused:
                 for of in self.chain(question):
                     self.waiting[of].append(question)
 
@@ -136,46 +147,43 @@ class Window:
 
     def settle(self):
         """Runs the script until neither pairs nor lines change."""
-        repairs = Repairs(self)
-        latest = 0.8 * self.configuration.limits["ask_ms"]
+        repairs, seen = Repairs(self), Counter()
         while True:
             self.lines.sort(key=lambda line: line.order)
+            seen[hash(tuple((line.order, line.moment, line.kind) for line in self.lines))] += 1
             before = self.script.connections
             self.outcome = self.script.run(self.lines, self.pairs)
             self.runs += 1
             made = [each for each in self.outcome.asked if each.line.note != "before"]
-            self.pairing = Pairing(self.queries, made, latest, self.maker.moment)
+            self.pairing = Pairing(self.queries, made, self.latest, self.maker.moment)
             self.answers = comparing.replies_of(self.questions, self.outcome, self.maker.line_of)
             moved = {query: line for query, line in self.pairing.line_of.items() if self.pairs.get(query) is not line}
             self.pairs.update(moved)
-            if self.runs >= MOST_RUNS:
+            if self.runs >= MOST_RUNS or max(seen.values()) > MOST_EQUAL:
                 return
             renumbered = self.script.connections != before and any(query.transport == "tcp" for query in self.queries)
             if not repairs.after(self.outcome, self.pairing, self.answers, moved) and not moved and not renumbered:
                 return
 
-    def results(self):
-        """The result of each question that is to be judged."""
-        self.settle()
-        self.exchange_twins()
-        return {question: self.result(question) for question in self.judged}
+    def latest(self, each):
+        """Until when a query of the script may have left, in its milliseconds: the last of those
+        for whom it is asked was answered then."""
+        limit = 1000 * self.configuration.limits["deadline_ms"]
+        until = since = each.line.order[0]
+        waiting = [question for question in self.waiting_for(self.asked_in(each)) if ends_at(question, limit) >= since]
+        for question in waiting:
+            if question.moment <= until:
+                until = max(until, ends_at(question, limit))
+        return until // 1000 - self.maker.first + FIRST_MOMENT
 
-    def exchange_twins(self):
-        """Of questions that a client sent twice under one identifier nobody can say which answer is
-        whose."""
-        for twins in in_order(self.questions, lambda question: (question.client, question.octets)).values():
-            for one in twins:
-                for other in twins:
-                    if (
-                        one.answer
-                        and other.answer
-                        and self.text_for(one) != one.answer.octets
-                        and self.text_for(other) == one.answer.octets
-                        and self.text_for(other) != other.answer.octets
-                    ):
-                        self.answers[one], self.answers[other] = self.answers[other], self.answers.get(
-                            one, (None, None, b"")
-                        )
+    def results(self):
+        """The result of each question that is to be judged, and those whose answers were exchanged.
+        """
+        self.settle()
+        near = lambda question, answer: comparing.differ_by_seconds(answer.octets, self.text_for(question))
+        exchanged = exchange(self.judged, lambda question, answer: answer.octets == self.text_for(question))
+        exchanged |= exchange(self.judged, near)
+        return {question: self.result(question) for question in self.judged}, exchanged
 
     def text_for(self, question):
         return self.answers.get(question, (None, None, b""))[2]
@@ -189,11 +197,32 @@ class Window:
             and self.is_much_later(line, question.answer)
         ):
             line, reason, octets = None, None, b""
-        may_come = self.ends - question.moment > 1000 * SOON
-        same = comparing.compare(question, octets, question in self.history.rests_on_before, may_come)
+        same = self.compared(question, octets, line)
         attempts, joined = self.attempts(question, line) if line is not None else (self.open_tries(question), False)
         own = self.maker.line_of.get(question)
-        return Result(same, reason, octets, own.number if own else 0, attempts, joined)
+        late = max([self.late(question, line), *(attempt.late for attempt in attempts)])
+        return Result(same, reason, octets, own.number if own else 0, attempts, joined, late)
+
+    def compared(self, question, octets, line):
+        """The word for a question."""
+        if question.answer:
+            rests_on = self.history.rests_on.get(question)
+            return comparing.compare(question.answer.octets, octets, rests_on, self.late(question, line))
+        may_come = self.ends - question.moment > 1000 * SOON
+        limit = 1000 * self.configuration.limits["deadline_ms"]
+        has_ended = question in self.unheard or self.has_ended and self.ends - question.moment <= limit
+        return comparing.without_answer(question, octets, may_come, has_ended)
+
+    def late(self, question, line):
+        """By how many milliseconds the line that answers a question was read late, or its own line.
+        """
+        lines = [each for each in (line, self.maker.line_of.get(question)) if each is not None and not each.note]
+        came = [each for each in lines if each.kind in INPUTS and each.event is not None]
+        return max(map(self.moved, came), default=0)
+
+    def moved(self, line):
+        """By how many milliseconds what came was read late."""
+        return line.moment - self.maker.came(line.event)
 
     def attempts(self, question, line):
         """The tries that led to a reply of the script, in order, and whether the first was under
@@ -273,15 +302,36 @@ class Window:
         if query is None and (closed is None or not closed.note):
             return Attempt(name, each.transport, each.server, each.moment, -1, "unasked")
         if closed is None:
-            return Attempt(name, each.transport, each.server, each.moment, -1, "open")
+            return Attempt(name, each.transport, each.server, each.moment, -1, "open", self.unfit(query))
         lasted = self.outcome.moments[closed.number - 1] - each.moment
         if query is not None and closed.event is not None and closed.kind != "tick":
             lasted = (closed.event.moment - query.moment) / 1000
         how = self.how(closed)
-        if how == "silent":
-            whole = self.configuration.limits["ask_ms"]
-            how, lasted = ("silent", whole) if lasted >= whole else ("deadline", lasted)
-        return Attempt(name, each.transport, each.server, each.moment, lasted, how)
+        if how == "answered" and query is not None and query.is_lost:
+            how = "query lost"
+        elif how == "answered" and isinstance(closed.event, Reply) and closed.event.is_lost:
+            how = "reply lost"
+        if how != "silent":
+            return Attempt(name, each.transport, each.server, each.moment, lasted, how)
+        whole = self.configuration.limits["ask_ms"]
+        how, lasted = ("silent", whole) if lasted >= whole else ("deadline", lasted)
+        late = max((self.moved(line) for line in self.lines_of_replies(query)), default=0)
+        return Attempt(name, each.transport, each.server, each.moment, lasted, how, self.unfit(query), late)
+
+    def lines_of_replies(self, query):
+        """The lines of the replies to a query."""
+        lines = [self.maker.line_of.get(reply) for reply in (query.replies if query else ())]
+        return [line for line in lines if line is not None]
+
+    def unfit(self, query):
+        """Why each reply to a query was not used."""
+        return tuple(strangeness(reply) or self.too_late(reply) for reply in (query.replies if query else ()))
+
+    def too_late(self, reply):
+        """Words for a reply that came late, or in time and was read late."""
+        passed = (reply.moment - reply.query.moment) / 1000
+        in_time = passed < self.configuration.limits["ask_ms"]
+        return f"after {duration(passed)} ms" + (" and was read too late" if in_time else "")
 
     def how(self, closed):
         """How a try ended, by the line that ended it."""
@@ -295,10 +345,15 @@ class Window:
 
     def queries_of_step(self):
         """How many captured queries the script makes too, and how many of its own never left."""
-        own = {query for query in self.queries if query.moment >= self.begins}
+        own = {query for query in self.queries if query.moment >= self.begins and not query.is_lost}
         never_left = sum(1 for line in self.lines if line.note == "never left" and line.order[0] >= self.begins)
         return len(own.intersection(self.pairing.line_of)), never_left
 
     def other_queries(self):
         """The captured queries that the script does not make."""
         return [query for query in self.pairing.unexplained if query.moment >= self.begins]
+
+
+def ends_at(question, limit):
+    """When a question was answered, at the latest at its deadline."""
+    return question.answer.moment if question.answer else question.moment + limit

@@ -5,13 +5,20 @@ import os
 from collections import defaultdict
 
 from . import messages
+from .eras import first_output, is_output
 from .kept import History
+from .leaps import set_forward
+from .losses import Losses
 from .messages import CNAME
 from .replay import MOST_LINES, MOST_OCTETS
-from .traffic import Answer, Question, Reply
+from .stalls import found_in, mark
+from .traffic import Answer, Query, Question, Refusal, Reply
 from .window import Window
+from .wording import counted, moment_text
 
 AIM_LINES, AIM_OCTETS = 3500, 4_000_000  # of a window, without what was kept before it
+MOST_HISTORIES = 10  # times that the history is followed, each with the new beginnings that the one before showed
+SAID = 1_000_000  # microseconds before and after a moment that is said to be that of a new beginning
 SMALL_CACHE = 1000  # entries; a larger cache is carried into a window only as far as the window needs it
 
 
@@ -20,30 +27,68 @@ class TooLong(Exception):
 
 
 class Cut:
-    """Where a window begins, and what was kept then."""
+    """Where a window begins, and what was kept then; `anew` if the service began anew there."""
 
-    def __init__(self, place, entries, preferred):
-        self.place, self.entries, self.preferred = place, entries, preferred
+    def __init__(self, place, entries, preferred, anew=False):
+        self.place, self.entries, self.preferred, self.anew = place, entries, preferred, anew
 
 
 class Cutter:
     """Follows the history and notes where windows begin."""
 
-    def __init__(self, configuration, events, span, aim=AIM_LINES):
-        self.configuration, self.events, self.aim = configuration, events, aim
-        first, self.last = span
-        self.history = History(configuration, events, first)
+    def __init__(self, configuration, traffic, last, restarted=()):
+        """`last` is the moment of the capture's last packet; `restarted` are moments at which the
+        service is said to have begun anew; both in microseconds."""
+        self.configuration, self.events, self.last = configuration, traffic.events, last
+        self.first, self.aim = self.events[0].moment // 1000, AIM_LINES
+        self.losses, self.lost = Losses(configuration, traffic.orphans), []
+        ask_ms = configuration.limits["ask_ms"]
+        self.leaps = set_forward(self.events, ask_ms, self.losses.is_used, moment_text)
+        self.restarted, self.restarts, self.stalls = restarted, set(), []
+        for _ in range(MOST_HISTORIES):
+            found = self.follow()
+            stalls = found_in(self.history, self.events, configuration.limits)
+            if found <= self.restarts and not self.history.lost and stalls == self.stalls:
+                return
+            self.stalls = stalls
+            mark(self.events, stalls)
+            # With what a stall explains there may be fewer signs of other things.
+            if not stalls or self.restarts:
+                self.restarts |= found
+                self.put_in(self.history.lost)
+        self.follow()
+
+    def put_in(self, lost):
+        """Puts events among the others that the capture lost."""
+        self.lost += lost
+        self.events += lost
+        self.events.sort(key=lambda event: event.moment)
+
+    def follow(self):
+        """Follows the history with the new beginnings that are known; gives those that it shows."""
+        self.history = History(self.configuration, self.events, self.first, self.losses, self.restarts)
         self.cuts, self.lines, self.octets = [Cut(0, [], {})], 0, 0
         self.total = [0, 0]
         self.history.follow(self.at_event)
+        for moment in self.restarted:
+            self.history.eras.began(moment - SAID, moment + SAID)
+        return {self.events[place] for place in self.history.eras.places(self.events, self.history.foreign)}
+
+    def cut_smaller(self):
+        """Follows the history again for windows of half the lines."""
+        self.aim //= 2
+        self.follow()
 
     def at_event(self, place, cache):
         event = self.events[place]
         size = 2 * len(event.octets) + 60 if isinstance(event, (Question, Reply)) else 20
         self.total[0] += 1
         self.total[1] += size
-        if self.lines >= self.aim or self.octets + size >= AIM_OCTETS:
-            self.cuts.append(Cut(place, list(cache.entries.values()), dict(self.history.preferred)))
+        anew = event in self.restarts
+        if place == 0:
+            self.cuts[0].anew = anew
+        elif anew or self.lines >= self.aim or self.octets + size >= AIM_OCTETS:
+            self.cuts.append(Cut(place, list(cache.entries.values()), dict(self.history.preferred), anew))
             self.lines = self.octets = 0
         self.lines += 1
         self.octets += size
@@ -51,25 +96,64 @@ class Cutter:
     def ranges(self):
         """Beginning and end of each window, as places of events."""
         if self.total[0] <= MOST_LINES - 500 and self.total[1] < MOST_OCTETS:
-            self.cuts = self.cuts[:1]
+            self.cuts = [cut for cut in self.cuts if cut.anew or cut.place == 0]
         ends = [cut.place for cut in self.cuts[1:]] + [len(self.events)]
         return list(zip(self.cuts, ends))
 
+    def notes(self):
+        """What is to be said of the clock, and of packets that the capture lost, a line each."""
+        yield from self.leaps
+        foreign = len(self.history.foreign)
+        if foreign:
+            without = f"{counted(foreign, 'query')} with no question in the capture"
+            yield f"left out: {without}: it lost that, or another program asked"
+        lost = [type(event).__name__.lower() for event in self.lost if event.is_lost]
+        if lost:
+            kinds = [kind for kind in ("question", "query", "reply") if kind in lost]
+            counts = ", ".join(counted(lost.count(kind), kind) for kind in kinds)
+            yield f"the capture lost {counts}, as what followed shows"
+
+    def beginnings(self):
+        """When the service showed first that it had begun anew, or when it was seen to have ended:
+        moments, and whether it began."""
+        for place in [place for place, event in enumerate(self.events) if event in self.restarts]:
+            moment = first_output(self.events, place, self.history.foreign)
+            yield moment or self.events[place].moment, moment is not None
+
     def window(self, cut, end, judged, program):
         """The window between two places."""
-        events = self.open_before(cut) + self.events[cut.place : end]
+        unheard = self.unheard(cut, end)
+        events = self.open_before(cut) + [event for event in self.events[cut.place : end] if event not in unheard]
         before = self.needed(cut, end, events)
-        span = self.events[cut.place].moment, self.last
-        return Window(self.configuration, self.history, program, events, judged, (before, cut.preferred), span)
+        has_ended = end < len(self.events) and self.events[end] in self.restarts
+        span = self.events[cut.place].moment, self.events[end].moment if has_ended else self.last
+        window = Window(self.configuration, self.history, program, events, judged, (before, cut.preferred), span)
+        window.has_ended, window.unheard, window.stalls = has_ended, unheard, self.stalls
+        return window
+
+    def unheard(self, cut, end):
+        """The questions that came when one process had ended and the next one showed no life yet.
+        The youngest for what it asks first called for that."""
+        if not cut.anew:
+            return frozenset()
+        waiting = []
+        for event in self.events[cut.place : end]:
+            if is_output(event, self.history.foreign):
+                asked = event.asked.of() if isinstance(event, Query) and event.asked else None
+                caller = next((question for question in reversed(waiting) if question.asked.of() == asked), None)
+                return frozenset(waiting).difference([caller])
+            if isinstance(event, Question) and event.asked and not event.answer and not event.refused:
+                waiting.append(event)
+        return frozenset(waiting)
 
     def open_before(self, cut):
         """The events of conversations that are under way when the window begins."""
-        if cut.place == 0:
+        if cut.place == 0 or cut.anew:
             return []
         limits, start = self.configuration.limits, self.events[cut.place].moment
         since = start - 1000 * (limits["deadline_ms"] + 100)
         place = cut.place
-        while place > 0 and self.events[place - 1].moment >= since:
+        while place > 0 and self.events[place - 1].moment >= since and self.events[place] not in self.restarts:
             place -= 1
         near = self.events[place : cut.place]
         leads = {}
@@ -98,7 +182,7 @@ class Cutter:
         """Whether an event is of a question that is open, or of a query for one."""
         if isinstance(event, Question):
             return False
-        if isinstance(event, Answer):
+        if isinstance(event, (Answer, Refusal)):
             return event.question in open_
         query = getattr(event, "query", event)
         return bool(query.asked) and query.moment >= wanted.get(query.asked.of(), query.moment + 1)
@@ -143,9 +227,15 @@ class Explained:
         self.paired = self.never_left = 0
         self.others = []
 
-    def add(self, part):
-        results, (paired, never_left), others, text = part
-        self.results.update(results)
+    def add(self, part, events):
+        results, exchanged, (paired, never_left), others, text = part
+        for place, answer in exchanged:
+            events[place].answer = None if answer is None else events[answer]
+        for place, result in results.items():
+            answer = events[place].answer
+            if answer and answer.octets == result.octets:  # as most are: one copy is enough
+                result = result._replace(octets=answer.octets)
+            self.results[place] = result
         self.windows.update((place, len(self.scripts)) for place in results)
         self.paired += paired
         self.never_left += never_left
@@ -153,8 +243,8 @@ class Explained:
         self.scripts.append(text)
 
 
-def explain(cutter, chosen, program, progress):
-    """The results of the chosen questions."""
+def explain(cutter, chosen, program, progress, keeps_scripts=True):
+    """The results of the chosen questions, and the scripts if they are to be kept."""
     places = {event: place for place, event in enumerate(cutter.events) if isinstance(event, (Question, Answer))}
     jobs = []
     for cut, end in cutter.ranges():
@@ -166,8 +256,8 @@ def explain(cutter, chosen, program, progress):
         if judged:
             jobs.append((cut, end, judged))
     explained = Explained()
-    for done, part in enumerate(parts(cutter, jobs, program), 1):
-        explained.add(part)
+    for done, part in enumerate(parts(cutter, jobs, program, keeps_scripts), 1):
+        explained.add(part, cutter.events)
         progress(done, len(jobs))
     return explained
 
@@ -175,11 +265,11 @@ def explain(cutter, chosen, program, progress):
 WORK = []  # what each process works on, as it was when it was forked
 
 
-def parts(cutter, jobs, program):
+def parts(cutter, jobs, program, keeps_scripts):
     """What comes of each job, in order; on several processors where there are several jobs."""
-    WORK[:] = cutter, jobs, program
+    WORK[:] = cutter, jobs, program, keeps_scripts
     processes = min(os.cpu_count() or 1, len(jobs))
-    if processes <= 1:
+    if processes <= 1 or len(cutter.events) < AIM_LINES:
         yield from map(run_one, range(len(jobs)))
         return
     with multiprocessing.get_context("fork").Pool(processes) as pool:
@@ -188,16 +278,19 @@ def parts(cutter, jobs, program):
 
 def run_one(number):
     """The results of one window by place, its queries, and its script."""
-    cutter, jobs, program = WORK
+    cutter, jobs, program, keeps_scripts = WORK
     cut, end, judged = jobs[number]
     window = cutter.window(cut, end, [cutter.events[place] for place in judged], program)
     if len(window.lines) > MOST_LINES - 200:
         raise TooLong
-    by_event = window.results()
+    by_event, exchanged = window.results()
     results = {place: by_event[cutter.events[place]] for place in judged}
     others = [
         (query.moment, query.server, query.transport, query.asked, window.is_on_route(query))
         for query in window.other_queries()
         if query.asked
     ]
-    return results, window.queries_of_step(), others, window.script.text(window.lines, window.pairs)
+    places = {event: place for place, event in enumerate(cutter.events)} if exchanged else {}
+    moved = [(places[question], places.get(question.answer)) for question in exchanged]
+    script = window.script.text(window.lines, window.pairs) if keeps_scripts else ""
+    return results, moved, window.queries_of_step(), others, script

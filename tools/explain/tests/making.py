@@ -91,15 +91,16 @@ class Capturing:
             parts.append(struct.pack("<4I", moment // 1_000_000, moment % 1_000_000, len(packet), len(packet)) + packet)
         return b"".join(parts)
 
-    def pcapng(self):
-        """The capture as pcapng, with big numbers first and a time in nanoseconds."""
+    def pcapng(self, resolution=struct.pack(">2HB3x2H", 9, 1, 9, 0, 0), units=1000):
+        """The capture as pcapng, with big numbers first and a time in nanoseconds, or as an option
+        says: in `units` of a microsecond."""
         parts = [
             block(0x0A0D0D0A, struct.pack(">I2Hq", 0x1A2B3C4D, 1, 0, -1)),
-            block(1, struct.pack(">2HI", self.link, 0, 262144) + struct.pack(">2HB3x2H", 9, 1, 9, 0, 0)),
+            block(1, struct.pack(">2HI", self.link, 0, 262144) + resolution),
         ]
         for moment, packet in sorted(self.packets, key=lambda each: each[0]):
-            nanoseconds = moment * 1000
-            head = struct.pack(">5I", 0, nanoseconds >> 32, nanoseconds & 0xFFFFFFFF, len(packet), len(packet))
+            time = moment * units
+            head = struct.pack(">5I", 0, time >> 32, time & 0xFFFFFFFF, len(packet), len(packet))
             parts.append(block(6, head + packet + bytes(-len(packet) % 4)))
         return b"".join(parts)
 

@@ -1,6 +1,6 @@
 """A long capture: a thousand questions a second, of which most are answered from the cache."""
 from making import address, asked
-from scenes import Scene
+from office import Scene
 
 NAMES, SECONDS = 2000, 300
 OWN_PORTS = 60000

@@ -1,5 +1,9 @@
 """The captures of the tests: who sends what, at which millisecond. Answers are worked out from the
 rules, by hand."""
+import hostile
+import losses
+import outages
+import restarts
 from making import (
     ANY,
     CNAME,
@@ -7,7 +11,6 @@ from making import (
     DENIAL,
     MX,
     TXT,
-    Capturing,
     address,
     asked,
     framed,
@@ -16,64 +19,7 @@ from making import (
     octets,
     record,
 )
-
-FORWARDER, FIRST, SECOND, CORPORATE = "10.0.0.53:53", "192.0.2.1:53", "192.0.2.2:53", "10.0.0.10:53"
-ONE, OTHER = "10.0.0.7:40000", "10.0.0.8:40001"
-QUERY, REPLY, PLAIN = 0x0100, 0x8180, 0x8580  # RD; QR, RD, RA; QR, AA, RD, RA
-ACK, SYN, FIN, RST = 16, 2, 1, 4
-
-OFFICE = """version = 2
-listen = "10.0.0.53:53"
-
-[limits]
-tries = 2
-ask_ms = 1000
-deadline_ms = 3000
-stale_s = 60
-
-[[route]]
-suffix = "."
-servers = ["192.0.2.1:53", "192.0.2.2:53"]
-
-[[route]]
-suffix = "corp.example"
-servers = ["10.0.0.10:53"]
-
-[[route]]
-suffix = "lan"
-deny = true
-"""
-
-
-class Scene(Capturing):
-    """A capture with the forwarder's conversations."""
-
-    def __init__(self, *link):
-        super().__init__(*link)
-        self.port = 5000
-
-    def question(self, at, client, identifier, question):
-        self.udp(at, client, FORWARDER, message(identifier, QUERY, question))
-
-    def answer(self, at, client, identifier, question, flags=REPLY, answers=(), authority=()):
-        self.udp(at, FORWARDER, client, message(identifier, flags, question, answers, authority))
-
-    def query(self, at, server, question):
-        """A query from a port of its own; gives the port."""
-        self.port += 1
-        self.udp(at, f"10.0.0.53:{self.port}", server, message(self.port, QUERY, question))
-        return self.port
-
-    def reply(self, at, server, port, question, flags=PLAIN, answers=(), authority=(), identifier=None):
-        self.udp(at, server, f"10.0.0.53:{port}", message(identifier or port, flags, question, answers, authority))
-
-    def fetched(self, at, client, identifier, question, seconds, numbers, server=FIRST):
-        """A question that is asked, replied to 10 ms later with an address, and answered 1 ms after
-        that."""
-        self.question(at, client, identifier, question)
-        port = self.query(at + 0.2, server, question)
-        self.reply(at + 10.2, server, port, question, answers=[address(seconds, *numbers)])
-        self.answer(at + 11, client, identifier, question, answers=[address(seconds, *numbers)])
+from office import ACK, CORPORATE, FIN, FIRST, FORWARDER, ONE, OTHER, PLAIN, QUERY, REPLY, RST, SECOND, SYN, Scene
 
 
 def answers():
@@ -224,6 +170,50 @@ def kept_before():
     return scene.pcap()
 
 
+def kept_before_differs():
+    """A fault: what was kept before the capture has another address five seconds later."""
+    scene = Scene()
+    old = asked("old.example.com")
+    scene.question(0, ONE, 1, old)
+    scene.answer(0.2, ONE, 1, old, answers=[address(20, 192, 0, 2, 90)])
+    scene.question(5000, OTHER, 2, old)
+    scene.answer(5000.2, OTHER, 2, old, answers=[address(15, 192, 0, 2, 91)])
+    return scene.pcap()
+
+
+def two_seconds_more():
+    """A fault: a lifetime of two seconds too many. One of a second too many is none."""
+    scene = Scene()
+    www = asked("www.example.com")
+    scene.fetched(0, ONE, 1, www, 60, (192, 0, 2, 80))
+    # 60 - 4.990 s are left, and then 60 - 5.990 s.
+    scene.question(5000, ONE, 2, www)
+    scene.answer(5000.2, ONE, 2, www, answers=[address(57, 192, 0, 2, 80)])
+    scene.question(6000, ONE, 3, www)
+    scene.answer(6000.2, ONE, 3, www, answers=[address(55, 192, 0, 2, 80)])
+    return scene.pcap()
+
+
+def without_resolution():
+    """A pcapng whose interface does not say its unit of time: microseconds."""
+    scene = Scene()
+    scene.fetched(0, ONE, 1, asked("www.example.com"), 60, (192, 0, 2, 80))
+    return scene.pcapng(b"", 1)
+
+
+def repeated():
+    """With tcpdump -i any a question that comes again after 20 ms, the very same packet, is another
+    one."""
+    scene = Scene(COOKED_2)
+    www = asked("www.example.com")
+    scene.fetched(0, ONE, 1, www, 300, (192, 0, 2, 80))
+    moment, packet = scene.packets[0]
+    scene.packets.append((moment + 20_000, packet))
+    # 300 - 0.010 s are left.
+    scene.answer(20.2, ONE, 1, www, answers=[address(299, 192, 0, 2, 80)])
+    return scene.pcap()
+
+
 def past_its_end():
     """A fault: what ended at 5010 ms is answered at 6500 ms, with no second left, and nobody is
     asked."""
@@ -280,8 +270,29 @@ def gaps():
     scene.tcp(501, client, FORWARDER, 101 + len(stream), ACK, stream)
     scene.ip(600, bytes((192, 0, 2, 1)), bytes((10, 0, 0, 53)), 17, bytes(16), fragment=0x2000)
     scene.question(700, ONE, 3, www)
+    scene.question(650, ONE, 4, www)
+    moment, packet = scene.packets.pop()
+    scene.packets.append((moment, packet[:50]))
     capture = scene.pcap()
     return capture[:-10]
 
 
-ALL = [answers, failures, connections, kept_before, past_its_end, another_route, forgotten_alias, joined_unequal, gaps]
+ALL = [
+    answers,
+    failures,
+    connections,
+    kept_before,
+    kept_before_differs,
+    two_seconds_more,
+    without_resolution,
+    repeated,
+    past_its_end,
+    another_route,
+    forgotten_alias,
+    joined_unequal,
+    gaps,
+    *restarts.ALL,
+    *outages.ALL,
+    *hostile.ALL,
+    *losses.ALL,
+]

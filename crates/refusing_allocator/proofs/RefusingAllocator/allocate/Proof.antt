@@ -1,4 +1,4 @@
--- While an allocation is left it returns the result of the allocator within, otherwise `Err`.
+-- Unless the allocation is refused it returns the result of the allocator within, otherwise `Err`.
 -- Assumes `Logic`.
 use Rattle.std.proofs.Common.{◌≡◌, ℕ, ◌^◌, ◌<◌, Bool, true, false, List, [], ◌∷◌, Ok, Err, refl, w64, Bor}
 use seplogic.Ra.Ura.{Ura}
@@ -38,8 +38,8 @@ use Rattle.std.proofs.alloc.Calls.{Al, seen, token, Answer, answer_val, Answer-t
 use Rattle.std.proofs.VecSteps.Shapes.{after}
 use Rattle.refusing_allocator.proofs.Handle.{Count, type_arguments, receiver, inner_place, count_place, parts}
 use Rattle.refusing_allocator.proofs.Countdown.{Counts, at_counts, counts_goes, counts_says}
-use Rattle.refusing_allocator.proofs.is_spent.Symbol as is_spent_symbol
-use Rattle.refusing_allocator.proofs.is_spent.Met as is_spent_met
+use Rattle.refusing_allocator.proofs.is_refused.Symbol as is_refused_symbol
+use Rattle.refusing_allocator.proofs.is_refused.Met as is_refused_met
 use Rattle.refusing_allocator.specs.contracts.Refusing as Refusing
 use Rattle.refusing_allocator.specs.contracts.RefusingAllocator.allocate as f
 use Rattle.refusing_allocator.specs.contracts.RefusingAllocator.allocate.Key as key
@@ -57,7 +57,7 @@ module _ (Z : Al) where
   stayed = (stay_dropped (receiver Z) yes, (stay_dropped (plain (λ _. usize)) yes, (stay_dropped (plain (λ _. usize)) yes, tt)))
 
 module _ (Z : Al) {M : Type 1} {𝓤 : Ura M} (𝓛 : Logic 𝓤) (at_mem : Memory → SProp 𝓤) (run : Routine → Fun 𝓤) (𝓣 : Tables 𝓤 𝓛.H)
-    (takes : Triple 𝓤 (𝓣.C (takes_key Z)) (Takes Z 𝓛 at_mem run)) (counts : Triple 𝓤 (𝓣.C is_spent_symbol.name) (Counts 𝓛 at_mem run)) where
+    (takes : Triple 𝓤 (𝓣.C (takes_key Z)) (Takes Z 𝓛 at_mem run)) (counts : Triple 𝓤 (𝓣.C is_refused_symbol.name) (Counts 𝓛 at_mem run)) where
   open 𝓛 use {H}
 
   abbrev clauses : Clauses 𝓤 (ended Z)
@@ -98,7 +98,7 @@ module _ (Z : Al) {M : Type 1} {𝓤 : Ura M} (𝓛 : Logic 𝓤) (at_mem : Memo
         let p : ℕ × ℕ = inner_place Z r.ref_ptr in
         let c : ℕ × ℕ = count_place Z r.ref_ptr in
         let y : (Takes Z 𝓛 at_mem run).Ghost = at_takes Z 𝓛 at_mem run κ₁ q₁ p inner n a τ in
-        let z : (Counts 𝓛 at_mem run).Ghost = at_counts 𝓛 at_mem run κ₁ q₁ c r.now.growths in
+        let z : (Counts 𝓛 at_mem run).Ghost = at_counts 𝓛 at_mem run κ₁ q₁ c r.now.growths n in
         qed 𝓛 (((‵ (flft κ₁ q₁) ⊛ ‵ (flft κ₂ q₂) ⊛ ‵ ftrue) ⊛ ‵ (owns (types_at (ended Z).signature.params bound.0.0) bound.0.3 bound.0.4)) ∷
         (raw (fact 𝓤 (κ₂ ⊑ Z.row.lives)) ⊛ raw (fact 𝓤 Fits)) ∷ []) ∵
         move ! (1 ∷ []) $ split ! $ heard ! (κ₂ ⊑ Z.row.lives) (λ lives. heard ! Fits (λ fits. split ! $ split3 ! $
@@ -107,12 +107,12 @@ module _ (Z : Al) {M : Type 1} {𝓤 : Ura M} (𝓛 : Logic 𝓤) (at_mem : Memo
         use1 𝓛 (‵ (seen Z κ₁ p inner) ⊛ ‵ (hidden_shr Count κ₁ r.now.growths c.0 c.1)) (parts Z 𝓛 κ₁ r) $ split ! $
         -- [the allocator within; the count; ..; the tokens at 4 and 5]
         keep ! (1 ∷ 4 ∷ 0 ∷ 5 ∷ []) $
-        use2 𝓛 (raw ((Counts 𝓛 at_mem run).pre z)) (counts_goes 𝓛 at_mem run κ₁ q₁ c r.now.growths) $
+        use2 𝓛 (raw ((Counts 𝓛 at_mem run).pre z)) (counts_goes 𝓛 at_mem run κ₁ q₁ c r.now.growths n small_n) $
         enter ! 𝓣.C 𝓣.Λ (here Z) passed _ $ alloc_all ! (λ l.
         pass_all ! refl ((tt, tt), ((tt, record { fits = small_n }), ((tt, record { fits = small_a }), tt))) $
         sets ! (addr ! (through ! refl (fld ! refl (stop !)))) refl (tt, tt) $
-        calls_at ! (fm_of 𝓤 H 𝓛.laws 𝓣) (Counts 𝓛 at_mem run) counts z (and_then ! (get ! refl) (no_more !)) (λ u.
-        use1 𝓛 (later (some (λ (spent : Bool). given (u ≡ vbool spent) (‵ (flft κ₁ q₁))))) (counts_says 𝓛 at_mem run κ₁ q₁ c r.now.growths u) $
+        calls_at ! (fm_of 𝓤 H 𝓛.laws 𝓣) (Counts 𝓛 at_mem run) counts z (and_then ! (get ! refl) (and_then ! (get ! refl) (no_more !))) (λ u.
+        use1 𝓛 (later (some (λ (spent : Bool). given (u ≡ vbool spent) (‵ (flft κ₁ q₁))))) (counts_says 𝓛 at_mem run κ₁ q₁ c r.now.growths n u) $
         await ! tt $ pick ! (λ spent. learn ! (λ is_answer. lands_as ! is_answer refl (tt, tt) $
         -- [a token; the allocator within; the other token]
         first ! $ branches ! (get ! refl)
@@ -136,7 +136,7 @@ allocate_spec 𝓤 𝓛 𝓜 𝓡 wired Y laws g d d' met _ =
     let c = f.clauses Y g d d' 𝓛 𝓜.mem 𝓡.returns in
     let number = Goes-dropped 𝓛 2 (plain (λ _. usize)) yes (λ κs x w. refl) in
     let body = WpFn 𝓤 𝓛.H 𝓣.C 𝓣.Λ (here Z) in
-    let counts = cited 𝓤 𝓛.H _ 𝓜 𝓡 𝓡.env is_spent_symbol.name (𝓡.env is_spent_symbol.name) refl (is_spent_met.met 𝓤 𝓛 𝓜 𝓡 (code.calls-refusing_allocator::is_spent 𝓡.env wired)) in
+    let counts = cited 𝓤 𝓛.H _ 𝓜 𝓡 𝓡.env is_refused_symbol.name (𝓡.env is_refused_symbol.name) refl (is_refused_met.met 𝓤 𝓛 𝓜 𝓡 (code.calls-refusing_allocator::is_refused 𝓡.env wired)) in
     entered 𝓤 𝓛.H (triple_of 𝓛 (f.signature Y) (f.spec Y g d d' 𝓛 𝓜.mem 𝓡.returns)) 𝓣.C 𝓣.Λ (key.name (type_arguments Z)) (here Z)
     (code.unfolded 𝓤 𝓛.H 𝓜 𝓡 wired (Y, tt) d d')
     (walk_Meets 𝓛 (ended Z) (stayed Z) (Goes-dropped 𝓛 2 (receiver Z) yes (λ κs x w. refl), (number, (number, tt))) c body (WpFn-mono 𝓤 𝓛.H 𝓛.laws 𝓣 (here Z))

@@ -1,0 +1,55 @@
+//! Numbers that are drawn at random by a seed.
+
+ghost use Rattle.std.specs.Prelude.{◌<◌, length};
+
+use rand_core::utils::NextWord;
+use rand_pcg::Pcg32;
+
+/// Draws numbers: with one seed always the same.
+#[derive(Drop)]
+pub(crate) struct Draws {
+    words: Pcg32,
+}
+
+impl Draws {
+    pub(crate) fn new(seed: u64) -> Draws {
+        Draws {
+            words: Pcg32::new(seed, 1),
+        }
+    }
+
+    /// A number below the limit.
+    pub(crate) fn below(&mut self, limit: u32) -> u32
+        requires { 0 < limit }
+        ensures { result < limit }
+    {
+        self.words.next_word() % limit
+    }
+
+    /// Any 16 bits.
+    pub(crate) fn bits(&mut self) -> u16 {
+        (self.words.next_word() % 65_536) as u16
+    }
+
+    /// True once in so many draws.
+    pub(crate) fn one_in(&mut self, many: u32) -> bool
+        requires { 0 < many }
+    {
+        self.below(many) == 0
+    }
+
+    /// One of the values.
+    pub(crate) fn pick<T: Copy>(&mut self, values: &[T]) -> T
+        requires { 0 < length values.now }
+    {
+        values[self.words.next_word() as usize % values.len()]
+    }
+
+    /// A place in a list of this length; `None` if it is empty.
+    pub(crate) fn place(&mut self, length: usize) -> Option<usize> {
+        if length == 0 {
+            return None;
+        }
+        Some(self.words.next_word() as usize % length)
+    }
+}

@@ -1,0 +1,107 @@
+//! A run of drawn events.
+
+use crate::draws::Draws;
+use crate::events::{draw, last_tick, words};
+use crate::fault::Fault;
+use crate::judging::Judge;
+use crate::turns::{TURNS, Turn};
+use forwarder_core::Forwarder;
+use lru::DefaultHasher;
+use std::alloc::{AllocError, Global};
+use step_values::Handed;
+use suffix_routes::{Config, Limits};
+
+/// The seed of all that is drawn.
+pub(crate) const SEED: u64 = 1;
+
+/// How many events the turn of a configuration has.
+const EVENTS: u32 = 10_000;
+
+/// How many reasons a reply may have.
+const REASONS: usize = 14;
+
+/// A run: what it draws from, what it judges by, and the number of its last event, from 1.
+#[derive(Drop)]
+pub(crate) struct Run {
+    draws: Draws,
+    judge: Judge,
+    pub number: u32,
+}
+
+/// The configuration of a turn.
+fn config_of(alloc: Global, turn: Turn) -> Result<Config, Fault> {
+    let text = turn.text(alloc)?;
+    match Config::read(alloc, alloc, text.as_str()) {
+        Ok(config) => Ok(config),
+        Err(_) => Err(Fault::Configuration),
+    }
+}
+
+impl Run {
+    pub(crate) fn new(alloc: Global) -> Run {
+        Run {
+            draws: Draws::new(SEED),
+            judge: Judge::new(alloc),
+            number: 0,
+        }
+    }
+
+    /// Runs the turn of each configuration. In all of them every reason has to come.
+    pub(crate) fn run(&mut self, alloc: Global) -> Result<(), Fault> {
+        for (limits, routes, replies, ports) in TURNS {
+            let turn = Turn {
+                limits,
+                routes,
+                replies,
+                ports,
+            };
+            self.take(alloc, turn)?;
+        }
+        if self.judge.reasons.len() == REASONS {
+            Ok(())
+        } else {
+            Err(Fault::Reasons)
+        }
+    }
+
+    /// Runs the turn of a configuration, on a new forwarder.
+    fn take(&mut self, alloc: Global, turn: Turn) -> Result<(), Fault> {
+        let config = config_of(alloc, turn)?;
+        let limits = config.limits;
+        let mut forwarder = Forwarder::new(alloc, config, DefaultHasher::default())?;
+        self.hand(alloc, turn, limits, &mut forwarder)
+    }
+
+    /// Hands in the events of a turn. Its last ones are ticks, after which nothing may wait.
+    fn hand(
+        &mut self,
+        alloc: Global,
+        turn: Turn,
+        limits: Limits,
+        forwarder: &mut Forwarder<DefaultHasher>,
+    ) -> Result<(), Fault> {
+        self.judge.ledger.restart();
+        for number in 0..EVENTS {
+            self.number = self.number.saturating_add(1);
+            let handed = self.next(alloc, turn, (EVENTS - number) as usize)?;
+            let outcome = forwarder.step(handed.now, handed.words, &handed.event)?;
+            self.judge.judge(limits, &handed, &outcome)?;
+        }
+        if self.judge.ledger.left() == 0 {
+            Ok(())
+        } else {
+            Err(Fault::Lost)
+        }
+    }
+
+    /// The next event, of which `left` are left. An event may leave two more to do, and a tick
+    /// serves one.
+    fn next(&mut self, alloc: Global, turn: Turn, left: usize) -> Result<Handed, AllocError> {
+        let words = words(&mut self.draws, turn);
+        let ledger = &self.judge.ledger;
+        if left <= ledger.left().saturating_add(3) {
+            return Ok(last_tick(words, ledger));
+        }
+        draw(alloc, &mut self.draws, turn, (words, self.number), ledger)
+    }
+}

@@ -1,0 +1,142 @@
+//! The commands.
+
+ghost use Rattle.std.specs.Prelude.{◌≡◌, IfOk, IfErr};
+ghost use Rattle.forwarder_commands.specs.Commands.{command_by, IsOfOctets, IsFaultOfFile, IsFaultOfCheck};
+ghost use Rattle.forwarder_commands.specs.Commands.{IsFaultOfServe, IsFaultOfReplay};
+
+use crate::arguments::{LONGEST, argument, count, text};
+use crate::fault::Fault;
+use crate::files::Opened;
+use crate::refused::say_refused;
+use crate::saying::{say, say_unread, unopened};
+use crate::serving::serve_config;
+use replay_script::{ReplayFault, config_in, decimal, read_limited, replay_run};
+use std::io;
+use std::io::{BufWriter, Write};
+use std::net::Net;
+use std::random::RandomSource;
+use std::rt::{Clock, Env};
+use suffix_routes::Config;
+
+/// How many digits a number of turns may have.
+const MOST_DIGITS: usize = 20;
+
+/// A command of the program.
+#[derive(Clone, Copy, PartialEq, Eq, Debug)]
+pub enum Command {
+    /// Say whether a configuration is accepted.
+    Check,
+    /// Serve clients.
+    Serve,
+    /// Run a script.
+    Replay,
+}
+
+/// The command of a first argument, with `count` arguments in all; `None` for any other.
+pub fn command_of(word: &str, count: usize) -> Option<Command>
+    ensures { result ≡ command_by word.now count }
+{
+    match word {
+        "check" if count == 2 => Some(Command::Check),
+        "serve" if count == 3 => Some(Command::Serve),
+        "replay" if count == 1 => Some(Command::Replay),
+        _ => None,
+    }
+}
+
+/// Does what the arguments say. All of them but the names of files are text.
+pub fn run<R>(rt: &R) -> Result<(), Fault>
+where
+    R: Env + Input + Print + AllocGlobal + Net + Clock + RandomSource,
+{
+    let mut room = [0u8; LONGEST];
+    let word = text(rt, 1, &mut room).ok_or(Fault::Usage)?;
+    match command_of(word, count(rt)) {
+        Some(Command::Check) => check(rt),
+        Some(Command::Serve) => serve(rt),
+        Some(Command::Replay) => replay(rt),
+        None => Err(Fault::Usage),
+    }
+}
+
+/// Prints how many routes the configuration has that the second argument names.
+fn check<R: Env + Print + AllocGlobal>(rt: &R) -> Result<(), Fault>
+    ensures { IfErr result IsFaultOfCheck }
+{
+    let routes = named_config(rt)?.routes().len();
+    println!(rt; "ok {routes}")?;
+    Ok(())
+}
+
+/// The configuration in the file with this name. `Device` where the file can't be read or passes
+/// 16,777,216 octets, `Config` where the configuration is refused, `Memory` where memory ran out.
+/// Where the file can't be read or the configuration is refused, standard output says why.
+pub fn load<R: Print + AllocGlobal>(rt: &R, name: &[u8]) -> Result<Config, ReplayFault>
+    ensures read { IfOk result IsOfOctets }
+    ensures refused { IfErr result IsFaultOfFile }
+{
+    let mut file = match Opened::open(name) {
+        Ok(file) => file,
+        Err(error) => return Err(unopened(rt, name, error)),
+    };
+    let octets = match read_limited(rt.alloc(), &mut file) {
+        Ok(octets) => octets,
+        Err(fault) => {
+            if fault == ReplayFault::Device {
+                say_unread(rt, name, &file);
+            }
+            return Err(fault);
+        }
+    };
+    let config = config_in(rt.alloc(), rt.alloc(), &octets);
+    if let Err(ReplayFault::Config(fault)) = &config {
+        say_refused(rt, &octets, fault);
+    }
+    config
+}
+
+/// The configuration in the file that the second argument names, as [`load`]; a name that is too
+/// long for a file is one that can't be read.
+fn named_config<R: Env + Print + AllocGlobal>(rt: &R) -> Result<Config, ReplayFault>
+    ensures read { IfOk result IsOfOctets }
+    ensures refused { IfErr result IsFaultOfFile }
+{
+    let mut room = [0u8; LONGEST];
+    match argument(rt, 2, &mut room) {
+        Ok(name) => load(rt, name),
+        Err(_) => {
+            say(rt, &"the name of the file has more than 4095 octets");
+            Err(ReplayFault::Device)
+        }
+    }
+}
+
+/// The number of turns that the third argument says; `None` where it says none.
+pub fn turns<R: Env>(rt: &R) -> Option<u64> {
+    let mut room = [0u8; MOST_DIGITS];
+    decimal(text(rt, 3, &mut room)?)
+}
+
+/// Serves as many turns as the third argument says by the configuration that the second one names,
+/// and prints what was counted.
+fn serve<R>(rt: &R) -> Result<(), Fault>
+where
+    R: Env + Print + AllocGlobal + Net + Clock + RandomSource,
+    ensures { IfErr result IsFaultOfServe }
+{
+    let turns = turns(rt).ok_or(Fault::Usage)?;
+    let config = named_config(rt)?;
+    serve_config(rt, rt.alloc(), config, turns, &mut io::writer(rt))
+}
+
+/// Replays standard input. What was printed before a fault is written out, too.
+fn replay<R: Input + Print + AllocGlobal>(rt: &R) -> Result<(), Fault>
+    ensures { IfErr result IsFaultOfReplay }
+{
+    let mut reader = rt.reader();
+    let mut writer = BufWriter::new(rt.alloc(), io::writer(rt))?;
+    let ran = replay_run(rt.alloc(), rt.alloc(), &mut reader, &mut writer);
+    writer.flush()?;
+    ran?;
+    Ok(())
+}

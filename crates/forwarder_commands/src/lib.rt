@@ -1,0 +1,17 @@
+//! The commands of the program: `check FILE` says whether a configuration is accepted, `replay` runs
+//! the events of a script and prints each action, and `serve FILE TURNS` serves clients over sockets.
+#![tactic(auto)]
+
+mod arguments;
+mod commands;
+mod counted;
+mod fault;
+mod files;
+mod refused;
+mod saying;
+mod serving;
+
+pub use arguments::{LONGEST, argument, count, text};
+pub use commands::{Command, command_of, load, run, turns};
+pub use fault::Fault;
+pub use serving::serve_config;

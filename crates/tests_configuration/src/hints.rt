@@ -1,0 +1,242 @@
+//! The texts of hints.
+
+use configuration_hints::{Hint, hint_for_fault, hint_for_key, hint_for_text};
+use std::alloc::{AllocError, Global};
+use std::test::Fail;
+use suffix_routes::Config;
+
+/// A text up to where the reader of TOML stops, its rest, and the hint.
+const TEXTS: [(&str, &str, &str); 25] = [
+    (
+        "version = 1\n[limits]\ncache = ",
+        "04096\n",
+        "numbers are written without leading zeros",
+    ),
+    (
+        "version = 1\n[limits]\nask_ms = ",
+        "1500ms\n",
+        "a number has digits alone",
+    ),
+    (
+        "version = 1\n[limits]\ncache = 4",
+        ",096\n",
+        "a number has digits alone",
+    ),
+    (
+        "version = 2\n[[route]]\ndeny = ",
+        "True\n",
+        "a boolean is `true` or `false`, in small letters",
+    ),
+    (
+        "version = 2\n[[route]]\ndeny = ",
+        "yes\n",
+        "a boolean is `true` or `false`, in small letters",
+    ),
+    (
+        "version = 2\n[[route]]\ndeny = ",
+        "no\n",
+        "a boolean is `true` or `false`, in small letters",
+    ),
+    (
+        "version = 2\n[[route]]\ndeny = ",
+        "on\n",
+        "a boolean is `true` or `false`, in small letters",
+    ),
+    (
+        "version = 2\n[[route]]\ndeny = ",
+        "off\n",
+        "a boolean is `true` or `false`, in small letters",
+    ),
+    (
+        "version = 1\nlisten = ",
+        "127.0.0.1:53\n",
+        "a string is between quotation marks",
+    ),
+    (
+        "version = 1\nlisten = ",
+        "localhost\n",
+        "a string is between quotation marks",
+    ),
+    (
+        "version = 1\nlisten = ",
+        "\u{201c}127.0.0.1:53\u{201d}\n",
+        "'\u{201c}' (U+201C) is not ASCII",
+    ),
+    ("version =", "\u{a0}1\n", "'\\u{a0}' (U+00A0) is not ASCII"),
+    (
+        "version = 1",
+        "\rlisten = 2\r",
+        "a carriage return has no line feed after it",
+    ),
+    (
+        "version = 1\n",
+        "\r",
+        "a carriage return has no line feed after it",
+    ),
+    ("version = 1\n", "// text\n", "a comment begins with `#`"),
+    // A bracket, a quotation mark and a header that are not closed, after others that are.
+    (
+        "version = 1\n[[route]]\nservers = [\"a\", \"b\"\n",
+        "[[route]]\n",
+        "what line 3, column 11 opens is not closed",
+    ),
+    (
+        "# [\nlisten = \"a\\\"[\"\nservers = [['['], [\"a\"\n",
+        "",
+        "what line 3, column 19 opens is not closed",
+    ),
+    (
+        "version = 1\nlisten = \"127.0.0.1:53",
+        "\n",
+        "what line 2, column 10 opens is not closed",
+    ),
+    (
+        "version = 1\n[[route]",
+        "\n",
+        "what line 2, column 1 opens is not closed",
+    ),
+    // Nothing is known: a missing comma, a value that is missing, a further value, an octet that is
+    // no text.
+    ("servers = [\"a\" ", "\"b\"]\n", ""),
+    ("version =", "\n", ""),
+    ("version = 1 ", "2\n", ""),
+    ("version = 1", "\r\n", ""),
+    ("version = 1", ",\n", ""),
+    ("", "", ""),
+];
+
+/// A configuration, and the hint for its first fault.
+const FAULTS: [(&str, &str); 22] = [
+    ("version = 1\ncolour = 1", ""),
+    (
+        "version = 1\nListen = 1",
+        "keys are in small letters: `listen`",
+    ),
+    ("version = 1\nlimit = 1", "did you mean `limits`?"),
+    ("version = 1\nrotue = 1", "did you mean `route`?"),
+    (
+        "version = 1\nlimits = { ask-ms = 1 }",
+        "did you mean `ask_ms`?",
+    ),
+    ("version = \"1\"", "it is written without quotation marks"),
+    (
+        "version = 1\nlimits = { cache = \"1\" }",
+        "it is written without quotation marks",
+    ),
+    (
+        "version = 1\nlisten = \"192.168.001.001:53\"",
+        "numbers are written without leading zeros",
+    ),
+    (
+        "version = 1\nlisten = \"192.168.1.1\"",
+        "the port is missing, as in `192.0.2.1:53`",
+    ),
+    (
+        "version = 1\nlisten = \"[2001:db8::1]:53\"",
+        "only addresses of IPv4 can be given",
+    ),
+    (
+        "version = 1\nlisten = \"2001:db8::1\"",
+        "only addresses of IPv4 can be given",
+    ),
+    (
+        "version = 1\nlisten = \"dns.example:53\"",
+        "an address is wanted, no name",
+    ),
+    (
+        "version = 1\nlisten = \"192.0.2.1\u{ff1a}53\"",
+        "'\u{ff1a}' (U+FF1A) is not ASCII",
+    ),
+    // The fault of a number's range says itself what is allowed.
+    ("version = 1\nlisten = \"192.0.2.256:53\"", ""),
+    ("version = 1\nlisten = \"192.0.2.1005:53\"", ""),
+    ("version = 1\nlisten = \"10.0.0.300:53\"", ""),
+    (
+        "version = 1\n[route]\nsuffix = \".\"",
+        "each route begins with `[[route]]`",
+    ),
+    (
+        "version = 1\n[[route]]\nsuffix = \".\"\nservers = \"192.0.2.1:53\"",
+        "write `[\"ADDRESS:PORT\"]`, also for one server",
+    ),
+    (
+        "version = 1\n[[route]]\nsuffix = \"b\u{fc}cher.example\"",
+        "'\u{fc}' is not ASCII: write the label in its form that begins with `xn--`",
+    ),
+    (
+        "version = 1\n[[route]]\nsuffix = \"10.0.0.0/8\"",
+        "'/' can't be in it",
+    ),
+    (
+        "version = 1\n[[route]]\nsuffix = \"*.corp\"",
+        "a suffix is for all names below it: leave out what is before its first label",
+    ),
+    ("version = 1\n[[route]]\nsuffix = \"a..b\"", ""),
+];
+
+/// Whether this is the text of a hint, empty if there is none.
+fn is_said(heap: Global, hint: Option<Hint>, wanted: &str) -> Result<bool, AllocError> {
+    match hint {
+        Some(hint) => {
+            let said = format!(in heap; "{hint}")?;
+            Ok(said.as_str() == wanted)
+        }
+        None => Ok(wanted.is_empty()),
+    }
+}
+
+/// Whether this is the hint for a text that is no TOML.
+fn is_said_of_text(
+    heap: Global,
+    before: &str,
+    rest: &str,
+    wanted: &str,
+) -> Result<bool, AllocError> {
+    let text = format!(in heap; "{before}{rest}")?;
+    is_said(heap, hint_for_text(text.as_bytes(), before.len()), wanted)
+}
+
+/// Whether this is the hint for the first fault of a configuration.
+fn is_said_of_fault(heap: Global, text: &str, wanted: &str) -> Result<bool, AllocError> {
+    match Config::read(heap, heap, text) {
+        Ok(_accepted) => Ok(false),
+        Err(fault) => is_said(heap, hint_for_fault(&fault), wanted),
+    }
+}
+
+#[test]
+fn texts_that_are_no_toml(rt: HostRuntime) -> Result<(), Fail> {
+    for (row, (before, rest, wanted)) in TEXTS.iter().enumerate() {
+        assert!(rt;
+            is_said_of_text(rt.alloc(), before, rest, wanted)?,
+            "row {row}: {wanted}"
+        );
+    }
+    Ok(())
+}
+
+#[test]
+fn faults(rt: HostRuntime) -> Result<(), Fail> {
+    for (row, (text, wanted)) in FAULTS.iter().enumerate() {
+        assert!(rt;
+            is_said_of_fault(rt.alloc(), text, wanted)?,
+            "row {row}: {wanted}"
+        );
+    }
+    Ok(())
+}
+
+#[test]
+fn keys(rt: HostRuntime) -> Result<(), Fail> {
+    let near = hint_for_key(b"verison", "`version`");
+    let far = hint_for_key(b"vrsn_", "`version`");
+    let long = hint_for_key(b"a_key_that_is_longer_than_any", "`version`");
+    let longest = hint_for_key(b"deadline_mss", "`deadline_ms`");
+    let least = hint_for_key(b"tris", "`cache`, `tries`, `trees`");
+    assert_eq!(rt; near, Some(Hint::Nearly("version")));
+    assert_eq!(rt; far, None);
+    assert_eq!(rt; long, None);
+    assert_eq!(rt; longest, Some(Hint::Nearly("deadline_ms")));
+    assert_eq!(rt; least, Some(Hint::Nearly("tries")));
+    Ok(())
+}

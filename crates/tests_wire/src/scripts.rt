@@ -1,0 +1,218 @@
+//! Wires in memory on which a script's turns arrive, and runs of a new forwarder over them.
+
+use crate::puts::{Puts, are_given_up, puts_of, unsent};
+use crate::worked::{CLIENT, QUESTION, REPLY, SECOND, SERVER, forwarder, forwarder_to};
+use forwarder_core::Forwarder;
+use lru::DefaultHasher;
+use network_model::{Arrival, ScriptRound, ScriptWire, Served, Wire, serve};
+use plain_list::PlainList;
+use std::alloc::{AllocError, Allocator};
+use std::mem::forget;
+use step_values::Path;
+use suffix_routes::Peer;
+
+/// The arrival of a turn.
+#[derive(Clone, Copy)]
+pub(crate) enum Comes {
+    Nothing,
+    /// A client's datagram.
+    Question(Peer, &'static [u8]),
+    /// A piece of a client's stream on this connection.
+    Piece(u64, &'static [u8]),
+    /// A server's datagram at this port.
+    Reply(u16, Peer, &'static [u8]),
+    /// A piece of a server's stream on this connection.
+    Stream(u64, Peer, &'static [u8]),
+    Gone(Path),
+}
+
+/// The moment of a turn, in ms, and its arrival.
+pub(crate) type Turn = (u64, Comes);
+
+/// The reply answers the question.
+pub(crate) const FIRST: [Turn; 2] = [
+    (1000, Comes::Question(CLIENT, &QUESTION)),
+    (1020, Comes::Reply(1032, SERVER, REPLY)),
+];
+
+fn arrival<A: Allocator + Copy>(alloc: A, comes: Comes) -> Result<Arrival<A>, AllocError> {
+    match comes {
+        Comes::Nothing => Ok(Arrival::Nothing),
+        Comes::Question(from, bytes) => Ok(Arrival::ClientDatagram {
+            from,
+            bytes: PlainList::copied(alloc, bytes)?,
+        }),
+        Comes::Piece(conn, bytes) => Ok(Arrival::ClientStream {
+            conn,
+            bytes: PlainList::copied(alloc, bytes)?,
+        }),
+        Comes::Reply(port, from, bytes) => Ok(Arrival::ServerDatagram {
+            port,
+            from,
+            bytes: PlainList::copied(alloc, bytes)?,
+        }),
+        Comes::Stream(conn, from, bytes) => Ok(Arrival::ServerStream {
+            conn,
+            from,
+            bytes: PlainList::copied(alloc, bytes)?,
+        }),
+        Comes::Gone(path) => Ok(Arrival::PathGone { path }),
+    }
+}
+
+/// The word that gives this identifier, and the port 1,024 above.
+fn word(number: u16) -> u32 {
+    u32::from(number) * 65_537
+}
+
+/// The words of the turn with this number, from 1: its first identifier is 8 times the number, and
+/// each further one the next.
+fn words_of(turn: u8) -> [u32; 8] {
+    let first = 8 * u16::from(turn);
+    [
+        word(first),
+        word(first + 1),
+        word(first + 2),
+        word(first + 3),
+        word(first + 4),
+        word(first + 5),
+        word(first + 6),
+        word(first + 7),
+    ]
+}
+
+/// The words of a turn. A question in pieces is asked with those of the first turn, whichever piece
+/// ends it.
+fn words_in(turn: u8, comes: Comes) -> [u32; 8] {
+    match comes {
+        Comes::Piece(..) => words_of(1),
+        _ => words_of(turn),
+    }
+}
+
+/// Adds the turns of a script.
+fn add_turns<A: Allocator + Copy>(
+    alloc: A,
+    rounds: &mut Vec<ScriptRound<A>, A>,
+    turns: &[Turn],
+) -> Result<(), AllocError> {
+    let mut number = 0u8;
+    for (moment, comes) in turns {
+        number = number.saturating_add(1);
+        rounds.push(ScriptRound {
+            arrival: arrival(alloc, *comes)?,
+            moment: *moment,
+            words: words_in(number, *comes),
+        })?;
+    }
+    Ok(())
+}
+
+/// The turns of a script.
+pub(crate) fn rounds_of<A: Allocator + Copy>(
+    alloc: A,
+    turns: &[Turn],
+) -> Result<Vec<ScriptRound<A>, A>, AllocError> {
+    let mut rounds = Vec::new(alloc);
+    match add_turns(alloc, &mut rounds, turns) {
+        Ok(()) => Ok(rounds),
+        Err(error) => Err(error),
+    }
+}
+
+/// A wire of these turns that refuses the calls with these numbers.
+pub(crate) fn wire_of<A: Allocator + Copy>(
+    alloc: A,
+    turns: &[Turn],
+    refuse: &[u64],
+) -> Result<ScriptWire<A>, AllocError> {
+    let refuse = Vec::from_slice(alloc, refuse)?;
+    let rounds = rounds_of(alloc, turns)?;
+    Ok(ScriptWire::new(alloc, rounds, refuse))
+}
+
+/// A run of a new forwarder over a wire in memory.
+#[derive(Clone, Copy)]
+pub(crate) struct Run<'a> {
+    /// The turns of the wire.
+    pub script: &'a [Turn],
+    /// The numbers of the calls that it refuses.
+    pub refuse: &'a [u64],
+    /// Whether the group has a second server.
+    pub has_second: bool,
+    /// The number of turns that are made.
+    pub turns: u64,
+}
+
+/// What a run comes to.
+#[derive(Clone, Copy, PartialEq, Eq, Debug)]
+pub(crate) struct Ran {
+    pub served: Served,
+    /// The number of calls of the wire that were refused.
+    pub faults: u64,
+    pub puts: Puts,
+    /// The number of puts that were not sent, and of the asks among them.
+    pub unsent: (u64, u64),
+    /// After each ask that was not sent the next put closes its path.
+    pub are_given_up: bool,
+}
+
+/// A new forwarder with one route, for every name, to one server or to two.
+fn forwarder_of<A: Allocator + Copy>(
+    alloc: A,
+    has_second: bool,
+) -> Result<Forwarder<DefaultHasher, A>, AllocError> {
+    if has_second {
+        forwarder_to(alloc, &[SERVER, SECOND])
+    } else {
+        forwarder(alloc)
+    }
+}
+
+/// Serves `turns` turns over this wire with a new forwarder. It is forgotten: dropping it would
+/// have to be proved here.
+pub(crate) fn serve_anew<A: Allocator + Copy>(
+    alloc: A,
+    wire: &mut ScriptWire<A>,
+    has_second: bool,
+    turns: u64,
+) -> Result<Served, AllocError> {
+    let mut forwarder = forwarder_of(alloc, has_second)?;
+    let served = serve(alloc, wire, &mut forwarder, turns);
+    forget(forwarder);
+    served
+}
+
+/// What a run over this wire comes to.
+fn ran_over<A: Allocator + Copy>(
+    alloc: A,
+    wire: &mut ScriptWire<A>,
+    run: &Run<'_>,
+) -> Result<Ran, AllocError> {
+    let served = serve_anew(alloc, wire, run.has_second, run.turns)?;
+    Ok(Ran {
+        served,
+        faults: wire.faults(),
+        puts: puts_of(wire.puts()),
+        unsent: unsent(wire.puts()),
+        are_given_up: are_given_up(wire.puts()),
+    })
+}
+
+/// What a run comes to. Its wire is forgotten, too.
+pub(crate) fn ran_anew<A: Allocator + Copy>(alloc: A, run: &Run<'_>) -> Result<Ran, AllocError> {
+    let mut wire = wire_of(alloc, run.script, run.refuse)?;
+    let ran = ran_over(alloc, &mut wire, run);
+    forget(wire);
+    ran
+}
+
+/// The counts of `turns` turns, in which `refused_puts` puts were refused and nothing was lost.
+pub(crate) fn counted(turns: u64, refused_puts: u64) -> Served {
+    Served {
+        turns,
+        lost: 0,
+        refused_puts,
+        refused_arrivals: 0,
+    }
+}

@@ -1,0 +1,99 @@
+"""Leaps of the clock with which packets were captured. The service's own clock has none, so they
+are taken out."""
+from .traffic import Answer, Query, Reply
+from .wording import counted
+
+LEAP = 1_000_000  # microseconds by which a packet may be earlier than the one before it in the file
+SOON = 60_000  # microseconds in which a reply is answered
+FEW = 8  # packets with a strange time, after which the clock is as before
+
+
+def straightened(packets, shown):
+    """The packets in the order of the file, with times as if the clock had not been set back; and a
+    note for each leap. `shown` puts a moment into words."""
+    found, notes, offset, latest, strange = [], [], 0, None, 0
+    for place, packet in enumerate(packets):
+        moment = packet.moment + offset
+        if latest is not None and moment < latest - LEAP:
+            ahead = run_before(found, moment)
+            if ahead:
+                latest = found[-ahead - 1].moment
+                found[-ahead:] = [each._replace(moment=latest) for each in found[-ahead:]]
+                strange += ahead
+            elif comes_back(packets, place, latest - offset, (latest - moment) // 2):
+                moment, strange = latest, strange + 1
+            else:
+                back = f"the clock was set back by {(latest - moment) / 1e6:,.1f} s at {shown(packet.moment)}"
+                notes.append(f"{back}: later times are those of the clock before")
+                offset += latest - moment
+                moment = latest
+        latest = moment if latest is None else max(latest, moment)
+        found.append(packet if moment == packet.moment else packet._replace(moment=moment))
+    if strange:
+        notes.append(f"{counted(strange, 'packet')} with a strange time, taken for that of the one before")
+    return found, notes
+
+
+def run_before(found, moment):
+    """How many of the last packets lie ahead, if what is before them leads on to this moment; 0 if
+    these are many."""
+    for count in range(1, min(FEW, len(found) - 1) + 1):
+        before = found[-count - 1].moment
+        if moment >= before - LEAP and found[-count].moment > before + LEAP:
+            return count
+    return 0
+
+
+def comes_back(packets, place, latest, leap):
+    """Whether the time of one of the next packets leaps as far as to a moment."""
+    near = packets[place : place + 1 + FEW]
+    return any(
+        after.moment >= latest - LEAP and after.moment - before.moment >= leap for before, after in zip(near, near[1:])
+    )
+
+
+def set_forward(events, ask_ms, carries, shown):
+    """Takes out of the events' times by what the clock was set forward; gives a note for each time.
+
+    A reply that comes too late by the clock and is answered all the same shows it, if nothing
+    happened meanwhile. `carries` says whether a reply has what an answer has.
+    """
+    notes = []
+    for place, event in enumerate(events):
+        if isinstance(event, Reply) and event.moment - event.query.moment > 1000 * ask_ms:
+            gap, first = widest_gap(events, place, event.query.moment)
+            if 2 * gap > event.moment - event.query.moment and is_answered(events, place, carries):
+                notes.append(
+                    f"the clock was set forward by {gap / 1e6:,.1f} s before {shown(events[first].moment)}: "
+                    "later times are those of the clock before"
+                )
+                for later in events[first:]:
+                    later.moment -= gap
+                    later.read = later.moment
+    return notes
+
+
+def widest_gap(events, place, since):
+    """The longest time without an event from a moment up to a place, and the place of the event
+    after it."""
+    widest, after = 0, place
+    while place > 0 and events[place - 1].moment >= since:
+        gap = events[place].moment - events[place - 1].moment
+        if gap > widest:
+            widest, after = gap, place
+        place -= 1
+    return widest, after
+
+
+def is_answered(events, place, carries):
+    """Whether a reply is answered at once, and nothing was asked in its stead."""
+    reply = events[place]
+    of = reply.query.asked and reply.query.asked.of()
+    for event in events[place + 1 :]:
+        if event.moment > reply.moment + SOON:
+            return False
+        if isinstance(event, Query) and event.asked and event.asked.of() == of:
+            return False
+        if isinstance(event, Answer) and event.question.asked and event.question.asked.of() == of:
+            return event.question.moment <= reply.query.moment and carries(reply, event)
+    return False

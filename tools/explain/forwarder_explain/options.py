@@ -1,0 +1,115 @@
+"""The options of the command, and the questions that they choose."""
+import argparse
+import datetime
+import re
+
+from . import messages
+from .capture import Unreadable
+from .configuration import address_text
+
+# Of times: the form, and whether it has a date.
+FORMS = (
+    ("%Y-%m-%dT%H:%M:%S.%f", True),
+    ("%Y-%m-%dT%H:%M:%S", True),
+    ("%Y-%m-%dT%H:%M", True),
+    ("%H:%M:%S.%f", False),
+    ("%H:%M:%S", False),
+    ("%H:%M", False),
+)
+
+
+def arguments(words):
+    parser = argparse.ArgumentParser(
+        prog="forwarder-explain",
+        description="Explain what the DNS forwarder did, from a capture of its traffic: have its proved step answer "
+        "the same questions, with the replies that its servers gave, say what became of each, and compare each answer.",
+        epilog="Status: 0 if no answer differs from the step's, 1 if one does, 2 if something can't be read. "
+        "See forwarder-explain(1).",
+    )
+    parser.add_argument("configuration", metavar="CONFIG", help="the configuration that the forwarder had")
+    parser.add_argument(
+        "capture",
+        metavar="CAPTURE",
+        help="a file of tcpdump -w, in pcap or pcapng; - for standard input; or a folder with the files of a ring",
+    )
+    add_choices(parser)
+    parser.add_argument("--failures", action="store_true", help="failed questions alone, and answers that differ")
+    parser.add_argument(
+        "--summary", action="store_true", help="counts by reason, server and client, and no line for each question"
+    )
+    parser.add_argument("--script", metavar="FILE", help="write the script of the questions, for forwarder replay")
+    parser.add_argument("--json", action="store_true", help="one JSON object a line, for programs")
+    parser.add_argument(
+        "--program", metavar="PATH", default="forwarder", help="the forwarder's program (default: forwarder)"
+    )
+    return parser.parse_args(words)
+
+
+def add_choices(parser):
+    """The options that choose questions, and what is known of the service."""
+    parser.add_argument("--at", metavar="TIME", help="questions of this minute, 14:03, or of this second, 14:03:02")
+    parser.add_argument(
+        "--from",
+        dest="since",
+        metavar="TIME",
+        help="questions from this time on: 14:03, 14:03:02.5, 2026-11-28T14:03, or seconds since 1970",
+    )
+    parser.add_argument("--to", dest="until", metavar="TIME", help="questions before this time")
+    parser.add_argument(
+        "--client", metavar="ADDRESS", help="questions of this client alone: 10.0.0.7 or 10.0.0.7:40000"
+    )
+    parser.add_argument("--name", metavar="NAME", help="questions for this name and those below it alone")
+    parser.add_argument(
+        "--restarted",
+        metavar="TIME",
+        action="append",
+        default=[],
+        help="the service was restarted at this time, which the capture may not show; may be repeated",
+    )
+
+
+def moment_of(text, first):
+    """A time of the command line, in microseconds since 1970; without a date on the day of the
+    capture's beginning."""
+    if re.fullmatch(r"\d{9,}(\.\d+)?", text):
+        return int(float(text) * 1_000_000)
+    day = datetime.datetime.fromtimestamp(first / 1_000_000).date()
+    for form, dated in FORMS:
+        try:
+            found = datetime.datetime.strptime(text, form)
+        except ValueError:
+            continue
+        found = found if dated else datetime.datetime.combine(day, found.time())
+        return int(found.timestamp() * 1_000_000)
+    raise Unreadable("is no time; 14:03, 14:03:02.5 and 2026-11-28T14:03 are", text)
+
+
+def span_of(options, first):
+    """From when and until when questions are chosen, in microseconds since 1970, or None."""
+    since = moment_of(options.since, first) if options.since else None
+    until = moment_of(options.until, first) if options.until else None
+    if options.at:
+        at = moment_of(options.at, first)
+        lasts = 60 if re.search(r"(^|T)\d+:\d+$", options.at) else 1
+        since = at if since is None else max(since, at)
+        until = at + 1_000_000 * lasts if until is None else min(until, at + 1_000_000 * lasts)
+    return since, until
+
+
+def chosen(options, questions, first):
+    """The questions that the options choose."""
+    since, until = span_of(options, first)
+    suffix = messages.from_text(options.name) if options.name else None
+    if options.name and suffix is None:
+        raise Unreadable("is no name", options.name)
+
+    def is_chosen(question):
+        if since is not None and question.moment < since or until is not None and question.moment >= until:
+            return False
+        if options.client:
+            address = address_text(question.peer[0])
+            if options.client not in (address, f"{address}:{question.peer[1]}"):
+                return False
+        return suffix is None or question.asked is not None and messages.is_under(question.asked.key, suffix)
+
+    return [question for question in questions if is_chosen(question)]

@@ -1,0 +1,75 @@
+"""Spans in which the service stood still: its machine was paused, or had no processor time for it.
+
+It sent nothing for long although what had come called for it. All that came meanwhile was read at
+the end of the span.
+"""
+import bisect
+from typing import NamedTuple
+
+from .eras import is_output
+from .traffic import Answer, Ending, Question, Reply
+
+STILL = 300_000  # microseconds without a query or answer for which something called
+NEAR = 60_000  # microseconds by which the end of a try may come late
+
+
+class Stall(NamedTuple):
+    """From the last query or answer before it to the first one after it; `first` is when the first
+    thing came in it."""
+
+    since: int
+    until: int
+    first: int
+
+
+def found_in(history, events, limits):
+    """The stalls that a history shows."""
+    last, came, stalls = None, [], []
+    for event in events:
+        if isinstance(event, (Question, Reply, Ending)):
+            came.append(event)
+        elif is_output(event, history.foreign):
+            since = event.moment if last is None else last
+            calls = [each for each in came if event.moment - each.moment > STILL]
+            if any(calls_for(history, each, event, limits) for each in calls):
+                stalls.append(Stall(min(since, came[0].moment), event.moment, came[0].moment))
+            last, came = event.moment, []
+    return stalls
+
+
+def calls_for(history, event, output, limits):
+    """Whether something that came calls for a query or an answer at once, and had none before the
+    output that followed it."""
+    if isinstance(event, Question):
+        found = history.found.get(event)
+        if event.refused or not event.wants_answer() or not event.answer or found and found.was_asked:
+            return False
+        return not ends_try(output.moment - event.moment, limits)
+    if isinstance(event, Reply):
+        waiting = output.question if isinstance(output, Answer) else None
+        is_for_it = waiting is not None and waiting.asked == event.query.asked
+        return is_for_it and waiting.moment < event.moment and history.verdicts.get(event) == "answered"
+    return False
+
+
+def ends_try(waited, limits):
+    """Whether a question has waited for as long as one or more tries take: its query may be lost.
+    """
+    whole = 1000 * limits["ask_ms"]
+    return whole - NEAR < waited and waited % whole < NEAR and waited // whole <= limits["tries"]
+
+
+def mark(events, stalls):
+    """Notes for what came in a stall that it was read at its end."""
+    ends = [stall.until for stall in stalls]
+    for event in events:
+        if isinstance(event, (Question, Reply, Ending)):
+            place = bisect.bisect_left(ends, event.moment)
+            if place < len(stalls) and stalls[place].since <= event.moment < stalls[place].until:
+                event.read = stalls[place].until
+
+
+def at(stalls, moment):
+    """The stall in which a moment is, or None."""
+    place = bisect.bisect_right(stalls, (moment,)) - 1
+    return stalls[place] if place >= 0 and stalls[place].since < moment < stalls[place].until else None

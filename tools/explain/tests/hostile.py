@@ -1,0 +1,80 @@
+"""Captures with packets that anyone can send, and with clients that are more than clients."""
+from making import TXT, address, asked, framed, message, record
+from office import ACK, CORPORATE, FIRST, FORWARDER, ONE, OTHER, PLAIN, QUERY, SYN, Scene
+
+WWW = asked("www.example.com")
+
+
+def short_answers():
+    """Messages of 2 to 11 octets as if from the service: next to its answer, and in its place."""
+    scene = Scene()
+    scene.question(0, ONE, 1, WWW)
+    for count in range(2, 12):
+        scene.udp(0.1 + count / 100, FORWARDER, ONE, (b"\0\1" + bytes(9))[:count])
+    port = scene.query(0.4, FIRST, WWW)
+    scene.reply(10.4, FIRST, port, WWW, answers=[address(300, 192, 0, 2, 80)])
+    scene.answer(11, ONE, 1, WWW, answers=[address(300, 192, 0, 2, 80)])
+    # A fault, if the service sent it: 300 - 4.990 s are left.
+    scene.question(5000, ONE, 2, WWW)
+    scene.udp(5000.2, FORWARDER, ONE, b"\0\2")
+    return scene.pcap()
+
+
+def a_server_asks():
+    """A client is a server of the configuration, too, and asks from the port at which it is asked.
+    A fault: its second answer has another address."""
+    scene = Scene()
+    scene.fetched(0, CORPORATE, 1, WWW, 300, (192, 0, 2, 80))
+    # 300 - 4.990 s are left.
+    scene.question(5000, CORPORATE, 2, WWW)
+    scene.answer(5000.2, CORPORATE, 2, WWW, answers=[address(295, 192, 0, 2, 81)])
+    return scene.pcap()
+
+
+def one_port():
+    """A query by UDP and one over TCP have the same port of the service at one time."""
+    scene, text, hello = Scene(), asked("text.example.com", TXT), b"\x0bhello world"
+    scene.question(0, ONE, 1, text)
+    port = scene.query(0.2, FIRST, text)
+    scene.reply(3.2, FIRST, port, text, 0x8780)
+    scene.question(3.3, OTHER, 2, WWW)
+    port = scene.query(3.5, FIRST, WWW)
+    upstream = f"10.0.0.53:{port}"
+    scene.tcp(3.7, upstream, FIRST, 10, SYN)
+    scene.tcp(4.7, FIRST, upstream, 20, SYN | ACK)
+    scene.tcp(4.8, upstream, FIRST, 11, ACK, framed(message(77, QUERY, text)))
+    scene.reply(13.5, FIRST, port, WWW, answers=[address(300, 192, 0, 2, 80)])
+    scene.answer(14, OTHER, 2, WWW, answers=[address(300, 192, 0, 2, 80)])
+    scene.tcp(20.7, FIRST, upstream, 21, ACK, framed(message(77, PLAIN, text, [record(b"\xc0\x0c", TXT, 60, hello)])))
+    scene.answer(21, ONE, 1, text, answers=[record(b"\xc0\x0c", TXT, 60, hello)])
+    return scene.pcap()
+
+
+def one_identifier():
+    """Three questions of one client under one identifier at once, two of them for the same but for
+    RD. Their answers come in another order."""
+    scene, mail = Scene(), asked("mail.example.com")
+    scene.question(0, ONE, 7, WWW)
+    port = scene.query(0.2, FIRST, WWW)
+    scene.udp(1, ONE, FORWARDER, message(7, 0, WWW))
+    scene.question(2, ONE, 7, mail)
+    mail_port = scene.query(2.2, FIRST, mail)
+    scene.reply(8.2, FIRST, mail_port, mail, answers=[address(60, 192, 0, 2, 25)])
+    scene.answer(9, ONE, 7, mail, answers=[address(60, 192, 0, 2, 25)])
+    scene.reply(10.2, FIRST, port, WWW, answers=[address(300, 192, 0, 2, 80)])
+    scene.answer(11, ONE, 7, WWW, 0x8080, answers=[address(300, 192, 0, 2, 80)])
+    scene.answer(11.1, ONE, 7, WWW, answers=[address(300, 192, 0, 2, 80)])
+    return scene.pcap()
+
+
+def forged_reply_used():
+    """A fault: a reply from another address is answered."""
+    scene = Scene()
+    scene.question(0, ONE, 1, WWW)
+    port = scene.query(0.2, FIRST, WWW)
+    scene.reply(2.2, "192.0.2.66:53", port, WWW, answers=[address(300, 203, 0, 113, 66)])
+    scene.answer(3, ONE, 1, WWW, answers=[address(300, 203, 0, 113, 66)])
+    return scene.pcap()
+
+
+ALL = [short_answers, a_server_asks, one_port, one_identifier, forged_reply_used]

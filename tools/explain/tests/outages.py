@@ -1,0 +1,165 @@
+"""Captures of servers that can't be reached, of replies that are dropped, and of a service that
+stands still."""
+from making import TXT, address, asked, framed, message
+from office import ACK, CORPORATE, FIN, FIRST, ONE, OTHER, PLAIN, QUERY, RST, SECOND, SYN, Scene
+
+MULTIHOMED, FORGER = "10.0.0.11:53", "192.0.2.66:53"
+
+
+def dropped():
+    """Replies from another address, with another identifier, too late, for another question; a
+    forged one before the true one."""
+    scene = Scene()
+    name = asked("a.corp.example")
+    scene.question(0, ONE, 1, name)
+    for at in (0, 1001):
+        port = scene.query(at + 0.2, CORPORATE, name)
+        scene.reply(at + 3.2, MULTIHOMED, port, name, answers=[address(60, 10, 0, 0, 71)])
+    scene.answer(2002.2, ONE, 1, name, 0x8182)
+    name = asked("b.example.com")
+    scene.question(10000, ONE, 2, name)
+    port = scene.query(10000.2, FIRST, name)
+    scene.reply(10004.2, FIRST, port, name, answers=[address(60, 192, 0, 2, 66)], identifier=port + 1)
+    port = scene.query(11001.2, SECOND, name)
+    scene.reply(11011.2, SECOND, port, name, answers=[address(60, 192, 0, 2, 72)])
+    scene.answer(11012, ONE, 2, name, answers=[address(60, 192, 0, 2, 72)])
+    # The second server is preferred now; the first one comes after it.
+    name = asked("c.example.com")
+    scene.question(20000, ONE, 3, name)
+    late = scene.query(20000.2, SECOND, name)
+    port = scene.query(21001.2, FIRST, name)
+    scene.reply(21702.2, SECOND, late, name, answers=[address(60, 192, 0, 2, 66)])
+    scene.reply(21801.2, FIRST, port, name, answers=[address(60, 192, 0, 2, 73)])
+    scene.answer(21802, ONE, 3, name, answers=[address(60, 192, 0, 2, 73)])
+    name = asked("d.example.com")
+    scene.question(30000, ONE, 4, name)
+    port = scene.query(30000.2, FIRST, name)
+    scene.reply(30001.2, FORGER, port, name, answers=[address(60, 203, 0, 113, 66)])
+    scene.reply(30010.2, FIRST, port, name, answers=[address(60, 192, 0, 2, 74)])
+    scene.answer(30011, ONE, 4, name, answers=[address(60, 192, 0, 2, 74)])
+    other_ways(scene)
+    return scene.pcap()
+
+
+def other_ways(scene):
+    """Replies for another question, one that is a question, and one of five octets."""
+    name = asked("e.corp.example")
+    scene.question(40000, ONE, 5, name)
+    port = scene.query(40000.2, CORPORATE, name)
+    scene.reply(40002.2, CORPORATE, port, asked("f.corp.example"), answers=[address(60, 10, 0, 0, 75)])
+    port = scene.query(41001.2, CORPORATE, name)
+    scene.reply(41003.2, CORPORATE, port, name, PLAIN & 0x7FFF)
+    scene.udp(41004.2, CORPORATE, f"10.0.0.53:{port}", port.to_bytes(2, "big") + b"\x85\x80\0")
+    scene.answer(42002.2, ONE, 5, name, 0x8182)
+
+
+def outage_ends():
+    """No query leaves for a question; 51 ms, and 800 ms, later one leaves for another question for
+    the same name."""
+    scene = Scene()
+    for at, later, text in ((0, 51, "db.corp.example"), (10000, 800, "ws.corp.example")):
+        name = asked(text)
+        scene.question(at, ONE, 1, name)
+        scene.answer(at + 0.4, ONE, 1, name, 0x8182)
+        scene.fetched(at + later, OTHER, 2, name, 60, (10, 0, 0, 80), CORPORATE)
+    return scene.pcap()
+
+
+def read_late():
+    """A query leaves 900 ms after its question; a cached answer comes 1.9 s after its own; a reply
+    is read after 890 ms."""
+    scene, www, slow = Scene(), asked("www.example.com"), asked("slow.example.com")
+    scene.question(0, ONE, 1, www)
+    port = scene.query(900.2, FIRST, www)
+    scene.reply(910.2, FIRST, port, www, answers=[address(300, 192, 0, 2, 80)])
+    scene.answer(911, ONE, 1, www, answers=[address(300, 192, 0, 2, 80)])
+    # Accepted at 910 ms: 300 - 5.990 s are left when it is read, and 300 - 4.090 s when it came.
+    scene.question(5000, OTHER, 2, www)
+    scene.answer(6900.2, OTHER, 2, www, answers=[address(294, 192, 0, 2, 80)])
+    scene.question(10000, ONE, 3, slow)
+    port = scene.query(10000.2, FIRST, slow)
+    scene.reply(10100.2, FIRST, port, slow, answers=[address(60, 192, 0, 2, 81)])
+    scene.answer(10990.2, ONE, 3, slow, answers=[address(60, 192, 0, 2, 81)])
+    # Accepted at 10990 ms: 60 - 0.210 s are left; since the reply came only 60 - 1.100 s would be.
+    scene.question(11200, OTHER, 4, slow)
+    scene.answer(11200.2, OTHER, 4, slow, answers=[address(59, 192, 0, 2, 81)])
+    return scene.pcap()
+
+
+def read_a_little_late():
+    """A question is read 200 ms late, when a second less is left of what is cached."""
+    scene, www = Scene(), asked("www.example.com")
+    scene.fetched(0, ONE, 1, www, 300, (192, 0, 2, 80))
+    # 300 - 5.090 s are left when it is read, and 300 - 4.890 s when it came.
+    scene.question(4900, ONE, 2, www)
+    scene.answer(5100.2, ONE, 2, www, answers=[address(294, 192, 0, 2, 80)])
+    return scene.pcap()
+
+
+def stood_still_over_an_end():
+    """What is cached ends after a question came and before the service reads it: it asks."""
+    scene, www = Scene(), asked("www.example.com")
+    scene.fetched(0, ONE, 1, www, 5, (192, 0, 2, 80))
+    scene.question(4500, OTHER, 2, www)
+    port = scene.query(6000.2, FIRST, www)
+    scene.reply(6010.2, FIRST, port, www, answers=[address(5, 192, 0, 2, 80)])
+    scene.answer(6011, OTHER, 2, www, answers=[address(5, 192, 0, 2, 80)])
+    return scene.pcap()
+
+
+def stood_still():
+    """Replies come within ask_ms, and the service reads them after that: it asks on, and then has
+    no try left."""
+    scene, www, lost = Scene(), asked("www.example.com"), asked("x.corp.example")
+    scene.question(0, ONE, 1, www)
+    port = scene.query(0.2, FIRST, www)
+    scene.reply(12.2, FIRST, port, www, answers=[address(300, 192, 0, 2, 80)])
+    port = scene.query(1300.2, SECOND, www)
+    scene.reply(1310.2, SECOND, port, www, answers=[address(300, 192, 0, 2, 80)])
+    scene.answer(1311, ONE, 1, www, answers=[address(300, 192, 0, 2, 80)])
+    scene.question(20000, ONE, 2, lost)
+    for at in (20000.2, 21100.2):
+        port = scene.query(at, CORPORATE, lost)
+        scene.reply(at + 5, CORPORATE, port, lost, answers=[address(60, 10, 0, 0, 80)])
+    scene.answer(22200.4, ONE, 2, lost, 0x8182)
+    return scene.pcap()
+
+
+def closed():
+    """A server closes, and then resets, the connection over which it was asked."""
+    scene, text = Scene(), asked("text.example.com", TXT)
+    for at, ending in ((0, FIN), (10000, RST)):
+        scene.question(at, ONE, 1, text)
+        port = scene.query(at + 0.2, FIRST, text)
+        scene.reply(at + 3.2, FIRST, port, text, 0x8780)
+        upstream = f"10.0.0.53:{6000 + at // 10000}"
+        scene.tcp(at + 3.7, upstream, FIRST, 10, SYN)
+        scene.tcp(at + 4.7, FIRST, upstream, 20, SYN | ACK)
+        scene.tcp(at + 4.8, upstream, FIRST, 11, ACK, framed(message(77, QUERY, text)))
+        scene.tcp(at + 5.7, FIRST, upstream, 21, ending | ACK)
+        scene.answer(at + 6.2, ONE, 1, text, 0x8182)
+    return scene.pcap()
+
+
+def joined_late():
+    """A question comes when the first try of another one for the same has failed."""
+    scene, name = Scene(), asked("www.example.com")
+    scene.question(0, ONE, 1, name)
+    scene.query(0.2, FIRST, name)
+    scene.query(1001.2, SECOND, name)
+    scene.question(1500, OTHER, 2, name)
+    scene.answer(2002.2, ONE, 1, name, 0x8182)
+    scene.answer(2002.3, OTHER, 2, name, 0x8182)
+    return scene.pcap()
+
+
+ALL = [
+    dropped,
+    outage_ends,
+    read_late,
+    read_a_little_late,
+    stood_still,
+    stood_still_over_an_end,
+    closed,
+    joined_late,
+]

@@ -1,0 +1,86 @@
+"""Captures of a service that begins anew."""
+from making import address, asked
+from office import ACK, FIRST, FORWARDER, ONE, OTHER, RST, SECOND, SYN, Scene
+
+WWW = asked("www.example.com")
+
+
+def restarted():
+    """What is cached is asked for again, by a new process, and then answered from its cache."""
+    scene = Scene()
+    scene.fetched(0, ONE, 1, WWW, 300, (192, 0, 2, 80))
+    # Accepted at 10 ms: 300 - 1.990 s are left.
+    scene.question(2000, OTHER, 2, WWW)
+    scene.answer(2000.2, OTHER, 2, WWW, answers=[address(298, 192, 0, 2, 80)])
+    scene.question(9000, ONE, 3, WWW)
+    port = scene.query(9000.2, FIRST, WWW)
+    scene.reply(9012.2, FIRST, port, WWW, answers=[address(300, 192, 0, 2, 80)])
+    scene.answer(9013, ONE, 3, WWW, answers=[address(300, 192, 0, 2, 80)])
+    # Accepted at 9012 ms: 300 - 0.988 s are left.
+    scene.question(10000, OTHER, 4, WWW)
+    scene.answer(10000.3, OTHER, 4, WWW, answers=[address(299, 192, 0, 2, 80)])
+    return scene.pcap()
+
+
+def restarted_in_flight():
+    """A question is open when the process ends; its client asks again under the same identifier.
+    Once a reply comes for nobody, once none."""
+    scene, mail = Scene(), asked("mail.example.com")
+    scene.question(0, ONE, 1, WWW)
+    port = scene.query(0.2, FIRST, WWW)
+    scene.reply(400.2, FIRST, port, WWW, answers=[address(300, 192, 0, 2, 80)])
+    scene.fetched(1200, ONE, 1, WWW, 300, (192, 0, 2, 80))
+    scene.question(20000, OTHER, 3, mail)
+    scene.query(20000.2, FIRST, mail)
+    scene.fetched(20700, OTHER, 3, mail, 60, (192, 0, 2, 25))
+    return scene.pcap()
+
+
+def refused():
+    """Nothing listens for five seconds: ICMP and a reset say so. Then the cache is empty."""
+    scene = Scene()
+    scene.fetched(0, ONE, 1, WWW, 300, (192, 0, 2, 80))
+    scene.question(5000, ONE, 2, WWW)
+    scene.unreachable(5000.1, "10.0.0.53", ONE, FORWARDER)
+    client = "10.0.0.9:50000"
+    scene.tcp(5500, client, FORWARDER, 100, SYN)
+    scene.tcp(5500.1, FORWARDER, client, 0, RST | ACK)
+    scene.fetched(8000, OTHER, 3, WWW, 300, (192, 0, 2, 80))
+    return scene.pcap()
+
+
+def refused_alone():
+    """Nothing listens, and what is asked afterwards was never cached: only ICMP shows the restart."""
+    scene = Scene()
+    scene.fetched(0, ONE, 1, WWW, 300, (192, 0, 2, 80))
+    scene.question(5000, ONE, 2, WWW)
+    scene.unreachable(5000.1, "10.0.0.53", ONE, FORWARDER)
+    scene.fetched(8000, OTHER, 3, asked("mail.example.com"), 60, (192, 0, 2, 25))
+    return scene.pcap()
+
+
+def rejected():
+    """A packet filter of the service's machine rejects a question, and what was cached before is
+    answered after it."""
+    scene = Scene()
+    scene.fetched(0, ONE, 1, WWW, 300, (192, 0, 2, 80))
+    scene.question(5000, ONE, 2, WWW)
+    scene.unreachable(5000.1, "10.0.0.53", ONE, FORWARDER)
+    scene.question(8000, OTHER, 3, WWW)
+    scene.answer(8000.2, OTHER, 3, WWW, answers=[address(292, 192, 0, 2, 80)])
+    return scene.pcap()
+
+
+def restart_not_shown():
+    """Between the two questions the service begins anew, so there is no expired data. Only
+    --restarted says so."""
+    scene = Scene()
+    scene.fetched(0, ONE, 1, WWW, 5, (192, 0, 2, 80))
+    scene.question(9000, ONE, 2, WWW)
+    scene.query(9000.2, FIRST, WWW)
+    scene.query(10001.2, SECOND, WWW)
+    scene.answer(11002.2, ONE, 2, WWW, 0x8182)
+    return scene.pcap()
+
+
+ALL = [restarted, restarted_in_flight, refused, refused_alone, rejected, restart_not_shown]

@@ -1,0 +1,1 @@
+"""Configurations of other forwarders, turned into one of forwarder.toml(5)."""

@@ -1,0 +1,65 @@
+"""The command `forwarder-import`: its arguments, what it prints, and its status."""
+import argparse
+import sys
+
+from .files import Files, Line, Refused, Unreadable
+from .found import Found
+from .kinds import READERS, kind_of
+from .settling import settle
+from .written import Writer
+
+ALL, LEFT_OUT, UNREADABLE = 0, 1, 2
+
+
+def arguments(words):
+    parser = argparse.ArgumentParser(
+        prog="forwarder-import",
+        description="Print a forwarder.toml that does what the configuration of another forwarder says: dnsmasq, "
+        "unbound, BIND, systemd-resolved, or a resolv.conf. Each key has the line that it is from. Lines that have no "
+        "counterpart follow as comments, with what to do, and are named on standard error.",
+        epilog="Status: 0 if all is carried, 1 if something is left out, 2 if something can't be read. "
+        "See forwarder-import(1).",
+    )
+    parser.add_argument(
+        "files", metavar="FILE", nargs="+", help="a configuration; files that it includes are read, too"
+    )
+    parser.add_argument("--of", choices=READERS, help="whose the files are (default: by name and text)")
+    parser.add_argument(
+        "--root", metavar="FOLDER", default="", help="where absolute paths of includes are looked up (default: /)"
+    )
+    return parser.parse_args(words)
+
+
+def run(options):
+    """Does all of it; gives the status."""
+    files, found, readers = Files(options.root), Found(Line(options.files[0], 0)), {}
+    for path in options.files:
+        kind = options.of or kind_of(path)
+        if kind not in readers:
+            readers[kind] = READERS[kind](files, found)
+        try:
+            readers[kind].read(path)
+        except Refused as refused:
+            raise Unreadable(f"{path}: {refused.what}") from None
+    for reader in readers.values():
+        reader.end(readers)
+    listen, routes = settle(found)
+    writer = Writer(found, files.read)
+    sys.stdout.write(writer.text(listen, routes))
+    sys.stdout.flush()
+    for note in writer.notes():
+        print(f"forwarder-import: {note}", file=sys.stderr)
+    return LEFT_OUT if found.left else ALL
+
+
+def main(words):
+    sys.stdout.reconfigure(encoding="utf-8")
+    options = arguments(words)
+    try:
+        return run(options)
+    except Unreadable as fault:
+        print(f"forwarder-import: {fault}", file=sys.stderr)
+        return UNREADABLE
+    except BrokenPipeError:
+        sys.stderr.close()
+        return ALL

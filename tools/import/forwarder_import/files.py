@@ -1,0 +1,102 @@
+"""The files of other forwarders: their lines, and the files that they include."""
+import contextlib
+import glob
+import os
+from dataclasses import dataclass
+
+LARGEST = 16 * 1024 * 1024  # octets of one file
+MOST_FILES, DEEPEST = 1000, 20  # files in all, and files of which each includes the next
+LONGEST, LONGEST_ADVICE = 160, 400  # characters that are shown of a line, and of what to do
+
+
+class Unreadable(Exception):
+    """Why a file can't be read; the message begins with its path."""
+
+
+def unreadable(line, what):
+    """Why reading ends at a line."""
+    return Unreadable(f"{shown(line.path)}:{line.number}: {what}")
+
+
+@dataclass(frozen=True)
+class Line:
+    """A line, or a statement that begins on it. Number 0 is the file as a whole."""
+
+    path: str
+    number: int
+    text: str = ""
+
+
+class Refused(Exception):
+    """Why something can't be carried: what to do, and the row of the table that says more, if any."""
+
+    def __init__(self, what, row=None):
+        super().__init__(what)
+        self.what, self.row = what, row
+
+
+class Files:
+    """Reads files. `root` is the folder in which absolute paths of includes are looked up."""
+
+    def __init__(self, root=""):
+        self.root = root.rstrip("/")
+        self.read, self.within, self.count = [], [], 0
+
+    @contextlib.contextmanager
+    def lines(self, path, by=None):
+        """The lines of a file, for as long as it and what it includes are read. `by` is the line
+        that includes it, if one does."""
+        real = os.path.realpath(path)
+        if real in self.within:
+            raise Refused("the file is being read already: it would include itself")
+        self.within.append(real)
+        try:
+            yield self.text(path)
+        except Unreadable as fault:
+            raise fault if by is None else unreadable(by, fault) from None
+        finally:
+            self.within.pop()
+
+    def text(self, path):
+        """The lines of a file, without their ends."""
+        self.count += 1
+        if self.count > MOST_FILES or len(self.within) > DEEPEST:
+            raise Unreadable(f"{shown(path)}: is one of more than {MOST_FILES} files, or of {DEEPEST} in one another")
+        if path not in self.read:
+            self.read.append(path)
+        text = octets_of(path).decode("utf-8-sig", "backslashreplace")
+        return [Line(path, number, line.removesuffix("\r")) for number, line in enumerate(text.split("\n"), 1)]
+
+    def path(self, written, line):
+        """The path that a line names: below the root, or next to the line's file."""
+        if not written:
+            raise Refused("it names no file")
+        if os.path.isabs(written):
+            return self.root + written
+        return os.path.join(os.path.dirname(line.path), written)
+
+    def paths(self, pattern, line):
+        """The paths that a pattern of a line names, sorted; a path without wildcards is itself."""
+        path = self.path(pattern, line)
+        return sorted(glob.glob(path)) if glob.has_magic(pattern) else [path]
+
+
+def octets_of(path):
+    """What is in a file, if it can be text."""
+    try:
+        with open(path, "rb") as file:
+            octets = file.read(LARGEST + 1)
+    except (OSError, ValueError) as fault:
+        raise Unreadable(f"{shown(path)}: {getattr(fault, 'strerror', None) or fault}") from None
+    if len(octets) > LARGEST:
+        raise Unreadable(f"{shown(path)}: has more than {LARGEST} octets")
+    if b"\0" in octets:
+        raise Unreadable(f"{shown(path)}: is no text: it has an octet 0")
+    return octets
+
+
+def shown(text, longest=LONGEST):
+    """A foreign text as one line of a comment: spaces joined, what can't be printed escaped."""
+    joined = " ".join(text.split())
+    escaped = "".join(each if each.isprintable() else ascii(each)[1:-1] for each in joined)
+    return escaped if len(escaped) <= longest else f"{escaped[:longest]} .."

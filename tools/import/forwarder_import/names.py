@@ -1,0 +1,113 @@
+"""Addresses, suffixes and zones, from the words of other forwarders to those of forwarder.toml(5)."""
+import ipaddress
+import re
+
+from .files import Refused
+from .rows import Row
+
+# The zones of RFC 6303, section 4: private, local and documentation addresses, turned back into names.
+LOCAL_ZONES = (
+    "10.in-addr.arpa",
+    *(f"{octet}.172.in-addr.arpa" for octet in range(16, 32)),
+    "168.192.in-addr.arpa",
+    "0.in-addr.arpa",
+    "127.in-addr.arpa",
+    "254.169.in-addr.arpa",
+    "2.0.192.in-addr.arpa",
+    "100.51.198.in-addr.arpa",
+    "113.0.203.in-addr.arpa",
+    "255.255.255.255.in-addr.arpa",
+    "0." * 32 + "ip6.arpa",
+    "1." + "0." * 31 + "ip6.arpa",
+    "d.f.ip6.arpa",
+    *(f"{digit}.e.f.ip6.arpa" for digit in "89ab"),
+    "8.b.d.0.1.0.0.2.ip6.arpa",
+)
+
+
+ENCRYPTED = (
+    "NOT IN PLAIN: queries to it are encrypted there, and would not be here: "
+    "write a route to a program on this machine that asks it over TLS"
+)
+
+
+def port_of(text):
+    """A port."""
+    if not re.fullmatch("[0-9]{1,9}", text) or not 1 <= int(text) <= 65535:
+        raise Refused(f"{text or 'nothing'} is no port from 1 to 65535")
+    return int(text)
+
+
+def ipv4_of(text, row=Row.LISTENING):
+    """An IPv4 address; `row` says more of a name in its place."""
+    try:
+        address = ipaddress.ip_address(text)
+    except ValueError:
+        if not re.fullmatch(r"(?=.*[A-Za-z])[A-Za-z0-9._-]+", text):
+            raise Refused(f"{text or 'nothing'} is no address") from None
+        raise Refused(f"{text} is no address: write the IPv4 address that it has", row) from None
+    if address.version == 6:
+        raise Refused(f"{text} is an address of IPv6: write an IPv4 address of the same machine", Row.IPV6)
+    return str(address)
+
+
+def peer_of(address, port=""):
+    """A server or a place to listen, as `ADDRESS:PORT`; the port is 53 if none is given."""
+    return f"{ipv4_of(address, Row.NAMED)}:{port_of(port) if port else 53}"
+
+
+def suffix_of(text):
+    """A suffix, without the dot at its end."""
+    if text == ".":
+        return text
+    name = text.removesuffix(".")
+    labels = name.split(".")
+    for label in labels:
+        if not label:
+            raise Refused("a label is empty, so it is no suffix")
+        found = re.search(r"[^A-Za-z0-9_-]", label)
+        if found:
+            raise Refused(bad_character(found.group(), label))
+        if len(label) > 63:
+            raise Refused("a label has more than 63 characters, so it is no suffix")
+    if sum(len(label) + 1 for label in labels) + 1 > 255:
+        raise Refused("the name has more than 255 octets, so it is no suffix")
+    return name
+
+
+def bad_character(character, label):
+    """What to do about a character that a suffix can't have."""
+    if character == "*":
+        return "a suffix is for whole labels, with all names below it: write it without the asterisk"
+    if not character.isascii():
+        return f"the label {label} is not ASCII: write the suffix in its form that begins with xn--"
+    return f"a suffix can't have the character '{character}'"
+
+
+def key_of(suffix):
+    """Equal for suffixes that are the same to the program."""
+    return suffix.lower()
+
+
+def is_under(key, above):
+    """Whether a name is at or below another, both as keys."""
+    return above == "." or key == above or key.endswith("." + above)
+
+
+def reverse_zones(text):
+    """The zones of the addresses of a network, as 10.0.0.0/8; of one address without a length."""
+    try:
+        network = ipaddress.ip_network(text, strict=False)
+    except ValueError:
+        raise Refused(f"{text or 'nothing'} is no network") from None
+    if network.prefixlen == 0:
+        raise Refused("write the suffix in-addr.arpa or ip6.arpa: a network of all addresses has no zone")
+    bits = 8 if network.version == 4 else 4
+    aligned = -(-network.prefixlen // bits) * bits
+    return [zone_of(each, aligned // bits) for each in network.subnets(new_prefix=aligned)]
+
+
+def zone_of(network, count):
+    """The zone of a network that `count` labels name."""
+    labels = network.network_address.reverse_pointer.split(".")
+    return ".".join(labels[-2 - count :])

@@ -1,0 +1,37 @@
+"""Reads resolv.conf: see resolv.conf(5)."""
+from .files import Refused
+from .names import peer_of
+
+OF_CLIENTS = {"search", "domain", "options", "sortlist"}
+
+
+class Resolv:
+    """Reads the servers that a file of the C library's resolver has."""
+
+    def __init__(self, files, found):
+        self.files, self.found = files, found
+
+    def read(self, path):
+        """Takes the lines of a file."""
+        with self.files.lines(path) as lines:
+            for line in lines:
+                try:
+                    self.take(line)
+                except Refused as refused:
+                    self.found.refuse(line, refused)
+
+    def take(self, line):
+        """Takes a line."""
+        key, *words = line.text.split() or [""]
+        if not key or key[0] in "#;":
+            return
+        if key == "nameserver" and words:
+            remark = "a program on this machine: name its own servers" if words[0].startswith("127.") else ""
+            self.found.serve(".", lambda: peer_of(words[0]), line, remark)
+        elif key in OF_CLIENTS:
+            self.found.pass_over(line, "each client has its own: it stays there")
+        else:
+            raise Refused("it is no line of resolv.conf")
+
+    def end(self, _):
+        """Nothing is said of a file without a line."""

@@ -1,0 +1,112 @@
+"""What becomes of all that was found, so that the program accepts it."""
+from .files import Refused
+from .found import Route, Value
+from .names import is_under
+from .rows import Row
+
+MOST_ROUTES, MOST_SERVERS = 64, 8
+HERE, ALL = "127.0.0.1", "0.0.0.0"
+
+
+def settle(found):
+    """Decides what is written, and leaves the rest. Gives `listen` and the routes in their order."""
+    listen = listen_of(found)
+    standard(found)
+    for route in found.routes.values():
+        keep_most(route, listen)
+    local(found)
+    for route in list(found.routes.values()):
+        one_of_two(route, found)
+    return listen, ordered(found)
+
+
+def listen_of(found):
+    """The first address; the others are left."""
+    port = found.port or Value("53", [])
+    if not found.addresses:
+        return Value(f"{HERE}:{port.text}", port.lines, "" if port.lines else "no line has an address")
+    address, own, line, remark = found.addresses[0]
+    for _, _, other, _ in found.addresses[1:]:
+        found.leave(other, "a second address: give it a service and a file of its own", Row.LISTENING)
+    for other in port.lines if own else ():
+        found.pass_over(other, "the address has a port of its own")
+    if address == ALL:
+        remark = "one address is better: see `listen` in forwarder.toml(5)"
+    lines = [line] if own else [line, *port.lines]
+    return Value(f"{address}:{own or port.text}", lines, remark)
+
+
+def standard(found):
+    """Routes that want the servers of all names get those."""
+    root = found.routes.get(".")
+    for route in found.routes.values():
+        for line in route.standard:
+            if root is None or not root.servers:
+                found.leave(line, f"no server for all names is there, so {route.suffix} gets none")
+                continue
+            for text, server in root.servers.items():
+                route.servers.setdefault(text, Value("", [], server.remark)).lines.append(line)
+
+
+def keep_most(route, listen):
+    """Takes out the forwarder itself, and servers that are too many."""
+    address, _, port = listen.text.partition(":")
+    for text in list(route.servers):
+        other, _, its_port = text.partition(":")
+        is_here = other == address or (address == ALL and other.startswith("127."))
+        if is_here and port == its_port:
+            lose(route, text, "is this forwarder itself")
+    for text in list(route.servers)[MOST_SERVERS:]:
+        lose(route, text, f"is past the {MOST_SERVERS} servers of a route")
+
+
+def lose(route, text, why):
+    """Takes a server out of a route."""
+    route.lost += [(line, Refused(f"{text} {why}")) for line in route.servers.pop(text).lines]
+
+
+def local(found):
+    """Denies local zones, unless their names are below a suffix with servers."""
+    for zone, line in found.local:
+        served = (key for key, route in found.routes.items() if key != "." and (route.servers or route.lost))
+        above = next((key for key in served if is_under(zone, key)), None)
+        if above is None:
+            found.deny(zone, line)
+
+
+def one_of_two(route, found):
+    """A route has servers or denies. One that has lost all its servers denies, so that its names
+    are not asked of the servers of a shorter suffix; the route for all names is dropped instead."""
+    if route.denied:
+        then = f"names below {route.suffix} are denied"
+        for line in route.named:
+            found.leave(line, then)
+        for text in list(route.servers):
+            lose(route, text, "is not asked")
+        then = f"; {then}"
+    elif route.servers:
+        then = ""
+    elif route.suffix == ".":
+        del found.routes["."]
+        for line in route.named:
+            found.leave(line, "no server of it can be asked")
+        then = "; until then names without another route are refused"
+    else:
+        route.denied, route.remark = route.lines(), "no server of it can be asked"
+        then = f"; until then names below {route.suffix} are denied"
+    for line, refused in route.lost:
+        found.leave(line, refused.what + then, refused.row)
+
+
+def ordered(found):
+    """The routes, that for all names first; what is past the most is left."""
+    routes = sorted(found.routes.values(), key=lambda route: route.suffix != ".")
+    for route in routes[MOST_ROUTES:]:
+        for line in route.lines():
+            what = f"{route.suffix} is past the {MOST_ROUTES} routes of a configuration: join some at a shorter suffix"
+            found.leave(line, what)
+    if not routes:
+        found.leave(found.first, "no line names a server that can be asked: write a route `.`")
+        found.placeholder = True
+        routes = [Route("invalid")]
+    return routes[:MOST_ROUTES]

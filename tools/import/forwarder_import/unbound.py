@@ -1,0 +1,251 @@
+"""Reads unbound.conf, with what it includes: see unbound.conf(5)."""
+import re
+from dataclasses import dataclass, field
+
+from .files import Line, Refused
+from .names import ENCRYPTED, ipv4_of, key_of, peer_of, port_of
+from .rows import Row
+from .unbound_options import CLAUSES, DENYING, OF_THE_UNIT, SAME, TRANSPARENT, left_out
+
+TOKEN = re.compile(r"""\s*(?:"(?P<double>[^"]*)"|'(?P<single>[^']*)'|(?P<open>["'])|(?!\#)(?P<word>[^\s"']+))""")
+KEY = re.compile(r"([a-z][a-z0-9-]*):(.*)", re.S)
+TLS = {"forward-tls-upstream", "forward-ssl-upstream", "stub-tls-upstream", "stub-ssl-upstream"}
+TLS_OF_ALL = {"tls-upstream", "ssl-upstream"}
+
+
+@dataclass
+class Statement:
+    """A key with its values."""
+
+    key: str
+    line: Line
+    values: list[str] = field(default_factory=list)
+
+    def value(self):
+        """Its one value."""
+        if len(self.values) != 1:
+            raise Refused("it has to have one value")
+        return self.values[0]
+
+    def shown(self):
+        """The line, with the statement as its text."""
+        words = [each if re.fullmatch(r"\S+", each) else f'"{each}"' for each in self.values]
+        return Line(self.line.path, self.line.number, " ".join([f"{self.key}:", *words]))
+
+
+class Unbound:
+    """Reads all files of one unbound."""
+
+    def __init__(self, files, found):
+        self.files, self.found = files, found
+        self.first, self.statements = None, []
+        self.stale = {}  # the statements of `serve-expired`
+        self.zones = set()  # keys of the zones that have a server
+
+    def read(self, path):
+        """Takes the statements of a file; `end` carries them."""
+        self.first = self.first or Line(path, 0)
+        self.gather(path, None)
+
+    def gather(self, path, by):
+        """Gathers the statements of a file and of those that it includes, in their order."""
+        with self.files.lines(path, by) as lines:
+            for line in lines:
+                try:
+                    for token, is_quoted in tokens_of(line.text):
+                        self.take(token, is_quoted, line)
+                except Refused as refused:
+                    self.found.refuse(line, refused)
+
+    def take(self, token, is_quoted, line):
+        """Takes a word: a key, or a value of the key before it."""
+        last = self.statements[-1] if self.statements else None
+        wants_value = last is not None and not last.values and last.key not in CLAUSES
+        key = None if is_quoted or wants_value else KEY.fullmatch(token)
+        if key:
+            self.statements.append(Statement(key[1], line, [key[2]] if key[2] else []))
+        elif last is None or last.key in CLAUSES:
+            raise Refused(f"{token} has no key before it")
+        else:
+            last.values.append(token)
+        if self.statements[-1].key in ("include", "include-toplevel") and self.statements[-1].values:
+            self.include(self.statements.pop())
+
+    def include(self, statement):
+        """Reads the files that a statement names."""
+        if statement.key == "include-toplevel":
+            self.statements.append(Statement("server", statement.line))
+        for path in self.files.paths(statement.value(), statement.line):
+            try:
+                self.gather(path, statement.line)
+            except Refused as refused:
+                self.found.refuse(statement.shown(), refused)
+
+    def end(self, _):
+        """Carries all statements, each clause with its own."""
+        is_encrypted = any(each.key in TLS_OF_ALL and is_yes(each) for each in self.statements)
+        clause, zone = None, []
+        for statement in [*self.statements, Statement("server", self.first)]:
+            if statement.key not in CLAUSES:
+                zone.append(statement)
+                continue
+            self.clause(clause, zone, is_encrypted)
+            clause, zone = statement, []
+        self.stale_answers()
+        self.without_a_line()
+
+    def clause(self, clause, statements, is_encrypted):
+        """Carries the statements of a clause."""
+        kind = clause.key if clause else None
+        if kind in ("forward-zone", "stub-zone"):
+            try:
+                Zone(clause, statements, self).carry(is_encrypted)
+            except Refused as refused:
+                for each in [clause, *statements]:
+                    self.found.refuse(each.shown(), refused)
+            return
+        for statement in statements:
+            try:
+                if kind != "server":
+                    raise Refused(f"it is of the clause {kind}" if kind else "it is of no clause", CLAUSES.get(kind))
+                self.setting(statement)
+            except Refused as refused:
+                self.found.refuse(statement.shown(), refused)
+
+    def setting(self, statement):
+        """Carries a statement of the clause `server`."""
+        key, line = statement.key, statement.shown()
+        if key in ("interface", "ip-address"):
+            address, _, port = statement.value().partition("@")
+            self.found.listen(ipv4_of(address), port_of(port) if port else None, line)
+        elif key == "port":
+            self.found.set_port(statement.value(), line)
+        elif key == "local-zone":
+            self.local_zone(statement, line)
+        elif key in ("serve-expired", "serve-expired-ttl"):
+            if key in self.stale:
+                self.found.pass_over(self.stale[key].shown(), "a later line decides")
+            self.stale[key] = statement
+        elif key in OF_THE_UNIT:
+            self.found.pass_over(line, "the unit of systemd has its own")
+        elif SAME.get(key) == " ".join(statement.values).lower():
+            self.found.pass_over(line, "so it is here")
+        else:
+            raise left_out(key)
+
+    def local_zone(self, statement, line):
+        """A zone that is not asked of others."""
+        if len(statement.values) != 2:
+            raise Refused("it has to have a zone and a type")
+        zone, kind = statement.values
+        if kind in DENYING:
+            self.found.deny(zone, line, DENYING[kind])
+        elif kind in TRANSPARENT:
+            self.found.pass_over(line, "its names are asked like others")
+        else:
+            raise Refused("write a route that denies it, or one to a name server that has its names", Row.RECORDS)
+
+    def stale_answers(self):
+        """Carries how long an expired record set may be answered."""
+        switch, window = self.stale.get("serve-expired"), self.stale.get("serve-expired-ttl")
+        if switch is None or not is_yes(switch):
+            for each in filter(None, (switch, window)):
+                self.found.pass_over(each.shown(), "without `serve-expired: yes` nothing expired is answered")
+            return
+        line = (window or switch).shown()
+        try:
+            text = window.value() if window else "0"
+            self.found.limit("stale_s", "999999" if text == "0" else text, line, "once all tries failed")
+        except Refused as refused:
+            self.found.refuse(line, refused)
+        if window:
+            self.found.pass_over(switch.shown(), "`stale_s` above 0 says it")
+
+    def without_a_line(self):
+        """Says what unbound does without a line."""
+        if "." not in self.zones:
+            what = "names without a forward-zone are resolved from the root: write a route `.`"
+            self.found.leave(self.first, what, Row.ITERATING)
+        what = "unbound denies special names and private addresses by itself: take them from special_names.toml"
+        self.found.leave(self.first, what, Row.SPECIAL)
+
+
+class Zone:
+    """The statements of a forward-zone or stub-zone."""
+
+    def __init__(self, clause, statements, reader):
+        self.clause, self.statements = clause, statements
+        self.reader, self.found = reader, reader.found
+        self.kind = clause.key.partition("-")[0]
+
+    def carry(self, is_encrypted):
+        """Carries the zone as a route."""
+        names = [each for each in self.statements if each.key == "name"]
+        if len(names) != 1:
+            raise Refused("the zone has to have one name")
+        suffix = names[0].value()
+        if key_of(suffix.rstrip(".") or ".") in self.reader.zones:
+            raise Refused(f"the zone {suffix} is there already, and only the first counts: write all servers into it")
+        route = self.found.route(suffix)
+        route.named.append(names[0].shown())
+        self.reader.zones.add(key_of(route.suffix))
+        is_encrypted = is_encrypted or any(each.key in TLS and is_yes(each) for each in self.statements)
+        for statement in self.statements:
+            try:
+                self.take(statement, route, is_encrypted)
+            except Refused as refused:
+                self.found.refuse(statement.shown(), refused)
+        if not route.servers and not route.lost:
+            route.lost.append((self.clause.shown(), Refused(f"the zone {suffix} has no server")))
+
+    def take(self, statement, route, is_encrypted):
+        """Takes a statement of the zone."""
+        part, line = statement.key.removeprefix(f"{self.kind}-"), statement.shown()
+        if part in ("addr", "host"):
+            remark = "a referral is no answer" if self.kind == "stub" else ""
+            self.found.serve(route.suffix, lambda: server_of(statement, is_encrypted), line, remark)
+        elif statement.key in TLS and is_yes(statement):
+            self.found.leave(line, "queries are never encrypted: see the lines of the servers")
+        elif part in ZONE_SETTINGS and not is_yes(statement):
+            self.found.pass_over(line, "so it is here")
+        elif part in ZONE_SETTINGS:
+            raise Refused(*ZONE_SETTINGS[part])
+        elif statement.key != "name":
+            raise Refused(f"it is no setting of a {self.clause.key} that is known here")
+
+
+ZONE_SETTINGS = {
+    "tls-upstream": ("", None),
+    "ssl-upstream": ("", None),
+    "first": ("it is not resolved from the root if its servers fail", Row.ITERATING),
+    "prime": ("its servers are those that are written", Row.ITERATING),
+    "no-cache": ("its answers are cached, too", Row.TTL),
+    "tcp-upstream": ("servers are asked by UDP first: let UDP through", None),
+}
+
+
+def server_of(statement, is_encrypted):
+    """The peer of `ADDRESS@PORT#NAME`."""
+    text, _, _ = statement.value().partition("#")
+    if is_encrypted:
+        raise Refused(ENCRYPTED)
+    address, _, port = text.partition("@")
+    return peer_of(address, port)
+
+
+def is_yes(statement):
+    """Whether a setting is on."""
+    return statement.values == ["yes"]
+
+
+def tokens_of(text):
+    """The words of a line, each with whether it was quoted."""
+    place = 0
+    while found := TOKEN.match(text, place):
+        place = found.end()
+        if found["open"]:
+            raise Refused("a quotation mark is not closed")
+        if found["word"]:
+            yield found["word"], False
+        elif found["double"] is not None or found["single"] is not None:
+            yield found["double"] or found["single"] or "", True

@@ -1,0 +1,235 @@
+"""Random scripts: a forwarder that reads along tells which queries are open, and what is due.
+
+So most replies match a query, and the moments are those at which something ends.
+"""
+import dataclasses
+import random as randomness
+
+from reading import script
+from reading.configuration import Refused, read_configuration
+from reading.step import Forwarder
+
+from . import configurations
+from .octets import DATA, Writer, broken, other_case
+from .replies import Replies
+
+NOTHING = "0 failed udp 0"
+CLIENTS = (*(f"udp 10.0.0.{last}:{port}" for last in (7, 8, 255) for port in (1, 40_000)),
+           "tcp 7", "tcp 8", f"tcp {2**64 - 1}")
+LABELS = (b"a", b"b", b"www", b"A", b"x-1", b"\x00.\xff")
+NOT_SERVED = (0, 41, 128, 249, 251, 252, 255)
+ODD_NAMES = (
+    b"\1\0\xc0\x0d", b"\xc0\x0c", b"\xc0\x00", b"\xc0\x02", b"\xc0", b"\x41a\0", b"\x80a\0",
+    b"\1a" * 127 + b"\0", b"\1a" * 128 + b"\0",
+    (b"\x3f" + b"a" * 63) * 3 + b"\x3e" + b"a" * 62 + b"\0")
+BEYOND = (127, 256, 42)  # types next to those that are not served
+BAD_LINES = (
+    "", "tick", "1 tick ", " 1 tick", "1  tick", "1 Tick", "1 tick\r", "x tick", "-1 tick", "---",
+    f"{2**64} tick", "000000000000000000001 tick", "\u00bd tick", "+1 tick", "1_0 tick",
+    "1 restart 1", "1 failed udp 65536", "1 failed udp 000001", "1 failed udp -1", "1 failed tcp",
+    f"1 failed tcp {2**64}", "1 client udp 10.0.0.07:1 00", "1 client udp 10.0.0.7:0 00",
+    "1 client udp 10.0.0.7:1 0", "1 client udp 10.0.0.7:1 ", "1 client udp 10.0.0.7:1",
+    "1 client udp 10.0.0.7:1 0g", "1 client udp 10.0.0.7 00", "1 client udp 10.0.0.256:1 00",
+    "1 client udp 10.0.0.7:65536 00", "1 client udp 10.0.0.7:1 -0", "1 client tcp x 00",
+    "1 client tcp 7 00 00", "1 client tcp 7 --", "1 client 7 00", "1 reply udp 1 00",
+    "1 reply udp 65536 192.0.2.1:53 00", "1 reply tcp 1 192.0.2.1 00")
+ODD_LINES = (
+    "00000000000000000001 tick", "0 failed udp 00000", "0 failed tcp 00000000000000000000",
+    "0 client udp 10.0.0.7:1 -", "0 client tcp 00007 00", "0 client tcp 7 " + "aB" * 12,
+    "0 reply udp 01032 192.0.2.1:53 -")
+
+
+class Maker:
+    """Makes a script, line by line."""
+
+    def __init__(self, seed):
+        self.random = random = randomness.Random(seed)
+        self.theme = random.choices(("any", "pressed", "stale", "large"), (60, 20, 17, 3))[0]
+        is_quiet = self.theme in ("pressed", "large")
+        self.calm = 0.97 if is_quiet else random.choice((0, 0.5, 0.5, 0.9))
+        self.text, suffixes = configurations.configuration(random, self.theme)
+        self.forwarder = Forwarder(read_configuration(self.text.encode()))
+        self.now, self.lines = random.choice((0, 1000, 1000, 10**6)), []
+        self.kinds = self.make_kinds()
+        self.class_ = random.choice((1,) * 8 + (3, 2))
+        self.names = self.make_names(suffixes)
+        self.replies = Replies(random, self.name, self.class_, self.calm, self.theme)
+
+    def chance(self, chance):
+        """Whether something is done."""
+        return self.random.random() < chance
+
+    def make_kinds(self):
+        """The types that are asked for: often one alone, so that questions meet."""
+        every = list(DATA)
+        several = ([1, 5], [1, 2, 5, 6], self.random.sample(every, 3), every)
+        kinds = self.random.choice(([1], [1], [1], [self.random.choice(every)], *several))
+        large = [self.random.choice((15, 33))]
+        return large if self.theme == "large" else [1] if self.theme == "stale" else kinds
+
+    def make_names(self, suffixes):
+        """A few names, under some of the suffixes; at times a long one."""
+        names, tops = [], [suffix.strip(".") for suffix in (*suffixes, "example", "example")]
+        for _ in range(self.random.choice((3, 4, 5, 6, 8))):
+            top = self.random.choice(tops)
+            labels = [label.encode() for label in top.split(".")] if top else []
+            for _ in range(self.random.choice((0, 1, 1, 1, 2))):
+                labels.insert(0, self.random.choice(LABELS))
+            names.append(tuple(labels))
+        if self.chance(1 if self.theme == "large" else 0.15):
+            labels = [b"l" * 63] * 3 + [b"m" * self.random.choice((51, 52, 53))]
+            names.append((*labels, b"example"))
+        if self.chance(0.05):
+            names.append((b"a",) * self.random.choice((100, 126, 127)))
+        return names
+
+    def name(self):
+        """One of the names, or a name below it; at times one of which something is kept."""
+        kept = self.forwarder.cache.entries if self.chance(0.15) else []
+        name = self.random.choice([entry.piece.owner for entry in kept] or self.names)
+        below = (self.random.choice((b"a", b"b", b"c")), *name)
+        return below if self.chance(0.1) and sum(len(label) + 1 for label in below) < 255 else name
+
+    # Moments.
+
+    def moments(self):
+        """The moments at which something of the forwarder is due or ends."""
+        forwarder = self.forwarder
+        due = [ask.asked + forwarder.limits["ask_ms"] for ask in forwarder.asks]
+        due += [each.taken + forwarder.limits["deadline_ms"] for each in forwarder.waiting]
+        ends = [kept.accepted + 1000 * (kept.piece.lifetime + window)
+                for kept in forwarder.cache.entries for window in (0, forwarder.limits["stale_s"])]
+        return due, ends
+
+    def move(self):
+        """Time passes, most often to a moment at which something is due or ends, or next to it."""
+        due, ends = self.moments()
+        chance = self.random.random()
+        if chance < (0.85 if self.theme in ("pressed", "large") else 0.6):
+            return
+        if chance < 0.95 and (due or ends):
+            near = due if due and (not ends or self.chance(0.5)) else ends
+            self.now = max(self.now, self.random.choice(near) + self.random.choice((-1, 0, 0, 1)))
+        elif chance < 0.97:
+            self.now += self.random.choice((1, 20, 999, 1000, 5000, 10**6))
+        elif chance < 0.98:
+            self.now = self.random.choice((0, self.now // 2, self.now - 1 if self.now else 0))
+        elif chance < 0.983:
+            self.now = self.random.choice((2**62 - 1, 2**62, 2**62 + 5, 2**64 - 1))
+
+    # Lines.
+
+    def question(self):
+        """What a client asks: at times what is asked already, or what is kept."""
+        asks, entries = self.forwarder.asks, self.forwarder.cache.entries
+        if asks and self.chance(0.15):
+            question = self.random.choice(asks).question
+            name, kind, class_ = question.name, question.kind, question.class_
+        elif entries and self.chance(0.7 if self.theme == "stale" else 0.35):
+            piece = self.random.choice(entries).piece
+            name, class_ = piece.owner, piece.class_
+            kind = self.random.choice((piece.kind or 1, *self.kinds))
+        else:
+            name, kind, class_ = self.name(), self.random.choice(self.kinds), self.class_
+        if self.chance(0.03):
+            kind = self.random.choice((*NOT_SERVED, *BEYOND))
+        if self.chance(0.02):
+            class_ = self.random.choice((0, 1, 3, 254, 255))
+        return other_case(self.random, name) if self.chance(0.05) else name, kind, class_
+
+    def client(self):
+        """A client's message, at times with flags, counts or octets that a query does not have."""
+        odd, clients = self.chance(0.15 * (1.1 - self.calm)), CLIENTS
+        if self.theme == "large" and self.chance(0.6):
+            clients = CLIENTS[-3:]
+        flags = 0x0100 if self.chance(0.88) else 0
+        counts, after = [1, 0, 0, 0], b""
+        if odd or self.chance(0.06):
+            bits = (0, 0x0400, 0x0200, 0x0080, 0x0070, self.random.randrange(16))
+            flags |= self.random.choice(bits)
+        if odd and self.chance(0.3):
+            flags |= self.random.choice((0x8000, self.random.randrange(16) << 11))
+        if odd and self.chance(0.2):
+            counts[0] = self.random.choice((0, 2, 65_535))
+        if self.chance(0.05):
+            counts[self.random.randrange(1, 4)] = self.random.choice((1, 2, 65_535))
+            after = self.random.choice((b"", bytes.fromhex("00002904d0000000000000"), b"\xc0"))
+        writer = Writer(self.random)
+        writer.header(self.random.randrange(65_536), flags, counts)
+        writer.question(*self.question())
+        octets = bytes(writer.out) + after
+        if odd and self.chance(0.4):
+            octets = broken(self.random, octets)
+        elif odd and self.chance(0.01):
+            octets += bytes(65_535 + self.random.randrange(2) - len(octets))
+        elif self.chance(0.01):
+            octets = octets[:12] + self.random.choice(ODD_NAMES) + b"\0\1\0\1"
+        return f"{self.now} client {self.random.choice(clients)} {octets.hex() or '-'}"
+
+    def reply(self):
+        """A reply to one of the open queries, at times with one thing of it forged."""
+        ask = self.random.choice(self.forwarder.asks)
+        path, number, peer, question = list(ask.path), ask.id, ask.peer, ask.question
+        if self.chance(0.08 * (1.05 - self.calm)):
+            forged = self.random.randrange(5)
+            if forged == 0:
+                number ^= 1 << self.random.randrange(16)
+            elif forged == 1:
+                paths = (["udp", 1024], ["tcp", path[1]], ["udp", path[1] % 65_536])
+                path = self.random.choice(paths)
+            elif forged == 2:
+                peer = self.random.choice(("192.0.2.1:53", "192.0.2.2:53", "192.0.2.1:5353"))
+            else:
+                change = self.random.choice(({"name": self.name()}, {"kind": 28}, {"class_": 3}))
+                question = dataclasses.replace(question, **change)
+        octets = self.replies.reply(number, question)
+        text = octets.hex().upper() if self.chance(0.05) else octets.hex()
+        return f"{self.now} reply {path[0]} {path[1]} {peer} {text or '-'}"
+
+    def failed(self):
+        """A path that broke, most often that of an open query."""
+        paths = [ask.path for ask in self.forwarder.asks] if self.chance(0.9) else []
+        path = self.random.choice(paths or [("udp", 1032), ("tcp", 0)])
+        return f"{self.now} failed {path[0]} {path[1]}"
+
+    def line(self):
+        """One event line."""
+        due, _ = self.moments()
+        is_due = any(moment <= max(self.now, self.forwarder.now) for moment in due)
+        weights = {self.client: 35, self.failed: 2 * (1.2 - self.calm)}
+        if self.forwarder.asks:
+            weights[self.reply] = {"pressed": 70, "stale": 30}.get(self.theme, 50)
+            weights[self.reply] += 25 * len(self.forwarder.asks)
+            weights[self.failed] = 25 if self.theme == "stale" else 10 * (1.2 - self.calm)
+        weights["tick"] = (35 if is_due else 3)
+        weights["restart"] = 0.4
+        chosen = self.random.choices(list(weights), list(weights.values()))[0]
+        return f"{self.now} {chosen}" if isinstance(chosen, str) else chosen()
+
+    def add(self, line):
+        """Puts a line last, and lets the forwarder take its event."""
+        self.lines.append(line)
+        moment, event = script.event_of(line)
+        self.forwarder.step(moment, script.words_of(len(self.lines)), *event)
+
+    def make(self):
+        """The octets of a script; a few have a fault in a line or in the configuration."""
+        for _ in range(self.random.choice((10, 20, 30, 40, 60)) if self.theme != "large" else 12):
+            self.move()
+            self.now = min(self.now, script.LAST_NUMBER)
+            self.add(self.random.choice(ODD_LINES) if self.chance(0.002) else self.line())
+        if self.chance(0.03):
+            at = self.random.randrange(len(self.lines) + 1)
+            self.lines.insert(at, self.random.choice(BAD_LINES))
+        elif self.chance(0.001):
+            self.lines = [NOTHING] * self.random.choice((8191, 8192, 8193))
+        text = configurations.changed(self.random, self.text) if self.chance(0.06) else self.text
+        body = "---\n" + "\n".join(self.lines) + ("\n" if self.chance(0.9) else "")
+        if self.chance(0.003):
+            body = self.random.choice(("---", "", "--- \n", "---\r\n", "---\n"))
+        return (text + body).encode("latin-1")
+
+
+def make(seed):
+    """The script with this seed."""
+    return Maker(seed).make()

@@ -1,0 +1,76 @@
+"""The measuring programs of tools/measurements, proved and built as crates of a copy of the repository.
+
+The gate proves each `.rt` and `.antt` file of the repository, and no user needs a proof of a program
+that only measures. So their files have the endings of ENDINGS, and get those of a crate in the copy.
+"""
+import pathlib
+import shutil
+import subprocess
+import tempfile
+
+from repository import tried
+from repository.copied import copy_repository
+from repository.crates import TOP
+
+FOLDER = TOP / "tools" / "measurements"
+OUT = FOLDER / "out"
+ENDINGS = {".rs": ".rt", ".proof": ".antt"}
+
+
+class Unbuilt(Exception):
+    """A program that was not built, with the end of what the toolchain printed."""
+
+
+def uses():
+    """The crates that each measuring program uses."""
+    lines = (FOLDER / "uses").read_text(encoding="utf-8").splitlines()
+    parts = (line.partition(":") for line in lines if line and not line.startswith("#"))
+    return {name: used.split() for name, _, used in parts}
+
+
+def files(name):
+    return sorted(path for path in (FOLDER / name).rglob("*") if path.is_file())
+
+
+def text(name):
+    """A digest of a program's files and of all crates below it."""
+    texts = tried.of_texts(TOP)
+    own = [path.read_bytes() for path in files(name)]
+    return tried.digest(*own, *(texts[used].encode() for used in uses()[name] if used in texts))
+
+
+def place(name, top):
+    """Puts a program into the copy at `top` as a crate."""
+    for path in files(name):
+        to = top / "crates" / path.relative_to(FOLDER)
+        to = to.with_suffix(ENDINGS.get(to.suffix, to.suffix))
+        to.parent.mkdir(parents=True, exist_ok=True)
+        shutil.copy2(path, to)
+    with (top / "crates.txt").open("a", encoding="utf-8") as file:
+        file.write(f"{name}: {' '.join(uses()[name])}\n")
+
+
+def build(name):
+    """Proves and builds a program in a copy, and keeps it in OUT."""
+    with tempfile.TemporaryDirectory(prefix="measuring-") as folder:
+        top = pathlib.Path(folder)
+        copy_repository(top)
+        place(name, top)
+        # Without arguments each program ends with status 1 once it is built.
+        ran = subprocess.run(["rt", "run"], cwd=top / "crates" / name, stdin=subprocess.DEVNULL,
+                             stdout=subprocess.PIPE, stderr=subprocess.STDOUT, text=True,
+                             errors="replace", check=False)
+        made = top / "crates" / name / "out" / name
+        if not made.is_file():
+            raise Unbuilt(f"{name} was not built:\n" + "\n".join(ran.stdout.splitlines()[-15:]))
+        OUT.mkdir(exist_ok=True)
+        shutil.copy2(made, OUT / name)
+        (OUT / f"{name}.text").write_text(text(name), encoding="utf-8")
+
+
+def built(name):
+    """The path of a measuring program, which is built unless it is there for these sources."""
+    kept = OUT / f"{name}.text"
+    if not (OUT / name).is_file() or not kept.is_file() or kept.read_text() != text(name):
+        build(name)
+    return str(OUT / name)
