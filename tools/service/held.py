@@ -9,11 +9,13 @@ import os
 import pathlib
 import shutil
 import signal
+import socket
 import subprocess
 import tempfile
 import time
 
 EXPLAIN = pathlib.Path(__file__).resolve().parent.parent / "explain" / "forwarder-explain"
+FILLER = 65000  # octets
 # Cases whose traffic is not the step's alone, on purpose.
 NOT_HELD = {
     "a_client_that_never_reads": "it sends as fast as it can, which is more than a capture takes",
@@ -54,10 +56,23 @@ class Watch:
         return self
 
     def __exit__(self, *_):
-        time.sleep(0.2)
+        self.wait_for_all()
         self.process.send_signal(signal.SIGINT)
         said = self.process.communicate()[1]
         self.lost = next((int(line.split()[0]) for line in said.splitlines() if "dropped by kernel" in line), 0)
+
+    def wait_for_all(self):
+        """Waits until the file has all that was sent. tcpdump gets packets by blocks: once a block is full, or
+        after a second."""
+        last, until = os.urandom(16), time.monotonic() + 10
+        with socket.socket(socket.AF_INET, socket.SOCK_DGRAM) as sink:
+            sink.bind(("127.0.0.1", 0))
+            sink.sendto(last, sink.getsockname())
+            while last not in self.file.read_bytes():
+                if time.monotonic() > until:
+                    raise AssertionError("tcpdump does not write what it captured")
+                sink.sendto(bytes(FILLER), sink.getsockname())
+                time.sleep(0.001)
 
     def differs(self, program, configuration):
         """What differs from the step in the traffic of a service with this configuration, or None."""

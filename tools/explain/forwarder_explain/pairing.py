@@ -3,6 +3,7 @@ at about one time."""
 from collections import defaultdict
 
 from .configuration import shown
+from .traffic import Ending, Question, Reply
 
 EARLIER = 60  # milliseconds that a captured query may be before the script's
 
@@ -54,7 +55,7 @@ class Pairing:
             wanted,
             made,
             lambda query, each: each.moment - EARLIER <= self.moment(query) <= until[each],
-            lambda query, each: abs(self.moment(query) - each.moment),
+            lambda query, each: (came_after(each.line, query), abs(self.moment(query) - each.moment)),
         )
         for query, each in pairs:
             self.line_of[query], self.query_of[each] = each.line, query
@@ -67,3 +68,8 @@ class Pairing:
             wanted = [query for query in connections if query.server == server]
             made = sorted((each for each in left if each.server == shown(server)), key=lambda each: each.line.order)
             self.pair(wanted, made)
+
+
+def came_after(line, query):
+    """Whether a line stands for what came to the service after a captured query had left."""
+    return isinstance(line.event, (Question, Reply, Ending)) and line.event.moment > query.moment

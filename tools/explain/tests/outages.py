@@ -153,6 +153,18 @@ def joined_late():
     return scene.pcap()
 
 
+def asked_late_and_again():
+    """A query leaves 4.7 ms after its question. Its reply lives for no second, and the capture ends before
+    the query of the next question."""
+    scene, name = Scene(), asked("www.example.com")
+    scene.question(0, ONE, 1, name)
+    port = scene.query(4.7, FIRST, name)
+    scene.reply(4.9, FIRST, port, name, answers=[address(0, 192, 0, 2, 80)])
+    scene.answer(5, ONE, 1, name, answers=[address(0, 192, 0, 2, 80)])
+    scene.question(5.3, OTHER, 2, name)
+    return scene.pcap()
+
+
 ALL = [
     dropped,
     outage_ends,
@@ -162,4 +174,5 @@ ALL = [
     stood_still_over_an_end,
     closed,
     joined_late,
+    asked_late_and_again,
 ]
