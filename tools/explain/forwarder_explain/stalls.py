@@ -6,6 +6,7 @@ the end of the span.
 import bisect
 from typing import NamedTuple
 
+from . import messages
 from .eras import is_output
 from .traffic import Answer, Ending, Question, Reply
 
@@ -40,6 +41,8 @@ def found_in(history, events, limits):
 def calls_for(history, event, output, limits):
     """Whether something that came calls for a query or an answer at once, and had none before the
     output that followed it."""
+    if isinstance(output, Answer) and output.question.connection and not was_made_late(history, output):
+        return False
     if isinstance(event, Question):
         found = history.found.get(event)
         if event.refused or not event.wants_answer() or not event.answer or found and found.was_asked:
@@ -50,6 +53,20 @@ def calls_for(history, event, output, limits):
         is_for_it = waiting is not None and waiting.asked == event.query.asked
         return is_for_it and waiting.moment < event.moment and history.verdicts.get(event) == "answered"
     return False
+
+
+def was_made_late(history, answer):
+    """Whether a cached answer over TCP, which leaves as its client reads, was made long after its
+    question came: by the lifetime that is left in it."""
+    found = history.found.get(answer.question)
+    if found is None or not found.answers or not found.used:
+        return False
+    try:
+        left = [record.seconds for record in messages.records(answer.octets)]
+    except messages.Malformed:
+        return False
+    in_time = found.used[-1].end() - (answer.question.moment + NEAR) // 1000
+    return bool(left) and left[-1] < in_time // 1000
 
 
 def ends_try(waited, limits):

@@ -1,6 +1,6 @@
 """Captures with packets that anyone can send, and with clients that are more than clients."""
 from making import TXT, address, asked, framed, message, record
-from office import ACK, CORPORATE, FIRST, FORWARDER, ONE, OTHER, PLAIN, QUERY, SYN, Scene
+from office import ACK, CORPORATE, FIRST, FORWARDER, ONE, OTHER, PLAIN, QUERY, REPLY, SYN, Scene
 
 WWW = asked("www.example.com")
 
@@ -77,4 +77,25 @@ def forged_reply_used():
     return scene.pcap()
 
 
-ALL = [short_answers, a_server_asks, one_port, one_identifier, forged_reply_used]
+def taken_late():
+    """A client over TCP takes its answers late. The first is of a server, and what this said is
+    cached meanwhile. The second is of the cache, and has expired when the client takes it."""
+    scene, client = Scene(), "10.0.0.9:50000"
+    first = framed(message(1, QUERY, WWW))
+    scene.tcp(0, client, FORWARDER, 100, SYN)
+    scene.tcp(0.1, FORWARDER, client, 900, SYN | ACK)
+    scene.tcp(1, client, FORWARDER, 101, ACK, first)
+    port = scene.query(1.2, FIRST, WWW)
+    scene.reply(11.2, FIRST, port, WWW, answers=[address(4, 192, 0, 2, 80)])
+    # Accepted at 11 ms: 4 - 0.489 s are left, and then 4 - 2.089 s.
+    scene.question(500, OTHER, 2, WWW)
+    scene.answer(500.2, OTHER, 2, WWW, answers=[address(3, 192, 0, 2, 80)])
+    answer = framed(message(1, REPLY, WWW, [address(4, 192, 0, 2, 80)]))
+    scene.tcp(2000, FORWARDER, client, 901, ACK, answer)
+    scene.tcp(2100, client, FORWARDER, 101 + len(first), ACK, framed(message(3, QUERY, WWW)))
+    second = message(3, REPLY, WWW, [address(1, 192, 0, 2, 80)])
+    scene.tcp(6000, FORWARDER, client, 901 + len(answer), ACK, framed(second))
+    return scene.pcap()
+
+
+ALL = [short_answers, a_server_asks, one_port, one_identifier, forged_reply_used, taken_late]

@@ -69,4 +69,17 @@ def clock_set_forward():
     return scene.pcap()
 
 
-ALL = [lost, another_program, clock_set_back, clock_set_forward]
+def short_replies():
+    """The question of a query is missing. Before its reply come some of 2 to 11 octets."""
+    scene, name = Scene(), asked("www.example.com")
+    port = scene.query(0.2, FIRST, name)
+    for count in range(2, 12):
+        scene.udp(5.2 + count / 100, FIRST, f"10.0.0.53:{port}", (port.to_bytes(2, "big") + bytes(9))[:count])
+    scene.reply(10.2, FIRST, port, name, answers=[address(60, 192, 0, 2, 80)])
+    # Accepted at 10 ms: 60 - 1.990 s are left.
+    scene.question(2000, ONE, 1, name)
+    scene.answer(2000.2, ONE, 1, name, answers=[address(58, 192, 0, 2, 80)])
+    return scene.pcap()
+
+
+ALL = [lost, another_program, clock_set_back, clock_set_forward, short_replies]

@@ -1,7 +1,7 @@
 """Captures of servers that can't be reached, of replies that are dropped, and of a service that
 stands still."""
 from making import TXT, address, asked, framed, message
-from office import ACK, CORPORATE, FIN, FIRST, ONE, OTHER, PLAIN, QUERY, RST, SECOND, SYN, Scene
+from office import ACK, CORPORATE, FIN, FIRST, FORWARDER, ONE, OTHER, PLAIN, QUERY, REPLY, RST, SECOND, SYN, Scene
 
 MULTIHOMED, FORGER = "10.0.0.11:53", "192.0.2.66:53"
 
@@ -125,6 +125,19 @@ def stood_still():
     return scene.pcap()
 
 
+def stood_still_over_tcp():
+    """A question over TCP is read five seconds late, as the lifetime in its answer says."""
+    scene, www, client = Scene(), asked("www.example.com"), "10.0.0.9:50000"
+    scene.fetched(0, ONE, 1, www, 300, (192, 0, 2, 80))
+    scene.tcp(1000, client, FORWARDER, 100, SYN)
+    scene.tcp(1000.1, FORWARDER, client, 900, SYN | ACK)
+    scene.tcp(2000, client, FORWARDER, 101, ACK, framed(message(2, QUERY, www)))
+    # Accepted at 10 ms: 300 - 6.990 s are left.
+    answer = message(2, REPLY, www, [address(293, 192, 0, 2, 80)])
+    scene.tcp(7000, FORWARDER, client, 901, ACK, framed(answer))
+    return scene.pcap()
+
+
 def closed():
     """A server closes, and then resets, the connection over which it was asked."""
     scene, text = Scene(), asked("text.example.com", TXT)
@@ -172,6 +185,7 @@ ALL = [
     read_a_little_late,
     stood_still,
     stood_still_over_an_end,
+    stood_still_over_tcp,
     closed,
     joined_late,
     asked_late_and_again,

@@ -1,5 +1,5 @@
 """Captures of a service that begins anew."""
-from making import address, asked
+from making import address, asked, framed
 from office import ACK, FIRST, FORWARDER, ONE, OTHER, RST, SECOND, SYN, Scene
 
 WWW = asked("www.example.com")
@@ -59,6 +59,21 @@ def refused_alone():
     return scene.pcap()
 
 
+def refused_in_a_long_capture():
+    """Nothing listens for a connection; then 7,600 empty messages over another one make a capture
+    of several windows, and what was cached is asked for again."""
+    scene, flood = Scene(), "10.0.0.9:50000"
+    scene.fetched(0, ONE, 1, WWW, 300, (192, 0, 2, 80))
+    scene.tcp(5000, "10.0.0.7:50000", FORWARDER, 100, SYN)
+    scene.tcp(5000.1, FORWARDER, "10.0.0.7:50000", 0, RST | ACK)
+    scene.tcp(5100, flood, FORWARDER, 100, SYN)
+    scene.tcp(5100.1, FORWARDER, flood, 900, SYN | ACK)
+    for count in range(8):
+        scene.tcp(5101 + count, flood, FORWARDER, 101 + 1900 * count, ACK, framed(b"") * 950)
+    scene.fetched(6000, ONE, 2, WWW, 300, (192, 0, 2, 80))
+    return scene.pcap()
+
+
 def rejected():
     """A packet filter of the service's machine rejects a question, and what was cached before is
     answered after it."""
@@ -83,4 +98,12 @@ def restart_not_shown():
     return scene.pcap()
 
 
-ALL = [restarted, restarted_in_flight, refused, refused_alone, rejected, restart_not_shown]
+ALL = [
+    restarted,
+    restarted_in_flight,
+    refused,
+    refused_alone,
+    refused_in_a_long_capture,
+    rejected,
+    restart_not_shown,
+]
