@@ -47,8 +47,19 @@ class Bind:
                 self.each(each, self.option)
         elif statement.words[0] == "zone":
             self.zone(statement)
+        elif statement.words[0] == "view":
+            self.found.refuse(statement.line, left_out("view"))
+            for each in statement.block:
+                self.each(each, self.of_view)
         else:
             raise left_out(statement.words[0])
+
+    def of_view(self, statement):
+        """A statement of a view. Nobody is asked for its zones until they have a service of their own."""
+        refused = Refused("it is of a view: write what it says into the file of that view", Row.WHO)
+        if statement.words[0] != "zone" or kind_of(statement) == "hint":
+            raise refused
+        self.found.route(suffix_of(statement.value())).lost.append((statement.line, refused))
 
     def option(self, statement):
         """A statement of `options`."""
@@ -87,7 +98,7 @@ class Bind:
         port_of_all = after(statement.words, "port")
         is_encrypted = after(statement.words, "tls")
         for each in block:
-            address, port = each.words[0], after(each.words, "port") or port_of_all
+            address, port = each.words[0], after(each.words, "port") or port_of_all or "53"
 
             def peer():
                 if is_encrypted or after(each.words, "tls"):
@@ -128,7 +139,7 @@ class Bind:
     def zone(self, statement):
         """A zone: forwarded, or one that this server has."""
         suffix = suffix_of(statement.words[1]) if len(statement.words) > 1 else ""
-        kind = next((each.value() for each in statement.block if each.words[0] == "type"), "")
+        kind = kind_of(statement)
         if not suffix or not kind:
             raise Refused("the zone has to have a name and a type")
         if [word.upper() for word in statement.words[2:]] not in ([], ["IN"]):
@@ -194,6 +205,11 @@ class Bind:
             self.found.refuse(statement.line, refused)
         if window:
             self.found.pass_over(switch.line, "`stale_s` above 0 says it")
+
+
+def kind_of(zone):
+    """The type of a zone; empty if it has none."""
+    return next((each.value() for each in zone.block if each.words[0] == "type"), "")
 
 
 def after(words, key):

@@ -1,14 +1,17 @@
 """The command `forwarder-import`: its arguments, what it prints, and its status."""
 import argparse
+import os
 import sys
 
-from .files import Files, Line, Refused, Unreadable
+from .dnsmasq import files_in
+from .files import Files, Line, Refused, Unreadable, shown
 from .found import Found
 from .kinds import READERS, kind_of
 from .settling import settle
 from .written import Writer
 
 ALL, LEFT_OUT, UNREADABLE = 0, 1, 2
+OF_DPKG = (".dpkg-dist", ".dpkg-old", ".dpkg-new")  # endings that Debian's dnsmasq passes over
 
 
 def arguments(words):
@@ -21,7 +24,10 @@ def arguments(words):
         "See forwarder-import(1).",
     )
     parser.add_argument(
-        "files", metavar="FILE", nargs="+", help="a configuration; files that it includes are read, too"
+        "files",
+        metavar="FILE",
+        nargs="+",
+        help="a configuration; files that it includes are read, too. The folder dnsmasq.d is its files",
     )
     parser.add_argument("--of", choices=READERS, help="whose the files are (default: by name and text)")
     parser.add_argument(
@@ -32,8 +38,11 @@ def arguments(words):
 
 def run(options):
     """Does all of it; gives the status."""
-    files, found, readers = Files(options.root), Found(Line(options.files[0], 0)), {}
-    for path in options.files:
+    paths = [path for written in options.files for path in files_of(written, options.of)]
+    if not paths:
+        raise Unreadable(f"{shown(options.files[0])}: has no file")
+    files, found, readers = Files(options.root), Found(Line(paths[0], 0)), {}
+    for path in paths:
         kind = options.of or kind_of(path)
         if kind not in readers:
             readers[kind] = READERS[kind](files, found)
@@ -50,6 +59,16 @@ def run(options):
     for note in writer.notes():
         print(f"forwarder-import: {note}", file=sys.stderr)
     return LEFT_OUT if found.left else ALL
+
+
+def files_of(path, kind):
+    """The file itself, or the files of a folder of dnsmasq's."""
+    if not os.path.isdir(path) or (kind or kind_of(path)) != "dnsmasq":
+        return [path]
+    try:
+        return files_in(path, OF_DPKG)
+    except OSError as fault:
+        raise Unreadable(f"{shown(path)}: {fault.strerror}") from None
 
 
 def main(words):

@@ -3,10 +3,10 @@ import os
 
 from .dnsmasq_options import NEEDLESS, left_out
 from .files import Line, Refused
-from .names import LOCAL_ZONES, ipv4_of, peer_of, reverse_zones
+from .names import LOCAL_ZONES, cut, ipv4_of, peer_of, reverse_zones
 from .rows import Row
 
-WITHOUT_VALUE = {"no-resolv", "bogus-priv", "use-stale-cache"}
+WITHOUT_VALUE = {"no-resolv", "no-hosts", "bogus-priv", "use-stale-cache"}
 NULL = ("#", "0.0.0.0", "::")  # addresses that mean nobody
 
 
@@ -15,7 +15,7 @@ class Dnsmasq:
 
     def __init__(self, files, found):
         self.files, self.found = files, found
-        self.first, self.resolves, self.serves = None, True, True
+        self.first, self.resolves, self.serves, self.has_hosts = None, True, True, True
         self.options = {
             "server": self.server,
             "local": self.server,
@@ -27,6 +27,7 @@ class Dnsmasq:
             "dns-forward-max": self.forward_max,
             "use-stale-cache": self.stale,
             "no-resolv": self.no_resolv,
+            "no-hosts": self.no_hosts,
             "resolv-file": self.resolv_file,
             "bogus-priv": self.bogus_priv,
             "conf-file": self.conf_file,
@@ -70,6 +71,13 @@ class Dnsmasq:
                 "without `no-resolv` dnsmasq asks the servers of /etc/resolv.conf, too: give that file as well",
                 Row.PROVIDED,
             )
+        if self.serves and self.has_hosts:
+            self.found.leave(
+                self.first,
+                "without `no-hosts` dnsmasq answers from /etc/hosts, too: "
+                "write a route to a name server that has its names",
+                Row.RECORDS,
+            )
 
     def server(self, value, line):
         """`server=/DOMAIN/ADDRESS#PORT@SOURCE`, each part of which may be missing."""
@@ -89,8 +97,7 @@ class Dnsmasq:
         elif server == "#":
             self.found.route(suffix).standard.append(line)
         else:
-            address, _, port = server.partition("#")
-            self.found.serve(suffix, lambda: peer_of(address, port), line)
+            self.found.serve(suffix, lambda: peer_of(*cut(server, "#")), line)
 
     def each_domain(self, line, domain, call):
         """Calls with the suffix that a domain is; notes why one can't be a suffix."""
@@ -148,6 +155,10 @@ class Dnsmasq:
         self.resolves = False
         self.found.pass_over(line, "servers are those of the configuration alone")
 
+    def no_hosts(self, _, line):
+        self.has_hosts = False
+        self.found.pass_over(line, "hosts files are never read")
+
     def resolv_file(self, value, line):
         raise Refused(
             f"its servers may change: give {value} as a file, too, to take those that it has now", Row.PROVIDED
@@ -163,19 +174,26 @@ class Dnsmasq:
     def conf_dir(self, value, line):
         """The files of a folder, but those with an ending that is named; only those with one after `*`."""
         folder, *endings = value.split(",")
-        folder = self.files.path(folder, line)
         try:
-            names = sorted(os.listdir(folder))
+            paths = files_in(self.files.path(folder, line), endings)
         except OSError as fault:
             raise Refused(f"the folder can't be read: {fault.strerror}") from None
-        wanted = tuple(ending[1:] for ending in endings if ending.startswith("*"))
-        unwanted = tuple(ending for ending in endings if ending and not ending.startswith("*"))
-        for name in names:
-            is_hidden = name.startswith(".") or name.endswith("~") or (name.startswith("#") and name.endswith("#"))
-            is_chosen = name.endswith(wanted) if wanted else True
-            path = os.path.join(folder, name)
-            if not is_hidden and is_chosen and not name.endswith(unwanted) and os.path.isfile(path):
-                self.read(path, line)
+        for path in paths:
+            self.read(path, line)
+
+
+def files_in(folder, endings):
+    """The files of a folder that `conf-dir` reads with these endings."""
+    wanted = tuple(ending[1:] for ending in endings if ending.startswith("*"))
+    unwanted = tuple(ending for ending in endings if ending and not ending.startswith("*"))
+    paths = []
+    for name in sorted(os.listdir(folder)):
+        is_hidden = name.startswith(".") or name.endswith("~") or (name.startswith("#") and name.endswith("#"))
+        is_chosen = name.endswith(wanted) if wanted else True
+        path = os.path.join(folder, name)
+        if not is_hidden and is_chosen and not name.endswith(unwanted) and os.path.isfile(path):
+            paths.append(path)
+    return paths
 
 
 def option_of(text):

@@ -51,7 +51,6 @@ LEFT_OUT = (
 
 UNIT = "the unit of systemd has its own"
 NEEDLESS = {
-    "no-hosts": "hosts files are never read",
     "no-poll": "no file is read after the start",
     "bind-interfaces": "the one address of `listen` alone is bound",
     "bind-dynamic": "the one address of `listen` alone is bound",

@@ -78,7 +78,10 @@ class Files:
     def paths(self, pattern, line):
         """The paths that a pattern of a line names, sorted; a path without wildcards is itself."""
         path = self.path(pattern, line)
-        return sorted(glob.glob(path)) if glob.has_magic(pattern) else [path]
+        paths = sorted(glob.glob(path)) if glob.has_magic(pattern) else [path]
+        if not paths:
+            raise Refused(f"there is no file {path}")
+        return paths
 
 
 def octets_of(path):

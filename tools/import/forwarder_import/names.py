@@ -24,11 +24,9 @@ LOCAL_ZONES = (
     "8.b.d.0.1.0.0.2.ip6.arpa",
 )
 
-
-ENCRYPTED = (
-    "NOT IN PLAIN: queries to it are encrypted there, and would not be here: "
-    "write a route to a program on this machine that asks it over TLS"
-)
+OVER_TLS = "write a route to a program on this machine that asks it over TLS"
+ENCRYPTED = f"NOT IN PLAIN: queries to it are encrypted there, and would not be here: {OVER_TLS}"
+PORT_OF_TLS = 853  # RFC 7858, section 3.1
 
 
 def port_of(text):
@@ -51,9 +49,18 @@ def ipv4_of(text, row=Row.LISTENING):
     return str(address)
 
 
-def peer_of(address, port=""):
-    """A server or a place to listen, as `ADDRESS:PORT`; the port is 53 if none is given."""
-    return f"{ipv4_of(address, Row.NAMED)}:{port_of(port) if port else 53}"
+def cut(text, mark):
+    """The address in `ADDRESS`, the mark, and a port, and the port: 53 without a mark."""
+    address, found, port = text.partition(mark)
+    return address, port if found else "53"
+
+
+def peer_of(address, port="53"):
+    """A server, as `ADDRESS:PORT`."""
+    peer = f"{ipv4_of(address, Row.NAMED)}:{port_of(port)}"
+    if int(port) == PORT_OF_TLS:
+        raise Refused(f"NOT IN PLAIN: port {PORT_OF_TLS} is for encrypted queries alone: {OVER_TLS}")
+    return peer
 
 
 def suffix_of(text):

@@ -4,7 +4,7 @@ import os
 import re
 
 from .files import Line, Refused
-from .names import ENCRYPTED, ipv4_of, peer_of, port_of
+from .names import ENCRYPTED, cut, ipv4_of, peer_of, port_of
 from .rows import Row
 
 FOLDERS = ("/usr/lib/systemd", "/usr/local/lib/systemd", "/run/systemd", "/etc/systemd")  # the last decides
@@ -110,6 +110,9 @@ class Resolved:
         if not servers:
             what = "without `DNS=` the servers are those of /etc/resolv.conf and of each link: write them into a route"
             self.found.leave(self.first, what, Row.PROVIDED)
+        if "ReadEtcHosts" not in self.single:
+            what = "systemd-resolved answers from /etc/hosts, too: write a route to a name server that has its names"
+            self.found.leave(self.first, what, Row.RECORDS)
         suffixes = self.suffixes()
         for word, line in servers:
             self.server(word, line, suffixes, is_encrypted)
@@ -124,14 +127,17 @@ class Resolved:
 
     def server(self, word, line, suffixes, is_encrypted):
         """A server for each suffix."""
-        address, port, link, _ = parts_of(word)
+        address, port, link, name = parts_of(word)
         if link:
             self.found.leave(line, f"queries do not leave by the link {link}: let the routing table decide")
 
         def peer():
             if is_encrypted:
                 raise Refused(f"{word}: {ENCRYPTED}")
-            return peer_of(address, port)
+            met = peer_of(address, port)
+            if name:
+                self.found.pass_over(line, f"{name} is a name for TLS, and queries are sent in plain")
+            return met
 
         for suffix in suffixes:
             self.found.serve(suffix, peer, line)
@@ -163,7 +169,7 @@ class Resolved:
             address, port, _, _ = parts_of(rest)
             try:
                 remark = "here by UDP and TCP" if transport else ""
-                self.found.listen(ipv4_of(address), port_of(port or "53"), line, remark)
+                self.found.listen(ipv4_of(address), port_of(port), line, remark)
             except Refused as refused:
                 self.found.refuse(line, refused)
 
@@ -177,6 +183,8 @@ class Resolved:
             self.found.pass_over(line, "so it is here")
         elif key == "DNSStubListener" and value not in FALSE:
             self.found.pass_over(line, "its stub has 127.0.0.53, so `listen` may have another address")
+        elif (key, value) == ("DNSOverTLS", "opportunistic"):
+            raise Refused("queries are sent in plain, also to servers that take encrypted ones")
         elif key in LEFT_OUT:
             raise Refused(*LEFT_OUT[key])
         else:
@@ -199,16 +207,17 @@ def joined(lines):
 
 
 def parts_of(word):
-    """Address, port, link and name of `ADDRESS:PORT%LINK#NAME`."""
+    """Address, port (53 if none is given), link and name of `ADDRESS:PORT%LINK#NAME`."""
     rest, _, name = word.partition("#")
     rest, _, link = rest.partition("%")
     if rest.startswith("["):
         address, _, port = rest[1:].partition("]")
+        port = port.removeprefix(":") or "53"
     elif rest.count(":") > 1:
-        address, port = rest, ""
+        address, port = rest, "53"
     else:
-        address, _, port = rest.partition(":")
-    return address, port.removeprefix(":"), link, name
+        address, port = cut(rest, ":")
+    return address, port, link, name
 
 
 def seconds_of(text):

@@ -3,7 +3,7 @@ import re
 from dataclasses import dataclass, field
 
 from .files import Line, Refused
-from .names import ENCRYPTED, ipv4_of, key_of, peer_of, port_of
+from .names import ENCRYPTED, cut, ipv4_of, key_of, peer_of, port_of
 from .rows import Row
 from .unbound_options import CLAUSES, DENYING, OF_THE_UNIT, SAME, TRANSPARENT, left_out
 
@@ -106,9 +106,12 @@ class Unbound:
             return
         for statement in statements:
             try:
-                if kind != "server":
+                if kind == "server":
+                    self.setting(statement)
+                elif (kind, statement.key) == ("auth-zone", "name"):
+                    self.own_zone(statement)
+                else:
                     raise Refused(f"it is of the clause {kind}" if kind else "it is of no clause", CLAUSES.get(kind))
-                self.setting(statement)
             except Refused as refused:
                 self.found.refuse(statement.shown(), refused)
 
@@ -116,8 +119,8 @@ class Unbound:
         """Carries a statement of the clause `server`."""
         key, line = statement.key, statement.shown()
         if key in ("interface", "ip-address"):
-            address, _, port = statement.value().partition("@")
-            self.found.listen(ipv4_of(address), port_of(port) if port else None, line)
+            address, mark, port = statement.value().partition("@")
+            self.found.listen(ipv4_of(address), port_of(port) if mark else None, line)
         elif key == "port":
             self.found.set_port(statement.value(), line)
         elif key == "local-zone":
@@ -132,6 +135,14 @@ class Unbound:
             self.found.pass_over(line, "so it is here")
         else:
             raise left_out(key)
+
+    def own_zone(self, statement):
+        """A zone that unbound answers for. Nobody else is asked until a route has its servers."""
+        route = self.found.route(statement.value())
+        refused = Refused(
+            f"the server has this zone itself: write a route to a server that has {route.suffix}", Row.RECORDS
+        )
+        route.lost.append((statement.shown(), refused))
 
     def local_zone(self, statement, line):
         """A zone that is not asked of others."""
@@ -203,7 +214,14 @@ class Zone:
         part, line = statement.key.removeprefix(f"{self.kind}-"), statement.shown()
         if part in ("addr", "host"):
             remark = "a referral is no answer" if self.kind == "stub" else ""
-            self.found.serve(route.suffix, lambda: server_of(statement, is_encrypted), line, remark)
+
+            def peer():
+                met = server_of(statement, is_encrypted)
+                if "#" in statement.value():
+                    self.found.pass_over(line, "what follows # is a name for TLS, which is off there")
+                return met
+
+            self.found.serve(route.suffix, peer, line, remark)
         elif statement.key in TLS and is_yes(statement):
             self.found.leave(line, "queries are never encrypted: see the lines of the servers")
         elif part in ZONE_SETTINGS and not is_yes(statement):
@@ -229,8 +247,7 @@ def server_of(statement, is_encrypted):
     text, _, _ = statement.value().partition("#")
     if is_encrypted:
         raise Refused(ENCRYPTED)
-    address, _, port = text.partition("@")
-    return peer_of(address, port)
+    return peer_of(*cut(text, "@"))
 
 
 def is_yes(statement):

@@ -24,6 +24,12 @@ def mistake(what, name, text, status, *lines, **more):
     return Mistake(what, files, status, list(lines))
 
 
+PORT_853 = (
+    "NOT IN PLAIN: port 853 is for encrypted queries alone: "
+    "write a route to a program on this machine that asks it over TLS"
+)
+OF_A_VIEW = "it is of a view: write what it says into the file of that view"
+OF_ITSELF = "the server has this zone itself: write a route to a server that has"
 LONG = "x" * 64
 LONG_NAME = ".".join(["x" * 49] * 6)
 CHAIN = {f"c{number}__conf": f"conf-file=c{number + 1}.conf\n" for number in range(30)}
@@ -72,6 +78,28 @@ ALL = [
         "dnsmasq.conf:1: server=10.0.0.10#99999: left out: 99999 is no port from 1 to 65535; "
         "until then names without another route are refused",
         "dnsmasq.conf:2: port=\u0665\u0663: left out: \u0665\u0663 is no port from 1 to 65535",
+    ),
+    mistake(
+        "a port that is missing after its mark, and that of encrypted queries",
+        "dnsmasq.conf",
+        "server=/a.example/10.0.0.10#\nserver=/b.example/10.0.0.10#853\nserver=/c.example/10.0.0.10#0853\n",
+        LEFT_OUT,
+        "dnsmasq.conf:1: server=/a.example/10.0.0.10#: left out: nothing is no port from 1 to 65535; "
+        "until then names below a.example are denied",
+        f"dnsmasq.conf:2: server=/b.example/10.0.0.10#853: left out: {PORT_853}; "
+        "until then names below b.example are denied",
+        f"dnsmasq.conf:3: server=/c.example/10.0.0.10#0853: left out: {PORT_853}; "
+        "until then names below c.example are denied",
+    ),
+    mistake(
+        "a hosts file that is read without a line",
+        "dnsmasq.conf",
+        "no-resolv\naddress=/x/1.2.3.4\n",
+        LEFT_OUT,
+        "dnsmasq.conf: left out: without `no-hosts` dnsmasq answers from /etc/hosts, too: "
+        "write a route to a name server that has its names (see row 'Own records, `/etc/hosts`')",
+        "dnsmasq.conf:2: address=/x/1.2.3.4: left out: write a route to a name server that has this record "
+        "(see row 'Own records, `/etc/hosts`')",
     ),
     mistake(
         "a port after a colon",
@@ -281,6 +309,36 @@ ALL = [
         "a suffix is for whole labels, with all names below it: write it without the asterisk",
     ),
     mistake(
+        "zones of views, which are asked of nobody",
+        "named.conf",
+        'options { forwarders { 10.0.0.10; }; };\n'
+        'view "a" {\n  recursion yes;\n  zone "corp.example" { type forward; forwarders { 10.0.0.11; }; };\n};\n'
+        'view "b" {\n  zone "corp.example" { type master; file "x"; };\n  zone "." { type hint; file "y"; };\n};\n',
+        LEFT_OUT,
+        "named.conf:2: view a { .. }: left out: give each view a service and a file of its own (see row 'Who may ask')",
+        f"named.conf:3: recursion yes: left out: {OF_A_VIEW} (see row 'Who may ask')",
+        f"named.conf:4: zone corp.example {{ .. }}: left out: {OF_A_VIEW}; "
+        "until then names below corp.example are denied (see row 'Who may ask')",
+        f"named.conf:7: zone corp.example {{ .. }}: left out: {OF_A_VIEW}; "
+        "until then names below corp.example are denied (see row 'Who may ask')",
+        f"named.conf:8: zone . {{ .. }}: left out: {OF_A_VIEW} (see row 'Who may ask')",
+    ),
+    mistake(
+        "a forwarder at the port of encrypted queries",
+        "named.conf",
+        "options { forwarders { 10.0.0.10 port 853; }; };\n",
+        LEFT_OUT,
+        f"named.conf:1: 10.0.0.10 port 853: left out: {PORT_853}; until then names without another route are refused",
+    ),
+    mistake(
+        "a file that includes itself, and a pattern that no file fits",
+        "named.conf",
+        'include "named.conf";\ninclude "zones/*.conf";\n',
+        LEFT_OUT,
+        "named.conf:1: include named.conf: left out: the file is being read already: it would include itself",
+        "named.conf:2: include zones/*.conf: left out: there is no file zones/*.conf",
+    ),
+    mistake(
         "an include of BIND that is not there",
         "named.conf",
         'options { };\ninclude "named.conf.local";\n',
@@ -324,6 +382,39 @@ ALL = [
         "until then names below a.example are denied",
     ),
     mistake(
+        "servers with the name that they have in TLS, but without TLS",
+        "unbound.conf",
+        "forward-zone:\n  name: a.example\n  forward-addr: 10.0.0.10@853#dns.example\n  forward-addr: 10.0.0.11@\n"
+        "  forward-addr: 10.0.0.12 10.0.0.13\n",
+        LEFT_OUT,
+        f"unbound.conf:3: forward-addr: 10.0.0.10@853#dns.example: left out: {PORT_853}; "
+        "until then names below a.example are denied",
+        "unbound.conf:4: forward-addr: 10.0.0.11@: left out: nothing is no port from 1 to 65535; "
+        "until then names below a.example are denied",
+        "unbound.conf:5: forward-addr: 10.0.0.12 10.0.0.13: left out: it has to have one value; "
+        "until then names below a.example are denied",
+    ),
+    mistake(
+        "zones that unbound has itself",
+        "unbound.conf",
+        "auth-zone:\n  name: a.example\n  zonefile: a.zone\nauth-zone:\n  name: b..example\n"
+        "server:\n  interface: 10.0.0.53@\n",
+        LEFT_OUT,
+        f"unbound.conf:2: name: a.example: left out: {OF_ITSELF} a.example; "
+        "until then names below a.example are denied (see row 'Own records, `/etc/hosts`')",
+        "unbound.conf:3: zonefile: a.zone: left out: it is of the clause auth-zone "
+        "(see row 'Own records, `/etc/hosts`')",
+        "unbound.conf:5: name: b..example: left out: a label is empty, so it is no suffix",
+        "unbound.conf:7: interface: 10.0.0.53@: left out: nothing is no port from 1 to 65535",
+    ),
+    mistake(
+        "a pattern that no file fits",
+        "unbound.conf",
+        'include: "unbound.conf.d/*.conf"\n',
+        LEFT_OUT,
+        'unbound.conf:1: include: "unbound.conf.d/*.conf": left out: there is no file unbound.conf.d/*.conf',
+    ),
+    mistake(
         "two files that include each other",
         "unbound.conf",
         "include: more.conf\n",
@@ -340,6 +431,25 @@ ALL = [
         "resolved.conf:3: DNS=10.0.0.11: left out: it is no setting of the section [Resolve]",
         "resolved.conf:5: DNS: left out: it is no setting of the section [Resolve]",
         "resolved.conf:6: StaleRetentionSec=soon: left out: soon is no time",
+    ),
+    mistake(
+        "queries that are encrypted if the server can",
+        "resolved.conf",
+        "[Resolve]\nDNS=10.0.0.10#dns.example 10.0.0.11:853 10.0.0.12:\nDNSOverTLS=opportunistic\nReadEtcHosts=no\n",
+        LEFT_OUT,
+        f"resolved.conf:2: DNS=10.0.0.10#dns.example 10.0.0.11:853 10.0.0.12:: left out: {PORT_853}",
+        "resolved.conf:2: DNS=10.0.0.10#dns.example 10.0.0.11:853 10.0.0.12:: left out: "
+        "nothing is no port from 1 to 65535",
+        "resolved.conf:3: DNSOverTLS=opportunistic: left out: "
+        "queries are sent in plain, also to servers that take encrypted ones",
+    ),
+    mistake(
+        "a hosts file that systemd-resolved reads without a line",
+        "resolved.conf",
+        "[Resolve]\nDNS=10.0.0.10\n",
+        LEFT_OUT,
+        "resolved.conf: left out: systemd-resolved answers from /etc/hosts, too: "
+        "write a route to a name server that has its names (see row 'Own records, `/etc/hosts`')",
     ),
     mistake(
         "a domain of systemd-resolved that is none",
