@@ -58,6 +58,9 @@ def cut(text, mark):
 def peer_of(address, port="53"):
     """A server, as `ADDRESS:PORT`."""
     peer = f"{ipv4_of(address, Row.NAMED)}:{port_of(port)}"
+    met = ipaddress.ip_address(address)
+    if met.is_unspecified or met.is_multicast or address == "255.255.255.255":
+        raise Refused(f"{address} is the address of no server")
     if int(port) == PORT_OF_TLS:
         raise Refused(f"NOT IN PLAIN: port {PORT_OF_TLS} is for encrypted queries alone: {OVER_TLS}")
     return peer

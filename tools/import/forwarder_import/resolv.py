@@ -25,7 +25,9 @@ class Resolv:
         key, *words = line.text.split() or [""]
         if not key or key[0] in "#;":
             return
-        if key == "nameserver" and words:
+        if key == "nameserver" and not words:
+            raise Refused("it has no value")
+        if key == "nameserver":
             remark = "a program on this machine: name its own servers" if words[0].startswith("127.") else ""
             self.found.serve(".", lambda: peer_of(words[0]), line, remark)
         elif key in OF_CLIENTS:

@@ -21,13 +21,15 @@ def settle(found):
 
 
 def listen_of(found):
-    """The first address; the others are left."""
+    """The first address that other machines reach, otherwise the first; the others are left."""
     port = found.port or Value("53", [])
     if not found.addresses:
         return Value(f"{HERE}:{port.text}", port.lines, "" if port.lines else "no line has an address")
-    address, own, line, remark = found.addresses[0]
-    for _, _, other, _ in found.addresses[1:]:
-        found.leave(other, "a second address: give it a service and a file of its own", Row.LISTENING)
+    chosen = next((each for each in found.addresses if not each[0].startswith("127.")), found.addresses[0])
+    address, own, line, remark = chosen
+    for each in found.addresses:
+        if each is not chosen:
+            found.leave(each[2], "a second address: give it a service and a file of its own", Row.LISTENING)
     for other in port.lines if own else ():
         found.pass_over(other, "the address has a port of its own")
     if address == ALL:
@@ -78,7 +80,8 @@ def one_of_two(route, found):
     """A route has servers or denies. One that has lost all its servers denies, so that its names
     are not asked of the servers of a shorter suffix; the route for all names is dropped instead."""
     if route.denied:
-        then = f"names below {route.suffix} are denied"
+        denied = "without another route" if route.suffix == "." else f"below {route.suffix}"
+        then = f"names {denied} are denied"
         for line in route.named:
             found.leave(line, then)
         for text in list(route.servers):

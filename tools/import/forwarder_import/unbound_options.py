@@ -31,6 +31,8 @@ DENYING = {  # types of a local zone, with what differs
     "deny": DROPS,
     "always_deny": DROPS,
     "inform_deny": DROPS,
+    "always_null": "there the address 0.0.0.0, here NXDOMAIN",
+    "always_nodata": "there no data, here NXDOMAIN",
 }
 TRANSPARENT = {"transparent", "always_transparent", "typetransparent", "nodefault", "inform"}
 

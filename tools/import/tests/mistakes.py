@@ -92,6 +92,21 @@ ALL = [
         "until then names below c.example are denied",
     ),
     mistake(
+        "addresses that no server has, and all names denied",
+        "dnsmasq.conf",
+        "server=/a.example/0.0.0.0\nserver=/b.example/224.0.0.1\nserver=/c.example/255.255.255.255\n"
+        "local=/#/\nserver=10.0.0.10\n",
+        LEFT_OUT,
+        "dnsmasq.conf:1: server=/a.example/0.0.0.0: left out: 0.0.0.0 is the address of no server; "
+        "until then names below a.example are denied",
+        "dnsmasq.conf:2: server=/b.example/224.0.0.1: left out: 224.0.0.1 is the address of no server; "
+        "until then names below b.example are denied",
+        "dnsmasq.conf:3: server=/c.example/255.255.255.255: left out: 255.255.255.255 is the address of no server; "
+        "until then names below c.example are denied",
+        "dnsmasq.conf:5: server=10.0.0.10: left out: 10.0.0.10:53 is not asked; "
+        "names without another route are denied",
+    ),
+    mistake(
         "a hosts file that is read without a line",
         "dnsmasq.conf",
         "no-resolv\naddress=/x/1.2.3.4\n",
@@ -461,10 +476,11 @@ ALL = [
         "a suffix is for whole labels, with all names below it: write it without the asterisk",
     ),
     mistake(
-        "lines of another file",
+        "lines of another file, and one without its value",
         "resolv.conf",
-        "server=10.0.0.10\n",
+        "server=10.0.0.10\nnameserver\n",
         LEFT_OUT,
         "resolv.conf:1: server=10.0.0.10: left out: it is no line of resolv.conf",
+        "resolv.conf:2: nameserver: left out: it has no value",
     ),
 ]
