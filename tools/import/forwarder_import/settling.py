@@ -1,10 +1,13 @@
 """What becomes of all that was found, so that the program accepts it."""
+import collections
+
 from .files import Refused
 from .found import Route, Value
 from .names import is_under
 from .rows import Row
 
 MOST_ROUTES, MOST_SERVERS = 64, 8
+MANY_ROUTES = 16  # of one line: a network of 20 bits has as many zones
 HERE, ALL = "127.0.0.1", "0.0.0.0"
 
 
@@ -102,8 +105,13 @@ def one_of_two(route, found):
 
 
 def ordered(found):
-    """The routes, that for all names first; what is past the most is left."""
-    routes = sorted(found.routes.values(), key=lambda route: route.suffix != ".")
+    """The routes: that for all names first, and last those of a line that has many. What is past the
+    most is left."""
+    counts = collections.Counter(line for route in found.routes.values() for line in route.lines())
+    routes = sorted(
+        found.routes.values(),
+        key=lambda route: (route.suffix != ".", min((counts[line] for line in route.lines()), default=0) > MANY_ROUTES),
+    )
     for route in routes[MOST_ROUTES:]:
         for line in route.lines():
             what = f"{route.suffix} is past the {MOST_ROUTES} routes of a configuration: join some at a shorter suffix"
