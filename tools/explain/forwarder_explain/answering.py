@@ -5,6 +5,7 @@ from collections import defaultdict
 from . import messages
 from .messages import HEADER
 
+RECURSION_DESIRED = 1  # in the third octet of a question, which its answer repeats
 SPARE = 30_000_000  # microseconds beyond the deadline in which an answer may still come
 
 
@@ -16,7 +17,7 @@ class Answering:
     """
 
     def __init__(self, events, deadline):
-        self.longest = 1000 * deadline + SPARE
+        self.deadline, self.longest = 1000 * deadline, 1000 * deadline + SPARE
         self.open = defaultdict(lambda: defaultdict(list))
         self.paired, self.misfits, self.unasked = defaultdict(list), [], []
         for event in events:
@@ -28,7 +29,8 @@ class Answering:
 
     def question(self, question):
         if question.wants_answer():
-            self.open[question.client, question.octets[:2]][text_of(question)].append(question)
+            text = text_of(question), question.octets[2] & RECURSION_DESIRED
+            self.open[question.client, question.octets[:2]][text].append(question)
 
     def answer(self, answer):
         """Notes the answer with the youngest open question that it fits."""
@@ -36,7 +38,7 @@ class Answering:
         if waiting is None:
             self.unasked.append(answer)
             return
-        text = question_text(answer.octets)
+        text = question_text(answer.octets), answer.octets[2] & RECURSION_DESIRED if len(answer.octets) > 2 else 0
         fitting = waiting.get(text)
         if not fitting or answer.moment - fitting[-1].moment > self.longest:
             self.misfits.append((answer, [question for each in waiting.values() for question in each]))
@@ -47,6 +49,7 @@ class Answering:
         if not waiting:
             del self.open[answer.client, answer.octets[:2]]
         note(question, answer)
+        question.refused = None  # another one was, which the capture lost
         self.paired[answer.client, answer.octets[:2], text].append((question, answer))
 
     @staticmethod
@@ -57,11 +60,11 @@ class Answering:
             note(question, answer)
 
     def settle_misfits(self):
-        """Answers that no question fits: if it got no other one, that is to be seen. A message that
-        anyone can send takes the place of no answer."""
+        """Answers that no question fits: if it got no other one by its deadline, that is to be seen. A
+        message that anyone can send takes the place of no answer."""
         for answer, waiting in self.misfits:
             question = next(
-                (each for each in waiting if not each.answer and answer.moment - each.moment <= self.longest), None
+                (each for each in waiting if not each.answer and answer.moment - each.moment <= self.deadline), None
             )
             if question is None:
                 self.unasked.append(answer)

@@ -6,6 +6,7 @@ import time
 from . import comparing, configuration
 from .capture import Capture, Unreadable
 from .configuration import shown
+from .doubts import Doubts
 from .files import captures_in, first_moment, opened, size_of
 from .leaps import straightened
 from .options import arguments, chosen, moment_of, span_of
@@ -94,6 +95,7 @@ def run(options, settings, files, progress):
     cutter = Cutter(settings, traffic, last, restarted)
     explained = explained_by(cutter, set(wanted), options, progress)
     progress.end()
+    doubt(explained, Doubts(settings, traffic, cutter, explained.others))
     for text in cutter.notes():
         note(options.capture, text)
     teller = Teller(settings, cutter.history)
@@ -105,6 +107,14 @@ def run(options, settings, files, progress):
     summary = Summary(rows, traffic.events, cutter, explained)
     show(options, rows, summary)
     return DIFFERENT if any(row.result.same == comparing.DIFFERENT for row in rows) else 0
+
+
+def doubt(explained, doubts):
+    """Puts the answers apart that are not the step's, and that a loss explains."""
+    for place, result in explained.results.items():
+        loss = doubts.likely(place, result.octets) if result.same == comparing.DIFFERENT else ""
+        if loss:
+            explained.results[place] = result._replace(same=comparing.LOST, loss=loss)
 
 
 def show(options, rows, summary):

@@ -76,15 +76,32 @@ def compare(captured, octets, rests_on, waited):
 def differ_by_seconds(one, other, more=1):
     """Whether two answers are equal but for a second in the lifetimes of their records; `more` is
     how many of them the first one may have more."""
+    return is_equal_within(one, other, lambda parted: all(-1 <= seconds <= more for seconds in parted))
+
+
+def seconds_more(one, other):
+    """By how many seconds all records of one answer live longer than those of another that is equal
+    but for this; 0 if not so."""
+    found = []
+
+    def is_one(parted):
+        found.extend(parted)
+        return len(set(parted)) == 1
+
+    return max(0, found[0]) if is_equal_within(one, other, is_one) else 0
+
+
+def is_equal_within(one, other, may_part):
+    """Whether two answers are equal but for lifetimes that may part by these seconds."""
     if len(one) != len(other):
         return False
     try:
         left, right = messages.records(one), messages.records(other)
     except messages.Malformed:
         return False
-    if len(left) != len(right) or any(
-        a.at != b.at or not -1 <= a.seconds - b.seconds <= more for a, b in zip(left, right)
-    ):
+    if [record.at for record in left] != [record.at for record in right]:
+        return False
+    if not may_part([a.seconds - b.seconds for a, b in zip(left, right)]):
         return False
     for record in left:
         one = one[: record.at] + bytes(4) + one[record.at + 4 :]

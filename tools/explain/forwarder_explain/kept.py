@@ -188,8 +188,14 @@ class History:
         self.wanting[of] = missed + served
         if not missed and not served:
             self.foreign.add(query)
-            self.uncalled[of] = query
+            lost = self.losses.asker_lost(query)
+            self.lost += lost
+            if not lost:
+                self.uncalled[of] = query
             return
+        if query.transport == "tcp":
+            oldest = min(question.moment for question in self.wanting[of])
+            self.lost += self.losses.cut_reply_lost(query, self.open.get(of), oldest)
         youngest = max(self.wanting[of], key=lambda question: question.moment)
         if youngest in served:
             self.look_for_loss(query, of, youngest)
@@ -303,17 +309,22 @@ class History:
                 self.rests_on[question] = comparing.LOST if held.source else comparing.BEFORE
         if not found.answers:
             self.missed(question, answer, found)
+            return
+        for of, _ in looked_up(question.asked, found):  # it has nothing cached if it asked
+            self.lost += self.losses.query_lost(question, answer, of, None)
 
     def missed(self, question, answer, found):
         """An answer to a question that what is kept does not answer: of a query, of what the
         capture lost, or of what was kept before it began."""
         wanted = found.missed, question.asked.kind, question.asked.klass
-        query = self.open.get(wanted)
-        if found.was_asked or self.last_asked.get(wanted, 0) >= question.moment:
+        query, last = self.open.get(wanted), self.last_asked.get(wanted, 0)
+        lost = self.losses.query_lost(question, answer, wanted, last)
+        if lost:
+            pass
+        elif found.was_asked or last >= question.moment:
             lost = self.losses.reply_lost(query, answer) if query else []
         else:
-            lost = self.losses.query_lost(question, answer, wanted)
-            if not lost and wanted in self.uncalled:
+            if wanted in self.uncalled:
                 lost = self.losses.question_lost(self.uncalled.pop(wanted), answer)
             if not lost:
                 self.keep_from_before(question, answer, found)
@@ -331,13 +342,13 @@ class History:
         """One process took the question and answered it, and had what the answer rests on."""
         since, is_answered = question.moment, messages.code(answer.octets) in (0, 3)
         if found and found.answers and is_answered and question not in self.needless:
-            since = min([since, *(held.source.moment for held in found.used if held.source)])
+            since = min([since, *(held.source.query.moment for held in found.used if held.source)])
         self.eras.lasted(since, answer.moment)
 
     def keep_from_before(self, question, answer, found):
         """Notes what an answer has that was kept before the capture began."""
         route = self.configuration.route_of(found.missed)
-        if not self.had_before or route is None or route.denies:
+        if not self.had_before or route is None or route.denies or self.losses.is_forged(answer):
             return
         if messages.is_cut(answer.octets):
             if not any(slot[0] == found.missed for slot in self.ever_carried):

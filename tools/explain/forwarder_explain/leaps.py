@@ -62,7 +62,8 @@ def set_forward(events, ask_ms, carries, shown):
     for place, event in enumerate(events):
         if isinstance(event, Reply) and event.moment - event.query.moment > 1000 * ask_ms:
             gap, first = widest_gap(events, place, event.query.moment)
-            if 2 * gap > event.moment - event.query.moment and is_answered(events, place, carries):
+            is_wide = 2 * gap > event.moment - event.query.moment
+            if is_wide and not is_given_up(events, place) and is_answered(events, place, carries):
                 notes.append(
                     f"the clock was set forward by {gap / 1e6:,.1f} s before {shown(events[first].moment)}: "
                     "later times are those of the clock before"
@@ -83,6 +84,18 @@ def widest_gap(events, place, since):
             widest, after = gap, place
         place -= 1
     return widest, after
+
+
+def is_given_up(events, place):
+    """Whether the service asked again before a reply came: its own clock had gone on, too."""
+    query = events[place].query
+    of = query.asked and query.asked.of()
+    for event in reversed(events[:place]):
+        if event is query or event.moment < query.moment:
+            return False
+        if isinstance(event, Query) and event.asked and event.asked.of() == of:
+            return True
+    return False
 
 
 def is_answered(events, place, carries):

@@ -7,36 +7,84 @@ capture.
 from collections import defaultdict
 
 from . import carried, messages
+from .answering import note
 from .configuration import shown
+from .forgeries import Forgeries
 from .strangers import strangeness
-from .traffic import QUERY_FLAGS, Query, Question, Reply
+from .traffic import QUERY_FLAGS, Question, Reply
 
 NOBODY = bytes(4), 9  # the client of questions that the capture lost
 PROMPT = 50  # milliseconds before the end of a try in which what follows may be its end
+CUT = b"\x83\x80\0\1\0\0\0\0\0\0"  # of a cut reply with one question, after its identifier
 MOST_KEPT = 64  # replies to no known query, for one question
 
 
 class Losses:
     """Looks for what an answer rests on among what the capture has of it."""
 
-    def __init__(self, configuration, orphans):
-        """`orphans` are replies of servers to ports from which the capture has no query."""
+    def __init__(self, configuration, traffic):
         self.configuration, self.orphans = configuration, defaultdict(list)
-        for reply in orphans:
+        self.forgeries = Forgeries(traffic, configuration.limits["ask_ms"])
+        for reply in traffic.orphans:
             kept = self.orphans[reply.query.asked.of()]
             kept.append(reply)
             del kept[:-MOST_KEPT]
+        self.unasked = defaultdict(list)
+        for answer in traffic.unasked:
+            asked = messages.question_of(answer.octets)
+            if asked and answer.client.startswith("udp"):
+                self.unasked[asked.of()].append(answer)
 
-    def query_lost(self, question, answer, wanted):
+    def query_lost(self, question, answer, wanted, last):
         """The lost query and its reply, that came between a question and its answer and carries
-        what this has."""
+        what this has. `last` is the moment of the query before it, if any."""
         for reply in reversed(self.orphans.get(wanted, ())):
             if question.moment < reply.moment < answer.moment and self.carries(reply, reply.query.asked, answer):
-                query = reply.query
-                query.moment = query.read = question.moment + 1
-                query.is_lost = True
-                query.replies.append(reply)
-                return [query, reply]
+                since = question.moment
+                if last is not None and last >= since:  # the one before has failed
+                    since = last + 1000 * self.configuration.limits["ask_ms"]
+                return self.found(reply, since)
+        return []
+
+    def found(self, reply, since):
+        """The lost query of a reply, that left after a moment, and the reply."""
+        query = reply.query
+        self.orphans[query.asked.of()].remove(reply)
+        query.moment = query.read = min(since + 1, reply.moment - 1)
+        query.is_lost = True
+        query.replies.append(reply)
+        return [query, reply]
+
+    def cut_reply_lost(self, query, first, since):
+        """The lost cut reply without which nothing is asked over TCP, or its lost query. `first` is
+        the query that is open, if any; the question came at the moment `since`."""
+        if first is None:
+            for reply in reversed(self.orphans.get(query.asked.of(), ())):
+                is_cut = reply.source == query.server and messages.is_cut(reply.octets)
+                if is_cut and query.moment - 1000 * PROMPT <= reply.moment < query.moment:
+                    return self.found(reply, since)
+            return []
+        if first.transport != "udp" or first.server != query.server or first.ending or any(map(fits, first.replies)):
+            return []
+        octets = first.octets[:2] + CUT + first.asked.written()
+        reply = Reply(query.moment - 1, first, first.server, octets)
+        reply.is_lost = True
+        first.replies.append(reply)
+        return [reply]
+
+    def asker_lost(self, query):
+        """The lost question of a query for which none called, and its answer, which has no question in
+        the capture."""
+        until = query.moment + 1000 * self.configuration.limits["deadline_ms"]
+        for answer in self.unasked.get(query.asked.of(), ()):
+            if query.moment < answer.moment <= until:
+                self.unasked[query.asked.of()].remove(answer)
+                flags = (256 * (answer.octets[2] & 1)).to_bytes(2, "big")
+                octets = answer.octets[:2] + flags + QUERY_FLAGS[2:] + messages.question_of(answer.octets).written()
+                question = Question(query.moment - 1, answer.client, NOBODY, octets)
+                question.is_lost = True
+                note(question, answer)
+                return [question, answer]
         return []
 
     def question_lost(self, query, answer):
@@ -55,16 +103,23 @@ class Losses:
         none if any reply was captured."""
         if answer.moment - query.moment > 1000 * (self.configuration.limits["ask_ms"] - PROMPT):
             return []
-        if query.transport != "udp" or query.replies or query.ending or messages.is_cut(answer.octets):
+        if query.ending or any(map(fits, query.replies)) or messages.is_cut(answer.octets):
             return []
         asked = messages.question_of(answer.octets)
-        if asked is None or asked.of() != query.asked.of() or not any(answer.octets[6:10]):
+        if asked is None or asked.of() != query.asked.of() or not any(answer.octets[6:10]) or self.is_forged(answer):
             return []
         flags = (0x8180 | messages.code(answer.octets)).to_bytes(2, "big")
         reply = Reply(answer.moment - 1, query, query.server, query.octets[:2] + flags + answer.octets[4:])
         reply.is_lost = True
         query.replies.append(reply)
         return [reply]
+
+    def is_forged(self, answer):
+        """Whether a record of an answer came only in messages that the service has to drop."""
+        try:
+            return self.forgeries.any_of(messages.records(answer.octets))
+        except messages.Malformed:
+            return False
 
     def is_used(self, reply, answer):
         """Whether a reply fits its query, and has what an answer has."""
@@ -83,3 +138,7 @@ class Losses:
             if piece is None or abs(piece.end() - answer.moment // 1000 - 1000 * record.seconds) > 2000:
                 return False
         return bool(records)
+
+
+def fits(reply):
+    return not strangeness(reply)

@@ -141,7 +141,7 @@ class Repairs:
     def order_of(self, due):
         """The place of a tick: after a stall once the first thing that came in it is taken."""
         stall = self.stall_at(due)
-        return (self.window.maker.micros(due), 0) if stall is None else (stall.first, 1e9)
+        return (self.window.maker.micros(due), 0) if stall is None else (stall.since, 1e9)
 
     def is_late(self, due, line):
         """Whether something that was due happened long after, or not before the end."""

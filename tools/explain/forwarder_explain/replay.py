@@ -2,7 +2,9 @@
 import subprocess
 
 from .capture import Unreadable
+from .configuration import shown
 
+NO_SERVER = "0.0.0.0:9"
 MOST_LINES = 8063  # up to here each line draws a port that no other has
 MOST_OCTETS = 15_000_000
 
@@ -106,5 +108,5 @@ class Script:
 
 
 def source_text(reply):
-    address, port = reply.source
-    return f"{'.'.join(map(str, address))}:{port}"
+    """Who sent a reply. A script has no port 0, which is no server's."""
+    return shown(reply.source) if reply.source[1] else NO_SERVER

@@ -30,7 +30,7 @@ MOST_SHOWN, MOST_CLIENTS = 10, 20  # of queries that are not the step's, and of 
 # What is said of questions that are not compared: the verb for one and for more, and the rest.
 UNCOMPARED = (
     (comparing.BEFORE, ("rests", "rest"), "on what was kept before the capture began"),
-    (comparing.LOST, ("rests", "rest"), "on a reply that the capture lost"),
+    (comparing.LOST, ("rests", "rest"), "on a packet that the capture lost"),
     (comparing.UNANSWERED, ("got", "got"), "no answer that was captured, and the step gives one"),
     (comparing.GONE, ("got", "got"), "no answer, since the connection had ended"),
     (comparing.OPEN, ("got", "got"), "no answer: the capture ended, or the question was not taken"),
@@ -133,6 +133,8 @@ class Row:
                 for attempt in result.attempts
             ],
         }
+        if result.loss:
+            said["loss"] = result.loss
         if result.same == comparing.DIFFERENT:
             said["captured"], said["step"] = self.answer.octets.hex(), result.octets.hex()
         return said

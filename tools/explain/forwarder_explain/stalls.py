@@ -15,26 +15,24 @@ NEAR = 60_000  # microseconds by which the end of a try may come late
 
 
 class Stall(NamedTuple):
-    """From the last query or answer before it to the first one after it; `first` is when the first
-    thing came in it."""
+    """From the first thing that called for a query or answer to the first one that left after it."""
 
     since: int
     until: int
-    first: int
 
 
 def found_in(history, events, limits):
     """The stalls that a history shows."""
-    last, came, stalls = None, [], []
+    came, stalls = [], []
     for event in events:
         if isinstance(event, (Question, Reply, Ending)):
             came.append(event)
         elif is_output(event, history.foreign):
-            since = event.moment if last is None else last
-            calls = [each for each in came if event.moment - each.moment > STILL]
-            if any(calls_for(history, each, event, limits) for each in calls):
-                stalls.append(Stall(min(since, came[0].moment), event.moment, came[0].moment))
-            last, came = event.moment, []
+            calls = (each for each in came if event.moment - each.moment > STILL)
+            first = next((each for each in calls if calls_for(history, each, event, limits)), None)
+            if first is not None:
+                stalls.append(Stall(first.moment, event.moment))
+            came = []
     return stalls
 
 
@@ -81,9 +79,9 @@ def mark(events, stalls):
     ends = [stall.until for stall in stalls]
     for event in events:
         if isinstance(event, (Question, Reply, Ending)):
-            place = bisect.bisect_left(ends, event.moment)
-            if place < len(stalls) and stalls[place].since <= event.moment < stalls[place].until:
-                event.read = stalls[place].until
+            place = bisect.bisect_right(ends, event.moment)
+            is_within = place < len(stalls) and stalls[place].since <= event.moment
+            event.read = stalls[place].until if is_within else event.moment
 
 
 def at(stalls, moment):

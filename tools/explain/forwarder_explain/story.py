@@ -10,12 +10,14 @@ FAILED = {
     "silent": "silent for {} ms",
     "deadline": "silent for {} ms, up to the deadline",
     "cut": "a cut reply after {} ms",
+    "cut, query lost": "a cut reply; the capture lost the query",
+    "cut, reply lost": "a cut reply, which the capture lost",
     "malformed": "a reply that can't be read after {} ms",
     "referral": "a referral after {} ms",
     "lame": "a reply that neither answers nor denies after {} ms",
     "answered": "answered in {} ms",
-    "query lost": "answered; the capture lost the query",
-    "reply lost": "answered; the capture lost the reply",
+    "answered, query lost": "answered; the capture lost the query",
+    "answered, reply lost": "answered; the capture lost the reply",
     "never left": "could not be sent",
     "open": "no reply",
     "unasked": "the capture has no such query",
@@ -55,6 +57,8 @@ class Teller:
                 said += "; cut, since it has more than 512 octets"
         if result.late >= STILL:
             said += f"; read {result.late:,} ms late"
+        if result.loss:
+            said += f"; the capture seems to have lost {result.loss}"
         if result.same == comparing.UNANSWERED:
             said += "; no answer was captured"
         elif result.same == comparing.GONE:

@@ -20,4 +20,5 @@ def strangeness(reply):
     if messages.operation(octets):
         return "of another operation"
     asked = messages.question_of(octets)
-    return "" if asked and asked.of() == query.asked.of() else "for another question"
+    is_same = asked and query.asked and asked.of() == query.asked.of()
+    return "" if is_same else "for another question"

@@ -5,13 +5,16 @@ from .answering import Answering
 from .configuration import shown
 from .messages import HEADER
 from .packets import FIN, RST, SYN, Datagram, Segment, Unreachable
-from .streams import Connection
+from .streams import Connection, begins_message
 from .wording import counted
 
 ACK = 16
 QUERY_FLAGS = b"\x01\0\0\1\0\0\0\0\0\0"  # RD, and one question, as the forwarder asks
 ANY_ADDRESS = bytes(4)
-PORT_CLOSED = 3
+PORT_CLOSED, LAST_PORT = 3, 65535
+MOST_ELSEWHERE = 50_000  # paths of what other programs ask
+MOST_UNSOLICITED = 50_000  # records of messages that nobody asked for
+AT_ONCE = 50_000  # microseconds in which the service's own machine refuses a question
 UNREACHABLE = {
     0: "network unreachable",
     1: "host unreachable",
@@ -126,7 +129,9 @@ class Traffic:
     def __init__(self, configuration, packets):
         self.servers, self.events, self.orphans = configuration.servers, [], []
         self.paths, self.connections, self.last_of, self.known = {}, {}, {}, {}
-        self.clients = self.foreign = self.gaps = self.late = 0
+        self.elsewhere, self.unsolicited = {}, set()
+        self.clients = self.foreign = self.gaps = 0
+        self.late = set()
         self.listen = self.own_peers(configuration.listen, packets)
         for packet in packets:
             if isinstance(packet, Datagram):
@@ -181,11 +186,18 @@ class Traffic:
                 self.reply(moment, query, source, octets)
         elif source in self.servers and is_response(octets):
             self.orphan(packet)
+        elif not is_response(octets):
+            self.elsewhere[source, target] = None
+            if len(self.elsewhere) > MOST_ELSEWHERE:
+                del self.elsewhere[next(iter(self.elsewhere))]
+        elif (target, source) not in self.elsewhere and len(self.unsolicited) < MOST_UNSOLICITED:
+            self.unsolicited |= rows_of(octets)
 
     def client(self, peer):
-        """A client of UDP as a script has it, and its peer; there is one of each."""
+        """A client of UDP as a script has it, and its peer; there is one of each. A script has no port
+        0, from which anyone can send."""
         if peer not in self.known:
-            self.known[peer] = f"udp {shown(peer)}", peer
+            self.known[peer] = f"udp {shown((peer[0], peer[1] or LAST_PORT))}", peer
         return self.known[peer]
 
     def orphan(self, packet):
@@ -208,9 +220,17 @@ class Traffic:
             and packet.code == PORT_CLOSED
             and transport == "udp"
         ):
-            question = self.last_of.get(f"udp {shown(packet.source)}")
-            if question and packet.octets[:2] in (b"", question.octets[:2]):
-                self.refuse(packet.moment, question)
+            self.refuse(packet.moment, self.refused_question(packet))
+
+    def refused_question(self, news):
+        """The question that ICMP's news is about: the client's last one, if it has just come; else one
+        that the capture lost."""
+        question = self.last_of.get(f"udp {shown(news.source)}")
+        if question and question.moment >= news.moment - AT_ONCE and news.octets[:2] in (b"", question.octets[:2]):
+            return question
+        question = Question(news.moment, *self.client(news.source), b"")
+        question.is_lost = True
+        return question
 
     def refuse(self, moment, question):
         question.refused = question.refused or moment
@@ -256,11 +276,11 @@ class Traffic:
         connection.first = packet.sequence if begins else None
         if server in self.listen:
             connection.number, self.clients = self.clients, self.clients + 1
-        elif begins:
+        elif packet.flags & SYN or packet.target == server and begins_message(packet.octets):
             connection.query = Query(packet.moment, "tcp", server, client)
             self.query(connection.query)
         else:
-            self.late += 1
+            self.late.add(ends)
             return None
         self.connections[client, server] = connection
         return connection
@@ -286,6 +306,9 @@ class Traffic:
             if connection.query.octets is None:
                 connection.query.carry(octets)
         else:
+            asked = messages.question_of(octets)
+            if connection.query.octets is None and asked:  # the capture lost the query
+                connection.query.carry(octets[:2] + QUERY_FLAGS + asked.written())
             self.reply(moment, connection.query, connection.server, octets)
 
     def finish(self):
@@ -334,11 +357,20 @@ class Traffic:
         if self.gaps:
             yield f"{counted(self.gaps, 'gap')} in streams over TCP: messages are missing"
         if self.late:
-            yield f"left out: {counted(self.late, 'connection')} to servers that began before the capture"
+            late = counted(len(self.late), "connection")
+            yield f"left out: {late} to servers that began before the capture, or of which it lost the beginning"
         asked = {event.server for event in self.events if isinstance(event, Query)}
         if self.events and not asked and any(isinstance(event, Question) for event in self.events):
             servers = ", ".join(sorted(map(shown, configuration.servers)))
             yield f"no server of the configuration was asked ({servers})"
+
+
+def rows_of(octets):
+    """The records of a message's answer and authority sections: owner, type and data."""
+    try:
+        return {(each.key, each.kind, each.data) for each in messages.records(octets)}
+    except messages.Malformed:
+        return set()
 
 
 def is_response(octets):

@@ -37,7 +37,8 @@ class Attempt(NamedTuple):
 
 class Result(NamedTuple):
     """What became of a question. `same` is one of comparing's words; `reason` the number of
-    forwarder(8), or None. `late` is by how many milliseconds what it rests on was read late."""
+    forwarder(8), or None. `late` is by how many milliseconds what it rests on was read late, `loss`
+    what the capture seems to have lost."""
 
     same: str
     reason: object
@@ -46,6 +47,7 @@ class Result(NamedTuple):
     attempts: tuple
     joined: bool
     late: int
+    loss: str = ""
 
 
 class Window:
@@ -306,11 +308,7 @@ class Window:
         lasted = self.outcome.moments[closed.number - 1] - each.moment
         if query is not None and closed.event is not None and closed.kind != "tick":
             lasted = (closed.event.moment - query.moment) / 1000
-        how = self.how(closed)
-        if how == "answered" and query is not None and query.is_lost:
-            how = "query lost"
-        elif how == "answered" and isinstance(closed.event, Reply) and closed.event.is_lost:
-            how = "reply lost"
+        how = lost_text(self.how(closed), query, closed.event)
         if how != "silent":
             return Attempt(name, each.transport, each.server, each.moment, lasted, how)
         whole = self.configuration.limits["ask_ms"]
@@ -357,3 +355,12 @@ class Window:
 def ends_at(question, limit):
     """When a question was answered, at the latest at its deadline."""
     return question.answer.moment if question.answer else question.moment + limit
+
+
+def lost_text(how, query, reply):
+    """How a try ended, with what the capture lost of it."""
+    if how in ("answered", "cut") and query is not None and query.is_lost:
+        return f"{how}, query lost"
+    if how in ("answered", "cut") and isinstance(reply, Reply) and reply.is_lost:
+        return f"{how}, reply lost"
+    return how

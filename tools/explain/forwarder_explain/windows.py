@@ -41,7 +41,7 @@ class Cutter:
         service is said to have begun anew; both in microseconds."""
         self.configuration, self.events, self.last = configuration, traffic.events, last
         self.first, self.aim = self.events[0].moment // 1000, AIM_LINES
-        self.losses, self.lost = Losses(configuration, traffic.orphans), []
+        self.losses, self.lost = Losses(configuration, traffic), []
         ask_ms = configuration.limits["ask_ms"]
         self.leaps = set_forward(self.events, ask_ms, self.losses.is_used, moment_text)
         self.restarted, self.restarts, self.stalls = restarted, set(), []
@@ -50,12 +50,14 @@ class Cutter:
             stalls = found_in(self.history, self.events, configuration.limits)
             if found <= self.restarts and not self.history.lost and stalls == self.stalls:
                 return
-            self.stalls = stalls
-            mark(self.events, stalls)
-            # With what a stall explains there may be fewer signs of other things.
-            if not stalls or self.restarts:
-                self.restarts |= found
+            # With what was lost there may be fewer stalls, and with both fewer new beginnings.
+            if self.history.lost:
                 self.put_in(self.history.lost)
+            elif stalls != self.stalls:
+                self.stalls = stalls
+                mark(self.events, stalls)
+            else:
+                self.restarts |= found
         self.follow()
 
     def put_in(self, lost):
@@ -107,7 +109,7 @@ class Cutter:
         if foreign:
             without = f"{counted(foreign, 'query')} with no question in the capture"
             yield f"left out: {without}: it lost that, or another program asked"
-        lost = [type(event).__name__.lower() for event in self.lost if event.is_lost]
+        lost = [type(event).__name__.lower() for event in self.lost if not isinstance(event, Answer) and event.is_lost]
         if lost:
             kinds = [kind for kind in ("question", "query", "reply") if kind in lost]
             counts = ", ".join(counted(lost.count(kind), kind) for kind in kinds)

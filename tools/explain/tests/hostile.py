@@ -20,6 +20,19 @@ def short_answers():
     return scene.pcap()
 
 
+def from_port_0():
+    """A question and a forged reply come from port 0, to which nothing can be sent."""
+    scene = Scene()
+    scene.question(0, "10.0.0.9:0", 1, WWW)
+    port = scene.query(0.2, FIRST, WWW)
+    scene.reply(2.2, "192.0.2.1:0", port, WWW, answers=[address(300, 203, 0, 113, 66)])
+    scene.reply(10.2, FIRST, port, WWW, answers=[address(300, 192, 0, 2, 80)])
+    # 300 - 4.990 s are left.
+    scene.question(5000, ONE, 2, WWW)
+    scene.answer(5000.2, ONE, 2, WWW, answers=[address(295, 192, 0, 2, 80)])
+    return scene.pcap()
+
+
 def a_server_asks():
     """A client is a server of the configuration, too, and asks from the port at which it is asked.
     A fault: its second answer has another address."""
@@ -98,4 +111,4 @@ def taken_late():
     return scene.pcap()
 
 
-ALL = [short_answers, a_server_asks, one_port, one_identifier, forged_reply_used, taken_late]
+ALL = [short_answers, from_port_0, a_server_asks, one_port, one_identifier, forged_reply_used, taken_late]

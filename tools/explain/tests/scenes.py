@@ -2,6 +2,7 @@
 rules, by hand."""
 import hostile
 import losses
+import lossy
 import outages
 import restarts
 from making import (
@@ -295,4 +296,5 @@ ALL = [
     *outages.ALL,
     *hostile.ALL,
     *losses.ALL,
+    *lossy.ALL,
 ]

@@ -55,8 +55,10 @@ ENDS = (
     ("open", -1, "no reply"),
     ("unasked", -1, "the capture has no such query"),
     ("unseen", 3, "given up after 3.0 ms, for a reason that the capture does not have"),
-    ("query lost", 12, "answered; the capture lost the query"),
-    ("reply lost", 12, "answered; the capture lost the reply"),
+    ("answered, query lost", 12, "answered; the capture lost the query"),
+    ("answered, reply lost", 12, "answered; the capture lost the reply"),
+    ("cut, query lost", 3, "a cut reply; the capture lost the query"),
+    ("cut, reply lost", 3, "a cut reply, which the capture lost"),
     ("REFUSED", 3, "REFUSED after 3.0 ms"),
     ("port closed", 0.4, "port closed after 0.4 ms"),
 )
