@@ -8,7 +8,7 @@ import shutil
 import subprocess
 import tempfile
 
-from repository import tried
+from repository import crates, tried
 from repository.copied import copy_repository
 from repository.crates import TOP
 
@@ -39,29 +39,47 @@ def text(name):
     return tried.digest(*own, *(texts[used].encode() for used in uses()[name] if used in texts))
 
 
+def below(names):
+    """Those crates of the repository that these are, and all that they use."""
+    known = crates.uses()
+    found, left = set(), [name for name in names if name in known]
+    while left:
+        name = left.pop()
+        if name not in found:
+            found.add(name)
+            left += [used for used in known[name] if used in known]
+    return found
+
+
 def place(name, top):
-    """Puts a program into the copy at `top` as a crate."""
+    """Leaves in the copy at `top` the crates that a program stands on, without their wrong bodies, and
+    puts the program next to them."""
+    kept = below(uses()[name])
+    for folder in (top / "crates").iterdir():
+        if folder.is_dir() and folder.name not in kept:
+            shutil.rmtree(folder)
+        shutil.rmtree(folder / "must-fail", ignore_errors=True)
     for path in files(name):
         to = top / "crates" / path.relative_to(FOLDER)
         to = to.with_suffix(ENDINGS.get(to.suffix, to.suffix))
         to.parent.mkdir(parents=True, exist_ok=True)
         shutil.copy2(path, to)
-    with (top / "crates.txt").open("a", encoding="utf-8") as file:
-        file.write(f"{name}: {' '.join(uses()[name])}\n")
+    lines = [f"{each}: {' '.join(used)}\n" for each, used in crates.uses().items() if each in kept]
+    lines.append(f"{name}: {' '.join(uses()[name])}\n")
+    (top / "crates.txt").write_text("".join(lines), encoding="utf-8")
 
 
 def build(name):
-    """Proves and builds a program in a copy, and keeps it in OUT."""
+    """Proves and builds a program in a copy, and keeps it in OUT. What `rt ci` proved on this machine before is not
+    proved again."""
     with tempfile.TemporaryDirectory(prefix="measuring-") as folder:
         top = pathlib.Path(folder)
         copy_repository(top)
         place(name, top)
-        # Without arguments each program ends with status 1 once it is built.
-        ran = subprocess.run(["rt", "run"], cwd=top / "crates" / name, stdin=subprocess.DEVNULL,
-                             stdout=subprocess.PIPE, stderr=subprocess.STDOUT, text=True,
-                             errors="replace", check=False)
+        ran = subprocess.run(["rt", "ci"], cwd=top, stdin=subprocess.DEVNULL, stdout=subprocess.PIPE,
+                             stderr=subprocess.STDOUT, text=True, errors="replace", check=False)
         made = top / "crates" / name / "out" / name
-        if not made.is_file():
+        if ran.returncode or not made.is_file():
             raise Unbuilt(f"{name} was not built:\n" + "\n".join(ran.stdout.splitlines()[-15:]))
         OUT.mkdir(exist_ok=True)
         shutil.copy2(made, OUT / name)
