@@ -5,8 +5,8 @@ use Rattle.std.specs.Io.KnownBytes.{Appends}
 use Rattle.suffix_routes.specs.Values.{Config}
 use Rattle.step_table.specs.State.{Running}
 use Rattle.wires.specs.Wire.{Telling}
-use Rattle.network_model.specs.declared.counts.Served.{Served}
-use Rattle.network_model.specs.Serving.{Serves}
+use Rattle.serving_loop.specs.declared.counts.Served.{Served}
+use Rattle.serving_loop.specs.Serving.{Serves}
 use Rattle.socket_wire.specs.Seen.{SeenWire}
 use Rattle.replay_script.specs.declared.fault.ReplayFault.TheVariants.{Memory}
 use Rattle.forwarder_commands.specs.declared.fault.Fault.{Fault}

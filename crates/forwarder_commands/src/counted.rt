@@ -2,7 +2,7 @@
 
 ghost use Rattle.std.specs.Prelude.{◌≡◌};
 
-use network_model::Served;
+use serving_loop::Served;
 use std::fmt;
 
 /// The line that the program prints once it has served: `turns T lost L`.

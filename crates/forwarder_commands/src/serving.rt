@@ -11,8 +11,8 @@ use crate::counted::Counted;
 use crate::fault::Fault;
 use crate::saying::unlistened;
 use forwarder_core::Forwarder;
-use network_model::{Wire, serve};
 use replay_script::ReplayFault;
+use serving_loop::serve;
 use socket_wire::MioWire;
 use std::alloc::Allocator;
 use std::hash::{BuildHasher, RandomState};
@@ -21,6 +21,7 @@ use std::net::Net;
 use std::random::RandomSource;
 use std::rt::Clock;
 use suffix_routes::Config;
+use wires::Wire;
 
 /// A wire that listens at the address of the configuration, made with its limits. `Device` where
 /// the address can't be listened at, which standard output says with the system's reason; `Memory`

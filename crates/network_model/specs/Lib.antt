@@ -1,5 +1,1 @@
 pub mod Recordings
-pub mod Events
-pub mod Serving
-pub mod Handing
-pub mod Streams

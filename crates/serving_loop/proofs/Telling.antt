@@ -1,0 +1,113 @@
+-- The report of a wire grows, and a count that grows stays at its last value.
+use Rattle.std.proofs.Common.{◌≡◌, ◌∙◌, refl, sym, ap, ℕ, zero, suc, ◌+◌, ◌≤◌, length, List, [], ◌∷◌, ◌++◌, append_assoc, append-nil, Option, Some, None, false, arith}
+use Rattle.std.specs.Prelude.{option_map, map, slice_get}
+use Rattle.std.proofs.lemmas.List.{map-append}
+use Rattle.outstanding.specs.declared.ask.Path.{Path}
+use Rattle.step_values.specs.Values.{SentAsk, Action}
+use Rattle.serving_loop.specs.declared.counts.Served.{Served}
+use Rattle.wires.specs.Wire.{Told, Telling, Put, silence, ◌then◌, told_more, TellsMore}
+use Rattle.serving_loop.specs.Events.{Taken, later, refused_path, failed_of}
+use Rattle.serving_loop.specs.Serving.{Adds, told_of, told_of_all, lost_in, refused_by, refused_of, refused_in}
+use Rattle.serving_loop.specs.Handing.{told_of_puts, Puts}
+
+-- ---- reports
+
+pub then_silence : (a : Told) → a then silence ≡ a
+then_silence a i = record { arrivals = append-nil a.arrivals i; puts = append-nil a.puts i; moments = append-nil a.moments i; words = append-nil a.words i }
+
+pub then_then : (a b c : Told) → (a then b) then c ≡ a then (b then c)
+then_then a b c i = record { arrivals = append_assoc a.arrivals b.arrivals c.arrivals i; puts = append_assoc a.puts b.puts c.puts i; moments = append_assoc a.moments b.moments c.moments i; words = append_assoc a.words b.words c.words i }
+
+pub told_no_more : (o : Option Told) → o ≡ told_more o silence
+told_no_more None = refl
+told_no_more (Some told) = ap (λ (t : Told). Some t) (sym (then_silence told))
+
+pub told_twice : (o : Option Told) (a b : Told) → told_more (told_more o a) b ≡ told_more o (a then b)
+told_twice None a b = refl
+told_twice (Some told) a b = ap (λ (t : Told). Some t) (then_then told a b)
+
+pub tells_nothing : (o : Telling) → TellsMore o silence o
+tells_nothing o = record {
+  tells = λ now is. (now, is, sym (then_silence now));
+  counts = omega arith;
+  stays = λ same below. told_no_more o.told;
+}
+
+pub tells_on : (o p q : Telling) (a b : Told) → TellsMore o a p → TellsMore p b q → TellsMore o (a then b) q
+tells_on o p q a b first more =
+    let one = first.counts in
+    let two = more.counts in
+    record {
+      tells = λ now is.
+          let last = more.tells now is in
+          let was = first.tells last.0 last.1 in
+          (was.0, was.1, last.2 ∙ ap (λ (t : Told). t then b) was.2 ∙ then_then was.0 a b);
+      counts = omega (arith, one, two);
+      stays = λ same below.
+          let mid : p.faults ≡ o.faults = omega (arith, one, two, same) in
+          more.stays (omega (arith, mid, same)) (omega (arith, mid, below))
+          ∙ ap (λ (t : Option Told). told_more t b) (first.stays mid below)
+          ∙ told_twice o.told a b;
+    }
+
+pub told_append : (xs ys : List Taken) → told_of_all (xs ++ ys) ≡ told_of_all xs then told_of_all ys
+told_append [] ys = refl
+told_append (x ∷ xs) ys = ap (λ (t : Told). told_of x then t) (told_append xs ys) ∙ sym (then_then (told_of x) (told_of_all xs) (told_of_all ys))
+
+-- ---- counts
+
+pub adds_none : (a b : ℕ) → b ≡ a → Adds a 0 b
+adds_none a b same le = omega (arith, same, le)
+
+pub adds_more : (a b c m n : ℕ) → Adds a m b → Adds b n c → Adds a (m + n) c
+adds_more a b c m n first more le =
+    let mid = first le in
+    let end = more (omega (arith, mid)) in
+    omega (arith, mid, end)
+
+pub lost_append : (xs ys : List Taken) → lost_in (xs ++ ys) ≡ lost_in xs + lost_in ys
+lost_append [] ys = omega arith
+lost_append (x ∷ xs) ys = let rest = lost_append xs ys in omega (arith, rest)
+
+pub refused_of_append : (xs ys : List Put) → refused_of (xs ++ ys) ≡ refused_of xs + refused_of ys
+refused_of_append [] ys = omega arith
+refused_of_append (x ∷ xs) ys = let rest = refused_of_append xs ys in omega (arith, rest)
+
+pub refused_append : (xs ys : List Taken) → refused_in (xs ++ ys) ≡ refused_in xs + refused_in ys
+refused_append [] ys = omega arith
+refused_append (x ∷ xs) ys = let rest = refused_append xs ys in omega (arith, rest)
+
+-- ---- what is put
+
+-- A list with nothing at a place ends before it.
+pub ends_before : {X : Type 0} (xs : List X) (i : ℕ) → slice_get xs i ≡ None → length xs ≤ i
+ends_before [] i none = omega arith
+ends_before (x ∷ xs) zero none = absurd (cc)
+ends_before (x ∷ xs) (suc i) none = let rest = ends_before xs i none in omega (arith, rest)
+
+pub refused_ask : (o : Option SentAsk) (path : Path) → Some path ≡ option_map (λ (ask : SentAsk). ask.path) o → refused_by o false ≡ 0
+refused_ask None path is = absurd (cc)
+refused_ask (Some ask) path is = refl
+
+pub refused_other : (o : Option SentAsk) → None ≡ option_map (λ (ask : SentAsk). ask.path) o → refused_by o false ≡ 1
+refused_other None is = refl
+refused_other (Some ask) is = absurd (cc)
+
+failed_append : (last : Option Path) (xs ys : List Put) → failed_of last (xs ++ ys) ≡ failed_of (failed_of last xs) ys
+failed_append last [] ys = refl
+failed_append last (x ∷ xs) ys = failed_append (later last (refused_path x)) xs ys
+
+pub puts_none : (o : Telling) (counts : Served) → Puts None [] None o o counts counts
+puts_none o counts = record { puts = []; actions_are = refl; failed_is = refl; tells = tells_nothing o; refused = adds_none _ _ refl; turns = refl; lost = refl; arrivals = refl }
+
+pub puts_more : (last mid end : Option Path) (xs ys : List Action) (o p q : Telling) (a b c : Served) → Puts last xs mid o p a b → Puts mid ys end p q b c → Puts last (xs ++ ys) end o q a c
+puts_more last mid end xs ys o p q a b c first more = record {
+  puts = first.puts ++ more.puts;
+  actions_are = map-append (λ (x : Put). x.action) first.puts more.puts ∙ ap (λ (zs : List Action). zs ++ map (λ (x : Put). x.action) more.puts) first.actions_are ∙ ap (λ (zs : List Action). xs ++ zs) more.actions_are;
+  failed_is = more.failed_is ∙ ap (λ (z : Option Path). failed_of z more.puts) first.failed_is ∙ sym (failed_append last first.puts more.puts);
+  tells = tells_on o p q (told_of_puts first.puts) (told_of_puts more.puts) first.tells more.tells;
+  refused = λ le. let sum = refused_of_append first.puts more.puts in let both = adds_more a.refused_puts b.refused_puts c.refused_puts (refused_of first.puts) (refused_of more.puts) first.refused more.refused le in omega (arith, sum, both);
+  turns = more.turns ∙ first.turns;
+  lost = more.lost ∙ first.lost;
+  arrivals = more.arrivals ∙ first.arrivals;
+}

@@ -1,0 +1,71 @@
+-- The effects of the parts of a round.
+use Rattle.std.specs.Prelude.{◌≡◌, ◌⊎◌, ℕ, suc, ◌+◌, ◌*◌, ◌<◌, ◌≤◌, Bool, true, false, List, [], ◌∷◌, length, map}
+use Rattle.std.specs.Prelude.{Option, Some, None}
+use Rattle.outstanding.specs.declared.ask.Path.{Path}
+use Rattle.step_values.specs.Values.{Event, from_client, delivery, path_failed, tick, restart, Action}
+use Rattle.step_table.specs.State.{Running}
+use Rattle.serving_loop.specs.declared.counts.Served.{Served}
+use Rattle.wires.specs.Wire.{Put, Told, Telling, silence, TellsMore}
+use Rattle.serving_loop.specs.Events.{Taken, failed_of, more_in, tells_more, joined, IsChain, AreTicks}
+use Rattle.serving_loop.specs.Serving.{Standing, Does, Adds, refused_of, left}
+
+-- the report of puts
+abbrev pub told_of_puts : List Put → Told
+told_of_puts puts = record silence { puts = puts }
+
+-- These actions were put in order. `last` is the path that failed last before them, `failed` the
+-- one after them.
+pub record Puts (last : Option Path) (actions : List Action) (failed : Option Path) (told told_after : Telling)
+    (counts counts_after : Served) : Type 0 where
+  pub puts : List Put
+  pub actions_are : map (λ (p : Put). p.action) puts ≡ actions
+  pub failed_is : failed ≡ failed_of last puts
+  pub tells : TellsMore told (told_of_puts puts) told_after
+  pub refused : Adds counts.refused_puts (refused_of puts) counts_after.refused_puts
+  pub turns : counts_after.turns ≡ counts.turns
+  pub lost : counts_after.lost ≡ counts.lost
+  pub arrivals : counts_after.refused_arrivals ≡ counts.refused_arrivals
+
+-- the most that a forwarder can have left to do
+abbrev pub most_left : Running → ℕ
+most_left r = r.config.limits.questions + r.config.limits.inquiries * r.config.limits.tries
+
+-- an event that the loop makes itself
+abbrev pub IsOwn : Event → Type 0
+IsOwn (from_client client octets) = ⊥
+IsOwn (delivery path from octets) = ⊥
+IsOwn (path_failed path) = Unit {0}
+IsOwn tick = Unit {0}
+IsOwn restart = ⊥
+
+-- Less is left to do; or nothing was done, no path failed by it, and a tick reported that nothing
+-- more is due.
+abbrev pub StepsDown : Running → Running → Event → Option Path → Bool → Type 0
+StepsDown before after event failed more = (left after < left before)
+    ⊎ ((failed ≡ None) × (left after ≡ left before) × (event ≡ tick → more ≡ false))
+
+-- The forwarder took one event.
+pub record Hands (event : Event) (failed : Option Path) (more : Bool) (before after : Standing) : Type 0 where
+  pub taken : Taken
+  pub event_is : taken.handed.event ≡ event
+  pub failed_is : failed ≡ failed_of None taken.puts
+  pub more_is : more ≡ more_in taken.answer
+  pub does : Does before (taken ∷ []) after
+  pub bounded : left before.running ≤ most_left before.running
+  pub falls : IsOwn event → StepsDown before.running after.running event failed more
+
+-- The forwarder took an event, and after it the failures of the paths that failed by it.
+pub record HandsOn (event : Event) (more : Bool) (before after : Standing) : Type 0 where
+  pub chain : List Taken
+  pub is_chain : IsChain (Some event) chain
+  pub more_is : more ≡ tells_more chain
+  pub does : Does before chain after
+  pub bounded : left before.running ≤ most_left before.running
+  pub falls : event ≡ tick → more ≡ true → left after.running < left before.running
+
+-- The forwarder took ticks until nothing more was due.
+pub record Ticks (before after : Standing) : Type 0 where
+  pub chains : List (List Taken)
+  pub are_ticks : AreTicks true chains
+  pub does : Does before (joined chains) after
+  pub few : length chains ≤ suc (most_left before.running)

@@ -1,0 +1,4 @@
+pub mod Events
+pub mod Serving
+pub mod Handing
+pub mod Streams

@@ -1,0 +1,10 @@
+//! The loop that serves over a wire. The wire's arrivals become events of the forwarder.
+#![tactic(auto)]
+
+mod counts;
+mod handing;
+mod serving;
+mod streams;
+
+pub use counts::Served;
+pub use serving::serve;

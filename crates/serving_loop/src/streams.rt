@@ -1,0 +1,129 @@
+//! The frame readers of the streams, by connection, and the messages that they give.
+
+ghost use Rattle.std.specs.Prelude.{◌≡◌, ◌==◌, ◌++◌, ℕ, [], if◌then◌else◌, map, OnOk};
+ghost use Rattle.tcp_frames.specs.Frames.{frames_of, unfinished_of};
+ghost use Rattle.step_values.specs.Values.{event_of};
+ghost use Rattle.wires.specs.Wire.{telling};
+ghost use Rattle.serving_loop.specs.Serving.{standing};
+ghost use Rattle.serving_loop.specs.Streams.{left_on, message_from, ServesFrames, ServesEvents};
+
+use crate::counts::Served;
+use crate::handing::hand_on;
+use forwarder_core::Forwarder;
+use plain_list::Octets;
+use std::alloc::{AllocError, Allocator};
+use std::collections::BTreeMap;
+use std::hash::BuildHasher;
+use step_values::{Client, Event, Path};
+use suffix_routes::Peer;
+use tcp_frames::FrameReader;
+use wires::Wire;
+
+/// The octets of streams that are no whole frame yet, by the number of the connection.
+#[derive(Drop)]
+pub(crate) struct Streams<A: Allocator> {
+    pub alloc: A,
+    /// Of connections that clients opened.
+    pub clients: BTreeMap<u64, FrameReader<A>, A>,
+    /// Of connections of asks.
+    pub servers: BTreeMap<u64, FrameReader<A>, A>,
+}
+
+/// The sender of the messages on a stream.
+#[derive(Clone, Copy, Drop)]
+pub(crate) enum Sender {
+    FromClient(u64),
+    FromServer(u64, Peer),
+}
+
+impl Sender {
+    /// Returns the event of a message.
+    fn event<A: Allocator>(self, bytes: Octets<A>) -> Event<A>
+        ensures { event_of result ≡ message_from self bytes }
+    {
+        match self {
+            Sender::FromClient(conn) => Event::Client {
+                client: Client::Tcp(conn),
+                bytes,
+            },
+            Sender::FromServer(conn, from) => Event::Delivery {
+                path: Path::Tcp(conn),
+                from,
+                bytes,
+            },
+        }
+    }
+}
+
+/// A piece of a stream.
+#[derive(Drop)]
+pub(crate) struct Piece<A: Allocator> {
+    pub sender: Sender,
+    pub bytes: Octets<A>,
+}
+
+/// Takes out the reader of a connection; a new one where there is none.
+pub(crate) fn take_out<A: Allocator + Copy>(
+    alloc: A,
+    readers: &mut BTreeMap<u64, FrameReader<A>, A>,
+    conn: u64,
+) -> FrameReader<A>
+    ensures reader { result ≡ left_on readers.old conn }
+    ensures others { (other : ℕ) → left_on readers.new other
+        ≡ (if other == conn then [] else left_on readers.old other) }
+{
+    match readers.remove(&conn) {
+        Some(reader) => reader,
+        None => FrameReader::new(alloc),
+    }
+}
+
+/// Puts the reader of a connection in. `Err` where memory ran out.
+pub(crate) fn put_in<A: Allocator + Copy>(
+    readers: &mut BTreeMap<u64, FrameReader<A>, A>,
+    conn: u64,
+    reader: FrameReader<A>,
+) -> Result<(), AllocError>
+    ensures { OnOk result ((other : ℕ) → left_on readers.new other
+        ≡ (if other == conn then reader else left_on readers.old other)) }
+{
+    readers.insert(conn, reader)?;
+    Ok(())
+}
+
+/// Takes a piece of a stream: serves each frame that it completes. `Err` where memory ran out for
+/// the octets of the reader or for a frame.
+pub(crate) fn serve_piece<H: BuildHasher + Drop, A: Allocator + Copy, W: Wire<A>>(
+    wire: &mut W,
+    forwarder: &mut Forwarder<H, A>,
+    counts: &mut Served,
+    reader: &mut FrameReader<A>,
+    piece: Piece<A>,
+) -> Result<(), AllocError>
+    ensures serves { ServesEvents (map (message_from piece.sender) (frames_of (reader.old ++ piece.bytes)))
+        result
+        (standing forwarder.old (telling (W.told wire.old) (W.fault_count wire.old)) counts.old)
+        (standing forwarder.new (telling (W.told wire.new) (W.fault_count wire.new)) counts.new) }
+    ensures reader { OnOk result (reader.new ≡ unfinished_of (reader.old ++ piece.bytes)) }
+{
+    reader.feed(piece.bytes.as_slice())?;
+    serve_frames(wire, forwarder, counts, reader, piece.sender)
+}
+
+/// Serves each whole frame that the reader has. `Err` where memory for a message ran out.
+fn serve_frames<H: BuildHasher + Drop, A: Allocator + Copy, W: Wire<A>>(
+    wire: &mut W,
+    forwarder: &mut Forwarder<H, A>,
+    counts: &mut Served,
+    reader: &mut FrameReader<A>,
+    sender: Sender,
+) -> Result<(), AllocError>
+    ensures { ServesFrames sender reader.old result reader.new
+        (standing forwarder.old (telling (W.told wire.old) (W.fault_count wire.old)) counts.old)
+        (standing forwarder.new (telling (W.told wire.new) (W.fault_count wire.new)) counts.new) }
+{
+    while let Some(message) = reader.take()? {
+        hand_on(wire, forwarder, counts, &sender.event(message));
+    }
+    Ok(())
+}
