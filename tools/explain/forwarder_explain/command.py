@@ -2,16 +2,18 @@
 import os
 import sys
 import time
+from functools import partial
 
-from . import comparing, configuration
+from . import comparing, configuration, page
 from .capture import Capture, Unreadable
 from .configuration import shown
 from .doubts import Doubts
 from .files import captures_in, first_moment, opened, size_of
+from .following import Follower, follow
 from .leaps import straightened
 from .options import arguments, chosen, moment_of, span_of
 from .packets import Decoder
-from .report import Row, Summary, written
+from .report import Row, Summary, beginning_text, tallied, written
 from .story import Teller, clock
 from .traffic import Question, Traffic
 from .windows import Cutter, TooLong, explain
@@ -58,7 +60,7 @@ def packets_of(files, progress):
             if number % 10_000 == 0:
                 progress("reading", min(size, capture.source.at), size)
         notes += capture.notes
-    packets, leaps = straightened(packets, moment_text)
+    packets, leaps, _ = straightened(packets, moment_text)
     packets.sort(key=lambda found: found.moment)
     last = packets[-1].moment if leaps else last
     return packets, notes + list(decoder.notes()) + leaps, last
@@ -95,7 +97,8 @@ def run(options, settings, files, progress):
     cutter = Cutter(settings, traffic, last, restarted)
     explained = explained_by(cutter, set(wanted), options, progress)
     progress.end()
-    doubt(explained, Doubts(settings, traffic, cutter, explained.others))
+    doubts = Doubts(settings, traffic, cutter, explained.others)
+    explained.results = {place: doubts.put_apart(place, each) for place, each in explained.results.items()}
     for text in cutter.notes():
         note(options.capture, text)
     teller = Teller(settings, cutter.history)
@@ -104,32 +107,54 @@ def run(options, settings, files, progress):
         rows = [row for row in rows if row.failed()]
     if options.script:
         write_scripts(options, explained, traffic.events)
-    summary = Summary(rows, traffic.events, cutter, explained)
-    show(options, rows, summary)
-    return DIFFERENT if any(row.result.same == comparing.DIFFERENT for row in rows) else 0
+    tally = tallied(rows, traffic.events, cutter.history, explained)
+    for row in rows:
+        show(options, row)
+    summary = Summary(tally, list(cutter.beginnings()))
+    if options.html:
+        page.write(options.html, rows, summary, page.about(options, settings, rows))
+    show_end(options, summary)
+    return DIFFERENT if tally.differs() else 0
 
 
-def doubt(explained, doubts):
-    """Puts the answers apart that are not the step's, and that a loss explains."""
-    for place, result in explained.results.items():
-        loss = doubts.likely(place, result.octets) if result.same == comparing.DIFFERENT else ""
-        if loss:
-            explained.results[place] = result._replace(same=comparing.LOST, loss=loss)
+def run_on(options, settings):
+    """Explains a capture as it grows; gives the status."""
+    if hasattr(sys.stdout, "reconfigure"):
+        sys.stdout.reconfigure(line_buffering=True)
+    show_row, show_beginning = partial(show, options), partial(show_restart, options)
+    follower = Follower(options, settings, show_row, show_beginning, partial(note, options.capture))
+    summary = follow(options, settings, follower)
+    show_end(options, summary)
+    return DIFFERENT if summary.tally.differs() else 0
 
 
-def show(options, rows, summary):
-    """Prints what was asked for."""
+def show(options, row):
+    """Prints what was asked for of a question."""
+    is_listed = not options.summary and not options.html
     if options.json:
-        for row in () if options.summary else rows:
+        if is_listed:
             print(written(row.object()))
+        return
+    is_different = row.result.same == comparing.DIFFERENT
+    if is_listed or is_different:
+        print(row.line())
+    if is_different:
+        print("\n".join(row.differs()))
+
+
+def show_restart(options, moment, has_begun):
+    """Prints that the service began anew, or that it had ended."""
+    said = beginning_text(moment, has_begun)
+    if options.json:
+        said = written({"begun_anew_by" if has_begun else "ended_by": moment / 1_000_000})
+    print(said)
+
+
+def show_end(options, summary):
+    """Prints what is said at the end."""
+    if options.json:
         print(written(summary.object()))
         return
-    for row in rows:
-        is_different = row.result.same == comparing.DIFFERENT
-        if not options.summary or is_different:
-            print(row.line())
-        if is_different:
-            print("\n".join(row.differs()))
     if options.summary:
         print("\n".join(summary.tables()))
     print("\n".join(summary.verdict()))
@@ -160,6 +185,8 @@ def write_scripts(options, explained, events):
 def read_and_run(options, progress):
     """Does all of it; gives the status."""
     settings = configuration.read(options.configuration, options.program)
+    if options.follow:
+        return run_on(options, settings)
     return run(options, settings, opened_in_turn(options), progress)
 
 

@@ -71,6 +71,11 @@ class Doubts:
         route = self.configuration.route_of(query.asked.key)
         return route is not None and query.server in route.servers
 
+    def put_apart(self, place, result):
+        """A result, put apart if its answer is not the step's and a loss explains it."""
+        loss = self.likely(place, result.octets) if result.same == comparing.DIFFERENT else ""
+        return result._replace(same=comparing.LOST, loss=loss) if loss else result
+
     def likely(self, place, octets):
         """The loss that explains the answer to the question at a place, in words; nothing if none
         does. `octets` is the step's answer."""

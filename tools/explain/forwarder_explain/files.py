@@ -7,10 +7,10 @@ import sys
 from .capture import Capture, Unreadable
 
 
-def opened(path):
+def opened(path, buffering=-1):
     """A file, or standard input."""
     try:
-        return sys.stdin.buffer if path == "-" else open(path, "rb")
+        return sys.stdin.buffer if path == "-" else open(path, "rb", buffering)
     except OSError as fault:
         raise Unreadable(fault.strerror, path) from None
 

@@ -9,8 +9,9 @@ FEW = 8  # packets with a strange time, after which the clock is as before
 
 
 def straightened(packets, shown):
-    """The packets in the order of the file, with times as if the clock had not been set back; and a
-    note for each leap. `shown` puts a moment into words."""
+    """The packets in the order of the file, with times as if the clock had not been set back; a note
+    for each leap; and by how much it was set back in all, in microseconds. `shown` puts a moment
+    into words."""
     found, notes, offset, latest, strange = [], [], 0, None, 0
     for place, packet in enumerate(packets):
         moment = packet.moment + offset
@@ -31,7 +32,7 @@ def straightened(packets, shown):
         found.append(packet if moment == packet.moment else packet._replace(moment=moment))
     if strange:
         notes.append(f"{counted(strange, 'packet')} with a strange time, taken for that of the one before")
-    return found, notes
+    return found, notes, offset
 
 
 def run_before(found, moment):

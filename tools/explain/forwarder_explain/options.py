@@ -37,12 +37,22 @@ def arguments(words):
     parser.add_argument(
         "--summary", action="store_true", help="counts by reason, server and client, and no line for each question"
     )
+    parser.add_argument(
+        "--follow", action="store_true", help="read on as the capture grows: the line of each question once it is known"
+    )
+    parser.add_argument(
+        "--html", metavar="FILE", help="write a page of counts and lines, in place of a line for each question"
+    )
     parser.add_argument("--script", metavar="FILE", help="write the script of the questions, for forwarder replay")
     parser.add_argument("--json", action="store_true", help="one JSON object a line, for programs")
     parser.add_argument(
         "--program", metavar="PATH", default="forwarder", help="the forwarder's program (default: forwarder)"
     )
-    return parser.parse_args(words)
+    options = parser.parse_args(words)
+    for name, value in (("--at", options.at), ("--to", options.until), ("--html", options.html), ("--script", options.script)):
+        if options.follow and value:
+            parser.error(f"{name} is not for --follow")
+    return options
 
 
 def add_choices(parser):

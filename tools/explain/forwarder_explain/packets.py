@@ -77,7 +77,7 @@ class Decoder:
     """Reads packets one by one; counts what it can't use."""
 
     def __init__(self):
-        self.cut = self.fragments = 0
+        self.cut = self.fragments = self.incomplete = 0
         self.links = {}
         self.seen = {}
         self.pieces = {}
@@ -156,8 +156,9 @@ class Decoder:
             yield f"left out: {counted(self.cut, 'packet')} cut short by the capture (tcpdump -s)"
         if self.fragments:
             yield f"{counted(self.fragments, 'datagram')} put together from fragments"
-        if self.pieces:
-            yield f"left out: {counted(len(self.pieces), 'datagram')} in fragments of which some are missing"
+        incomplete = self.incomplete + len(self.pieces)
+        if incomplete:
+            yield f"left out: {counted(incomplete, 'datagram')} in fragments of which some are missing"
 
 
 def plain_datagram(link, octets):

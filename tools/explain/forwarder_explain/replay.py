@@ -96,7 +96,9 @@ class Script:
     def run(self, lines, pairs):
         """The outcome of the script; which numbers its connections have is noted for the next run.
         """
-        ran = subprocess.run([self.program, "replay"], input=self.text(lines, pairs).encode(), capture_output=True)
+        # In a process group of its own, which the interrupt key of a terminal does not reach.
+        text = self.text(lines, pairs).encode()
+        ran = subprocess.run([self.program, "replay"], input=text, capture_output=True, process_group=0)
         if ran.returncode:
             said = ran.stderr.decode("utf-8", "replace").strip()
             raise Unreadable(

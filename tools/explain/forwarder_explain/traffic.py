@@ -12,7 +12,7 @@ ACK = 16
 QUERY_FLAGS = b"\x01\0\0\1\0\0\0\0\0\0"  # RD, and one question, as the forwarder asks
 ANY_ADDRESS = bytes(4)
 PORT_CLOSED, LAST_PORT = 3, 65535
-MOST_ELSEWHERE = 50_000  # paths of what other programs ask
+MOST_ELSEWHERE = 50_000  # paths of what other programs ask, and connections that began before
 MOST_UNSOLICITED = 50_000  # records of messages that nobody asked for
 AT_ONCE = 50_000  # microseconds in which the service's own machine refuses a question
 UNREACHABLE = {
@@ -132,19 +132,24 @@ class Traffic:
         self.elsewhere, self.unsolicited = {}, set()
         self.clients = self.foreign = self.gaps = 0
         self.late = set()
+        self.has_question = self.has_query = False
         self.listen = self.own_peers(configuration.listen, packets)
         for packet in packets:
-            if isinstance(packet, Datagram):
-                self.datagram(packet)
-            elif isinstance(packet, Segment):
-                self.segment(packet)
-            else:
-                self.unreachable(packet)
+            self.take(packet)
         self.finish()
         self.events.sort(key=lambda event: event.moment)
         self.unasked = Answering(self.events, configuration.limits["deadline_ms"]).unasked
-        unasked = set(self.unasked)
+        self.left_out, unasked = len(self.unasked), set(self.unasked)
         self.events = [event for event in self.events if event not in unasked]
+
+    def take(self, packet):
+        """Takes what one packet carries."""
+        if isinstance(packet, Datagram):
+            self.datagram(packet)
+        elif isinstance(packet, Segment):
+            self.segment(packet)
+        else:
+            self.unreachable(packet)
 
     def own_peers(self, listen, packets):
         """Where clients reach the forwarder: one peer, or with 0.0.0.0 the port at each of its own
@@ -280,7 +285,8 @@ class Traffic:
             connection.query = Query(packet.moment, "tcp", server, client)
             self.query(connection.query)
         else:
-            self.late.add(ends)
+            if len(self.late) < MOST_ELSEWHERE:
+                self.late.add(ends)
             return None
         self.connections[client, server] = connection
         return connection
@@ -330,10 +336,12 @@ class Traffic:
         self.gaps += connection.gaps()
 
     def question(self, question):
+        self.has_question = True
         self.events.append(question)
         self.last_of[question.client] = question
 
     def query(self, query):
+        self.has_query = True
         self.events.append(query)
         self.paths[query.transport, query.source] = query
 
@@ -352,15 +360,14 @@ class Traffic:
         if self.foreign:
             foreign = f"{counted(self.foreign, 'query')} to servers, not of the forwarder's form"
             yield f"left out: {foreign}: another program's"
-        if self.unasked:
-            yield f"left out: {counted(len(self.unasked), 'answer')} without a question in the capture"
+        if self.left_out:
+            yield f"left out: {counted(self.left_out, 'answer')} without a question in the capture"
         if self.gaps:
             yield f"{counted(self.gaps, 'gap')} in streams over TCP: messages are missing"
         if self.late:
             late = counted(len(self.late), "connection")
             yield f"left out: {late} to servers that began before the capture, or of which it lost the beginning"
-        asked = {event.server for event in self.events if isinstance(event, Query)}
-        if self.events and not asked and any(isinstance(event, Question) for event in self.events):
+        if self.has_question and not self.has_query:
             servers = ", ".join(sorted(map(shown, configuration.servers)))
             yield f"no server of the configuration was asked ({servers})"
 

@@ -2,7 +2,7 @@
 side."""
 import multiprocessing
 import os
-from collections import defaultdict
+from collections import Counter, defaultdict
 
 from . import messages
 from .eras import first_output, is_output
@@ -105,15 +105,10 @@ class Cutter:
     def notes(self):
         """What is to be said of the clock, and of packets that the capture lost, a line each."""
         yield from self.leaps
-        foreign = len(self.history.foreign)
-        if foreign:
-            without = f"{counted(foreign, 'query')} with no question in the capture"
-            yield f"left out: {without}: it lost that, or another program asked"
-        lost = [type(event).__name__.lower() for event in self.lost if not isinstance(event, Answer) and event.is_lost]
-        if lost:
-            kinds = [kind for kind in ("question", "query", "reply") if kind in lost]
-            counts = ", ".join(counted(lost.count(kind), kind) for kind in kinds)
-            yield f"the capture lost {counts}, as what followed shows"
+        lost = Counter(
+            type(event).__name__.lower() for event in self.lost if not isinstance(event, Answer) and event.is_lost
+        )
+        yield from unexplained(len(self.history.foreign), lost)
 
     def beginnings(self):
         """When the service showed first that it had begun anew, or when it was seen to have ended:
@@ -221,6 +216,17 @@ class Cutter:
         return needed + own
 
 
+def unexplained(foreign, lost):
+    """What is to be said of so many queries for which nobody asked, and of so many events of each
+    kind that the capture lost."""
+    if foreign:
+        without = f"{counted(foreign, 'query')} with no question in the capture"
+        yield f"left out: {without}: it lost that, or another program asked"
+    kinds = [kind for kind in ("question", "query", "reply") if lost[kind]]
+    if kinds:
+        yield f"the capture lost {', '.join(counted(lost[kind], kind) for kind in kinds)}, as what followed shows"
+
+
 class Explained:
     """The results of all windows: by the question's place, each with the number of its window."""
 
@@ -278,6 +284,16 @@ def parts(cutter, jobs, program, keeps_scripts):
         yield from pool.imap(run_one, range(len(jobs)))
 
 
+def others_of(window):
+    """The captured queries that the script of a window does not make: moment, server, transport,
+    question, and whether they are of its name's route."""
+    return [
+        (query.moment, query.server, query.transport, query.asked, window.is_on_route(query))
+        for query in window.other_queries()
+        if query.asked
+    ]
+
+
 def run_one(number):
     """The results of one window by place, its queries, and its script."""
     cutter, jobs, program, keeps_scripts = WORK
@@ -287,11 +303,7 @@ def run_one(number):
         raise TooLong
     by_event, exchanged = window.results()
     results = {place: by_event[cutter.events[place]] for place in judged}
-    others = [
-        (query.moment, query.server, query.transport, query.asked, window.is_on_route(query))
-        for query in window.other_queries()
-        if query.asked
-    ]
+    others = others_of(window)
     places = {event: place for place, event in enumerate(cutter.events)} if exchanged else {}
     moved = [(places[question], places.get(question.answer)) for question in exchanged]
     script = window.script.text(window.lines, window.pairs) if keeps_scripts else ""

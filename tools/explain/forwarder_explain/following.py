@@ -1,0 +1,272 @@
+"""Explains a capture as it grows: each question once it is known what became of it (`--follow`)."""
+import signal
+import time
+from types import SimpleNamespace
+
+from .capture import Capture, Unreadable
+from .carrying import Base
+from .configuration import shown
+from .doubts import Doubts
+from .files import opened
+from .growing import LOOK, Pipe, Ring
+from .kept import History
+from .live import Intake, Live, fits
+from .options import chosen, moment_of, span_of
+from .remembered import Beginnings, Queries
+from .report import Row, Summary
+from .rounds import Round, place_to_keep
+from .story import Teller
+from .tally import Tally
+from .traffic import Query, Question
+from .windows import TooLong, others_of
+
+PAUSE = 0.3  # seconds between two rounds
+SETTLED = 200_000  # microseconds after an answer in which what belongs to it may still come
+GONE = 1_000_000  # microseconds after the end of a connection in which an answer is looked for
+MARGIN = 1_000_000  # microseconds beyond the deadline for which events are kept
+LATE = 2_000_000, 30_000_000  # microseconds beyond the deadline, if the service goes on, and if not
+BACK = 600_000_000  # microseconds before the first question that is shown, of which it is seen what is kept
+RENEWED = 10_000_000  # microseconds between two looks for what is over
+AT_ONCE = 2000  # events of one round
+CONTEXT, MOST_CONTEXT = 300, 1500  # events before those of a round
+UNHEARD = 30  # seconds without a question, after which that is said
+
+
+class Stopped(Exception):
+    """A signal says that the run is to end."""
+
+
+class Follower:
+    """Follows a capture. `show` prints a Row, `say` when the service began anew or had ended, and
+    `note` what could not be read."""
+
+    def __init__(self, options, settings, show, say, note):
+        self.options, self.settings, self.show, self.note = options, settings, show, note
+        self.live, self.intake, self.tally = Live(settings), Intake(note), Tally()
+        self.queries, self.beginnings = Queries(settings, self.tally), Beginnings(say)
+        # The first packet, from when on packets are read, the last one, and when things were done.
+        self.first, self.back, self.seen, self.last = None, 0, 0, 0
+        self.began_at, self.seen_at, self.done_at, self.forgotten = time.monotonic(), 0, 0, 0
+        self.events, self.came, self.base, self.history = [], 0, None, None
+        self.wanted, self.guessed, self.is_stopped, self.is_told = set(), {}, False, False
+
+    def stop(self, *_):
+        self.is_stopped = True
+
+    # What comes.
+
+    def take(self, packet):
+        """Takes a packet, and explains what has become known by the time."""
+        if packet.moment < self.back:
+            return
+        if self.first is None:
+            self.first = packet.moment
+        self.last, self.seen_at = packet.moment, time.monotonic()
+        self.intake.take(packet)
+        if len(self.intake.raw) >= AT_ONCE or self.seen_at - self.done_at > PAUSE:
+            self.go_on(False)
+
+    def idle(self):
+        """Called while nothing comes."""
+        if self.is_stopped:
+            raise Stopped
+        if time.monotonic() - self.done_at > PAUSE:
+            self.go_on(time.monotonic() - self.seen_at > 2 * LOOK)
+
+    @property
+    def now(self):
+        """The time of the capture."""
+        return self.seen + round(1_000_000 * (time.monotonic() - self.seen_at))
+
+    def go_on(self, is_quiet, is_end=False):
+        """A round, if there is something for it."""
+        packets = self.intake.given(is_quiet or is_end)
+        self.seen = max(self.seen, self.intake.latest, self.last + self.intake.offset if is_end else 0)
+        if packets or is_end:
+            self.enter(packets, is_end)
+        due = self.due(is_end)
+        if self.events and (due or is_end or self.came >= AT_ONCE):
+            self.round(due, is_end)
+            self.came = 0
+        self.done_at = time.monotonic()
+        self.look_for_questions()
+        if self.is_stopped and not is_end:
+            raise Stopped
+
+    def enter(self, packets, is_end):
+        """Puts what packets carry among the events."""
+        events, left = self.live.taken(packets, is_end)
+        if self.base is not None:
+            for event in events:  # one that comes too late for its place
+                event.moment = event.read = max(event.moment, self.base.moment)
+        self.events = self.live.without_others([each for each in self.events + events if each not in left])
+        self.events.sort(key=lambda event: event.moment)
+        self.came += len(events)
+        new = [each for each in events if isinstance(each, Question)]
+        self.wanted.update(chosen(self.options, new, self.first))
+        if self.base is None and self.events:
+            history = History(self.settings, [], self.events[0].moment // 1000, None)
+            self.base = Base(history, self.events[0].moment, 0)
+        if self.seen - self.forgotten > RENEWED:
+            self.live.forget(self.seen)
+            self.intake.forget()
+            self.forgotten = self.seen
+
+    def look_for_questions(self):
+        """Says once that there are packets, and no question among them."""
+        if not self.is_told and self.first is not None and self.done_at - self.began_at > UNHEARD:
+            self.is_told = True
+            if not self.live.has_question:
+                self.note(f"has no question to {shown(self.settings.listen)} yet, where the configuration listens")
+
+    # What is known.
+
+    def due(self, is_end):
+        """The questions of which it is known what became of them."""
+        outputs = [event.moment for event in self.events if isinstance(event, Query)]
+        outputs += [question.answer.moment for question in self.live.questions if question.answer]
+        last = max(outputs, default=0)
+        return [each for each in self.live.questions if is_end or self.is_due(each, last)]
+
+    def is_due(self, question, last):
+        """Whether a question is over; the service sent something last at a moment."""
+        now, answer = self.now, question.answer
+        if answer and fits(question):
+            return now - answer.moment > SETTLED
+        if question.refused or not question.wants_answer():
+            return now - max(question.moment, question.refused or 0) > SETTLED
+        connection = question.connection
+        if connection and (connection.reset or False in connection.fin):
+            return now - (connection.reset or (connection.fin[False],))[0] > GONE
+        due = question.moment + 1000 * self.settings.limits["deadline_ms"]
+        return now - due > (LATE[0] if last > due else LATE[1])
+
+    def round(self, due, is_end):
+        """Explains the questions that are due."""
+        over = set(due)
+        keep = self.to_keep(over)
+        traffic = self.traffic()
+        ends, before = self.seen if is_end else self.now, self.events[-1].moment
+        last = self.events[-1]
+        since = (keep.moment if keep else self.base.moment) - self.horizon()
+        restarted = [moment_of(text, self.first) for text in self.options.restarted]
+        cutter = Round(self.settings, traffic, ends, self.base, restarted, keep, since)
+        self.history = cutter.history
+        if cutter.leaps:
+            self.intake.shift(last.moment - before)
+            self.seen += last.moment - before
+        for text in cutter.leaps:
+            self.note(text)
+        has_begun = self.beginnings.look(cutter)
+        ended = cutter.ended([each for each in self.live.questions if not each.answer and each not in over])
+        over.update(ended)
+        self.judge(cutter, traffic, [each for each in over if each in self.wanted], is_end)
+        self.wanted -= over
+        self.live.settle(over)
+        if has_begun or len(self.events) > MOST_CONTEXT:
+            self.base = cutter.kept
+        self.retire(self.base.moment - self.horizon())
+
+    def traffic(self):
+        """What is known, as a round takes it."""
+        there = set(self.events)  # with what earlier rounds took to belong to a packet that was lost
+        orphans = [each for each in self.live.orphans if each not in there]
+        unasked = [each for each in self.live.unasked if each not in there]
+        return SimpleNamespace(events=self.events, orphans=orphans, unasked=unasked, unsolicited=self.live.unsolicited)
+
+    def horizon(self):
+        """Microseconds before a base of which the events are kept."""
+        return 1000 * self.settings.limits["deadline_ms"] + MARGIN
+
+    def to_keep(self, over):
+        """The event before which the next base is to be, if there are enough by then. No question
+        that waits for what becomes of it is before that, unless there are very many events."""
+        begins = sum(event.moment < self.base.moment for event in self.events)
+        count = len(self.events) - begins
+        if count <= 2 * CONTEXT:
+            return None
+        waiting = [each.moment for each in self.live.questions if each in self.wanted and each not in over]
+        latest = float("inf") if count > MOST_CONTEXT else min(waiting, default=float("inf"))
+        foreign = self.history.foreign if self.history else ()
+        keep = place_to_keep(self.events, len(self.events) - CONTEXT, latest, foreign)
+        return keep if keep is not None and keep.moment > self.base.moment else None
+
+    def judge(self, cutter, traffic, judged, is_end):
+        """Explains questions, in windows that become smaller where one has too many lines."""
+        until = None if is_end or all(each.answer for each in judged) else self.now
+        kept = cutter.kept.moment
+        guessed = [each for each in self.wanted - set(judged) if not each.answer and each.moment < kept]
+        while True:
+            try:
+                found = list(cutter.windows(judged + guessed, self.options.program, until))
+                break
+            except TooLong:
+                if cutter.aim < 20:
+                    raise Unreadable("has too much in flight at one time for a script") from None
+                cutter.cut_smaller()
+        teller = Teller(self.settings, cutter.history)
+        others = [each for window, *_ in found for each in others_of(window)]
+        doubts, rows = Doubts(self.settings, traffic, cutter, others), {}
+        places = {event: place for place, event in enumerate(cutter.events)}
+        for window, ends, results in found:
+            for question, result in results.items():
+                rows[question] = Row(question, doubts.put_apart(places[question], result), teller)
+            self.queries.judge(window, ends)
+        for question in guessed:
+            if question in rows:
+                self.guessed[question] = rows[question]
+        for question in sorted(judged, key=lambda each: each.moment):
+            row = rows.get(question) or self.guessed.pop(question, None)
+            self.guessed.pop(question, None)
+            if row is not None and (row.failed() or not self.options.failures):
+                self.tally.add(row)
+                self.show(row)
+
+    def retire(self, since):
+        """Counts and forgets what is before a moment."""
+        count = sum(event.moment < since for event in self.events)
+        self.queries.count(self.events[:count], self.history, since)
+        self.events = self.events[count:]
+
+    # The end.
+
+    def end(self):
+        """Explains what is left; gives the summary."""
+        self.go_on(True, True)
+        if not self.live.has_question:
+            raise Unreadable(f"has no question to {shown(self.settings.listen)}, where the configuration listens")
+        self.retire(float("inf"))
+        for text in [*self.intake.decoder.notes(), *self.live.notes(self.settings), *self.queries.notes()]:
+            self.note(text)
+        return Summary(self.tally, self.beginnings.at_end())
+
+
+def follow(options, settings, follower):
+    """Follows a capture until it ends, or until SIGINT or SIGTERM; gives the summary."""
+    handlers = {number: signal.signal(number, follower.stop) for number in (signal.SIGINT, signal.SIGTERM)}
+    try:
+        for file in files_of(options, follower):
+            capture = Capture(file)
+            for packet in capture.packets():
+                follower.take(packet)
+            if not getattr(file, "was_rewritten", False):
+                for text in capture.notes:
+                    follower.note(text)
+    except Stopped:
+        pass
+    finally:
+        for number, handler in handlers.items():
+            signal.signal(number, handler)
+    return follower.end()
+
+
+def files_of(options, follower):
+    """The captures, each as a file that grows. Of files those questions are shown that come from now
+    on, unless the options say from when on."""
+    if options.capture == "-":
+        return [Pipe(opened("-"), follower.idle)]
+    ring = Ring(options.capture, follower.idle, follower.note)
+    options.since = options.since or f"{time.time():.6f}"
+    follower.first = ring.queue[0][0] if ring.queue else round(1_000_000 * time.time())
+    follower.back = ring.since = span_of(options, follower.first)[0] - BACK
+    return ring.captures()

@@ -1,0 +1,160 @@
+"""Captures that grow while they are read: standard input, and the files of a folder into which
+tcpdump -C -W writes, or one file."""
+import os
+import select
+import time
+from collections import deque
+
+from .capture import Unreadable
+from .files import first_moment, opened
+
+LOOK = 0.1  # seconds between two looks for more
+AT_ONCE = 1 << 16  # octets of one read
+MOST_HEAD = 512  # octets at the beginning of a file by which it is known
+
+
+class Growing:
+    """What was read and not yet taken. `read` waits for all that it is to give, unless the end has
+    come."""
+
+    def __init__(self):
+        self.octets, self.at = b"", 0
+
+    def read(self, size):
+        while len(self.octets) - self.at < size:
+            more = self.more()
+            if not more:
+                break
+            self.octets, self.at = self.octets[self.at :] + more, 0
+        found = self.octets[self.at : self.at + size]
+        self.at += len(found)
+        return found
+
+
+class Pipe(Growing):
+    """Standard input. `idle` is called again and again while there is nothing to read."""
+
+    def __init__(self, file, idle):
+        super().__init__()
+        self.number, self.idle = file.fileno(), idle
+
+    def more(self):
+        """The next octets; none at the end."""
+        while not select.select([self.number], [], [], LOOK)[0]:
+            self.idle()
+        return os.read(self.number, AT_ONCE)
+
+
+class RingFile(Growing):
+    """One file of a ring. It ends once another one was begun after it."""
+
+    def __init__(self, file, ring):
+        super().__init__()
+        self.file, self.ring, self.head = file, ring, b""
+        self.is_over = self.was_rewritten = False
+
+    def more(self):
+        """The next octets; none at the end."""
+        while True:
+            octets = self.file.read(AT_ONCE)
+            if self.is_another():
+                self.was_rewritten = True
+                return b""
+            if octets:
+                self.head += octets[: MOST_HEAD - len(self.head)]
+                return octets
+            if self.is_over:
+                return b""
+            # What is in this file was written before the next one was begun; so one more look is enough.
+            self.is_over = self.ring.has_more()
+            if not self.is_over:
+                self.ring.wait()
+
+    def is_another(self):
+        """Whether the file was written anew: tcpdump -W empties the oldest one and takes its name."""
+        return os.pread(self.file.fileno(), len(self.head), 0) != self.head
+
+
+class Ring:
+    """The captures of a folder, or one, in the order in which they were begun. `idle` is called
+    again and again while there is nothing to read.
+
+    Captures all of which is before `since` are left out. `note` is called with what was lost.
+    """
+
+    def __init__(self, path, idle, note):
+        self.path, self.idle, self.note, self.since = path, idle, note, 0
+        self.begun, self.seen, self.queue = {}, {}, deque()
+        try:
+            os.stat(path)
+        except OSError as fault:
+            raise Unreadable(fault.strerror, path) from None
+        self.look()
+
+    def paths(self):
+        """The files, each with what changes when it is written to."""
+        if not os.path.isdir(self.path):
+            return {self.path: stamp(os.stat(self.path))}
+        with os.scandir(self.path) as entries:
+            return {each.path: stamp(each.stat()) for each in entries if each.is_file()}
+
+    def look(self):
+        """Queues the captures that were begun since the last look."""
+        try:
+            seen = self.paths()
+        except FileNotFoundError:  # one is gone since the folder was listed
+            return
+        except OSError as fault:
+            raise Unreadable(fault.strerror, self.path) from None
+        found = []
+        for path in seen:
+            if seen[path] == self.seen.get(path):
+                continue
+            begun = beginning(path)
+            if begun is not None and self.begun.get(path) != begun:
+                self.begun[path] = begun
+                found.append((begun, path))
+        self.seen = seen
+        self.begun = {path: begun for path, begun in self.begun.items() if path in seen}
+        self.queue.extend(sorted(found))
+
+    def has_more(self):
+        self.look()
+        return bool(self.queue)
+
+    def wait(self):
+        self.idle()
+        time.sleep(LOOK)
+
+    def captures(self):
+        """Each capture, as a file that grows."""
+        if not self.queue:
+            self.note("has no capture with a packet yet")
+        while True:
+            while not self.has_more():
+                self.wait()
+            begun, path = self.queue.popleft()
+            if self.queue and self.queue[0][0] <= self.since:
+                continue
+            if beginning(path) != begun:
+                self.note(f"{os.path.basename(path)} was removed or written anew before it was read")
+                continue
+            with opened(path, 0) as file:
+                growing = RingFile(file, self)
+                yield growing
+            if growing.was_rewritten:
+                self.note(f"{os.path.basename(path)} was written anew before all of it was read")
+
+
+def stamp(status):
+    return status.st_ino, status.st_size, status.st_mtime_ns
+
+
+def beginning(path):
+    """When the first packet of a capture was captured; None if it has none yet, or is gone."""
+    try:
+        return first_moment(path)
+    except Unreadable:
+        if os.path.exists(path):
+            raise
+        return None

@@ -1,0 +1,87 @@
+"""What a run that follows a capture remembers for its end: queries, and when the service began anew.
+"""
+from collections import Counter
+from typing import NamedTuple
+
+from .traffic import Query
+from .windows import unexplained
+
+MOST_BEGINNINGS = 100
+
+
+class Queries:
+    """Which queries are the step's, until they are counted. What later packets show of one takes
+    the place of what was known before."""
+
+    def __init__(self, configuration, tally):
+        self.configuration, self.tally = configuration, tally
+        self.is_step, self.never_left = {}, []
+        self.lost, self.foreign = Counter(), 0
+
+    def judge(self, window, ends):
+        """Takes what a window shows, of what is before a moment."""
+        self.is_step.update(
+            (query, query in window.pairing.line_of) for query in window.queries if query.moment >= window.begins
+        )
+        left = [line.order[0] for line in window.lines if line.note == "never left" and line.order[0] >= window.begins]
+        self.never_left = [each for each in self.never_left if not window.begins <= each < ends] + left
+
+    def count(self, events, history, since):
+        """Counts events, and what could not be sent before a moment."""
+        for event in events:
+            self.lost[type(event).__name__.lower()] += getattr(event, "is_lost", False)
+            if isinstance(event, Query):
+                self.count_query(event, history)
+        left = [moment for moment in self.never_left if moment >= since]
+        self.tally.never_left += len(self.never_left) - len(left)
+        self.never_left = left
+
+    def count_query(self, query, history):
+        is_step = self.is_step.pop(query, None)
+        if query in history.foreign:
+            self.foreign += 1
+        elif is_step is not None and not query.is_lost:
+            self.tally.add_query(query, history)
+            self.tally.paired += is_step
+            if not is_step and query.asked:
+                route = self.configuration.route_of(query.asked.key)
+                on_route = route is not None and query.server in route.servers
+                self.tally.add_other((query.moment, query.server, query.transport, query.asked, on_route))
+
+    def notes(self):
+        return unexplained(self.foreign, self.lost)
+
+
+class Beginning(NamedTuple):
+    """The service began anew by a moment, or had ended by then; `end` is when the process before it
+    can have ended."""
+
+    moment: int
+    has_begun: bool
+    end: int
+
+
+class Beginnings:
+    """Calls `say` once for each beginning and end of the service."""
+
+    def __init__(self, say):
+        self.say, self.said, self.found = say, [], []
+
+    def look(self, cutter):
+        """Takes what a round shows; gives whether the service has begun after each end. Later packets
+        may show that it did not end."""
+        ends = [event.moment for event in cutter.events if event in cutter.restarts]
+        found = [Beginning(moment, True, moment) for moment in cutter.anew]
+        found += [Beginning(*each, end) for each, end in zip(cutter.beginnings(), ends)]
+        for each in found:
+            if not any(each.moment <= said.moment and each.has_begun <= said.has_begun for said in self.said):
+                self.said = [*self.said, each][-MOST_BEGINNINGS:]
+                self.say(each.moment, each.has_begun)
+        before = [each for each in self.found if each.end <= cutter.base.moment and each.end not in ends]
+        self.found = (before + found)[-MOST_BEGINNINGS:]
+        return all(each.has_begun for each in found)
+
+    def at_end(self):
+        """Moments, and whether the service began then or had ended."""
+        last = self.found[-1:]
+        return [(each.moment, each.has_begun) for each in self.found if each.has_begun or [each] == last]

@@ -1,0 +1,101 @@
+"""The last part of a capture that goes on, explained with what was kept and open before it."""
+import bisect
+
+from .carrying import Base, Continued
+from .eras import is_output
+from .lines import FIRST_MOMENT
+from .replay import MOST_LINES
+from .windows import SAID, Cut, Cutter, TooLong
+
+MOST_EVENTS = 2500  # of a window; what is kept comes to it
+MOST_BEFORE = 3  # times that a beginning before the base is looked for
+
+
+class Round(Cutter):
+    """Follows the events from a base on. `keep` is an event before which the base of the next round
+    is to be, or None; that base is put into `kept`.
+
+    `anew` has the moments at which the service began anew before the base, as only now shows.
+    """
+
+    def __init__(self, configuration, traffic, last, base, restarted, keep, since):
+        self.base, self.keep, self.since, self.kept, self.anew = base, keep, since, base, []
+        super().__init__(configuration, traffic, last, restarted)
+
+    def follow(self):
+        self.aim = min(self.aim, MOST_EVENTS)
+        begins = self.place_of(self.base.moment)
+        events = self.events[begins:]
+        self.history = Continued(self.configuration, events, self.base, self.losses, self.restarts)
+        cache, preferred = self.history.cache, self.history.preferred
+        self.cuts = [Cut(begins, list(cache.entries.values()), dict(preferred), self.base.anew)]
+        self.lines, self.octets, self.total, self.kept = 0, 0, [0, 0], self.base
+        self.history.follow(lambda place, kept: self.at_event(begins + place, kept))
+        self.history.from_before = [(held, begins + place) for held, place in self.history.from_before]
+        for moment in self.restarted:
+            if moment + SAID > self.base.moment:
+                self.history.eras.began(moment - SAID, moment + SAID)
+        before = self.begun_before()
+        if before is not None and len(self.anew) < MOST_BEFORE:
+            self.anew.append(before)
+            self.base.begin_anew(before)
+            return self.follow()
+        places = self.history.eras.places(self.events, self.history.foreign)
+        return {self.events[max(place, begins)] for place in places if place >= begins or before is None}
+
+    def place_of(self, moment):
+        return bisect.bisect_left(self.events, moment, key=lambda event: event.moment)
+
+    def begun_before(self):
+        """When the service began anew before the base, if what followed shows it; else None."""
+        eras = self.history.eras
+        found = [(sign.since, eras.latest(sign.until)) for sign in eras.signs]
+        return max((moment for since, moment in found if since < moment < self.base.moment), default=None)
+
+    def at_event(self, place, cache):
+        event = self.events[place]
+        if event is self.keep:
+            self.kept = Base(self.history, event.moment, self.since, event in self.restarts)
+        super().at_event(place, cache)
+
+    def put_in(self, lost):
+        for event in lost:
+            event.moment = event.read = max(event.moment, self.base.moment)
+        super().put_in(lost)
+
+    def ranges(self):
+        ends = [cut.place for cut in self.cuts[1:]] + [len(self.events)]
+        return list(zip(self.cuts, ends))
+
+    def ended(self, questions):
+        """The questions whose process has ended: they get no answer."""
+        ends = [event.moment for event in self.events if event in self.restarts]
+        return [each for each in questions if any(each.moment < end for end in ends)]
+
+    def windows(self, judged, program, until):
+        """The windows of the questions that are to be judged, each with the moment at which the next
+        one begins, and the results. `until` is a moment to which time passes in the last one, or
+        None."""
+        places = {event: place for place, event in enumerate(self.events)}
+        for cut, end in self.ranges():
+            own = [each for each in judged if cut.place <= places.get(each.answer, places.get(each, -1)) < end]
+            if not own:
+                continue
+            window = self.window(cut, end, own, program)
+            if until is not None and end == len(self.events):
+                window.maker.add(until // 1000 - self.history.first + FIRST_MOMENT, "tick", order=until)
+            if len(window.lines) > MOST_LINES - 200:
+                raise TooLong
+            ends = self.events[end].moment if end < len(self.events) else float("inf")
+            yield window, ends, window.results()[0]
+
+
+def place_to_keep(events, target, latest, foreign):
+    """The last event up to a place, and not after a moment, that follows an answer or query of an
+    earlier moment; None if there is none."""
+    for place in range(min(target, len(events) - 1), 0, -1):
+        event, before = events[place], events[place - 1]
+        if event.moment <= latest and before.moment < event.moment and is_output(before, foreign):
+            return event
+    return None
+

@@ -1,0 +1,277 @@
+"""Tests of --follow: captures that grow in pieces, in a pipe and in a folder whose files turn over."""
+import contextlib
+import fcntl
+import io
+import itertools
+import os
+import pathlib
+import queue
+import signal
+import subprocess
+import tempfile
+import termios
+import threading
+import time
+import unittest.mock
+
+import many
+from forwarder_explain import command, comparing, configuration, following
+from forwarder_explain.capture import Capture
+from forwarder_explain.traffic import Question
+from making import address, asked
+from office import FIRST, ONE, OTHER, Scene
+
+HERE = pathlib.Path(__file__).resolve().parent
+CAPTURES = HERE / "captures"
+TOOL = HERE.parent / "forwarder-explain"
+LONGEST = 10  # seconds that a line may take; it takes one, and a machine that has much to do some more
+PIECED = "answers", "connections", "dropped", "failures", "forgotten_alias", "gaps", "kept_before", "lost", "restarted"
+
+
+class Followed:
+    """A run with --follow whose lines are read as they come."""
+
+    def __init__(self, program, capture, *options):
+        self.run = subprocess.Popen(
+            [TOOL, "--program", program, "--follow", *options, "office.toml", capture],
+            cwd=CAPTURES,
+            env={**os.environ, "TZ": "UTC"},
+            stdin=subprocess.PIPE,
+            stdout=subprocess.PIPE,
+            stderr=subprocess.PIPE,
+        )
+        self.came = queue.Queue()
+        threading.Thread(target=self.read, daemon=True).start()
+
+    def read(self):
+        for line in self.run.stdout:
+            self.came.put(line.decode())
+        self.came.put(None)
+
+    def lines(self, count):
+        """The next lines, each of which has to come soon; fewer if they do not."""
+        found = []
+        with contextlib.suppress(queue.Empty):
+            while len(found) < count:
+                line = self.came.get(timeout=LONGEST)
+                if line is None:
+                    break
+                found.append(line)
+        return found
+
+    def write(self, octets):
+        self.run.stdin.write(octets)
+        self.run.stdin.flush()
+
+    def wait(self):
+        """Waits until all that was written was read."""
+        until = time.monotonic() + LONGEST
+        while time.monotonic() < until and any(fcntl.ioctl(self.run.stdin, termios.FIONREAD, bytes(4))):
+            time.sleep(0.01)
+
+    def end(self, number=None):
+        """The lines that are left, standard error and the status, after the end of the pipe or a
+        signal."""
+        if number is None:
+            self.run.stdin.close()
+        else:
+            self.run.send_signal(number)
+        left = self.lines(1000)
+        said = self.run.stderr.read().decode()
+        return left, said, self.run.wait(LONGEST)
+
+
+def stored(name, ending):
+    path = CAPTURES / f"{name}.{ending}"
+    return path.read_text() if path.exists() else ""
+
+
+def capture_of(name):
+    return next(CAPTURES.glob(f"{name}.pcap*")).read_bytes()
+
+
+def in_pieces(octets, sizes):
+    at = 0
+    for size in itertools.cycle(sizes):
+        if at >= len(octets):
+            return
+        yield octets[at : at + size]
+        at += size
+
+
+def through_a_pipe(program):
+    """Pieces that end anywhere in a packet: what is said is what a whole run says, in another
+    order. A restart is said twice: when it shows, and at the end."""
+    for name in PIECED:
+        run, octets = Followed(program, "-"), capture_of(name)
+        for piece in in_pieces(octets, (7, 3, 61, 150, 700)):
+            run.write(piece)
+            run.wait()
+        printed, said, status = run.end()
+        wanted = stored(name, "expected").splitlines(keepends=True)
+        wanted += [line for line in wanted if line.startswith("the service has begun")]
+        errors = stored(name, "errors").replace(f"{name}.pcap", "-")
+        met = sorted(printed), sorted(said.splitlines()), status
+        yield name, met, (sorted(wanted), sorted(errors.splitlines()), int("DIFFERENT" in "".join(wanted)))
+
+
+def packets_of(octets):
+    """A classic capture's header, and its packets with the heads of each."""
+    packets, at = [], 24
+    while at < len(octets):
+        size = 16 + int.from_bytes(octets[at + 8 : at + 12], "little")
+        packets.append(octets[at : at + size])
+        at += size
+    return octets[:24], packets
+
+
+def in_a_folder(program):
+    """Two names take turns, as in a ring: each file has some packets, the first half of one before
+    the other half. Each line comes soon after its answer. A file is removed, and a text is no capture.
+    """
+    head, packets = packets_of(capture_of("answers"))
+    wanted = stored("answers", "expected").splitlines(keepends=True)
+    # How many lines are known after each group of packets: questions 1 to 9 take 4, 2, 4, 2, 4, 2, 2
+    # packets, and the last two 6 together.
+    groups, lines = (6, 6, 8, 6), (2, 2, 3, 2)
+    with tempfile.TemporaryDirectory() as folder:
+        folder = pathlib.Path(folder)
+        (folder / "text").write_text("no capture\n")
+        run = Followed(program, folder, "--from", "2026-11-28T14:03")
+        for turn, (group, count) in enumerate(zip(groups, lines)):
+            with open(folder / f"seen.pcap{turn % 2}", "wb", 0) as file:
+                file.write(head)
+                for packet in packets[:group]:
+                    file.write(packet[:40])
+                    time.sleep(0.01)
+                    file.write(packet[40:])
+            del packets[:group]
+            yield f"turn {turn}", run.lines(count), wanted[:count]
+            del wanted[:count]
+            if turn == 2:
+                (folder / "seen.pcap1").unlink()
+        left, _, status = run.end(signal.SIGTERM)
+    yield "the end", (left, status), (wanted, 0)
+
+
+def a_file_written_anew(program):
+    """tcpdump begins anew and empties its file while that is read."""
+    head, packets = packets_of(capture_of("answers"))
+    wanted = stored("answers", "expected").splitlines(keepends=True)
+    with tempfile.TemporaryDirectory() as folder:
+        path = pathlib.Path(folder) / "seen.pcap"
+        path.write_bytes(head + b"".join(packets[:6]))
+        run = Followed(program, path, "--from", "2026-11-28T14:03")
+        yield "first", run.lines(2), wanted[:2]
+        path.write_bytes(head + b"".join(packets[6:]))
+        yield "anew", run.lines(7), wanted[2:9]
+        left, said, status = run.end(signal.SIGTERM)
+    noted = f"forwarder-explain: {path}: seen.pcap was written anew before all of it was read\n"
+    yield "the end", (left, said, status), (wanted[9:], noted, 0)
+
+
+def ended_by_a_signal(program):
+    """Questions that are open are explained, as at the end of a capture, and the summary is printed.
+    """
+    for number in (signal.SIGINT, signal.SIGTERM):
+        run = Followed(program, "-", "--summary")
+        run.write(capture_of("failures"))
+        run.wait()
+        printed, said, status = run.end(number)
+        yield number, ("".join(printed), said, status), (stored("failures", "summary"), "", 0)
+    run = Followed(program, "-")
+    head, packets = packets_of(capture_of("answers"))
+    run.write(head + b"".join(packets[:5]))
+    first = run.lines(1)
+    printed, said, status = run.end(signal.SIGINT)
+    yield "open", (first, printed[0].partition(": ")[2], status), (
+        stored("answers", "expected").splitlines(keepends=True)[:1],
+        "no answer: the capture ended, or the question was not taken\n",
+        0,
+    )
+
+
+def without_an_answer(program):
+    """The answer to a question is missing. That is said at 5,000 ms, two seconds after the deadline,
+    since the service goes on; what is asked at 8,000 ms shows that it is later."""
+    scene, name = Scene(), asked("www.example.com")
+    scene.question(0, ONE, 1, name)
+    port = scene.query(0.2, FIRST, name)
+    scene.reply(10.2, FIRST, port, name, answers=[address(300, 192, 0, 2, 80)])
+    scene.fetched(4000, OTHER, 2, asked("new.example.com"), 60, (192, 0, 2, 81))
+    scene.fetched(8000, OTHER, 3, asked("more.example.com"), 60, (192, 0, 2, 82))
+    run = Followed(program, "-")
+    run.write(scene.pcap())
+    unanswered = "14:03:00.000 10.0.0.7:40000 udp www.example.com A - -: asked 192.0.2.1:53 (answered in 10 ms)"
+    yield "lines", [line for line in run.lines(3) if " www." in line], [f"{unanswered}; no answer was captured\n"]
+    yield "status", run.end()[2], 0
+
+
+def wrong_words(program):
+    """What is for whole captures alone is refused, and so is a folder that is not there."""
+    for words in (["--at", "14:03"], ["--to", "14:03"], ["--script", "s"]):
+        printed, said, status = Followed(program, "-", *words).end()
+        refusal = f"forwarder-explain: error: {words[0]} is not for --follow"
+        yield words, (printed, said.splitlines()[-1], status), ([], refusal, 2)
+    wanted = [], "forwarder-explain: /nowhere: No such file or directory\n", 2
+    yield "/nowhere", Followed(program, "/nowhere").end(), wanted
+
+
+def packet_by_packet(program):
+    """A round after each packet, with no more than a few events before it: what is carried on is
+    what the questions after it need."""
+    os.environ["TZ"] = "UTC"
+    time.tzset()
+    settings = configuration.read(CAPTURES / "office.toml", program)
+    with unittest.mock.patch.multiple(following, PAUSE=0, SETTLED=0, CONTEXT=4):
+        for path in sorted(CAPTURES.glob("*.pcap*")):
+            printed = []
+            words = stored(path.stem, "options").split()
+            summary = followed(program, settings, path.read_bytes(), printed.append, words=words)
+            wanted = (stored(path.stem, "followed") or stored(path.stem, "expected")).splitlines()
+            yield path.stem, sorted(printed + list(summary.verdict())), sorted(wanted)
+
+
+def followed(program, settings, octets, show, after=lambda follower: None, words=()):
+    """The summary of a capture that comes packet by packet; `show` is called with each line."""
+    options = command.arguments(["--program", program, "--follow", *words, "office.toml", "-"])
+
+    def show_row(row):
+        show(row.line())
+        for line in row.differs() if row.result.same == comparing.DIFFERENT else ():
+            show(line)
+
+    follower = following.Follower(options, settings, show_row, lambda *_: None, lambda _: None)
+    for packet in Capture(io.BytesIO(octets)).packets():
+        follower.take(packet)
+        after(follower)
+    return follower.end()
+
+
+def nothing_grows(program):
+    """With twice as many questions no more are remembered than the last seconds have."""
+    settings, most = configuration.read(CAPTURES / "office.toml", program), []
+    for count in (2000, 4000):
+        largest = [0]
+
+        def look(follower):
+            notes = [each for said in follower.base.notes.values() for each in said] if follower.base else []
+            kept = {each for each in [*follower.events, *notes] if isinstance(each, Question)}
+            largest[0] = max(largest[0], len(kept) + len(follower.live.questions) + len(follower.queries.is_step))
+
+        calls = iter(range(10**9))
+        followed(program, settings, many.many(count, 4.0), lambda _: None, lambda f: next(calls) % 1000 or look(f))
+        most.append(largest[0])
+    yield most, most[1] < 1.2 * most[0], True
+
+
+ALL = [
+    through_a_pipe,
+    in_a_folder,
+    a_file_written_anew,
+    ended_by_a_signal,
+    without_an_answer,
+    wrong_words,
+    packet_by_packet,
+    nothing_grows,
+]
