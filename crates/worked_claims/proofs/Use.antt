@@ -16,7 +16,7 @@ use Rattle.step_values.specs.Values.{Action, reply_in_action, from_client, ask_u
 use Rattle.step_table.proofs.Played.{a, b, name_data, address, server, config}
 use Rattle.theorem_use.specs.Standing.{standing}
 use Rattle.theorem_use.specs.Use.{HasRoom, AsksToLookUp, LeadsToEnd, UsesWhatStands}
-use Rattle.worked_claims.proofs.Texts.{question_text, client, step_of}
+use Rattle.worked_claims.proofs.Texts.{with_flags, question_text, client, step_of}
 use Rattle.worked_claims.proofs.Accepted.{asked}
 use Rattle.worked_claims.proofs.ServerDenials.{there_is_none, is_not_there, no_address, name_error, none_carried}
 use Rattle.worked_claims.proofs.ServerDenials.{error_carried}
@@ -142,4 +142,34 @@ a_known_error_is_used : (w : List (List ℕ)) (is : List ℕ)
 unfolding route_of
 a_known_error_is_used w is uses =
     let once = uses.1 client (address a) (name_error ∷ []) (looks_up asks_on) error_carried room_for_error tt in
+    true≢false (sym (ap is_reply once.actions))
+
+-- ---- asked for again without RD
+
+-- the same question with all flags clear (RFC 1035 4.1.1)
+abbrev plain_text : List ℕ
+plain_text = with_flags 7 0 0 1
+
+abbrev again_plainly : List Action → Step
+again_plainly actions = step_of 2000 (1048592 ∷ []) (from_client client plain_text) actions
+
+looks_up_plainly : (actions : List Action) → AsksToLookUp config (again_plainly actions) client (address a)
+unfolding first_question question_at octets_end name_within walk_in name_step route_of
+looks_up_plainly actions = record {
+  octets = plain_text;
+  sends = refl;
+  taken = refl;
+  opcode = refl;
+  reads = refl;
+  served = refl;
+  route = 0;
+  on_route = refl;
+}
+
+-- what stands is used for it, too
+a_known_denial_is_used_without_rd : (w : List (List ℕ)) (is : List ℕ)
+    → UsesWhatStands config (again_plainly asks_on ∷ there_is_none ∷ asked ∷ []) (is ∷ w) → ⊥
+unfolding route_of
+a_known_denial_is_used_without_rd w is uses =
+    let once = uses.1 client (address a) (no_address ∷ []) (looks_up_plainly asks_on) none_carried room_for_none tt in
     true≢false (sym (ap is_reply once.actions))
