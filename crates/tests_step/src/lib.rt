@@ -3,6 +3,8 @@
 #![tactic(auto)]
 
 #[cfg(test)]
+mod many;
+#[cfg(test)]
 mod quiet;
 #[cfg(test)]
 mod runs;
