@@ -150,6 +150,9 @@ def why_a_text_is_no_configuration(program):
         ("version = 1\nversion = 1\n", "the text is no TOML: see line 2, column 1: duplicate key", 1),
         ('version = 1\nlisten = "127.0.0.1:53\n',
          "the text is no TOML: see line 2, column 23: invalid string; what line 2, column 10 opens is not closed", 1),
+        ("version = 1\n[limits]\ncache = 64m\n",
+         "the text is no TOML: see line 3, column 9: invalid value, expected a string, number, boolean, date-time, array "
+         "or inline table; digits alone, without quotation marks: it counts record sets, not octets", 1),
         ("Version = 1\n", f'{missing}: there is "Version"; keys are in small letters: `version`', 3),
         ("verison = 1\n", f'{missing}: there is "verison"; did you mean `version`?', 3),
         ("colour = 1\n", missing, 3),

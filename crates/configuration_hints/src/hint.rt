@@ -26,6 +26,8 @@ pub enum Hint {
     Quotes,
     /// A number has quotation marks.
     NoQuotes,
+    /// A number has a unit or quotation marks; what it counts.
+    Counts(&'static str),
     /// The bracket or quotation mark at this position is not closed.
     NotClosed(Position),
     /// A route is no table of an array.
@@ -36,14 +38,40 @@ pub enum Hint {
     SmallLetters(&'static str),
     /// This key is nearly the one that was met.
     Nearly(&'static str),
+    /// This key is one of the document.
+    AtTop(&'static str),
+    /// This key is one of `limits`.
+    OfLimits(&'static str),
+    /// This key is one of a route.
+    OfRoute(&'static str),
     /// An address is of IPv6.
     OnlyIpv4,
     /// A name is given for an address.
     AddressNotName,
     /// A port is missing.
     PortMissing,
+    /// A port follows another character than a colon.
+    PortAfterColon,
+    /// A port or a name is that of TLS.
+    NotEncrypted,
+    /// An interface follows an address.
+    NoInterface,
+    /// Several servers are in one string.
+    OneServer,
+    /// Several addresses to listen at are in one string.
+    OneAddress,
+    /// All addresses to listen at are spelled in another way.
+    AllAddresses,
+    /// A domain and its servers are in one string.
+    RouteParts,
     /// A suffix begins with a dot, or with `*`.
     SuffixAlone,
+    /// A suffix is a network.
+    Network,
+    /// This character of a name can't be seen.
+    Unseen(char),
+    /// This letter of a name is Cyrillic, and others of its label are Latin.
+    Cyrillic(char),
 }
 
 impl fmt::Display for Hint {
@@ -59,9 +87,26 @@ impl fmt::Display for Hint {
                 "{character:?} is not ASCII: write the label in its form that begins with `xn--`"
             ),
             Hint::Character(character) => write!(f, "{character:?} can't be in it"),
+            Hint::Unseen(character) => write!(
+                f,
+                "U+{:04X} can't be seen: type the name again",
+                u32::from(*character)
+            ),
+            Hint::Cyrillic(letter) => write!(
+                f,
+                "{letter:?} (U+{:04X}) is Cyrillic among Latin letters: type the name again",
+                u32::from(*letter)
+            ),
             Hint::NotClosed(position) => write!(f, "what {position} opens is not closed"),
             Hint::SmallLetters(key) => write!(f, "keys are in small letters: `{key}`"),
             Hint::Nearly(key) => write!(f, "did you mean `{key}`?"),
+            Hint::AtTop(key) => write!(f, "`{key}` belongs above the first line in brackets"),
+            Hint::OfLimits(key) => write!(f, "`{key}` is a key of `[limits]`"),
+            Hint::OfRoute(key) => write!(f, "`{key}` is a key of `[[route]]`"),
+            Hint::Counts(what) => write!(
+                f,
+                "digits alone, without quotation marks: it counts {what}"
+            ),
             _ => f.write_str(self.words()),
         }
     }
@@ -83,6 +128,14 @@ impl Hint {
             Hint::OnlyIpv4 => "only addresses of IPv4 can be given",
             Hint::AddressNotName => "an address is wanted, no name",
             Hint::PortMissing => "the port is missing, as in `192.0.2.1:53`",
+            Hint::PortAfterColon => "the port follows a colon, as in `192.0.2.1:53`",
+            Hint::NotEncrypted => "the port follows a colon, and nothing is encrypted",
+            Hint::NoInterface => "no interface can be given",
+            Hint::OneServer => "each server is a string of its own",
+            Hint::OneAddress => "only one address can be given",
+            Hint::AllAddresses => "all addresses are `0.0.0.0`, as in `0.0.0.0:53`",
+            Hint::RouteParts => "a domain is the `suffix` of a route, its servers are in `servers`",
+            Hint::Network => "a network is written as a name: `10.in-addr.arpa` for 10.0.0.0/8",
             Hint::SuffixAlone =>
                 "a suffix is for all names below it: leave out what is before its first label",
             _ => "",

@@ -4,7 +4,10 @@
 
 mod hint;
 mod keys;
+mod limits;
+mod names;
 mod opened;
+mod peers;
 mod strings;
 mod toml_text;
 

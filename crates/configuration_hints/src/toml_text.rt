@@ -1,6 +1,7 @@
 //! Hints for a text that is no TOML.
 
 use crate::hint::Hint;
+use crate::limits::hint_for_limit;
 use crate::opened::open_after;
 use crate::strings::{first_not_ascii, has_leading_zero};
 use suffix_routes::Position;
@@ -13,7 +14,7 @@ pub fn hint_for_text(octets: &[u8], at: usize) -> Option<Hint> {
         return Some(hint);
     }
     if is_value_wanted(before) {
-        return hint_for_value(word(rest));
+        return hint_for_value(key_before(before), word(rest));
     }
     hint_for_opened(before, rest)
 }
@@ -53,6 +54,25 @@ fn is_value_wanted(before: &[u8]) -> bool {
     }
 }
 
+/// The bare key whose value follows these octets; empty if there is none.
+fn key_before(before: &[u8]) -> &[u8] {
+    match before.trim_ascii_end().strip_suffix(b"=") {
+        Some(text) => last_word(text.trim_ascii_end()),
+        None => &[],
+    }
+}
+
+/// The octets at the end that may be a bare key.
+fn last_word(text: &[u8]) -> &[u8] {
+    match text
+        .rsplit(|octet| !octet.is_ascii_alphanumeric() && *octet != b'_')
+        .next()
+    {
+        Some(word) => word,
+        None => text,
+    }
+}
+
 /// The octets at the front that may belong to one value without quotation marks.
 fn word(rest: &[u8]) -> &[u8] {
     let end = rest.iter().position(|octet| !is_of_word(*octet));
@@ -63,8 +83,8 @@ fn is_of_word(octet: u8) -> bool {
     octet.is_ascii_alphanumeric() || matches!(octet, b'.' | b':' | b'-' | b'_' | b'+')
 }
 
-/// The hint for a value without quotation marks.
-fn hint_for_value(word: &[u8]) -> Option<Hint> {
+/// The hint for a value of this key without quotation marks.
+fn hint_for_value(key: &[u8], word: &[u8]) -> Option<Hint> {
     let first = word.first()?;
     if is_like_boolean(word) {
         return Some(Hint::Boolean);
@@ -73,7 +93,7 @@ fn hint_for_value(word: &[u8]) -> Option<Hint> {
         return Some(Hint::Quotes);
     }
     if word.iter().any(|octet| octet.is_ascii_alphabetic()) {
-        return Some(Hint::DigitsAlone);
+        return Some(hint_for_limit(key, Hint::DigitsAlone));
     }
     if has_leading_zero(word) {
         return Some(Hint::LeadingZero);

@@ -6,7 +6,7 @@ use std::test::Fail;
 use suffix_routes::Config;
 
 /// A text up to where the reader of TOML stops, its rest, and the hint.
-const TEXTS: [(&str, &str, &str); 25] = [
+const TEXTS: [(&str, &str, &str); 29] = [
     (
         "version = 1\n[limits]\ncache = ",
         "04096\n",
@@ -15,6 +15,27 @@ const TEXTS: [(&str, &str, &str); 25] = [
     (
         "version = 1\n[limits]\nask_ms = ",
         "1500ms\n",
+        "digits alone, without quotation marks: it counts milliseconds",
+    ),
+    (
+        "version = 1\n[limits]\ncache=",
+        "64m\n",
+        "digits alone, without quotation marks: it counts record sets, not octets",
+    ),
+    (
+        "version = 2\nlimits = { stale_s  = ",
+        "1h }\n",
+        "digits alone, without quotation marks: it counts seconds",
+    ),
+    // The number of tries counts tries; an array is of no limit.
+    (
+        "version = 1\n[limits]\ntries = ",
+        "4x\n",
+        "a number has digits alone",
+    ),
+    (
+        "version = 1\n[limits]\ncache = [",
+        "64m]\n",
         "a number has digits alone",
     ),
     (
@@ -106,7 +127,7 @@ const TEXTS: [(&str, &str, &str); 25] = [
 ];
 
 /// A configuration, and the hint for its first fault.
-const FAULTS: [(&str, &str); 22] = [
+const FAULTS: [(&str, &str); 34] = [
     ("version = 1\ncolour = 1", ""),
     (
         "version = 1\nListen = 1",
@@ -120,8 +141,20 @@ const FAULTS: [(&str, &str); 22] = [
     ),
     ("version = \"1\"", "it is written without quotation marks"),
     (
-        "version = 1\nlimits = { cache = \"1\" }",
+        "version = 1\nlimits = { tries = \"1\" }",
         "it is written without quotation marks",
+    ),
+    (
+        "version = 1\nlimits = { cache = \"64m\" }",
+        "digits alone, without quotation marks: it counts record sets, not octets",
+    ),
+    (
+        "version = 1\nlimits = { deadline_ms = \"8s\" }",
+        "digits alone, without quotation marks: it counts milliseconds",
+    ),
+    (
+        "version = 2\nlimits = { stale_s = \"1h\" }",
+        "digits alone, without quotation marks: it counts seconds",
     ),
     (
         "version = 1\nlisten = \"192.168.001.001:53\"",
@@ -147,6 +180,20 @@ const FAULTS: [(&str, &str); 22] = [
         "version = 1\nlisten = \"192.0.2.1\u{ff1a}53\"",
         "'\u{ff1a}' (U+FF1A) is not ASCII",
     ),
+    (
+        "version = 1\nlisten = \"*:53\"",
+        "all addresses are `0.0.0.0`, as in `0.0.0.0:53`",
+    ),
+    (
+        "version = 1\nlisten = \":53\"",
+        "all addresses are `0.0.0.0`, as in `0.0.0.0:53`",
+    ),
+    (
+        "version = 1\nlisten = \"10.0.0.53:53, 10.0.0.54:53\"",
+        "only one address can be given",
+    ),
+    // One address, with a space in it.
+    ("version = 1\nlisten = \"10.0.0.53 :53\"", ""),
     // The fault of a number's range says itself what is allowed.
     ("version = 1\nlisten = \"192.0.2.256:53\"", ""),
     ("version = 1\nlisten = \"192.0.2.1005:53\"", ""),
@@ -165,13 +212,111 @@ const FAULTS: [(&str, &str); 22] = [
     ),
     (
         "version = 1\n[[route]]\nsuffix = \"10.0.0.0/8\"",
+        "a network is written as a name: `10.in-addr.arpa` for 10.0.0.0/8",
+    ),
+    (
+        "version = 1\n[[route]]\nsuffix = \"corp/8\"",
         "'/' can't be in it",
+    ),
+    (
+        "version = 1\n[[route]]\nsuffix = \"/corp/10.0.0.10\"",
+        "a domain is the `suffix` of a route, its servers are in `servers`",
+    ),
+    (
+        "version = 1\n[[route]]\nsuffix = \"corp.ex\u{200b}ample\"",
+        "U+200B can't be seen: type the name again",
+    ),
+    (
+        "version = 1\n[[route]]\nsuffix = \"corp.\u{435}xample\"",
+        "'\u{435}' (U+0435) is Cyrillic among Latin letters: type the name again",
+    ),
+    // A label that is Cyrillic as a whole is meant, whatever the other labels are.
+    (
+        "version = 1\n[[route]]\nsuffix = \"corp.\u{440}\u{444}\"",
+        "'\u{440}' is not ASCII: write the label in its form that begins with `xn--`",
     ),
     (
         "version = 1\n[[route]]\nsuffix = \"*.corp\"",
         "a suffix is for all names below it: leave out what is before its first label",
     ),
     ("version = 1\n[[route]]\nsuffix = \"a..b\"", ""),
+];
+
+/// A server, and the hint for it.
+const SERVERS: [(&str, &str); 15] = [
+    (
+        "192.0.2.1:53 192.0.2.2:53",
+        "each server is a string of its own",
+    ),
+    ("192.0.2.1,192.0.2.2", "each server is a string of its own"),
+    (
+        "192.0.2.1@53",
+        "the port follows a colon, as in `192.0.2.1:53`",
+    ),
+    (
+        "192.0.2.1#5353",
+        "the port follows a colon, as in `192.0.2.1:53`",
+    ),
+    (
+        "192.0.2.1@853",
+        "the port follows a colon, and nothing is encrypted",
+    ),
+    (
+        "192.0.2.1@853#dns.example",
+        "the port follows a colon, and nothing is encrypted",
+    ),
+    (
+        "192.0.2.1:853#dns.example",
+        "the port follows a colon, and nothing is encrypted",
+    ),
+    ("192.0.2.1:53%eth0", "no interface can be given"),
+    ("192.0.2.1#53@eth0", "no interface can be given"),
+    ("192.0.2.1@eth0", "no interface can be given"),
+    (
+        "/corp/10.0.0.10",
+        "a domain is the `suffix` of a route, its servers are in `servers`",
+    ),
+    // What the server is comes first.
+    (
+        "2001:db8::1@853#dns.example",
+        "only addresses of IPv4 can be given",
+    ),
+    ("fe80::1%eth0", "only addresses of IPv4 can be given"),
+    ("dns.example@853", "an address is wanted, no name"),
+    // All addresses are none to ask.
+    ("*:53", ""),
+];
+
+/// A table with a key that it may not have, and the hint for it.
+const KEYS: [(&str, &str); 14] = [
+    (
+        "[limits]\nlisten = \"10.0.0.53:53\"",
+        "`listen` belongs above the first line in brackets",
+    ),
+    (
+        "[[route]]\nlisten = \"10.0.0.53:53\"",
+        "`listen` belongs above the first line in brackets",
+    ),
+    (
+        "[[route]]\nversion = 2",
+        "`version` belongs above the first line in brackets",
+    ),
+    ("cache-size = 1", "`cache` is a key of `[limits]`"),
+    ("stale_s = 1", "`stale_s` is a key of `[limits]`"),
+    ("server = \"\"", "`servers` is a key of `[[route]]`"),
+    ("deny = true", "`deny` is a key of `[[route]]`"),
+    (
+        "[limits]\nsuffix = \".\"",
+        "`suffix` is a key of `[[route]]`",
+    ),
+    ("[[route]]\nTRIES = 1", "`tries` is a key of `[limits]`"),
+    // A key of the table itself comes first.
+    ("listen-address = \"\"", "did you mean `listen`?"),
+    ("[limits]\ncache_size = 1", "did you mean `cache`?"),
+    ("[[route]]\nserver = \"\"", "did you mean `servers`?"),
+    // Two of four octets differ from `deny`.
+    ("[[route]]\ndns = \"\"", ""),
+    ("dns = \"\"", ""),
 ];
 
 /// Whether this is the text of a hint, empty if there is none.
@@ -221,6 +366,33 @@ fn faults(rt: HostRuntime) -> Result<(), Fail> {
         assert!(rt;
             is_said_of_fault(rt.alloc(), text, wanted)?,
             "row {row}: {wanted}"
+        );
+    }
+    Ok(())
+}
+
+#[test]
+fn faults_of_servers(rt: HostRuntime) -> Result<(), Fail> {
+    let heap = rt.alloc();
+    for (server, wanted) in &SERVERS {
+        let route = "version = 1\n[[route]]\nsuffix = \".\"\nservers = [\"";
+        let text = format!(in heap; "{route}{server}\"]")?;
+        assert!(rt;
+            is_said_of_fault(heap, text.as_str(), wanted)?,
+            "{server}: {wanted}"
+        );
+    }
+    Ok(())
+}
+
+#[test]
+fn faults_of_keys(rt: HostRuntime) -> Result<(), Fail> {
+    let heap = rt.alloc();
+    for (key, wanted) in &KEYS {
+        let text = format!(in heap; "version = 2\n{key}")?;
+        assert!(rt;
+            is_said_of_fault(heap, text.as_str(), wanted)?,
+            "{key}: {wanted}"
         );
     }
     Ok(())

@@ -1,0 +1,68 @@
+//! Hints for suffixes.
+
+use crate::hint::Hint;
+use crate::strings::first_not_ascii;
+use dns_name::NameFault;
+
+/// The hint for a text that is no name.
+pub(crate) fn hint_for_name(text: &[u8], fault: NameFault) -> Option<Hint> {
+    if text.starts_with(b"/") {
+        return Some(Hint::RouteParts);
+    }
+    if text.len() > 1 && (text.starts_with(b".") || text.starts_with(b"*.")) {
+        return Some(Hint::SuffixAlone);
+    }
+    if fault != NameFault::BadCharacter {
+        return None;
+    }
+    if is_network(text) {
+        return Some(Hint::Network);
+    }
+    if let Some(character) = first_not_ascii(text) {
+        return Some(hint_for_character(text, character));
+    }
+    let octet = text.iter().find(|octet| !is_of_name(**octet))?;
+    Some(Hint::Character(char::from(*octet)))
+}
+
+/// A letter, a digit, a hyphen or a low line, or the dot between labels.
+fn is_of_name(octet: u8) -> bool {
+    octet.is_ascii_alphanumeric() || octet == b'-' || octet == b'_' || octet == b'.'
+}
+
+/// Digits, dots and a slash, as in 10.0.0.0/8.
+fn is_network(text: &[u8]) -> bool {
+    text.contains(&b'/')
+        && text.iter().all(|octet| octet.is_ascii_digit() || matches!(*octet, b'.' | b'/'))
+}
+
+/// The hint for a name whose first character that is not ASCII is this one.
+fn hint_for_character(text: &[u8], character: char) -> Hint {
+    if is_unseen(character) {
+        Hint::Unseen(character)
+    } else if matches!(character, '\u{400}'..='\u{52f}') && is_latin_too(text) {
+        Hint::Cyrillic(character)
+    } else {
+        Hint::NotAsciiName(character)
+    }
+}
+
+/// A space that is not ASCII, or a character without a width.
+fn is_unseen(character: char) -> bool {
+    matches!(
+        character,
+        '\u{a0}' | '\u{ad}' | '\u{2000}'..='\u{200f}' | '\u{2028}'..='\u{202f}'
+            | '\u{205f}'..='\u{206f}' | '\u{3000}' | '\u{feff}'
+    )
+}
+
+/// Whether the first label that is not ASCII has Latin letters, too.
+fn is_latin_too(text: &[u8]) -> bool {
+    match text
+        .split(|octet| *octet == b'.')
+        .find(|label| !label.is_ascii())
+    {
+        Some(label) => label.iter().any(|octet| octet.is_ascii_alphabetic()),
+        None => false,
+    }
+}
