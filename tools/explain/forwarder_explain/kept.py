@@ -17,6 +17,7 @@ UNSERVED, ANY_CLASS = frozenset((0, 41, *range(128, 256))), 255  # types, and a 
 BEFORE = 1000  # milliseconds before the capture in which what was kept before is put into a script
 MOST_LATE = 9000  # milliseconds beyond the deadline in which a query may leave for a question
 PROMPT = 50  # milliseconds in which a query leaves for a question that has come
+STILL = 300_000  # microseconds without a query or answer for which something called
 NEAR_END = 1000  # milliseconds before its end in which what is kept may count as ended
 
 
@@ -135,6 +136,8 @@ class History:
         self.preferred, self.place, self.last_output = {}, 0, 0
         self.wanting, self.served = defaultdict(list), defaultdict(list)
         self.answered, self.foreign, self.uncalled = set(), set(), {}
+        self.late_tries = []  # when the time of a try was over, and when the next one left long after
+        self.awaited = set()  # replies that call for an answer over UDP at once
         self.needless = set()  # questions that what is kept answers, and for which a query left
         self.eras = Eras()
 
@@ -202,8 +205,16 @@ class History:
         else:
             self.look_for_twice(query, of, youngest)
         self.needless.update(served)
+        self.note_late_try(query, self.open.get(of))
         self.open[of] = query
         self.last_asked[of] = self.last_output = query.moment
+
+    def note_late_try(self, query, before):
+        """Notes a query that left long after the time of the one before it was over."""
+        if before is not None:
+            due = before.moment + 1000 * self.configuration.limits["ask_ms"]
+            if query.moment - due > STILL:
+                self.late_tries.append((due, query.moment))
 
     def waits(self, question, since):
         return question not in self.answered and question.moment >= since
@@ -267,6 +278,9 @@ class History:
             return
         self.close(query, now, verdict)
         if verdict == "answered":
+            waiting = (question for question in self.wanting[asked.of()] if question not in self.answered)
+            if any(question.answer and not question.connection for question in waiting):
+                self.awaited.add(reply)
             if reply.is_lost:
                 self.rests_on.update((question, comparing.LOST) for question in self.wanting[asked.of()])
             self.preferred[self.configuration.route_of(asked.key)] = query.server

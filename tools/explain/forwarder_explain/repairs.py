@@ -117,13 +117,13 @@ class Repairs:
         ]
         for each in self.outcome.asked:
             due = each.moment + self.limits["ask_ms"]
-            if self.is_late(self.seen(due), each.closed):
+            if self.is_late(due, each.closed):
                 dues[due] = dues.get(due, 0) + 1
         for question in self.window.questions:
             line = self.window.maker.line_of.get(question)
             if line is not None and question.asked and question.wants_answer():
                 due = self.outcome.moments[line.number - 1] + self.limits["deadline_ms"]
-                if self.is_late(self.seen(due), self.answers.get(question, (None,))[0]):
+                if self.is_late(due, self.answers.get(question, (None,))[0]):
                     dues[due] = dues.get(due, 0) + 1
         for due, count in dues.items():
             for _ in range(count):
@@ -144,11 +144,14 @@ class Repairs:
         return (self.window.maker.micros(due), 0) if stall is None else (stall.since, 1e9)
 
     def is_late(self, due, line):
-        """Whether something that was due happened long after, or not before the end."""
-        last = self.outcome.moments[-1]
+        """Whether something that was due happened long after, or not before the end; after a stall also
+        if it happened after the second thing that came in it."""
+        seen, last = self.seen(due), self.outcome.moments[-1]
         if line is not None and line.note == LATE:
             return False
-        return due <= last and (line is None or self.outcome.moments[line.number - 1] > due + SOON)
+        if line is not None and self.stall_at(due) is not None and line.order > self.order_of(due):
+            return self.may((due, "due"), 2)
+        return seen <= last and (line is None or self.outcome.moments[line.number - 1] > seen + SOON)
 
     def is_meant(self, line):
         each = self.outcome.by_line.get(line.target)

@@ -8,9 +8,10 @@ from typing import NamedTuple
 
 from . import messages
 from .eras import is_output
+from .kept import STILL
 from .traffic import Answer, Ending, Question, Reply
 
-STILL = 300_000  # microseconds without a query or answer for which something called
+CLOCKS = 2_000  # microseconds by which the end of a try may be earlier by the service's clock
 NEAR = 60_000  # microseconds by which the end of a try may come late
 
 
@@ -23,16 +24,29 @@ class Stall(NamedTuple):
 
 def found_in(history, events, limits):
     """The stalls that a history shows."""
-    came, stalls = [], []
+    came, stalls, last = [], [], 0
     for event in events:
         if isinstance(event, (Question, Reply, Ending)):
             came.append(event)
         elif is_output(event, history.foreign):
-            calls = (each for each in came if event.moment - each.moment > STILL)
-            first = next((each for each in calls if calls_for(history, each, event, limits)), None)
-            if first is not None:
-                stalls.append(Stall(first.moment, event.moment))
-            came = []
+            before = [each for each in came if event.moment - each.moment > STILL]
+            calls = [each.moment for each in before if calls_for(history, each, event, limits)]
+            calls += [due - CLOCKS for due, left in history.late_tries if last < due and left - NEAR < event.moment <= left]
+            if calls:
+                stalls.append(Stall(min(calls), event.moment))
+            came, last = [], event.moment
+    return stalls
+
+
+def united(known, found):
+    """The stalls of two lists; those that overlap are one. What was read late calls for nothing any
+    more when it comes, so stalls that are known may be found no more."""
+    stalls = []
+    for stall in sorted([*known, *found]):
+        if stalls and stall.since < stalls[-1].until:
+            stalls[-1] = stalls[-1]._replace(until=max(stalls[-1].until, stall.until))
+        else:
+            stalls.append(stall)
     return stalls
 
 
@@ -43,14 +57,12 @@ def calls_for(history, event, output, limits):
         return False
     if isinstance(event, Question):
         found = history.found.get(event)
-        if event.refused or not event.wants_answer() or not event.answer or found and found.was_asked:
+        if event.refused or not event.wants_answer() or not event.answer:
             return False
+        if found and found.was_asked:
+            return outlasts(event, limits)
         return not ends_try(output.moment - event.moment, limits)
-    if isinstance(event, Reply):
-        waiting = output.question if isinstance(output, Answer) else None
-        is_for_it = waiting is not None and waiting.asked == event.query.asked
-        return is_for_it and waiting.moment < event.moment and history.verdicts.get(event) == "answered"
-    return False
+    return event in history.awaited
 
 
 def was_made_late(history, answer):
@@ -65,6 +77,13 @@ def was_made_late(history, answer):
         return False
     in_time = found.used[-1].end() - (answer.question.moment + NEAR) // 1000
     return bool(left) and left[-1] < in_time // 1000
+
+
+def outlasts(question, limits):
+    """Whether a question got another answer than a failure when its deadline was over: it was read
+    later than it came."""
+    waited = question.answer.moment - question.moment
+    return messages.code(question.answer.octets) in (0, 3) and waited > 1000 * limits["deadline_ms"] + NEAR
 
 
 def ends_try(waited, limits):

@@ -11,7 +11,7 @@ from .leaps import set_forward
 from .losses import Losses
 from .messages import CNAME
 from .replay import MOST_LINES, MOST_OCTETS
-from .stalls import found_in, mark
+from .stalls import found_in, mark, united
 from .traffic import Answer, Query, Question, Refusal, Reply
 from .window import Window
 from .wording import counted, moment_text
@@ -47,18 +47,23 @@ class Cutter:
         self.restarted, self.restarts, self.stalls = restarted, set(), []
         for _ in range(MOST_HISTORIES):
             found = self.follow()
-            stalls = found_in(self.history, self.events, configuration.limits)
+            stalls = united(self.stalls, found_in(self.history, self.events, configuration.limits))
             if found <= self.restarts and not self.history.lost and stalls == self.stalls:
                 return
             # With what was lost there may be fewer stalls, and with both fewer new beginnings.
             if self.history.lost:
                 self.put_in(self.history.lost)
+                self.stand_still([])
             elif stalls != self.stalls:
-                self.stalls = stalls
-                mark(self.events, stalls)
+                self.stand_still(stalls)
             else:
                 self.restarts |= found
         self.follow()
+
+    def stand_still(self, stalls):
+        """Takes it that the service stood still in these spans."""
+        self.stalls = stalls
+        mark(self.events, stalls)
 
     def put_in(self, lost):
         """Puts events among the others that the capture lost."""

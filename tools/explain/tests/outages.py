@@ -125,6 +125,70 @@ def stood_still():
     return scene.pcap()
 
 
+def stood_still_twice():
+    """One question waits over two spans in which the service stands still: in the first one its reply
+    comes, and the time of its try ends; in the second one the reply to the next try. Another question
+    for the same comes in the first one, and one for another name, by which its end is seen."""
+    scene, www, new = Scene(), asked("www.example.com"), asked("new.example.com")
+    scene.question(0, ONE, 1, www)
+    port = scene.query(0.2, FIRST, www)
+    scene.reply(160.2, FIRST, port, www, answers=[address(300, 192, 0, 2, 80)])
+    scene.question(970, OTHER, 2, www)
+    scene.question(975, OTHER, 3, new)
+    port = scene.query(1500.2, SECOND, www)
+    other = scene.query(1500.3, FIRST, new)
+    scene.reply(1510.2, SECOND, port, www, answers=[address(300, 192, 0, 2, 80)])
+    scene.reply(1512.3, FIRST, other, new, answers=[address(60, 192, 0, 2, 81)])
+    scene.answer(2100.2, ONE, 1, www, answers=[address(300, 192, 0, 2, 80)])
+    scene.answer(2100.3, OTHER, 2, www, answers=[address(300, 192, 0, 2, 80)])
+    scene.answer(2100.4, OTHER, 3, new, answers=[address(60, 192, 0, 2, 81)])
+    # Accepted at 2100 ms: 300 - 2.900 s are left.
+    scene.question(5000, OTHER, 4, www)
+    scene.answer(5000.2, OTHER, 4, www, answers=[address(297, 192, 0, 2, 80)])
+    return scene.pcap()
+
+
+def stood_still_past_the_deadline():
+    """A question joins one that waits, while the service stands still, and is read when the deadline
+    of the other is over."""
+    scene, www = Scene(), asked("www.example.com")
+    scene.question(0, ONE, 1, www)
+    scene.query(0.2, FIRST, www)
+    scene.question(100, OTHER, 2, www)
+    scene.question(500, OTHER, 3, asked("new.example.com"))
+    port = scene.query(3400.2, SECOND, www)
+    scene.answer(3400.3, ONE, 1, www, 0x8182)
+    other = scene.query(3400.4, FIRST, asked("new.example.com"))
+    scene.reply(3410.2, SECOND, port, www, answers=[address(300, 192, 0, 2, 80)])
+    scene.answer(3411, OTHER, 2, www, answers=[address(300, 192, 0, 2, 80)])
+    scene.reply(3412.4, FIRST, other, asked("new.example.com"), answers=[address(60, 192, 0, 2, 81)])
+    scene.answer(3413, OTHER, 3, asked("new.example.com"), answers=[address(60, 192, 0, 2, 81)])
+    return scene.pcap()
+
+
+def stood_still_and_asked_anew():
+    """The service reads a reply when its try is over, asks on, and then the deadline of the question is
+    over, too. For one that came in the same span, it asks anew."""
+    scene, www, new = Scene(), asked("www.example.com"), asked("new.example.com")
+    found = [address(60, 192, 0, 2, 80)]
+    scene.fetched(0, OTHER, 1, asked("old.example.com"), 60, (192, 0, 2, 79))
+    scene.question(20, ONE, 2, www)
+    port = scene.query(20.2, FIRST, www)
+    scene.reply(820.2, FIRST, port, www, answers=found)
+    scene.question(1045, OTHER, 3, www)
+    scene.question(1070, OTHER, 4, new)
+    late = scene.query(3900.2, SECOND, www)
+    port = scene.query(3900.3, FIRST, www)
+    scene.answer(3900.4, ONE, 2, www, 0x8182)
+    other = scene.query(3900.5, FIRST, new)
+    scene.reply(3915.5, FIRST, other, new, answers=[address(60, 192, 0, 2, 81)])
+    scene.answer(3916, OTHER, 4, new, answers=[address(60, 192, 0, 2, 81)])
+    scene.reply(3942.2, SECOND, late, www, answers=found)
+    scene.reply(4070.3, FIRST, port, www, answers=found)
+    scene.answer(4071, OTHER, 3, www, answers=found)
+    return scene.pcap()
+
+
 def stood_still_over_tcp():
     """A question over TCP is read five seconds late, as the lifetime in its answer says."""
     scene, www, client = Scene(), asked("www.example.com"), "10.0.0.9:50000"
@@ -185,6 +249,9 @@ ALL = [
     read_a_little_late,
     stood_still,
     stood_still_over_an_end,
+    stood_still_twice,
+    stood_still_past_the_deadline,
+    stood_still_and_asked_anew,
     stood_still_over_tcp,
     closed,
     joined_late,
