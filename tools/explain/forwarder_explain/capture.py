@@ -4,10 +4,13 @@ from typing import NamedTuple
 
 import dpkt
 
+from .wording import counted
+
 MOST_OCTETS = 1 << 18  # of one packet, by any system's limits
 LATEST = 253_402_300_800_000_000  # microseconds: the beginning of the year 10000
 BLOCK = 12  # octets of a block of pcapng at least
 INTERFACE, OLD_PACKET, SIMPLE_PACKET, STATISTICS, PACKET = 1, 2, 3, 5, 6
+LOST = (5, 7)  # options of a block of statistics: what the interface and the system dropped
 SECTION = b"\x0a\x0d\x0d\x0a"  # in either order
 
 
@@ -48,7 +51,7 @@ class Capture:
     """The packets of a capture, and in `notes` what was wrong with it, a line each."""
 
     def __init__(self, file):
-        self.source, self.notes = Source(file), []
+        self.source, self.notes, self.lost = Source(file), [], {}
         begins = self.source.ahead
         if not begins:
             raise Unreadable("is empty")
@@ -61,7 +64,10 @@ class Capture:
 
     def packets(self):
         """Each packet, in the order of the file."""
-        return self.reader()
+        yield from self.reader()
+        if any(self.lost.values()):
+            lost = counted(sum(self.lost.values()), "packet")
+            self.notes.append(f"the capture lost {lost}, by its own count")
 
     def _classic(self):
         try:
@@ -138,13 +144,9 @@ class Capture:
         elif kind == SIMPLE_PACKET:
             self.note_once("packets without a time (simple packet blocks) are left out")
         elif kind == STATISTICS:
-            lost = [
-                struct.unpack_from(order + "Q", value)[0]
-                for code, value in options_of(order, body[12:])
-                if code in (5, 7)
-            ]
-            if any(lost):
-                self.notes.append(f"the capture lost {sum(lost):,} packets, by its own count")
+            counts = {code: value for code, value in options_of(order, body[12:]) if code in LOST}
+            lost = sum(struct.unpack_from(order + "Q", value)[0] for value in counts.values())
+            self.lost[struct.unpack_from(order + "I", body)[0]] = lost  # since the beginning of the capture
         return None
 
     def note_once(self, text):

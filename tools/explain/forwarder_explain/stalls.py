@@ -31,7 +31,8 @@ def found_in(history, events, limits):
         elif is_output(event, history.foreign):
             before = [each for each in came if event.moment - each.moment > STILL]
             calls = [each.moment for each in before if calls_for(history, each, event, limits)]
-            calls += [due - CLOCKS for due, left in history.late_tries if last < due and left - NEAR < event.moment <= left]
+            late = (due for due, left in history.late_tries if last < due and left - NEAR < event.moment <= left)
+            calls += [due - CLOCKS for due in late]
             if calls:
                 stalls.append(Stall(min(calls), event.moment))
             came, last = [], event.moment

@@ -80,6 +80,17 @@ def one_identifier():
     return scene.pcap()
 
 
+def one_identifier_without_a_question():
+    """Two messages of one client under one identifier, which both get an answer without a question. The
+    answers come in another order."""
+    scene, nothing = Scene(), bytes(8)
+    scene.udp(0, ONE, FORWARDER, b"\0\7\x11\0" + nothing)  # operation 2
+    scene.udp(0.1, ONE, FORWARDER, b"\0\7\1\0" + nothing)
+    scene.udp(0.2, FORWARDER, ONE, b"\0\7\x81\x81" + nothing)
+    scene.udp(0.3, FORWARDER, ONE, b"\0\7\x91\x84" + nothing)
+    return scene.pcap()
+
+
 def forged_reply_used():
     """A fault: a reply from another address is answered."""
     scene = Scene()
@@ -111,4 +122,13 @@ def taken_late():
     return scene.pcap()
 
 
-ALL = [short_answers, from_port_0, a_server_asks, one_port, one_identifier, forged_reply_used, taken_late]
+ALL = [
+    short_answers,
+    from_port_0,
+    a_server_asks,
+    one_port,
+    one_identifier,
+    one_identifier_without_a_question,
+    forged_reply_used,
+    taken_late,
+]

@@ -69,6 +69,14 @@ def clock_set_forward():
     return scene.pcap()
 
 
+def counted_losses():
+    """The capture says, in the middle and at its end, how many packets it lost: the interface dropped
+    some, and the system others."""
+    scene = Scene()
+    scene.fetched(0, ONE, 1, asked("www.example.com"), 60, (192, 0, 2, 80))
+    return scene.pcapng() + scene.statistics(0, 4, (2, 0)) + scene.statistics(0, 9, (1203, 40))
+
+
 def short_replies():
     """The question of a query is missing. Before its reply come some of 2 to 11 octets."""
     scene, name = Scene(), asked("www.example.com")
@@ -82,4 +90,4 @@ def short_replies():
     return scene.pcap()
 
 
-ALL = [lost, another_program, clock_set_back, clock_set_forward, short_replies]
+ALL = [lost, another_program, clock_set_back, clock_set_forward, counted_losses, short_replies]

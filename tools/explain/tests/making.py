@@ -104,6 +104,12 @@ class Capturing:
             parts.append(block(6, head + packet + bytes(-len(packet) % 4)))
         return b"".join(parts)
 
+    @staticmethod
+    def statistics(interface, received, dropped):
+        """A block that says what an interface received, and what it and the system dropped."""
+        options = struct.pack(">2HQ2HQ2HQ4x", 4, 8, sum(dropped), 5, 8, dropped[0], 7, 8, dropped[1])
+        return block(5, struct.pack(">3I", interface, 0, received) + options)
+
 
 def block(kind, body):
     size = struct.pack(">I", 12 + len(body))
