@@ -9,7 +9,7 @@ import time
 from .messages import (
     REFUSED, SERVFAIL, UNKNOWN, alias_reply_to, code, exactly, expect, framed, is_answer, is_long_answer, long_reply_to, name,
     question, reply_to, take_frame)
-from .running import Forwarder, Server, case
+from .running import Forwarder, Server, case, resident
 
 
 @case
@@ -261,9 +261,14 @@ def small_reader(port):
     return client
 
 
-def taken_by_the_system():
-    """How many octets the system takes of a server whose client reads nothing."""
-    with socket.create_server(("127.0.0.1", 0)) as server, small_reader(server.getsockname()[1]):
+def any_reader(port):
+    """A client like any other."""
+    return socket.create_connection(("127.0.0.1", port))
+
+
+def taken_by_the_system(reader):
+    """How many octets the system takes of a server whose client, such a reader, reads nothing."""
+    with socket.create_server(("127.0.0.1", 0)) as server, reader(server.getsockname()[1]):
         stream, _ = server.accept()
         stream.setblocking(False)
         taken, until = 0, time.monotonic() + 1
@@ -283,7 +288,7 @@ def clients_that_read_late_or_not_at_all(program):
     nothing, gets them all."""
     octets = 60000
     server = Server(by_udp=lambda query: long_reply_to(query, octets))
-    count = taken_by_the_system() // octets + 14
+    count = taken_by_the_system(small_reader) // octets + 14
     with Forwarder(program, [server.port]) as forwarder, small_reader(forwarder.port) as deaf, small_reader(forwarder.port) as slow:
         asked = [question(f"n{n:03}.example", UNKNOWN, n) for n in range(count)]
         for client in (deaf, slow):
@@ -299,6 +304,39 @@ def clients_that_read_late_or_not_at_all(program):
             is_long_answer(message, asked[struct.unpack(">H", message[:2])[0]], octets)
         other = question("other.example", UNKNOWN)
         is_long_answer(forwarder.ask_tcp(other), other, octets)
+
+
+MEBIBYTE = 1 << 20
+
+
+@case
+def memory_of_replies_that_were_taken_is_free_again(program):
+    """Twenty-four clients read late: 500,000 octets or more are kept for each, and none once they have read all, while
+    they stay open."""
+    server, asked = Server(by_udp=lambda query: long_reply_to(query, 60000, seconds=300)), question(kind=UNKNOWN)
+    with Forwarder(program, [server.port]) as forwarder:
+        pid, size = forwarder.process.pid, len(framed(forwarder.ask_tcp(asked)))
+        count = taken_by_the_system(any_reader) // size + 9
+
+        def reads_late():
+            client = forwarder.tcp()
+            client.sendall(framed(asked) * count)
+            return client
+
+        with reads_late() as first:
+            exactly(first, count * size)
+        before = resident(pid)
+        clients, until = [reads_late() for _ in range(24)], time.monotonic() + 5
+        while resident(pid) < before + 8 * MEBIBYTE and time.monotonic() < until:
+            time.sleep(0.01)
+        kept = resident(pid) - before
+        for client in clients:
+            exactly(client, count * size)
+        left = resident(pid) - before
+        for client in clients:
+            client.close()
+        if kept < 8 * MEBIBYTE or left > 4 * MEBIBYTE:
+            raise AssertionError(f"{kept} octets were kept, and {left} are left")
 
 
 def chain_reply_to(query):

@@ -190,27 +190,33 @@ def a_client_comes_where_no_descriptor_is_left(program):
 def many_asks_in_turn_under_few_descriptors(program):
     """The descriptor of each query is free again once the query ended: by a reply, by a failure, by a cut reply and
     another over TCP. So is that of each client over TCP that closed."""
-    server, cut = Server(), Server(by_udp=cut_reply_to)
-    for servers, over_tcp in (([server.port], False), ([free_port(), server.port], False), ([cut.port], False), ([server.port], True)):
-        with Forwarder(program, servers, descriptors=64) as forwarder:
+    server, cut, gone = Server(), Server(by_udp=cut_reply_to), free_port()
+    for port, over_tcp in ((server.port, False), (gone, False), (cut.port, False), (server.port, True)):
+        with Forwarder(program, [port], descriptors=64) as forwarder:
             before = descriptors(forwarder.process.pid)
             ask = forwarder.ask_tcp if over_tcp else forwarder.ask_udp
             for n in range(200):
-                is_answer(ask(question(f"n{n}.example")), question(f"n{n}.example"))
+                asked = question(f"n{n}.example")
+                answer = ask(asked)
+                if port == gone:
+                    expect(code(answer), SERVFAIL)
+                else:
+                    is_answer(answer, asked)
             are_free_again(forwarder.process.pid, before)
 
 
 @case
 def memory_of_datagrams_and_connections_is_used_again(program):
     """After 20,000 questions by UDP, and after 2,000 over connections of their own, at most 1 MiB more is in use than
-    after the first 1,000 and 100."""
+    after the first 1,000 and 100. Each question has 4,000 octets behind it, so that what is kept of each shows."""
     server = Server(by_udp=lambda query: reply_to(query, seconds=300))
+    asked = question() + bytes(4000)
     with Forwarder(program, [server.port]) as forwarder, forwarder.udp() as client:
         def by_udp():
-            client.send(question())
+            client.send(asked)
             client.recv(65535)
 
-        for ask, first, rest in ((by_udp, 1000, 19000), (lambda: forwarder.ask_tcp(question()), 100, 1900)):
+        for ask, first, rest in ((by_udp, 1000, 19000), (lambda: forwarder.ask_tcp(asked), 100, 1900)):
             for _ in range(first):
                 ask()
             before = resident(forwarder.process.pid)

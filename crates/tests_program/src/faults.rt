@@ -6,7 +6,7 @@ use refusing_allocator::Refusing;
 use replay_script::{ReplayFault, read_config, replay_run};
 use std::alloc::{AllocError, Allocator, Global};
 use std::env::FillError;
-use std::io::{ErrorKind, Read};
+use std::io::{ErrorKind, Read, Write};
 use std::rt::Env;
 use std::test::Fail;
 use std::{fs, io};
@@ -48,6 +48,51 @@ struct Broken;
 impl Read for Broken {
     fn read(&mut self, _buffer: &mut [u8]) -> io::Result<usize> {
         Err(io::Error::from(ErrorKind::Other))
+    }
+}
+
+/// A reader or a writer. A signal interrupts each call of it once, and it is made again.
+#[derive(Drop)]
+struct Interrupted<T: Drop> {
+    inner: T,
+    /// The last call was interrupted.
+    was_interrupted: bool,
+}
+
+impl<T: Drop> Interrupted<T> {
+    fn new(inner: T) -> Interrupted<T> {
+        Interrupted {
+            inner,
+            was_interrupted: false,
+        }
+    }
+
+    /// The error of a call that is interrupted.
+    fn interrupted(&mut self) -> io::Result<()> {
+        self.was_interrupted = !self.was_interrupted;
+        if self.was_interrupted {
+            Err(io::Error::from(ErrorKind::Interrupted))
+        } else {
+            Ok(())
+        }
+    }
+}
+
+impl<T: Read + Drop> Read for Interrupted<T> {
+    fn read(&mut self, buffer: &mut [u8]) -> io::Result<usize> {
+        self.interrupted()?;
+        self.inner.read(buffer)
+    }
+}
+
+impl<T: Write + Drop> Write for Interrupted<T> {
+    fn write(&mut self, octets: &[u8]) -> io::Result<usize> {
+        self.interrupted()?;
+        self.inner.write(octets)
+    }
+
+    fn flush(&mut self) -> io::Result<()> {
+        self.inner.flush()
     }
 }
 
@@ -97,6 +142,16 @@ fn readers_that_fail(rt: HostRuntime) {
         assert_eq!(rt; ended, Err(ReplayFault::Device), "{end} octets read");
         assert_eq!(rt; printed, Printed::Nothing, "{end} octets read");
     }
+}
+
+/// The replay goes on, and prints what it prints without signals.
+#[test]
+fn signals_interrupt_reader_and_writer(rt: HostRuntime) {
+    let mut input = Interrupted::new(SCRIPT);
+    let mut writer = Interrupted::new(Vec::new(rt.alloc()));
+    let ended = replay_run(rt.alloc(), rt.alloc(), &mut input, &mut writer);
+    assert_eq!(rt; ended, Ok(()));
+    assert_eq!(rt; writer.inner.as_slice(), PRINTED);
 }
 
 #[test]

@@ -4,6 +4,8 @@
 #![tactic(auto)]
 
 #[cfg(test)]
+mod ages;
+#[cfg(test)]
 mod faults;
 #[cfg(test)]
 mod puts;
@@ -17,5 +19,7 @@ mod sockets;
 mod system;
 #[cfg(test)]
 mod turns;
+#[cfg(test)]
+mod watched;
 #[cfg(test)]
 mod worked;
