@@ -6,7 +6,7 @@ use Rattle.std.proofs.Math.Nat.{mod-eq_of_lt, mod_self}
 use Rattle.std.proofs.lemmas.Bool.{cases_order}
 use Rattle.std.specs.Map.{keys_of}
 use Rattle.std.specs.Prelude.{min, unwrap_or}
-use Rattle.stream_connections.specs.Open.{first_number}
+use Rattle.stream_connections.specs.Listed.{first_number}
 use Rattle.ready_sockets.specs.Rounds.{IsAmong, first_of}
 use Rattle.socket_wire.specs.Trying.{next_from}
 use Rattle.socket_wire.specs.InTurn.{FindsOr, IsGivenWithin, IsTriedInRound, IsTriedInRounds}

@@ -6,7 +6,7 @@ use Rattle.std.proofs.Common.{List, length, Bool, true, false, is_some, Option, 
 use Rattle.std.proofs.lemmas.Bool.{cases_order}
 use Rattle.std.specs.Map.{keys_of}
 use Rattle.socket_wire.specs.InTurn.{StaysListed}
-use Rattle.stream_connections.specs.Open.{first_number}
+use Rattle.stream_connections.specs.Listed.{first_number}
 use Rattle.socket_wire.specs.Trying.{TriesUpTo, next_from}
 use Rattle.socket_wire.proofs.Firsts.{IsFound, first_number_is_found}
 use Rattle.socket_wire.proofs.InTurn.{Fits, begins_anew, differ, goes_on}

@@ -2,22 +2,21 @@
 -- that stays noted is given.
 use Rattle.std.proofs.Common.{◌≡◌, refl, ap, sym, ◌∙◌, subst, ℕ, zero, suc, ◌+◌, ◌-◌, ◌^◌, ◌<◌, ◌≤◌}
 use Rattle.std.proofs.Common.{inl, inr}
-use Rattle.std.proofs.Common.{List, length, Bool, Option, Some, None, arith, is_some, ◌*◌}
+use Rattle.std.proofs.Common.{List, length, Bool, Option, Some, None, arith, ◌*◌}
 use Rattle.std.specs.Map.{keys_of}
-use Rattle.std.specs.Option.{option_map}
 use Rattle.std.specs.Prelude.{unwrap_or}
 use Rattle.ready_sockets.specs.declared.origin.Origin.{Origin}
 use Rattle.ready_sockets.specs.declared.readiness.Round.{Round}
 use Rattle.socket_wire.specs.declared.sockets.Sockets.{Sockets}
 use Rattle.socket_wire.specs.InTurn.{IsGivenWithin, IsTriedWithin, StaysListed}
-use Rattle.stream_connections.specs.Open.{first_number}
+use Rattle.stream_connections.specs.Listed.{first_number}
 use Rattle.ready_sockets.specs.Rounds.{Gives, next_token}
 use Rattle.ready_sockets.specs.Tokens.{HasToken, token_of}
 use Rattle.socket_wire.specs.Trying.{TriesAsk, TriesClient, TriesServer, TriesUpTo, ask_in_turn}
 use Rattle.socket_wire.specs.Trying.{client_in_turn}
-use Rattle.socket_wire.specs.Trying.{next_from, number_of, server_in_turn}
+use Rattle.socket_wire.specs.Trying.{next_from, server_in_turn}
 use Rattle.socket_wire.proofs.InTurn.{given_within, tried_within}
-use Rattle.socket_wire.proofs.TriedInRounds.{FindsIn, IsListedFrom, TriesTo, found_in_rounds}
+use Rattle.socket_wire.proofs.TriedInRounds.{FindsIn, TriesTo, found_in_rounds}
 
 -- A number that is found within `tries` tries is found at one of them.
 pub tried_at : {X : Type 0} (tries size number : ℕ) (listed : ℕ → List (ℕ × X)) (from : ℕ → ℕ)
@@ -49,19 +48,6 @@ given_at (suc turns) token tokens last goes (inr later) =
     let found = given_at turns token rest (λ turn. last (turn + 1)) (λ turn. goes (turn + 1)) behind
     in
     (found.0 + 1, (omega arith, found.1.1))
-
--- The client that is found does not depend on whether it has been silent for too long.
-number_first : {X : Type 0} (late : ℕ × X → Bool) (found : Option (ℕ × X))
-    → number_of (option_map (λ entry. (entry.0, late entry)) found)
-    ≡ option_map (λ entry. entry.0) found
-number_first late (Some entry) = refl
-number_first late None = refl
-
-some_first : {X : Type 0} (late : ℕ × X → Bool) (found : Option (ℕ × X))
-    → is_some {T = ℕ × Bool} (option_map (λ entry. (entry.0, late entry)) found)
-    ≡ is_some (option_map (λ entry. entry.0) found)
-some_first late (Some entry) = refl
-some_first late None = refl
 
 module _ {R A Streams Listeners : Type 0} where
   -- The port of an ask that stays listed is tried within one try more than ports are ever listed
@@ -95,31 +81,21 @@ module _ {R A Streams Listeners : Type 0} where
       (λ try. (before try).connections.servers) listed
       enough)
 
-  client_found : (now : ℕ) (sockets : Sockets R A Streams Listeners)
-      → number_of (client_in_turn now sockets)
-      ≡ first_number sockets.next_client sockets.connections.clients
-  client_found now sockets = number_first _ _
-
   -- The same of a client.
-  pub client_is_tried : (tries conn : ℕ) (ever : List ℕ) (found : ℕ → Bool) (now : ℕ → ℕ)
+  pub client_is_tried : (tries conn : ℕ) (ever : List ℕ) (found : ℕ → Bool)
       (before after : ℕ → Sockets R A Streams Listeners)
-      → ((try : ℕ) → TriesClient (now try) (found try) (before try) (after try))
+      → ((try : ℕ) → TriesClient (found try) (before try) (after try))
       → ((try : ℕ) → (before (try + 1)).next_client ≡ (after try).next_client)
       → ((try : ℕ) → StaysListed (2 ^ 64) conn ever (keys_of (before try).connections.clients))
       → length ever + 1 ≤ tries
-      → (try : ℕ) × ((try < tries)
-      × (number_of (client_in_turn (now try) (before try)) ≡ Some conn))
-  client_is_tried tries conn ever found now before after one next listed enough =
-      let walk =
+      → (try : ℕ) × ((try < tries) × (client_in_turn (before try) ≡ Some conn))
+  client_is_tried tries conn ever found before after one next listed enough =
       tried_at tries (2 ^ 64) conn (λ try. (before try).connections.clients)
       (λ try. (before try).next_client)
-      (λ try. next try ∙ ((one try).next ∙ ap (next_from (2 ^ 64))
-      (client_found (now try) (before try))))
+      (λ try. next try ∙ (one try).next)
       (tried_within tries (2 ^ 64) conn (before 0).next_client ever
       (λ try. (before try).connections.clients) listed
       enough)
-      in
-      (walk.0, (walk.1.0, client_found (now walk.0) (before walk.0) ∙ walk.1.1))
 
   -- ---- in rounds of twenty tries
 
@@ -142,6 +118,16 @@ module _ {R A Streams Listeners : Type 0} where
   servers_stay (suc done) before at later =
       servers_stay done later.0 at later.1.1
       ∙ ap (λ (s : Sockets R A Streams Listeners). keys_of s.connections.servers) later.1.0.rest
+
+  clients_stay : (done : ℕ) (before at : Sockets R A Streams Listeners)
+      → TriesTo TriesClient done before at
+      → keys_of at.connections.clients ≡ keys_of before.connections.clients
+  unfolding TriesTo
+  clients_stay zero before at same = ap
+      (λ (s : Sockets R A Streams Listeners). keys_of s.connections.clients) same
+  clients_stay (suc done) before at later =
+      clients_stay done later.0 at later.1.1
+      ∙ ap (λ (s : Sockets R A Streams Listeners). keys_of s.connections.clients) later.1.0.rest
 
   -- The port is found in a round of twenty tries.
   abbrev pub FindsAsk : (port : ℕ) → (ever : List ℕ) → Sockets R A Streams Listeners → Type 0
@@ -189,48 +175,28 @@ module _ {R A Streams Listeners : Type 0} where
       (listed round))
       enough
 
-  -- Trying the next client, at whichever moment.
-  abbrev pub TriesSomeClient : Bool → (before after : Sockets R A Streams Listeners) → Type 0
-  TriesSomeClient found before after = (now : ℕ) × TriesClient now found before after
-
   abbrev pub FindsClient : (conn : ℕ) → (ever : List ℕ) → Sockets R A Streams Listeners → Type 0
   FindsClient conn ever before =
-      FindsIn TriesSomeClient (2 ^ 64) conn (λ s. s.next_client) (λ s. s.connections.clients) ever
-      20 before
+      FindsIn TriesClient (2 ^ 64) conn (λ s. s.next_client) (λ s. s.connections.clients) ever 20
+      before
 
-  at_some_moment : (most now : ℕ) (before after : Sockets R A Streams Listeners)
-      → TriesUpTo (TriesClient now) most before after → TriesUpTo TriesSomeClient most before after
-  unfolding TriesUpTo
-  at_some_moment zero now before after same = same
-  at_some_moment (suc most) now before after (inl none) = inl (now, none)
-  at_some_moment (suc most) now before after (inr later) =
-      inr (later.0, ((now, later.1.0), at_some_moment most now later.0 after later.1.1))
-
-  one_told : (now : ℕ) (found : Bool) (before after : Sockets R A Streams Listeners)
-      → TriesClient now found before after
-      → found ≡ is_some (first_number before.next_client before.connections.clients)
-  one_told now found before after try = try.one ∙ some_first _ _
-
-  -- The same of a client, which stays listed in the rounds too: others are closed there.
-  pub client_is_tried_in_rounds : (rounds conn : ℕ) (ever : List ℕ) (now : ℕ → ℕ)
+  -- The same of a client.
+  pub client_is_tried_in_rounds : (rounds conn : ℕ) (ever : List ℕ)
       (before after : ℕ → Sockets R A Streams Listeners)
-      → ((round : ℕ) → TriesUpTo (TriesClient (now round)) 20 (before round) (after round))
+      → ((round : ℕ) → TriesUpTo TriesClient 20 (before round) (after round))
       → ((round : ℕ) → (before (round + 1)).next_client ≡ (after round).next_client)
-      → ((round : ℕ) → IsListedFrom TriesSomeClient (2 ^ 64) conn (λ s. s.next_client)
-      (λ s. s.connections.clients) ever
-      (before round))
+      → ((round : ℕ) → StaysListed (2 ^ 64) conn ever (keys_of (before round).connections.clients))
       → length ever + 20 ≤ 20 * rounds
       → (round : ℕ) × ((round < rounds) × FindsClient conn ever (before round))
-  client_is_tried_in_rounds rounds conn ever now before after one between listed enough =
-      found_in_rounds TriesSomeClient (2 ^ 64) conn (λ s. s.next_client)
-      (λ s. s.connections.clients) ever rounds 20
-      before after
-      (record {
-        told = λ found s s' try. one_told try.0 found s s' try.1;
-        next = λ found s s' try. try.1.next ∙ ap (next_from (2 ^ 64)) (client_found try.0 s);
-      })
-      (λ round. at_some_moment 20 (now round) (before round) (after round) (one round)) between
-      listed enough
+  client_is_tried_in_rounds rounds conn ever before after one between listed enough =
+      found_in_rounds TriesClient (2 ^ 64) conn (λ s. s.next_client) (λ s. s.connections.clients)
+      ever rounds 20 before
+      after (record { told = λ found s s' try. try.one; next = λ found s s' try. try.next }) one
+      between
+      (λ round done at reached.
+      subst (StaysListed (2 ^ 64) conn ever) (sym (clients_stay done (before round) at reached))
+      (listed round))
+      enough
 
 -- A socket that stays noted is given within as many turns of its round as sockets are ever noted
 -- meanwhile.

@@ -2,7 +2,7 @@
 use Rattle.std.specs.Prelude.{◌≡◌, ℕ, zero, suc, ◌+◌, ◌<◌, ◌⊎◌, List, Option, Some, None, unwrap_or}
 use Rattle.std.specs.List.Sorted.{IsStrictlySortedBy}
 use Rattle.std.specs.Ordering.{nat_cmp}
-use Rattle.stream_connections.specs.Open.{first_number}
+use Rattle.stream_connections.specs.Listed.{first_number}
 use Rattle.ready_sockets.specs.Rounds.{IsAmong, next_token}
 use Rattle.socket_wire.specs.Trying.{next_from}
 

@@ -32,7 +32,7 @@ pub record LooksAtAll {R A Streams Listeners : Type 0} (now : ℕ)
     : Type 0 where
   pub between : Sockets R A Streams Listeners
   pub events : TakesEventsIfReady (record before { tried = now }) between
-  pub others : TriesOthers now between after
+  pub others : TriesOthers between after
 
 -- whether a socket or a connection of an ask is open
 abbrev pub has_asks : {R A Streams Listeners : Type 0} → Sockets R A Streams Listeners → Bool
@@ -48,15 +48,29 @@ pub record LooksForAsks {R A Streams Listeners : Type 0}
   pub no_asks : has_asks before ≡ false → after ≡ before
   pub ready : 0 < btree_set_len before.readiness.ready.servers.tokens → after ≡ before
 
--- Looking what is ready: the wire waits only where nothing may be and no round is due, which is
--- every 5 ms.
-pub record Looks {R A Streams Listeners : Type 0} (now : ℕ) (has_waited : Bool)
+-- Looking what is ready, without a wait. Where no round is due, which is every 5 ms, and nothing may
+-- be ready, nothing has changed.
+pub record Looks {R A Streams Listeners : Type 0} (now : ℕ)
     (before after : Sockets R A Streams Listeners) : Type 0 where
-  pub due : 5 ≤ now - before.tried → (has_waited ≡ false) × LooksAtAll now before after
-  pub waits : now - before.tried < 5 → IsNothing before.readiness.ready
-      → (has_waited ≡ true) × TakesEvents before after
+  pub due : 5 ≤ now - before.tried → LooksAtAll now before after
+  pub none : now - before.tried < 5 → IsNothing before.readiness.ready → after ≡ before
   pub goes_on : now - before.tried < 5 → (IsNothing before.readiness.ready → ⊥)
-      → (has_waited ≡ false) × LooksForAsks before after
+      → LooksForAsks before after
+
+-- The end of a turn in which nothing arrived: the wire waits where nothing may be ready any more.
+pub record EndsTurn {R A Streams Listeners : Type 0}
+    (before after : Sockets R A Streams Listeners) : Type 0 where
+  pub more : (IsNothing before.readiness.ready → ⊥) → after ≡ before
+  pub none : IsNothing before.readiness.ready → TakesEvents before after
+
+-- A turn gives its arrival or refusal; where nothing arrived, it ends.
+abbrev pub GivesOrEnds : {R A Streams Listeners : Type 0}
+    → (came : Result (Option (Arrival A)) AllocError)
+    → (result : Result (Arrival A) AllocError)
+    → (before after : Sockets R A Streams Listeners) → Type 0
+GivesOrEnds (Ok (Some arrival)) result before after = (result ≡ Ok arrival) × (after ≡ before)
+GivesOrEnds (Ok None) result before after = (result ≡ Ok Nothing) × EndsTurn before after
+GivesOrEnds (Err refusal) result before after = (result ≡ Err refusal) × (after ≡ before)
 
 -- the result of a turn, by the arrival of what may be ready
 abbrev pub given_of : {A : Type 0} → Result (Option (Arrival A)) AllocError
@@ -65,49 +79,25 @@ given_of (Ok (Some arrival)) = Ok arrival
 given_of (Ok None) = Ok Nothing
 given_of (Err refusal) = Err refusal
 
--- Nothing may be ready any more: the wire waits, and then tries what the events reported.
-pub record WaitsAndTries {R A Streams Listeners : Type 0} (now : ℕ)
+-- Trying what the events of a wait reported, without a wait.
+pub record TriesReported {R A Streams Listeners : Type 0} (now : ℕ)
     (result : Result (Arrival A) AllocError)
     (before after : Sockets R A Streams Listeners) : Type 0 where
-  pub between : Sockets R A Streams Listeners
   pub came : Result (Option (Arrival A)) AllocError
-  pub events : TakesEvents before between
-  pub tries : TriesReady 64 now came between after
+  pub tries : TriesReady 64 now came before after
   pub gives : result ≡ given_of came
 
--- The end of a turn in which nothing arrived: the wire waits, unless it has waited, or more may be
--- ready.
-pub record EndsTurn {R A Streams Listeners : Type 0} (has_waited : Bool) (now : ℕ)
-    (result : Result (Arrival A) AllocError) (before after : Sockets R A Streams Listeners) : Type 0
-  where
-    pub waited : has_waited ≡ true → (result ≡ Ok Nothing) × (after ≡ before)
-    pub more : (IsNothing before.readiness.ready → ⊥) → (result ≡ Ok Nothing) × (after ≡ before)
-    pub none : has_waited ≡ false → IsNothing before.readiness.ready
-        → WaitsAndTries now result before after
-
--- A turn gives its arrival or refusal; where nothing arrived, it ends.
-abbrev pub GivesOrEnds : {R A Streams Listeners : Type 0}
-    → (came : Result (Option (Arrival A)) AllocError)
-    → (has_waited : Bool) (now : ℕ) → (result : Result (Arrival A) AllocError)
-    → (before after : Sockets R A Streams Listeners) → Type 0
-GivesOrEnds (Ok (Some arrival)) has_waited now result before after = (result ≡ Ok arrival)
-    × (after ≡ before)
-GivesOrEnds (Ok None) has_waited now result before after = EndsTurn has_waited now result before
-    after
-GivesOrEnds (Err refusal) has_waited now result before after = (result ≡ Err refusal)
-    × (after ≡ before)
-
--- A turn looks what is ready, and then tries that.
+-- A turn looks what is ready, and then tries that. It waits at its end alone, so what comes while it
+-- waits is tried at another moment.
 pub record TakesTurn {R A Streams Listeners : Type 0} (now : ℕ)
     (result : Result (Arrival A) AllocError)
     (before after : Sockets R A Streams Listeners) : Type 0 where
-  pub has_waited : Bool
   pub came : Result (Option (Arrival A)) AllocError
   pub looked : Sockets R A Streams Listeners
   pub behind : Sockets R A Streams Listeners
-  pub looks : Looks now has_waited before looked
+  pub looks : Looks now before looked
   pub tries : TriesReady 64 now came looked behind
-  pub ends : GivesOrEnds came has_waited now result behind after
+  pub ends : GivesOrEnds came result behind after
 
 -- Where no end is to be reported, a turn is taken.
 pub record TakesTurnAtOnce {R A Streams Listeners : Type 0} (now : ℕ)

@@ -1,6 +1,6 @@
 -- Reading the sockets of clients and of asks.
-use Rattle.std.specs.Prelude.{◌≡◌, ℕ, ◌≤◌, length, Bool, true, false, not, if◌then◌else◌, is_ok}
-use Rattle.std.specs.Prelude.{IfOk}
+use Rattle.std.specs.Prelude.{◌≡◌, ℕ, ◌≤◌, length, Bool, true, false, not, ◌||◌, if◌then◌else◌}
+use Rattle.std.specs.Prelude.{IfOk, is_ok}
 use Rattle.std.specs.Prelude.{List, take, Option, Some, None, Result, Ok, Err}
 use Rattle.std.specs.declared.alloc.AllocError.{AllocError}
 use Rattle.std.specs.Ordering.{nat_cmp}
@@ -26,7 +26,7 @@ use Rattle.socket_wire.specs.Addresses.{peer_at}
 use Rattle.socket_wire.specs.declared.sockets.taking.Tried.{Tried}
 use Rattle.socket_wire.specs.declared.sockets.taking.Tried.TheVariants.{Arrived, Served, Nothing}
 use Rattle.stream_connections.specs.declared.servers.ServerStream.{ServerStream as ServerConnection}
-use Rattle.stream_connections.specs.Listed.{ServesOn}
+use Rattle.stream_connections.specs.Listed.{ServesOn, is_late_on}
 use Rattle.stream_connections.specs.Open.{Connections, ServesServer, without_client, without_server}
 
 -- These are the first `count` octets of the buffer, where it has as many.
@@ -81,6 +81,12 @@ Arrives conn buffer (Some heard.Done) result = result ≡ Ok Served
 Arrives conn buffer (Some heard.Failed) result = result ≡ Ok Served
 Arrives conn buffer None result = result ≡ Ok Nothing
 
+-- The same, unless the client has been silent for too long even so: then nothing arrives.
+abbrev pub ArrivesUnless : {A : Type 0} → (late : Bool) → (conn : ℕ) (buffer : List ℕ) → Option Heard
+    → Result (Tried A) AllocError → Type 0
+ArrivesUnless true conn buffer heard result = result ≡ Ok Served
+ArrivesUnless false conn buffer heard result = Arrives conn buffer heard result
+
 -- whether a client is closed after a read with this result: one whose octets found no memory can't
 -- go on
 abbrev pub is_closed_then : Option Heard → Bool → Bool
@@ -95,15 +101,18 @@ abbrev pub closed_if : {A : Type 0} → Bool → (Connections A → Connections 
     → Connections A
 closed_if is_to_be close connections = if is_to_be then close connections else connections
 
--- Reading the client with this number. No other changes.
+-- Reading the client with this number. One that has been silent for too long even so is closed. No
+-- other changes.
 pub record TakesClient {R A Streams Listeners : Type 0} (conn now : ℕ)
     (result : Result (Tried A) AllocError)
     (before after : Sockets R A Streams Listeners) : Type 0 where
   pub heard : Option Heard
   pub clients : List (ℕ × ClientStream A)
+  pub late : Bool
   pub serves : ServesOn conn heard now after.buffer.value before.connections.clients clients
-  pub arrives : Arrives conn after.buffer.value heard result
-  pub closes : after.connections ≡ closed_if (is_closed_then heard (is_ok result))
+  pub is_late : late ≡ is_late_on conn now before.deadline clients
+  pub arrives : ArrivesUnless late conn after.buffer.value heard result
+  pub closes : after.connections ≡ closed_if (late || is_closed_then heard (is_ok result))
       (without_client conn)
       (record before.connections { clients = clients })
   pub rest : after ≡ record before { connections = after.connections; buffer = after.buffer }

@@ -1,14 +1,12 @@
 -- The sockets that are tried in turn, whatever the events reported.
 use Rattle.std.specs.Prelude.{◌≡◌, ◌≢◌, ℕ, zero, suc, ◌+◌, ◌%◌, ◌^◌, ◌⊎◌, is_some, Bool, true}
-use Rattle.std.specs.Prelude.{false, Option}
-use Rattle.std.specs.Prelude.{Some, None}
+use Rattle.std.specs.Prelude.{false, Option, Some, None}
 use Rattle.ready_sockets.specs.declared.origin.Origin.{Origin}
 use Rattle.ready_sockets.specs.declared.origin.Origin.TheVariants.{Datagrams, Client, Ask, Server}
 use Rattle.ready_sockets.specs.declared.origin.Origin.TheVariants.{Connections as Listener}
 use Rattle.ready_sockets.specs.declared.readiness.Ready.{Ready}
 use Rattle.socket_wire.specs.declared.sockets.Sockets.{Sockets}
-use Rattle.stream_connections.specs.Listed.{first_from}
-use Rattle.stream_connections.specs.Open.{Connections, first_number, without_client}
+use Rattle.stream_connections.specs.Listed.{first_number}
 use Rattle.ready_sockets.specs.Rounds.{Noted}
 
 -- where the next turn begins: one after the number that was found; at 0 after the last one and
@@ -17,33 +15,15 @@ abbrev pub next_from : (size : ℕ) → Option ℕ → ℕ
 next_from size (Some number) = (number + 1) % size
 next_from size None = 0
 
--- the number of the client that was found
-abbrev pub number_of : Option (ℕ × Bool) → Option ℕ
-number_of (Some found) = Some found.0
-number_of None = None
-
--- The client that was found is closed where it has been silent for too long; otherwise it is noted
--- as ready.
-abbrev pub ClosesOrNotes : {A : Type 0} → Option (ℕ × Bool) → (ready ready' : Ready A)
-    → (before after : Connections A)
-    → Type 0
-ClosesOrNotes (Some (conn, true)) ready ready' before after = (ready' ≡ ready)
-    × (after ≡ without_client conn before)
-ClosesOrNotes (Some (conn, false)) ready ready' before after = Noted (Client conn) ready ready'
-    × (after ≡ before)
-ClosesOrNotes None ready ready' before after = (ready' ≡ ready) × (after ≡ before)
-
 -- The socket that was found is noted as ready.
 abbrev pub NotesFirst : {A : Type 0} → (ℕ → Origin) → Option ℕ → (before after : Ready A) → Type 0
 NotesFirst origin (Some number) before after = Noted (origin number) before after
 NotesFirst origin None before after = after ≡ before
 
--- the client whose turn it is, and whether it has been silent for too long
-abbrev pub client_in_turn : {R A Streams Listeners : Type 0} → (now : ℕ)
-    → Sockets R A Streams Listeners
-    → Option (ℕ × Bool)
-client_in_turn now sockets = first_from sockets.next_client now sockets.deadline
-    sockets.connections.clients
+-- the client whose turn it is
+abbrev pub client_in_turn : {R A Streams Listeners : Type 0} → Sockets R A Streams Listeners
+    → Option ℕ
+client_in_turn sockets = first_number sockets.next_client sockets.connections.clients
 
 -- the port of the ask whose turn it is
 abbrev pub ask_in_turn : {R A Streams Listeners : Type 0} → Sockets R A Streams Listeners → Option ℕ
@@ -55,17 +35,14 @@ abbrev pub server_in_turn : {R A Streams Listeners : Type 0} → Sockets R A Str
 server_in_turn sockets = first_number sockets.next_server sockets.connections.servers
 
 -- Trying the next client.
-pub record TriesClient {R A Streams Listeners : Type 0} (now : ℕ) (tried : Bool)
+pub record TriesClient {R A Streams Listeners : Type 0} (tried : Bool)
     (before after : Sockets R A Streams Listeners) : Type 0 where
-  pub one : tried ≡ is_some (client_in_turn now before)
-  pub next : after.next_client ≡ next_from (2 ^ 64) (number_of (client_in_turn now before))
-  pub tries : ClosesOrNotes (client_in_turn now before) before.readiness.ready after.readiness.ready
-      before.connections
-      after.connections
+  pub one : tried ≡ is_some (client_in_turn before)
+  pub next : after.next_client ≡ next_from (2 ^ 64) (client_in_turn before)
+  pub tries : NotesFirst Client (client_in_turn before) before.readiness.ready after.readiness.ready
   pub rest : after ≡ record before {
     next_client = after.next_client;
     readiness = record before.readiness { ready = after.readiness.ready };
-    connections = after.connections;
   }
 
 -- Trying the socket of the next ask.
@@ -113,12 +90,12 @@ pub record BeginsRound {R A Streams Listeners : Type 0}
 
 -- A round: then up to twenty clients, twenty sockets of asks and twenty connections of asks are
 -- tried.
-pub record TriesOthers {R A Streams Listeners : Type 0} (now : ℕ)
+pub record TriesOthers {R A Streams Listeners : Type 0}
     (before after : Sockets R A Streams Listeners) : Type 0 where
   pub begun : Sockets R A Streams Listeners
   pub behind_clients : Sockets R A Streams Listeners
   pub behind_asks : Sockets R A Streams Listeners
   pub begins : BeginsRound before begun
-  pub clients : TriesUpTo (TriesClient now) 20 begun behind_clients
+  pub clients : TriesUpTo TriesClient 20 begun behind_clients
   pub asks : TriesUpTo TriesAsk 20 behind_clients behind_asks
   pub servers : TriesUpTo TriesServer 20 behind_asks after

@@ -7,15 +7,15 @@ use std::io;
 use std::rt::Clock;
 use std::time::{Duration, Instant};
 
-/// A clock: ms since it was made, by the system's monotonic clock. One reading serves all steps of
-/// a turn.
+/// A clock: ms since it was made, by the system's monotonic clock. One reading serves an arrival and
+/// all steps of its turn.
 #[derive(Drop)]
 pub(crate) struct Moments<'a, R: Clock> {
     rt: &'a R,
     started: Instant,
     /// The last moment that was returned.
     pub last: u64,
-    /// Whether the clock was read in this turn.
+    /// Whether the last moment is returned again.
     is_read: bool,
 }
 
@@ -39,15 +39,15 @@ impl<'a, R: Clock> Moments<'a, R> {
         })
     }
 
-    /// Begins another turn.
-    pub fn begin_turn(&mut self)
+    /// Has the clock read again for the next moment.
+    pub fn read_again(&mut self)
         ensures { self.new ≡ record self.old { is_read = false } }
     {
         self.is_read = false;
     }
 
-    /// Returns the moment, in ms. The last one again, where it was returned in this turn already,
-    /// or the clock fails or goes back.
+    /// Returns the moment, in ms. The last one again, where the clock is not to be read again, fails
+    /// or goes back.
     pub fn now(&mut self) -> u64
         ensures told { result ≡ self.new.last }
         ensures rises { self.old.last ≤ self.new.last }

@@ -3,7 +3,7 @@
 ghost use Rattle.std.specs.Prelude.{◌≡◌, [], IfOk};
 ghost use Rattle.socket_wire.specs.Arriving.{AreNew, TellsEnd};
 ghost use Rattle.socket_wire.specs.Attempting.{TriesReady};
-ghost use Rattle.socket_wire.specs.Looking.{EndsTurn, Looks, TakesTurn, TakesTurnAtOnce, has_asks};
+ghost use Rattle.socket_wire.specs.Looking.{EndsTurn, Looks, TakesTurn, TakesTurnAtOnce, TriesReported, has_asks};
 ghost use Rattle.socket_wire.specs.Words.{GivesWords};
 
 mod putting;
@@ -135,51 +135,54 @@ impl<'a, R: Net, A: Allocator + Copy> Sockets<'a, R, A> {
         }
     }
 
+    /// Returns the arrival of a socket that the events of a wait reported. It does not wait.
+    pub fn reported(&mut self, now: u64) -> Result<Arrival<A>, AllocError>
+        ensures { TriesReported now result self.old self.new }
+    {
+        Ok(self.try_ready(now)?.unwrap_or(Arrival::Nothing))
+    }
+
     /// Returns the next arrival where no end is to be reported.
     fn take_turn(&mut self, now: u64) -> Result<Arrival<A>, AllocError>
         ensures { TakesTurn now result self.old self.new }
     {
-        let has_waited = self.look(now);
+        self.look(now);
         match self.try_ready(now)? {
             Some(arrival) => Ok(arrival),
-            None => self.end_turn(has_waited, now),
+            None => {
+                self.end_turn();
+                Ok(Arrival::Nothing)
+            }
         }
     }
 
-    /// Ends a turn in which nothing arrived. Waits where it hasn't waited yet, and nothing may be
-    /// ready any more.
-    fn end_turn(&mut self, has_waited: bool, now: u64) -> Result<Arrival<A>, AllocError>
-        ensures { EndsTurn has_waited now result self.old self.new }
+    /// Ends a turn in which nothing arrived. Waits where nothing may be ready any more. What is
+    /// reported then is for `reported`, at the moment after the wait.
+    fn end_turn(&mut self)
+        ensures { EndsTurn self.old self.new }
     {
-        if has_waited || !self.readiness.is_empty() {
-            return Ok(Arrival::Nothing);
+        if self.readiness.is_empty() {
+            self.readiness.wait(PAUSE);
         }
-        self.readiness.wait(PAUSE);
-        Ok(self.try_ready(now)?.unwrap_or(Arrival::Nothing))
     }
 
-    /// Looks what is ready, and waits where nothing is. True where it waited. Before sockets are
-    /// tried that no event reported, events are taken only where something may be ready. Otherwise
-    /// the turn waits for them once these turn out empty.
-    fn look(&mut self, now: u64) -> bool
-        ensures { Looks now result self.old self.new }
+    /// Looks what is ready, without a wait. Before sockets are tried that no event reported, events
+    /// are taken only where something may be ready. Otherwise the turn waits for them once these
+    /// turn out empty.
+    fn look(&mut self, now: u64)
+        ensures { Looks now self.old self.new }
     {
         if now.saturating_sub(self.tried) >= PAUSE {
             self.tried = now;
             if !self.readiness.is_empty() {
                 self.readiness.wait(0);
             }
-            self.try_others(now);
-            return false;
+            self.try_others();
+            return;
         }
-        if self.readiness.is_empty() {
-            self.readiness.wait(PAUSE);
-            return true;
-        }
-        if self.readiness.has_no_server() && self.has_asks() {
+        if !self.readiness.is_empty() && self.readiness.has_no_server() && self.has_asks() {
             self.readiness.wait(0);
         }
-        false
     }
 
     /// Returns the arrival of a socket that may be ready. `None` where none is ready any more, or

@@ -64,8 +64,23 @@ impl<R: Net + Clock, A: Allocator + Copy> Wire<A> for MioWire<'_, R, A> {
         if self.faults == u64::MAX {
             return Ok(Arrival::Nothing);
         }
-        self.moments.begin_turn();
-        match self.sockets.arrival(self.moments.last) {
+        self.moments.read_again();
+        let now = self.moments.now();
+        let came = match self.sockets.arrival(now) {
+            Ok(Arrival::Nothing) => {
+                // What came during the wait has the moment after it.
+                self.moments.read_again();
+                let now = self.moments.now();
+                self.sockets.reported(now)
+            }
+            came => came,
+        };
+        match came {
+            Ok(Arrival::Nothing) => {
+                // The ticks have a moment of their own.
+                self.moments.read_again();
+                Ok(Arrival::Nothing)
+            }
             Ok(arrival) => Ok(arrival),
             Err(_) => {
                 self.faults += 1;

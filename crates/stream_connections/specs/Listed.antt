@@ -1,5 +1,5 @@
 -- The connections of clients that are open, by their numbers.
-use Rattle.std.specs.Prelude.{◌≡◌, ℕ, Bool, List, [], ◌∷◌, Option, None, Some, Result, if◌then◌else◌, slice_get}
+use Rattle.std.specs.Prelude.{◌≡◌, ℕ, Bool, false, List, [], ◌∷◌, Option, None, Some, Result, if◌then◌else◌, slice_get}
 use Rattle.std.specs.Option.{option_map}
 use Rattle.std.specs.Ordering.{nat_cmp}
 use Rattle.std.specs.declared.ops.Bound.TheVariants.{Included, Unbounded}
@@ -56,9 +56,17 @@ first_resting now (entry ∷ later) =
     if is_resting entry.1.unanswered entry.1.unsent.left entry.1.active now then Some entry.0
     else first_resting now later
 
--- the first from this number on, and whether it has been silent for too long
-abbrev pub first_from : {A : Type 0} → (conn now deadline : ℕ) → List (ℕ × ClientStream A) → Option (ℕ × Bool)
-first_from conn now deadline clients =
-    option_map
-    (λ entry. (entry.0, is_late entry.1.unanswered entry.1.unsent.left entry.1.took entry.1.active now deadline))
-    (slice_get (entries_between nat_cmp (Included conn) Unbounded clients) 0)
+-- the first number from this one on
+abbrev pub first_number : {X : Type 0} → (from : ℕ) → List (ℕ × X) → Option ℕ
+first_number from entries =
+    option_map (λ entry. entry.0) (slice_get (entries_between nat_cmp (Included from) Unbounded entries) 0)
+
+-- whether a client that was found has been silent for too long
+abbrev pub is_late_if : {A : Type 0} → (now deadline : ℕ) → Option (ClientStream A) → Bool
+is_late_if now deadline (Some client) =
+    is_late client.unanswered client.unsent.left client.took client.active now deadline
+is_late_if now deadline None = false
+
+-- whether the client with this number is open and has been silent for too long
+abbrev pub is_late_on : {A : Type 0} → (conn now deadline : ℕ) → List (ℕ × ClientStream A) → Bool
+is_late_on conn now deadline clients = is_late_if now deadline (lookup (is_at (nat_cmp conn)) clients)

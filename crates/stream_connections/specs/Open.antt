@@ -1,12 +1,9 @@
 -- The connections that are open, and the ends of others that are yet to be reported.
-use Rattle.std.specs.Prelude.{◌≡◌, ℕ, ◌+◌, ◌≤◌, Bool, ◌||◌, List, [], ◌∷◌, ◌++◌, length, slice_get, nat_lt}
+use Rattle.std.specs.Prelude.{◌≡◌, ℕ, ◌+◌, ◌≤◌, Bool, ◌||◌, List, [], ◌∷◌, ◌++◌, length, nat_lt}
 use Rattle.std.specs.Prelude.{Option, Some, None, is_some, if◌then◌else◌}
-use Rattle.std.specs.Option.{option_map}
 use Rattle.std.specs.Ordering.{nat_cmp}
-use Rattle.std.specs.declared.ops.Bound.TheVariants.{Included, Unbounded}
 use Rattle.std.specs.Map.{lookup, remove_entry}
 use Rattle.std.specs.BTreeMap.{is_at}
-use Rattle.std.specs.BTreeMap.Range.{entries_between}
 use Rattle.suffix_routes.specs.declared.peer.Peer.{Peer}
 use Rattle.stream_connections.specs.declared.client_stream.ClientStream.{ClientStream}
 use Rattle.stream_connections.specs.declared.servers.ServerStream.{ServerStream}
@@ -74,11 +71,6 @@ pub record MakesPlace {A : Type 0} (made : Bool) (before after : Connections A) 
   pub is_made : made ≡ (nat_lt (length before.clients) 1024 || is_some (first_idle before.clients))
   pub emptied : after ≡
       (if nat_lt (length before.clients) 1024 then before else without_first (first_idle before.clients) before)
-
--- the first number from this one on
-abbrev pub first_number : {X : Type 0} → (from : ℕ) → List (ℕ × X) → Option ℕ
-first_number from entries =
-    option_map (λ entry. entry.0) (slice_get (entries_between nat_cmp (Included from) Unbounded entries) 0)
 
 -- A connection to a server is served.
 abbrev pub Serves : {A : Type 0} → Peer → ServerStream A → ServerStream A → Type 0

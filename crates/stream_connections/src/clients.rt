@@ -4,7 +4,8 @@ ghost use Rattle.std.specs.Prelude.{◌≡◌, ◌+◌, ◌<◌, ◌≤◌, if�
 ghost use Rattle.std.specs.Ordering.{nat_cmp};
 ghost use Rattle.std.specs.Map.{lookup, remove_entry};
 ghost use Rattle.std.specs.BTreeMap.{is_at};
-ghost use Rattle.stream_connections.specs.Listed.{Admits, RepliesOn, ServesOn, first_from, first_idle, first_resting};
+ghost use Rattle.stream_connections.specs.Listed.{Admits, RepliesOn, ServesOn, first_idle, first_number, first_resting};
+ghost use Rattle.stream_connections.specs.Listed.{is_late_on};
 
 use crate::answers::Heard;
 use crate::client_stream::ClientStream;
@@ -136,12 +137,22 @@ impl<A: Allocator + Copy> Clients<A> {
         None
     }
 
-    /// Returns the first client from this number on, and whether it has been silent for too long
-    /// (RFC 7766 6.2.3).
-    pub fn from(&self, conn: u64, now: u64, deadline: u64) -> Option<(u64, bool)>
-        ensures { result ≡ first_from conn now deadline self.now }
+    /// Returns the first client from this number on.
+    pub fn from(&self, conn: u64) -> Option<u64>
+        ensures { result ≡ first_number conn self.now }
     {
-        let (number, client) = self.open.range(conn..).next()?;
-        Some((*number, client.is_late(now, deadline)))
+        let (number, _) = self.open.range(conn..).next()?;
+        Some(*number)
+    }
+
+    /// Whether the client with this number has been silent for too long (RFC 7766 6.2.3); false
+    /// where it isn't open.
+    pub fn is_late(&self, conn: u64, now: u64, deadline: u64) -> bool
+        ensures { result ≡ is_late_on conn now deadline self.now }
+    {
+        match self.open.get(&conn) {
+            Some(client) => client.is_late(now, deadline),
+            None => false,
+        }
     }
 }

@@ -4,8 +4,9 @@ ghost use Rattle.std.specs.Prelude.{◌≡◌, ◌<◌, length, drop, slice_get,
 ghost use Rattle.std.specs.Prelude.{true, is_some, IsTrue, OnOk, OnErr};
 ghost use Rattle.std.specs.Ordering.{nat_cmp};
 ghost use Rattle.std.specs.BTreeMap.{insert_entry};
-ghost use Rattle.stream_connections.specs.Listed.{Admits, RepliesOn, ServesOn, first_from, first_idle, first_resting};
-ghost use Rattle.stream_connections.specs.Open.{AreNone, MakesPlace, ServesServer, first_number};
+ghost use Rattle.stream_connections.specs.Listed.{Admits, RepliesOn, ServesOn, first_idle, first_number, first_resting};
+ghost use Rattle.stream_connections.specs.Listed.{is_late_on};
+ghost use Rattle.stream_connections.specs.Open.{AreNone, MakesPlace, ServesServer};
 ghost use Rattle.stream_connections.specs.Open.{without_client, without_first, without_server};
 
 use crate::answers::Heard;
@@ -199,12 +200,20 @@ impl<A: Allocator + Copy> Connections<A> {
         self.clients.reply(alloc, conn, reply, now)
     }
 
-    /// Returns the first client from this number on, and whether it has been silent for too long:
-    /// for 10 s, and where it waits for a reply for `deadline` ms more (RFC 7766 6.2.3).
-    pub fn client_from(&self, conn: u64, now: u64, deadline: u64) -> Option<(u64, bool)>
-        ensures { result ≡ first_from conn now deadline self.now.clients }
+    /// Returns the first client from this number on.
+    pub fn client_from(&self, conn: u64) -> Option<u64>
+        ensures { result ≡ first_number conn self.now.clients }
     {
-        self.clients.from(conn, now, deadline)
+        self.clients.from(conn)
+    }
+
+    /// Whether the client with this number has been silent for too long: for 10 s, and where it
+    /// waits for a reply for `deadline` ms more (RFC 7766 6.2.3). Call `serve_client` before: what
+    /// it sent in time may not be read yet. False where it isn't open.
+    pub fn is_late(&self, conn: u64, now: u64, deadline: u64) -> bool
+        ensures { result ≡ is_late_on conn now deadline self.now.clients }
+    {
+        self.clients.is_late(conn, now, deadline)
     }
 
     /// Returns the first connection to a server from this number on.

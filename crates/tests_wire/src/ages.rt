@@ -1,12 +1,14 @@
-//! Moments and random words at each age of a wire. Ports 15388 to 15392 have to be free. A wire is
-//! forgotten, as in `sockets`.
+//! Moments and random words at each age of a wire, and what comes of a stall. Ports 15388 to 15393
+//! and 15397 have to be free. A wire is forgotten, as in `sockets`.
 
-use crate::system::{System, local, moment_in_turn};
-use crate::watched::AGES;
+use crate::system::{System, TURNS, expected, local, moment_in_turn, send};
+use crate::watched::{AGES, Came, came_next, client_that_sends, here, reply_to, settle};
 use crate::worked::QUESTION;
-use network_model::Wire;
+use mio::net::{TcpStream, UdpSocket};
+use network_model::{Arrival, Wire};
 use plain_list::PlainList;
 use socket_wire::MioWire;
+use std::io::Read;
 use std::mem::forget;
 use std::test::Fail;
 use std::time::Duration;
@@ -48,6 +50,40 @@ fn moments_are_those_of_the_clock(rt: HostRuntime) -> Result<(), Fail> {
     let come = moments_that_come(&system, &mut wire);
     forget(wire);
     assert_eq!(rt; come, TIMES.len());
+    Ok(())
+}
+
+/// Moments that are asked for a second after the arrival of nothing, and of a datagram. The former
+/// are of the ticks, which come once the wire has waited; the latter is that of the arrival.
+fn moments_after(
+    system: &System<'_>,
+    wire: &mut MioWire<'_, System<'_>>,
+    client: &UdpSocket,
+) -> Option<[u64; 2]> {
+    settle(wire);
+    let _nothing = wire.arrival();
+    system.time.set(Duration::from_millis(1_000));
+    let behind_nothing = wire.moment();
+    let _sent = client.send_to(&QUESTION, here(15397)).ok()?;
+    for _ in 0..TURNS {
+        let came = wire.arrival();
+        if let Ok(Arrival::ClientDatagram { .. }) = came {
+            system.time.set(Duration::from_millis(2_000));
+            return Some([behind_nothing, wire.moment()]);
+        }
+    }
+    None
+}
+
+#[test]
+fn an_arrival_has_the_moment_of_its_turn(rt: HostRuntime) -> Result<(), Fail> {
+    let system = System::new(&rt);
+    system.time.set(Duration::ZERO);
+    let client = UdpSocket::bind(&rt, here(0))?;
+    let mut wire = MioWire::new(&system, rt.alloc(), local(15397), &Limits::defaults())?;
+    let moments = moments_after(&system, &mut wire, &client);
+    forget(wire);
+    assert_eq!(rt; moments, Some([1_000, 1_000]));
     Ok(())
 }
 
@@ -133,5 +169,95 @@ fn another_seed_gives_other_words(rt: HostRuntime) -> Result<(), Fail> {
     let words = wire.words();
     forget(wire);
     assert_eq!(rt; words, OTHER_WORDS);
+    Ok(())
+}
+
+/// The number of clients whose end comes in the next turns.
+fn ends(wire: &mut MioWire<'_, System<'_>>) -> u32 {
+    let mut count = 0u32;
+    for _ in 0..8u8 {
+        if let Ok(Arrival::ClientClosed { .. }) = wire.arrival() {
+            count = count.saturating_add(1);
+        }
+        let _moment = wire.moment();
+    }
+    count
+}
+
+/// Three clients that begin a question. Two of them send the rest, which is not read yet.
+fn three_clients(
+    system: &System<'_>,
+    wire: &mut MioWire<'_, System<'_>>,
+) -> Result<Vec<TcpStream>, Fail> {
+    let mut clients = Vec::new(system.host.alloc());
+    for _ in 0..3u8 {
+        clients.push(client_that_sends(system, 15393, b"\x00\x1b\x12")?)?;
+        let came = came_next(wire);
+        expected(matches!(came, Came::Piece(_, 3)), "no client came")?;
+    }
+    settle(wire);
+    for place in 0..2usize {
+        if let Some(client) = clients.get_mut(place) {
+            send(client, &QUESTION[1..])?;
+        }
+    }
+    Ok(clients)
+}
+
+/// Puts a reply to the client with this number.
+fn is_replied(
+    system: &System<'_>,
+    wire: &mut MioWire<'_, System<'_>>,
+    conn: u64,
+) -> Result<bool, Fail> {
+    let reply = reply_to(system.host.alloc(), conn, 12)?;
+    Ok(wire.put(&reply).is_ok())
+}
+
+/// Whether these two questions get their replies, and only one client is closed, once sockets were
+/// tried that no event reported.
+fn are_replied(
+    system: &System<'_>,
+    wire: &mut MioWire<'_, System<'_>>,
+    clients: &mut [TcpStream],
+    first: u64,
+    second: u64,
+) -> Result<bool, Fail> {
+    system.time.set(Duration::from_millis(3_600_010));
+    let ended = ends(wire);
+    let replied = is_replied(system, wire, first)? && is_replied(system, wire, second)?;
+    let mut room = [0u8; 64];
+    for place in 0..2usize {
+        if let Some(client) = clients.get_mut(place) {
+            expected(client.read(&mut room)? == 14, "another reply")?;
+        }
+    }
+    Ok(ended == 1 && replied)
+}
+
+/// Whether the two questions come after a stall of an hour and get their replies, and only the
+/// third client, which said nothing in that time, is closed.
+fn outlives_a_stall(system: &System<'_>, wire: &mut MioWire<'_, System<'_>>) -> Result<bool, Fail> {
+    let mut clients = three_clients(system, wire)?;
+    system.time.set(Duration::from_millis(3_600_000));
+    let first = came_next(wire);
+    let second = came_next(wire);
+    match (first, second) {
+        (Came::Piece(first, 26), Came::Piece(second, 26)) => {
+            are_replied(system, wire, &mut clients, first, second)
+        }
+        _ => Ok(false),
+    }
+}
+
+/// What a client sent before the end of a stall is read before it is judged silent.
+#[test]
+fn questions_that_came_in_a_stall_are_answered(rt: HostRuntime) -> Result<(), Fail> {
+    let system = System::new(&rt);
+    system.time.set(Duration::ZERO);
+    let mut wire = MioWire::new(&system, rt.alloc(), local(15393), &Limits::defaults())?;
+    let outlives = outlives_a_stall(&system, &mut wire);
+    forget(wire);
+    assert!(rt; outlives?);
     Ok(())
 }

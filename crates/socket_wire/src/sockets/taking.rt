@@ -150,14 +150,19 @@ impl<R: Net, A: Allocator + Copy> Sockets<'_, R, A> {
         Ok(())
     }
 
-    /// A piece of a client's stream.
+    /// A piece of a client's stream. Only once that was read, a client that has been silent for too
+    /// long is closed: after a stall of the service, what came in time may be yet to be read.
     fn take_client(&mut self, conn: u64, now: u64) -> Result<Tried<A>, AllocError>
         ensures { TakesClient conn now result self.old self.new }
     {
-        match self
+        let heard = self
             .connections
-            .serve_client(conn, &mut self.buffer[..], now)
-        {
+            .serve_client(conn, &mut self.buffer[..], now);
+        if self.connections.is_late(conn, now, self.deadline) {
+            self.connections.close_client(conn);
+            return Ok(Tried::Served);
+        }
+        match heard {
             Some(Heard::Octets(count)) => match piece(
                 self.alloc,
                 &mut self.spare,

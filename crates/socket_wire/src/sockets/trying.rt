@@ -18,11 +18,11 @@ const ROUNDS: u8 = 8;
 impl<R: Net, A: Allocator + Copy> Sockets<'_, R, A> {
     /// Has the socket for datagrams, the listener in every eighth round, and some of the other
     /// sockets tried in turn, whatever the events reported.
-    pub(super) fn try_others(&mut self, now: u64)
-        ensures { TriesOthers now self.old self.new }
+    pub(super) fn try_others(&mut self)
+        ensures { TriesOthers self.old self.new }
     {
         self.begin_round();
-        self.try_clients(now);
+        self.try_clients();
         self.try_asks();
         self.try_servers();
     }
@@ -39,11 +39,11 @@ impl<R: Net, A: Allocator + Copy> Sockets<'_, R, A> {
     }
 
     /// Has the next clients tried, up to the last one.
-    fn try_clients(&mut self, now: u64)
-        ensures { TriesUpTo (TriesClient now) 20 self.old self.new }
+    fn try_clients(&mut self)
+        ensures { TriesUpTo TriesClient 20 self.old self.new }
     {
         for _tried in 0..AT_ONCE {
-            if !self.try_client(now) {
+            if !self.try_client() {
                 return;
             }
         }
@@ -71,22 +71,14 @@ impl<R: Net, A: Allocator + Copy> Sockets<'_, R, A> {
         }
     }
 
-    /// Has the next client tried, or closes it where it has been silent for too long. False after
-    /// the last one.
-    fn try_client(&mut self, now: u64) -> bool
-        ensures { TriesClient now result self.old self.new }
+    /// Has the next client tried. False after the last one.
+    fn try_client(&mut self) -> bool
+        ensures { TriesClient result self.old self.new }
     {
-        match self
-            .connections
-            .client_from(self.next_client, now, self.deadline)
-        {
-            Some((conn, is_late)) => {
+        match self.connections.client_from(self.next_client) {
+            Some(conn) => {
                 self.next_client = conn.wrapping_add(1);
-                if is_late {
-                    self.connections.close_client(conn);
-                } else {
-                    self.readiness.add(Origin::Client(conn));
-                }
+                self.readiness.add(Origin::Client(conn));
                 true
             }
             None => {

@@ -8,13 +8,11 @@ returns-in_err-arrival g c =
     let came : c.try_ready.result ≡ Err c.in_err-arrival.field-0.0 = search rules in
     let told : c.from_residual.result ≡ Err c.in_err-arrival.field-0.0 = search rules in
     record {
-      has_waited = c.look-has_waited.result;
       came = Err c.in_err-arrival.field-0.0;
-      looked = c.look-has_waited.new.self;
+      looked = c.look.new.self;
       behind = c.try_ready.new.self;
-      looks = c.look-has_waited.ensures;
-      tries = subst (λ came. TriesReady 64 c.args.now came c.look-has_waited.new.self
-          c.try_ready.new.self) came
+      looks = c.look.ensures;
+      tries = subst (λ came. TriesReady 64 c.args.now came c.look.new.self c.try_ready.new.self) came
           c.try_ready.ensures;
       ends = (told, refl);
     }
@@ -23,13 +21,11 @@ pub returns-in-Some : goal.returns-in-Some
 returns-in-Some g c =
     let came : c.try_ready.result ≡ Ok (Some c.in-Some.arrival) = search rules in
     record {
-      has_waited = c.look-has_waited.result;
       came = Ok (Some c.in-Some.arrival);
-      looked = c.look-has_waited.new.self;
+      looked = c.look.new.self;
       behind = c.try_ready.new.self;
-      looks = c.look-has_waited.ensures;
-      tries = subst (λ came. TriesReady 64 c.args.now came c.look-has_waited.new.self
-          c.try_ready.new.self) came
+      looks = c.look.ensures;
+      tries = subst (λ came. TriesReady 64 c.args.now came c.look.new.self c.try_ready.new.self) came
           c.try_ready.ensures;
       ends = (refl, refl);
     }
@@ -38,13 +34,11 @@ pub returns-in-None : goal.returns-in-None
 returns-in-None g c =
     let came : c.try_ready.result ≡ Ok None = search rules in
     record {
-      has_waited = c.look-has_waited.result;
       came = Ok None;
-      looked = c.look-has_waited.new.self;
+      looked = c.look.new.self;
       behind = c.try_ready.new.self;
-      looks = c.look-has_waited.ensures;
-      tries = subst (λ came. TriesReady 64 c.args.now came c.look-has_waited.new.self
-          c.try_ready.new.self) came
+      looks = c.look.ensures;
+      tries = subst (λ came. TriesReady 64 c.args.now came c.look.new.self c.try_ready.new.self) came
           c.try_ready.ensures;
-      ends = c.end_turn.ensures;
+      ends = (refl, c.end_turn.ensures);
     }

@@ -4,4 +4,4 @@ use Rattle.socket_wire.proofs.sockets.Sockets.try_clients.Given as goal
 
 -- the tries that are left yield what all of them yield
 abbrev pub invariant-loop-tried : goal.invariant-loop-tried
-invariant-loop-tried g l = TriesAll (TriesClient l.now) 20 l._tried l.fn.self l.self
+invariant-loop-tried g l = TriesAll TriesClient 20 l._tried l.fn.self l.self
