@@ -1,8 +1,9 @@
 //! Moments and random words at each age of a wire, and what comes of a stall. Ports 15388 to 15393
 //! and 15397 have to be free. A wire is forgotten, as in `sockets`.
 
+use crate::came::{Came, came_next, client_that_sends, here, reply_to, settle};
 use crate::system::{System, TURNS, expected, local, moment_in_turn, send};
-use crate::watched::{AGES, Came, came_next, client_that_sends, here, reply_to, settle};
+use crate::watched::AGES;
 use crate::worked::QUESTION;
 use mio::net::{TcpStream, UdpSocket};
 use network_model::{Arrival, Wire};

@@ -6,6 +6,8 @@
 #[cfg(test)]
 mod ages;
 #[cfg(test)]
+mod came;
+#[cfg(test)]
 mod faults;
 #[cfg(test)]
 mod puts;

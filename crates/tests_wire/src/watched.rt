@@ -2,19 +2,20 @@
 //! event reported. So is each kind at each age of a wire, and after a million faults. Ports 15373
 //! to 15387 and 15394 to 15396 have to be free. A wire is forgotten, as in `sockets`.
 
-use crate::system::{System, TURNS, address, expected, local, send};
+use crate::came::{Came, came_next, came_now, client_that_sends, here, is_sent, reply_to, settle};
+use crate::system::{System, TURNS, expected, local, send};
 use crate::worked::{QUERY, QUESTION, REPLY};
 use mio::net::{TcpListener, TcpStream, UdpSocket};
-use network_model::{Arrival, Wire};
+use network_model::Wire;
 use plain_list::PlainList;
 use socket_wire::MioWire;
 use std::alloc::Global;
 use std::io::{Read, Write};
 use std::mem::forget;
-use std::net::{Ipv4Addr, Net, SocketAddr};
+use std::net::{Net, SocketAddr};
 use std::test::Fail;
 use std::time::Duration;
-use step_values::{Action, Client, Path, Why};
+use step_values::Action;
 use suffix_routes::Limits;
 
 /// The ages of a wire, in ms: at its start; past the time for which a silent client is kept; an
@@ -27,9 +28,6 @@ const FAULTS: u32 = 1_000_000;
 /// The port at which the wire with those faults listens. The next two are those of a server and of
 /// a query.
 const BEHIND_FAULTS: u16 = 15394;
-
-/// The turns after which no socket is noted as ready.
-const SETTLED: u32 = 4;
 
 /// The octets of a large reply, and of its frame.
 const LARGE: usize = 60_000;
@@ -99,94 +97,6 @@ impl Case {
             Case::Opens => 15386,
         }
     }
-}
-
-/// What came, in plain values.
-#[derive(Clone, Copy, PartialEq, Eq, Debug)]
-pub(crate) enum Came {
-    /// Nothing, or the end of a client.
-    Nothing,
-    /// A client's datagram: the number of its octets.
-    Datagram(usize),
-    /// A piece of the stream of the client with this number: the number of its octets.
-    Piece(u64, usize),
-    /// A datagram at the port of a query: the number of its octets.
-    Reply(u16, usize),
-    /// A piece of the stream of a server on this connection: the number of its octets.
-    Stream(u64, usize),
-    /// The end of a path.
-    Gone(Path),
-    /// The wire refused.
-    Refused,
-}
-
-fn came_in(arrival: &Arrival) -> Came {
-    match arrival {
-        Arrival::Nothing | Arrival::ClientClosed { .. } => Came::Nothing,
-        Arrival::ClientDatagram { bytes, .. } => Came::Datagram(bytes.as_slice().len()),
-        Arrival::ClientStream { conn, bytes } => Came::Piece(*conn, bytes.as_slice().len()),
-        Arrival::ServerDatagram { port, bytes, .. } => Came::Reply(*port, bytes.as_slice().len()),
-        Arrival::ServerStream { conn, bytes, .. } => Came::Stream(*conn, bytes.as_slice().len()),
-        Arrival::PathGone { path } => Came::Gone(*path),
-    }
-}
-
-/// What comes in a turn.
-fn came_now(wire: &mut MioWire<'_, System<'_>>) -> Came {
-    let came = match wire.arrival() {
-        Ok(arrival) => came_in(&arrival),
-        Err(_) => Came::Refused,
-    };
-    let _moment = wire.moment();
-    came
-}
-
-/// What comes next; nothing where nothing has come in many turns.
-pub(crate) fn came_next(wire: &mut MioWire<'_, System<'_>>) -> Came {
-    for _ in 0..TURNS {
-        let came = came_now(wire);
-        if came != Came::Nothing {
-            return came;
-        }
-    }
-    Came::Nothing
-}
-
-/// Makes turns until nothing is noted as ready any more, whatever comes in them.
-pub(crate) fn settle(wire: &mut MioWire<'_, System<'_>>) {
-    for _ in 0..SETTLED {
-        let _came = came_now(wire);
-    }
-}
-
-/// This port of this machine.
-pub(crate) fn here(port: u16) -> SocketAddr {
-    address(Ipv4Addr::LOCALHOST, port)
-}
-
-/// A new client at this port that sends these octets.
-pub(crate) fn client_that_sends(
-    system: &System<'_>,
-    port: u16,
-    octets: &[u8],
-) -> Result<TcpStream, Fail> {
-    let mut client = TcpStream::connect(system.host, here(port))?;
-    send(&mut client, octets)?;
-    Ok(client)
-}
-
-/// A reply with this number of octets to the client with this number.
-pub(crate) fn reply_to(alloc: Global, conn: u64, count: usize) -> Result<Action, Fail> {
-    Ok(Action::Reply {
-        client: Client::Tcp(conn),
-        bytes: PlainList::from_vec(Vec::from_elem(alloc, 0u8, count)?),
-        why: Why::Answered,
-    })
-}
-
-/// Whether all of these octets are sent to the port.
-fn is_sent(socket: &UdpSocket, octets: &[u8], port: u16) -> bool {
-    socket.send_to(octets, here(port)).ok() == Some(octets.len())
 }
 
 fn datagram_comes(

@@ -1,0 +1,102 @@
+//! What comes over a wire, in plain values, and who sends it.
+
+use crate::system::{System, TURNS, address, send};
+use mio::net::{TcpStream, UdpSocket};
+use network_model::{Arrival, Wire};
+use plain_list::PlainList;
+use socket_wire::MioWire;
+use std::alloc::Global;
+use std::net::{Ipv4Addr, SocketAddr};
+use std::test::Fail;
+use step_values::{Action, Client, Path, Why};
+
+/// The turns after which no socket is noted as ready.
+const SETTLED: u32 = 4;
+
+/// What came, in plain values.
+#[derive(Clone, Copy, PartialEq, Eq, Debug)]
+pub(crate) enum Came {
+    /// Nothing, or the end of a client.
+    Nothing,
+    /// A client's datagram: the number of its octets.
+    Datagram(usize),
+    /// A piece of the stream of the client with this number: the number of its octets.
+    Piece(u64, usize),
+    /// A datagram at the port of a query: the number of its octets.
+    Reply(u16, usize),
+    /// A piece of the stream of a server on this connection: the number of its octets.
+    Stream(u64, usize),
+    /// The end of a path.
+    Gone(Path),
+    /// The wire refused.
+    Refused,
+}
+
+fn came_in(arrival: &Arrival) -> Came {
+    match arrival {
+        Arrival::Nothing | Arrival::ClientClosed { .. } => Came::Nothing,
+        Arrival::ClientDatagram { bytes, .. } => Came::Datagram(bytes.as_slice().len()),
+        Arrival::ClientStream { conn, bytes } => Came::Piece(*conn, bytes.as_slice().len()),
+        Arrival::ServerDatagram { port, bytes, .. } => Came::Reply(*port, bytes.as_slice().len()),
+        Arrival::ServerStream { conn, bytes, .. } => Came::Stream(*conn, bytes.as_slice().len()),
+        Arrival::PathGone { path } => Came::Gone(*path),
+    }
+}
+
+/// What comes in a turn.
+pub(crate) fn came_now(wire: &mut MioWire<'_, System<'_>>) -> Came {
+    let came = match wire.arrival() {
+        Ok(arrival) => came_in(&arrival),
+        Err(_) => Came::Refused,
+    };
+    let _moment = wire.moment();
+    came
+}
+
+/// What comes next; nothing where nothing has come in many turns.
+pub(crate) fn came_next(wire: &mut MioWire<'_, System<'_>>) -> Came {
+    for _ in 0..TURNS {
+        let came = came_now(wire);
+        if came != Came::Nothing {
+            return came;
+        }
+    }
+    Came::Nothing
+}
+
+/// Makes turns until nothing is noted as ready any more, whatever comes in them.
+pub(crate) fn settle(wire: &mut MioWire<'_, System<'_>>) {
+    for _ in 0..SETTLED {
+        let _came = came_now(wire);
+    }
+}
+
+/// This port of this machine.
+pub(crate) fn here(port: u16) -> SocketAddr {
+    address(Ipv4Addr::LOCALHOST, port)
+}
+
+/// A new client at this port that sends these octets.
+pub(crate) fn client_that_sends(
+    system: &System<'_>,
+    port: u16,
+    octets: &[u8],
+) -> Result<TcpStream, Fail> {
+    let mut client = TcpStream::connect(system.host, here(port))?;
+    send(&mut client, octets)?;
+    Ok(client)
+}
+
+/// A reply with this number of octets to the client with this number.
+pub(crate) fn reply_to(alloc: Global, conn: u64, count: usize) -> Result<Action, Fail> {
+    Ok(Action::Reply {
+        client: Client::Tcp(conn),
+        bytes: PlainList::from_vec(Vec::from_elem(alloc, 0u8, count)?),
+        why: Why::Answered,
+    })
+}
+
+/// Whether all of these octets are sent to the port.
+pub(crate) fn is_sent(socket: &UdpSocket, octets: &[u8], port: u16) -> bool {
+    socket.send_to(octets, here(port)).ok() == Some(octets.len())
+}
