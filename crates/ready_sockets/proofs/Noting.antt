@@ -95,3 +95,19 @@ noted_more (Ask port) first before after so_far more = in_servers (token_of (Ask
     after so_far more
 noted_more (Server conn) first before after so_far more =
     in_servers (token_of (Server conn)) first before after so_far more
+
+-- Sockets that were noted stay noted where others are noted after them.
+tokens_stay_on : {A : Type 0} (first before after : Round A) → TokensStay first before
+    → TokensStay before after → TokensStay first after
+tokens_stay_on first before after so_far more = record {
+  last = more.last ∙ so_far.last;
+  tokens = λ token among. more.tokens token (so_far.tokens token among);
+}
+
+pub noted_stay_on : {A : Type 0} (first before after : Ready A) → NotedStay first before
+    → NotedStay before after → NotedStay first after
+noted_stay_on first before after so_far more = record {
+  datagrams = λ is. more.datagrams (so_far.datagrams is);
+  streams = tokens_stay_on first.streams before.streams after.streams so_far.streams more.streams;
+  servers = tokens_stay_on first.servers before.servers after.servers so_far.servers more.servers;
+}

@@ -8,6 +8,8 @@ use Rattle.std.specs.Set.{remove_key}
 use Rattle.std.specs.BTreeMap.{is_at}
 use Rattle.std.specs.BTreeMap.Range.{range_contains}
 use Rattle.std.specs.BTreeSet.{btree_set_len, insert_key}
+use Rattle.mio.specs.declared.event.event.Event.{Event}
+use Rattle.mio.specs.Event.{event_token}
 use Rattle.ready_sockets.specs.declared.origin.Origin.{Origin}
 use Rattle.ready_sockets.specs.declared.origin.Origin.TheVariants.{Datagrams, Connections, Client}
 use Rattle.ready_sockets.specs.declared.origin.Origin.TheVariants.{Ask, Server}
@@ -97,6 +99,12 @@ pub record NotedStay {A : Type 0} (before after : Ready A) : Type 0 where
   pub datagrams : before.datagrams ≡ true → after.datagrams ≡ true
   pub streams : TokensStay before.streams after.streams
   pub servers : TokensStay before.servers after.servers
+
+-- The socket that the event reports is noted. The token of no socket notes none.
+pub record NotesEvent {A : Type 0} (event : Event) (before after : Ready A) : Type 0 where
+  pub noted : (origin : Origin) → HasToken origin → token_of origin ≡ (event_token event).0
+      → Noted origin before after
+  pub stay : NotedStay before after
 
 -- The socket is noted no longer.
 abbrev pub Dropped : {A : Type 0} → Origin → Ready A → Ready A → Type 0

@@ -3,15 +3,16 @@
 ghost use Rattle.std.specs.Prelude.{◌≡◌, ◌≤◌, ◌+◌, ◌*◌, ◌%◌, [], true, IsTrue, IfOk, OnErr};
 ghost use Rattle.std.specs.Prelude.{IsSomeAnd, ◌↔◌};
 ghost use Rattle.std.specs.Duration.{as_nanos};
+ghost use Rattle.mio.specs.Events.{capacity as events_capacity};
 ghost use Rattle.mio.specs.Interest.{is_readable, is_writable};
 ghost use Rattle.std.specs.BTreeSet.{btree_set_len};
 ghost use Rattle.ready_sockets.specs.Rounds.{Dropped, Finds, Gives, GivesOnTurn, HasDatagramsAlone};
-ghost use Rattle.ready_sockets.specs.Rounds.{IsBegun, IsNothing, Noted, NotedStay};
+ghost use Rattle.ready_sockets.specs.Rounds.{IsBegun, IsNothing, Noted, NotedStay, NotesEvent};
 
 use crate::origin::Origin;
-use mio::event::Source;
+use mio::event::{Event, Source};
 use mio::{Events, Interest, Poll, Token};
-use std::alloc::Allocator;
+use std::alloc::{AllocError, Allocator};
 use std::collections::BTreeSet;
 use std::io;
 use std::marker::Model;
@@ -85,14 +86,21 @@ impl<A: Allocator + Copy> Ready<A> {
         }
     }
 
+    /// Notes the socket that the event reports, unless memory ran out.
+    fn note(&mut self, event: &Event)
+        ensures { NotesEvent event.now self.old self.new }
+    {
+        if let Some(origin) = Origin::of(event.token()) {
+            self.add(origin);
+        }
+    }
+
     /// Notes the sockets that the events report.
-    fn add_each(&mut self, events: &Events<A>)
+    fn note_each(&mut self, events: &Events<A>)
         ensures { NotedStay self.old self.new }
     {
         for event in events {
-            if let Some(origin) = Origin::of(event.token()) {
-                self.add(origin);
-            }
+            self.note(event);
         }
     }
 
@@ -118,6 +126,13 @@ impl<A: Allocator + Copy> Ready<A> {
             }
         }
     }
+}
+
+/// Room for the events of a poll.
+fn room_for_events<A: Allocator + Copy>(alloc: A) -> Result<Events<A>, AllocError>
+    ensures { IfOk result (λ events. events_capacity events ≡ 64) }
+{
+    Events::with_capacity(alloc, EVENTS)
 }
 
 /// The pause of a poll, of `millis` milliseconds.
@@ -162,7 +177,7 @@ impl<A: Allocator + Copy> Readiness<A> {
     {
         Ok(Readiness {
             poll: Poll::new(net)?,
-            events: Events::with_capacity(alloc, EVENTS)?,
+            events: room_for_events(alloc)?,
             ready: Ready {
                 datagrams: true,
                 streams: Round::new(alloc),
@@ -203,7 +218,7 @@ impl<A: Allocator + Copy> Readiness<A> {
         ensures turn { self.new.turn ≡ self.old.turn }
     {
         if polled.is_ok() {
-            self.ready.add_each(&self.events);
+            self.ready.note_each(&self.events);
         }
     }
 

@@ -1,5 +1,5 @@
 use Rattle.ready_sockets.specs.Rounds.{NotedStay}
-use Rattle.ready_sockets.proofs.readiness.Ready.add_each.Given as goal
+use Rattle.ready_sockets.proofs.readiness.Ready.note_each.Given as goal
 
 -- sockets that were noted before the events are noted still
 abbrev pub invariant-loop-event : goal.invariant-loop-event
