@@ -66,8 +66,11 @@ class Server:
 
     def __init__(self, folder, port):
         self.folder, self.port, self.process = folder, port, None
+        self.write_zones()
+
+    def write_zones(self):
         for each in zone.ZONES:
-            (folder / each).write_text(zone.master_file(each, self.without))
+            (self.folder / each).write_text(zone.master_file(each, self.without))
 
     @classmethod
     def is_installed(cls):
@@ -82,11 +85,18 @@ class Server:
         return str(file)
 
     def start(self):
-        path = shutil.which(self.command, path=os.environ["PATH"] + ":/usr/sbin")
-        log = open(self.folder / "log", "ab")
-        self.process = subprocess.Popen(
-            [path, *self.words()], stdout=log, stderr=log, cwd=self.folder, start_new_session=True)
+        self.begin()
         time.sleep(1)
+        self.expect_running()
+
+    def begin(self):
+        """Starts the program, and doesn't wait until it serves."""
+        path = shutil.which(self.command, path=os.environ["PATH"] + ":/usr/sbin")
+        with open(self.folder / "log", "ab") as log:
+            self.process = subprocess.Popen(
+                [path, *self.words()], stdout=log, stderr=log, cwd=self.folder, start_new_session=True)
+
+    def expect_running(self):
         if self.process.poll() is not None:
             raise AssertionError(f"{self.command} ended: " + (self.folder / "log").read_text()[-500:])
 

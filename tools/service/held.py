@@ -39,6 +39,8 @@ def missing():
 class Watch:
     """Captures the loopback while its block runs."""
 
+    options, filter = (), "udp or tcp or icmp"  # of tcpdump
+
     def __init__(self):
         self.folder = tempfile.TemporaryDirectory()
         self.file = pathlib.Path(self.folder.name) / "capture"
@@ -47,7 +49,7 @@ class Watch:
     def __enter__(self):
         tcpdump = shutil.which("tcpdump", path=os.environ["PATH"] + ":/usr/sbin")
         self.process = subprocess.Popen(
-            [tcpdump, "-i", "lo", "-n", "-U", "-B", "65536", "-Z", "root", "-w", self.file, "udp or tcp or icmp"],
+            [tcpdump, "-i", "lo", "-n", "-U", "-B", "65536", "-Z", "root", *self.options, "-w", self.file, self.filter],
             stderr=subprocess.PIPE,
             text=True,
         )
@@ -66,10 +68,12 @@ class Watch:
         """Waits until the file has all that was sent. tcpdump gets packets by blocks: once a block is full, or
         after a second."""
         last, until = os.urandom(16), time.monotonic() + 10
-        with socket.socket(socket.AF_INET, socket.SOCK_DGRAM) as sink:
+        with socket.socket(socket.AF_INET, socket.SOCK_DGRAM) as sink, open(self.file, "rb") as file:
             sink.bind(("127.0.0.1", 0))
+            file.seek(0, os.SEEK_END)
             sink.sendto(last, sink.getsockname())
-            while last not in self.file.read_bytes():
+            found = b""
+            while last not in (found := found[-len(last):] + file.read()):
                 if time.monotonic() > until:
                     raise AssertionError("tcpdump does not write what it captured")
                 sink.sendto(bytes(FILLER), sink.getsockname())
