@@ -17,6 +17,7 @@ class Base:
     def __init__(self, history, moment, since, anew=False):
         self.moment, self.first, self.anew = moment, history.first, anew
         self.entries, self.denials = OrderedDict(history.cache.entries), history.cache.denials
+        self.longer = {}  # milliseconds by which entries live longer than their replies say
         self.preferred, self.last_output = dict(history.preferred), history.last_output
         self.had_before, self.spans = history.had_before, history.eras.spans[-MOST_SPANS:]
         self.last_asked = {of: when for of, when in history.last_asked.items() if when >= since}
@@ -43,6 +44,22 @@ class Base:
                 self.denials -= held.kind is None
         self.had_before = False
         self.latest["open"] = {of: query for of, query in self.latest["open"].items() if query.moment > moment}
+
+
+    def end_earlier(self, ends):
+        """Takes in by when what was kept before the capture has ended, milliseconds by slot; gives
+        whether that is new."""
+        late = {slot: self.entries[slot].end() - end for slot, end in ends.items() if slot in self.entries}
+        late = {slot: by for slot, by in late.items() if by > 0 and self.entries[slot].source is None}
+        for slot, by in late.items():
+            self.entries[slot] = self.entries[slot]._replace(accepted=self.entries[slot].accepted - by)
+        return bool(late)
+
+    def read_late(self, accepted):
+        """Takes in when replies were read that were read late: milliseconds by reply."""
+        for slot, held in self.entries.items():
+            if held.source in accepted:
+                self.entries[slot] = held._replace(accepted=max(held.accepted, accepted[held.source]))
 
 
 def waiting_in(questions, since):

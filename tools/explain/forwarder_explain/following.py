@@ -3,6 +3,7 @@ import signal
 import time
 from types import SimpleNamespace
 
+from . import comparing
 from .capture import Capture, Unreadable
 from .carrying import Base
 from .configuration import shown
@@ -23,7 +24,7 @@ from .windows import TooLong, others_of
 PAUSE = 0.3  # seconds between two rounds
 SETTLED = 200_000  # microseconds after an answer in which what belongs to it may still come
 GONE = 1_000_000  # microseconds after the end of a connection in which an answer is looked for
-MARGIN = 1_000_000  # microseconds beyond the deadline for which events are kept
+MARGIN = 1_000_000  # microseconds beyond the deadline for which events are kept, and beyond a try in doubt
 LATE = 2_000_000, 30_000_000  # microseconds beyond the deadline, if the service goes on, and if not
 BACK = 600_000_000  # microseconds before the first question that is shown, of which it is seen what is kept
 RENEWED = 10_000_000  # microseconds between two looks for what is over
@@ -47,8 +48,11 @@ class Follower:
         # The first packet, from when on packets are read, the last one, and when things were done.
         self.first, self.back, self.seen, self.last = None, 0, 0, 0
         self.began_at, self.seen_at, self.done_at, self.forgotten = time.monotonic(), 0, 0, 0
+        # For how many seconds nothing has come, and what time it is for the capture.
+        self.quiet, self.now = 0, 0
         self.events, self.came, self.base, self.history = [], 0, None, None
-        self.wanted, self.guessed, self.is_stopped, self.is_told = set(), {}, False, False
+        self.wanted, self.doubtful, self.guessed, self.accepted = set(), set(), {}, {}
+        self.is_stopped, self.is_told = False, False
 
     def stop(self, *_):
         self.is_stopped = True
@@ -61,7 +65,7 @@ class Follower:
             return
         if self.first is None:
             self.first = packet.moment
-        self.last, self.seen_at = packet.moment, time.monotonic()
+        self.last, self.seen_at, self.quiet = packet.moment, time.monotonic(), 0
         self.intake.take(packet)
         if len(self.intake.raw) >= AT_ONCE or self.seen_at - self.done_at > PAUSE:
             self.go_on(False)
@@ -71,17 +75,14 @@ class Follower:
         if self.is_stopped:
             raise Stopped
         if time.monotonic() - self.done_at > PAUSE:
-            self.go_on(time.monotonic() - self.seen_at > 2 * LOOK)
-
-    @property
-    def now(self):
-        """The time of the capture."""
-        return self.seen + round(1_000_000 * (time.monotonic() - self.seen_at))
+            self.quiet = time.monotonic() - self.seen_at
+            self.go_on(self.quiet > 2 * LOOK)
 
     def go_on(self, is_quiet, is_end=False):
         """A round, if there is something for it."""
         packets = self.intake.given(is_quiet or is_end)
         self.seen = max(self.seen, self.intake.latest, self.last + self.intake.offset if is_end else 0)
+        self.now = self.seen + round(1_000_000 * self.quiet)
         if packets or is_end:
             self.enter(packets, is_end)
         due = self.due(is_end)
@@ -155,16 +156,19 @@ class Follower:
         if cutter.leaps:
             self.intake.shift(last.moment - before)
             self.seen += last.moment - before
+            self.now += last.moment - before
         for text in cutter.leaps:
             self.note(text)
         has_begun = self.beginnings.look(cutter)
         ended = cutter.ended([each for each in self.live.questions if not each.answer and each not in over])
         over.update(ended)
         self.judge(cutter, traffic, [each for each in over if each in self.wanted], is_end)
+        over -= self.doubtful
         self.wanted -= over
         self.live.settle(over)
         if has_begun or len(self.events) > MOST_CONTEXT:
             self.base = cutter.kept
+            self.base.read_late(self.accepted)
         self.retire(self.base.moment - self.horizon())
 
     def traffic(self):
@@ -185,7 +189,11 @@ class Follower:
         count = len(self.events) - begins
         if count <= 2 * CONTEXT:
             return None
-        waiting = [each.moment for each in self.live.questions if each in self.wanted and each not in over]
+        waiting = [
+            (each.answer or each).moment
+            for each in self.live.questions
+            if each in self.wanted and (each not in over or each in self.doubtful)
+        ]
         latest = float("inf") if count > MOST_CONTEXT else min(waiting, default=float("inf"))
         foreign = self.history.foreign if self.history else ()
         keep = place_to_keep(self.events, len(self.events) - CONTEXT, latest, foreign)
@@ -199,7 +207,8 @@ class Follower:
         while True:
             try:
                 found = list(cutter.windows(judged + guessed, self.options.program, until))
-                break
+                if not cutter.keep_longer(each for _, _, results in found for each in results.items()):
+                    break
             except TooLong:
                 if cutter.aim < 20:
                     raise Unreadable("has too much in flight at one time for a script") from None
@@ -212,21 +221,31 @@ class Follower:
             for question, result in results.items():
                 rows[question] = Row(question, doubts.put_apart(places[question], result), teller)
             self.queries.judge(window, ends)
+            self.accepted.update(window_accepted(window))
         for question in guessed:
             if question in rows:
                 self.guessed[question] = rows[question]
-        for question in sorted(judged, key=lambda each: each.moment):
+        self.doubtful = {each for each in judged if not is_end and self.is_doubtful(each, rows.get(each), kept)}
+        for question in sorted(set(judged) - self.doubtful, key=lambda each: each.moment):
             row = rows.get(question) or self.guessed.pop(question, None)
             self.guessed.pop(question, None)
             if row is not None and (row.failed() or not self.options.failures):
                 self.tally.add(row)
                 self.show(row)
 
+    def is_doubtful(self, question, row, kept):
+        """Whether an answer differs, and what comes soon may explain it, as long as it is not before
+        what is kept."""
+        if row is None or row.result.same != comparing.DIFFERENT or question.answer.moment < kept:
+            return False
+        return self.now - question.answer.moment < 1000 * self.settings.limits["ask_ms"] + MARGIN
+
     def retire(self, since):
         """Counts and forgets what is before a moment."""
         count = sum(event.moment < since for event in self.events)
         self.queries.count(self.events[:count], self.history, since)
         self.events = self.events[count:]
+        self.accepted = {reply: moment for reply, moment in self.accepted.items() if reply.moment >= since}
 
     # The end.
 
@@ -239,6 +258,14 @@ class Follower:
         for text in [*self.intake.decoder.notes(), *self.live.notes(self.settings), *self.queries.notes()]:
             self.note(text)
         return Summary(self.tally, self.beginnings.at_end())
+
+
+def window_accepted(window):
+    """When replies were read, as a window shows: milliseconds by reply."""
+    for reply in window.replies:
+        line = window.maker.line_of.get(reply)
+        if line is not None:
+            yield reply, window.maker.micros(line.moment) // 1000
 
 
 def follow(options, settings, follower):

@@ -3,6 +3,7 @@
 This serves explanations, and the beginnings of scripts. What is right the script's run says, never
 this.
 """
+import bisect
 from collections import OrderedDict, defaultdict
 from typing import NamedTuple
 
@@ -18,6 +19,7 @@ BEFORE = 1000  # milliseconds before the capture in which what was kept before i
 MOST_LATE = 9000  # milliseconds beyond the deadline in which a query may leave for a question
 PROMPT = 50  # milliseconds in which a query leaves for a question that has come
 STILL = 300_000  # microseconds without a query or answer for which something called
+ASKED_AGAIN = 2  # milliseconds before a query in which what was kept of it has ended
 NEAR_END = 1000  # milliseconds before its end in which what is kept may count as ended
 
 
@@ -140,6 +142,9 @@ class History:
         self.awaited = set()  # replies that call for an answer over UDP at once
         self.needless = set()  # questions that what is kept answers, and for which a query left
         self.eras = Eras()
+        # When each query left, in milliseconds by what it asks; and when what was kept before the
+        # capture has ended by, as a query for it shows.
+        self.asked_at, self.ended = None, {}
 
     def follow(self, at_event=lambda place, cache: None):
         """Goes through all events; `at_event` is called before each, with its place and the cache."""
@@ -225,6 +230,8 @@ class History:
         held = dict(looked_up(question.asked, self.found[question]))[of]
         if held.end() - query.moment // 1000 > NEAR_END:
             self.eras.began(held.source.moment if held.source else 0, question.moment)
+        elif held.source is None:
+            self.ended[held.slot()] = query.moment // 1000 - ASKED_AGAIN
 
     def look_for_twice(self, query, of, question):
         """What is being asked is not asked again for a question that has just come, unless by a new
@@ -394,36 +401,39 @@ class History:
             if not rows and not alias:
                 if authority:
                     denied = messages.code(octets) == 3
-                    piece = self.before(
-                        key,
-                        asked.klass,
-                        None if denied else asked.kind,
-                        key,
-                        (authority,),
-                        True,
-                        authority.seconds,
-                        now,
-                    )
+                    end = self.end_before((key, asked.kind, asked.klass), now + 1000 * authority.seconds)
+                    kind = None if denied else asked.kind
+                    piece = self.before(key, asked.klass, kind, key, (authority,), True, end)
                     pieces += [piece] if piece else []
                 return pieces
             first = (rows or alias)[0]
-            piece = self.before(
-                key, asked.klass, first.kind, first.owner, tuple(rows or alias), False, first.seconds, now
-            )
+            end = self.end_before((key, asked.kind, asked.klass), now + 1000 * first.seconds)
+            piece = self.before(key, asked.klass, first.kind, first.owner, tuple(rows or alias), False, end)
             pieces += [piece] if piece else []
             if rows:
                 return pieces
             key = first.data.lower()
         return pieces
 
-    def before(self, key, klass, kind, owner, rows, denies, left, now):
-        """A set or denial kept since before the capture, with `left` seconds at a moment; None if
-        that can't be."""
+    def end_before(self, of, least):
+        """When something ends that was kept before the capture, of which the second is known: it has
+        ended once it is asked for again. Otherwise the middle of the second is taken."""
+        if self.asked_at is None:
+            self.asked_at = defaultdict(list)
+            for event in self.events:
+                if isinstance(event, Query) and event.asked:
+                    self.asked_at[event.asked.of()].append(event.moment // 1000)
+        moments = self.asked_at.get(of, ())
+        place = bisect.bisect_left(moments, least)
+        asked = moments[place] if place < len(moments) else least + 1000
+        return least + 500 if asked >= least + 1000 else max(least, asked - ASKED_AGAIN)
+
+    def before(self, key, klass, kind, owner, rows, denies, end):
+        """A set or denial kept since before the capture, up to a moment; None if that can't be."""
         if any(
             (above, klass, kind) in self.ever_carried for above in (messages.parents(key) if kind is None else (key,))
         ):
             return None
-        end = now + 1000 * left + 500
         accepted = self.first - BEFORE + (end - self.first) % 1000
         seconds = (end - accepted) // 1000
         longest = carried.LONGEST

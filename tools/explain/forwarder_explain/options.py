@@ -49,7 +49,8 @@ def arguments(words):
         "--program", metavar="PATH", default="forwarder", help="the forwarder's program (default: forwarder)"
     )
     options = parser.parse_args(words)
-    for name, value in (("--at", options.at), ("--to", options.until), ("--html", options.html), ("--script", options.script)):
+    others = ("--at", options.at), ("--to", options.until), ("--html", options.html), ("--script", options.script)
+    for name, value in others:
         if options.follow and value:
             parser.error(f"{name} is not for --follow")
     return options

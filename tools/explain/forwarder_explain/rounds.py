@@ -1,9 +1,12 @@
 """The last part of a capture that goes on, explained with what was kept and open before it."""
 import bisect
 
+from . import comparing, messages
 from .carrying import Base, Continued
 from .eras import is_output
 from .lines import FIRST_MOMENT
+from .messages import CNAME
+from .repairs import SLACK
 from .replay import MOST_LINES
 from .windows import SAID, Cut, Cutter, TooLong
 
@@ -35,6 +38,8 @@ class Round(Cutter):
         for moment in self.restarted:
             if moment + SAID > self.base.moment:
                 self.history.eras.began(moment - SAID, moment + SAID)
+        if self.base.end_earlier(self.history.ended):
+            return self.follow()
         before = self.begun_before()
         if before is not None and len(self.anew) < MOST_BEFORE:
             self.anew.append(before)
@@ -67,6 +72,26 @@ class Round(Cutter):
         ends = [cut.place for cut in self.cuts[1:]] + [len(self.events)]
         return list(zip(self.cuts, ends))
 
+    def keep_longer(self, results):
+        """Lets what was kept before the base live some milliseconds longer, if an answer differs since it
+        had just expired; gives whether it did. The clock of the service and that of the capture are
+        not in phase."""
+        changed = False
+        for question, result in results:
+            found = self.history.found.get(question)
+            if result.same != comparing.DIFFERENT or found is None or found.answers:
+                continue
+            for slot in slots_of(found.missed, question.asked):
+                held = self.base.entries.get(slot)
+                past = question.moment // 1000 - held.end() if held else -1
+                if held and 0 <= past < SLACK - self.base.longer.get(slot, 0):
+                    self.base.longer[slot] = self.base.longer.get(slot, 0) + past + 1
+                    self.base.entries[slot] = held._replace(accepted=held.accepted + past + 1)
+                    changed = True
+        if changed:
+            self.follow()
+        return changed
+
     def ended(self, questions):
         """The questions whose process has ended: they get no answer."""
         ends = [event.moment for event in self.events if event in self.restarts]
@@ -88,6 +113,14 @@ class Round(Cutter):
                 raise TooLong
             ends = self.events[end].moment if end < len(self.events) else float("inf")
             yield window, ends, window.results()[0]
+
+
+def slots_of(name, asked):
+    """Where what answers a question for a name would be kept."""
+    yield name, asked.klass, asked.kind
+    yield name, asked.klass, CNAME
+    for above in messages.parents(name):
+        yield above, asked.klass, None
 
 
 def place_to_keep(events, target, latest, foreign):

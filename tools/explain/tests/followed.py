@@ -220,8 +220,6 @@ def wrong_words(program):
 def packet_by_packet(program):
     """A round after each packet, with no more than a few events before it: what is carried on is
     what the questions after it need."""
-    os.environ["TZ"] = "UTC"
-    time.tzset()
     settings = configuration.read(CAPTURES / "office.toml", program)
     with unittest.mock.patch.multiple(following, PAUSE=0, SETTLED=0, CONTEXT=4):
         for path in sorted(CAPTURES.glob("*.pcap*")):
@@ -232,8 +230,36 @@ def packet_by_packet(program):
             yield path.stem, sorted(printed + list(summary.verdict())), sorted(wanted)
 
 
+def ends_of_lifetimes(program):
+    """A reply that was read 200 ms late is kept as much longer, also when it is long past. And what
+    ends by the capture's clock may be answered half a millisecond later, but not 50 ms later."""
+    scene, www, new = Scene(), asked("www.example.com"), asked("new.example.com")
+    scene.question(0, ONE, 1, www)
+    port = scene.query(0.2, FIRST, www)
+    scene.reply(10.2, FIRST, port, www, answers=[address(5, 192, 0, 2, 80)])
+    scene.answer(210, ONE, 1, www, answers=[address(5, 192, 0, 2, 80)])
+    scene.fetched(1000, ONE, 2, new, 5, (192, 0, 2, 81))
+    for number in range(3, 6):
+        scene.fetched(1000 * number - 500, OTHER, number, asked(f"n{number}.example.com"), 5, (192, 0, 2, number))
+    for at, question, last in ((5100, www, 80), (6010.5, new, 81), (6060, new, 81)):
+        scene.question(at, OTHER, 9, question)
+        scene.answer(at + 0.2, OTHER, 9, question, answers=[address(0, 192, 0, 2, last)])
+    settings, printed = configuration.read(CAPTURES / "office.toml", program), []
+    with unittest.mock.patch.multiple(following, PAUSE=0, SETTLED=0, CONTEXT=4):
+        followed(program, settings, scene.pcap(), printed.append)
+    asked_at = "from the cache (asked of 192.0.2.1:53 at 14:03:0"
+    wanted = [
+        f"14:03:05.100 10.0.0.8:40001 udp www.example.com A NOERROR 0.2 ms: {asked_at}0.000, 0 s left)",
+        f"14:03:06.010 10.0.0.8:40001 udp new.example.com A NOERROR 0.2 ms: {asked_at}1.000, 0 s left)",
+    ]
+    yield "lines", printed[5:7], wanted
+    yield "too late", [line.strip()[:10] for line in printed[7:9]], ["14:03:06.0", "DIFFERENT:"]
+
+
 def followed(program, settings, octets, show, after=lambda follower: None, words=()):
     """The summary of a capture that comes packet by packet; `show` is called with each line."""
+    os.environ["TZ"] = "UTC"
+    time.tzset()
     options = command.arguments(["--program", program, "--follow", *words, "office.toml", "-"])
 
     def show_row(row):
@@ -273,5 +299,6 @@ ALL = [
     without_an_answer,
     wrong_words,
     packet_by_packet,
+    ends_of_lifetimes,
     nothing_grows,
 ]

@@ -171,6 +171,19 @@ def kept_before():
     return scene.pcap()
 
 
+def kept_before_ends():
+    """What was kept before the capture has ended in the second that its last answer left open, and
+    is asked for again early in it."""
+    scene, www = Scene(), asked("www.example.com")
+    scene.question(0, ONE, 1, www)
+    scene.answer(0.2, ONE, 1, www, answers=[address(3, 192, 0, 2, 80)])
+    scene.fetched(3100, ONE, 2, www, 60, (192, 0, 2, 80))
+    # Accepted at 3110 ms: 60 - 1.890 s are left.
+    scene.question(5000, OTHER, 3, www)
+    scene.answer(5000.2, OTHER, 3, www, answers=[address(58, 192, 0, 2, 80)])
+    return scene.pcap()
+
+
 def kept_before_differs():
     """A fault: what was kept before the capture has another address five seconds later."""
     scene = Scene()
@@ -283,6 +296,7 @@ ALL = [
     failures,
     connections,
     kept_before,
+    kept_before_ends,
     kept_before_differs,
     two_seconds_more,
     without_resolution,
