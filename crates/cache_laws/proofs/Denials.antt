@@ -18,7 +18,8 @@ use Rattle.cache_laws.specs.Lists.{IsOneOf, NoneTwice}
 use Rattle.cache_laws.specs.Sets.{AreDataOf}
 use Rattle.cache_laws.proofs.Lists.{only_one}
 use Rattle.cache_laws.proofs.Sets.{for_is, is_for, data_of_set, Begins, begins}
-use Rattle.cache_laws.specs.Denials.{LacksAt, IsAliasAt, AliasesLead, IsDeniedAt, DeniesExactly}
+use Rattle.cache_laws.specs.Denials.{LacksAt, IsLoneAlias, HasNothingAt, IsAliasAt, AliasesLead, IsDeniedAt}
+use Rattle.cache_laws.specs.Denials.{DeniesExactly}
 use Rattle.cache_laws.proofs.Walks.{alias_is, own_walk, same_end, led_by}
 
 -- ---- routes
@@ -65,7 +66,7 @@ no_alias r name set alias = (elim (r.question.kind == 5) as
       | false ↦ λ _ none. lacks r 5 name none
     ]) refl alias
 
-other_type : (r : Reply) (name : List (List ℕ)) (p : Piece) → alias_set r name ≡ Some p → r.question.kind ≢ 5
+pub other_type : (r : Reply) (name : List (List ℕ)) (p : Piece) → alias_set r name ≡ Some p → r.question.kind ≢ 5
 other_type r name p e same = absurd (no (r.question.kind == 5) (eq-eqb r.question.kind 5 same) e)
   where
     no : (b : Bool) → b ≡ true → cond b None (answer_set r 5 name) ≡ Some p → ⊥
@@ -178,8 +179,10 @@ denied_at r is_first name p e =
     record {
       on_route = on_route_is r name h.on_is;
       rcode = h.rcode;
-      no_set = lacks r r.question.kind name h.set_is;
-      no_alias = no_alias r name h.set_is h.alias_is;
+      nothing = record {
+        no_set = lacks r r.question.kind name h.set_is;
+        no_alias = no_alias r name h.set_is h.alias_is;
+      };
     }
 
 -- data that leads somewhere is that of one record
@@ -215,11 +218,13 @@ alias_at r is_first name target p e =
     alias_leads q (rank_at r name) r.route r.answers p target b h.leads_to in
     record {
       on_route = on_route_is r name h.on_is;
-      other = other_type r name p h.alias_is;
-      no_set = lacks r r.question.kind name h.set_is;
-      datum = l.datum;
-      alone = subst (AreDataOf q r.answers) l.each_is (data_of_set q r.answers b.first b.others b.records_are);
-      leads = l.leads_to;
+      alias = record {
+        other = other_type r name p h.alias_is;
+        no_set = lacks r r.question.kind name h.set_is;
+        datum = l.datum;
+        alone = subst (AreDataOf q r.answers) l.each_is (data_of_set q r.answers b.first b.others b.records_are);
+        leads = l.leads_to;
+      };
     }
 
 -- ---- the walk ends so only there
@@ -270,25 +275,25 @@ walk_denied r (suc left) is_first name e = go_denied r left is_first name (λ ta
 
 -- where neither the asked set nor an alias is at a name on the route, its denial is met
 pub denial_is_met : (r : Reply) (is_first : Bool) (name : List (List ℕ))
-    → route_of r.config.routes name ≡ Some r.route → LacksAt r r.question.kind name → LacksAt r 5 name
+    → route_of r.config.routes name ≡ Some r.route → HasNothingAt r name
     → met_at r is_first name ≡ denial_at r is_first name
-denial_is_met r is_first name on_route set alias =
+denial_is_met r is_first name on_route nothing =
     let denial : AtName = denial_at r is_first name in
     cond-true (is_on_route r name) (set_or r.question.kind (answer_set r r.question.kind name)
     (alias_or (alias_set r name) denial)) met_nothing (is_on r name on_route)
     ∙ ap (λ (o : Option Piece). set_or r.question.kind o (alias_or (alias_set r name) denial))
-    (no_set r r.question.kind name set)
+    (no_set r r.question.kind name nothing.no_set)
     ∙ ap (λ (o : Option Piece). alias_or o denial)
-    (none_either (r.question.kind == 5) (answer_set r 5 name) (no_set r 5 name alias))
+    (none_either (r.question.kind == 5) (answer_set r 5 name) (no_set r 5 name nothing.no_alias))
   where
     none_either : (b : Bool) (o : Option Piece) → o ≡ None → cond b None o ≡ None
     none_either true o e = refl
     none_either false o e = e
 
-error_met : (r : Reply) (is_first : Bool) (name : List (List ℕ)) → IsDeniedAt r name
+pub error_met : (r : Reply) (is_first : Bool) (name : List (List ℕ)) → IsDeniedAt r name
     → met_at r is_first name ≡ met_name_error (name_error_at r name)
 error_met r is_first name d =
-    denial_is_met r is_first name d.on_route d.no_set d.no_alias
+    denial_is_met r is_first name d.on_route d.nothing
     ∙ cond-true (r.rcode == 3) (met_name_error (name_error_at r name)) _ (eq-eqb r.rcode 3 d.rcode)
 
 -- a list of one datum, and no other
@@ -313,7 +318,7 @@ pub record HasAlias (r : Reply) (name target : List (List ℕ)) : Type 0 where
   pub there : answer_set r 5 name ≡ Some alias
   pub leads_to : target_of alias.body ≡ Some target
 
-pub has_alias : (r : Reply) (name target : List (List ℕ)) → IsAliasAt r name target → HasAlias r name target
+pub has_alias : (r : Reply) (name target : List (List ℕ)) → IsLoneAlias r name target → HasAlias r name target
 has_alias r name target a = let q : Question = at_name r 5 name in
     (elim (records_for q r.answers) as (λ l. records_for q r.answers ≡ l → HasAlias r name target) [
       | [] ↦ λ is. let d = a.alone.only a.datum (inl refl) in
@@ -329,12 +334,13 @@ has_alias r name target a = let q : Question = at_name r 5 name in
           }
     ]) refl
 
-pub alias_met : (r : Reply) (is_first : Bool) (name target : List (List ℕ)) (a : IsAliasAt r name target)
+pub alias_met : (r : Reply) (is_first : Bool) (name target : List (List ℕ))
+    → route_of r.config.routes name ≡ Some r.route → (a : IsLoneAlias r name target)
     (h : HasAlias r name target) → met_at r is_first name ≡ met_alias h.alias target
-alias_met r is_first name target a h =
+alias_met r is_first name target on_route a h =
     let denial : AtName = denial_at r is_first name in
     cond-true (is_on_route r name) (set_or r.question.kind (answer_set r r.question.kind name)
-    (alias_or (alias_set r name) denial)) met_nothing (is_on r name a.on_route)
+    (alias_or (alias_set r name) denial)) met_nothing (is_on r name on_route)
     ∙ ap (λ (o : Option Piece). set_or r.question.kind o (alias_or (alias_set r name) denial))
     (no_set r r.question.kind name a.no_set)
     ∙ ap (λ (o : Option Piece). alias_or o denial)
@@ -352,9 +358,9 @@ denies r (suc left) zero is_first name last few lead d =
     ap (λ (met : AtName). (go_on (λ target. walk_from r left false target) name met).end)
     (error_met r is_first name (subst (IsDeniedAt r) (sym lead) d))
 denies r (suc left) (suc count) is_first name last few lead d =
-    let h : HasAlias r name lead.0 = has_alias r name lead.0 lead.1 in
+    let h : HasAlias r name lead.0 = has_alias r name lead.0 lead.1.alias in
     ap (λ (met : AtName). (go_on (λ target. walk_from r left false target) name met).end)
-    (alias_met r is_first name lead.0 lead.1 h)
+    (alias_met r is_first name lead.0 lead.1.on_route lead.1.alias h)
     ∙ denied_behind h.alias (walk_from r left false lead.0)
     (denies r left count false lead.0 last (omega (arith, few)) lead.2 d)
 

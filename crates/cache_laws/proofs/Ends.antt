@@ -1,6 +1,6 @@
 -- A walk ends with NODATA exactly where the aliases lead to a name with an SOA, or the asked name
 -- has none and the reply does not refer on.
-use Rattle.std.proofs.Common.{◌≡◌, ◌≢◌, ℕ, zero, suc, ◌<◌, Bool, true, false, cond, ◌⊎◌, inl, inr, List, [], ◌∷◌}
+use Rattle.std.proofs.Common.{◌≡◌, ℕ, zero, suc, ◌<◌, Bool, true, false, cond, ◌⊎◌, inl, inr, List, [], ◌∷◌}
 use Rattle.std.proofs.Common.{Option, None, Some, refl, sym, ap, ◌∙◌, subst, arith}
 use Rattle.std.specs.Prelude.{◌==◌, ◌&&◌, ◌||◌, not, is_none}
 use Rattle.std.specs.List.{find, list_any}
@@ -55,17 +55,17 @@ one_is test (x ∷ records) e = (elim (test x) as
       | false ↦ λ _ rest. one_more test x records (one_is test records rest)
     ]) refl e
 
-soa_is_there : (r : Reply) (name : List (List ℕ)) → lacks_soa r name ≡ false → HasSoaFor r name
+pub soa_is_there : (r : Reply) (name : List (List ℕ)) → lacks_soa r name ≡ false → HasSoaFor r name
 soa_is_there r name e =
     let one : Passes (is_soa_for name r.question.class) r.authority =
     one_is (is_soa_for name r.question.class) r.authority e in
     record { s = one.s; there = one.there; fits = soa_of_test r.question.class name one.s one.passes }
 
-has_soa : (r : Reply) (name : List (List ℕ)) → HasSoaFor r name → lacks_soa r name ≡ false
+pub has_soa : (r : Reply) (name : List (List ℕ)) → HasSoaFor r name → lacks_soa r name ≡ false
 has_soa r name h = is_found (is_soa_for name r.question.class) r.authority h.s h.there
     (test_of_soa r.question.class name h.s h.fits)
 
-no_soa : (r : Reply) (name : List (List ℕ)) → (HasSoaFor r name → ⊥) → lacks_soa r name ≡ true
+pub no_soa : (r : Reply) (name : List (List ℕ)) → (HasSoaFor r name → ⊥) → lacks_soa r name ≡ true
 no_soa r name none = elim (cases_Bool (lacks_soa r name)) [
   | inl is ↦ is
   | inr there ↦ absurd (none (soa_is_there r name there))
@@ -91,7 +91,7 @@ a_server (x ∷ records) e = elim (cases_Bool (is_name_server x)) [
     second true o f t = absurd (false≢true (sym f))
     second false o f t = t
 
-refers : (r : Reply) → IsReferral r → is_referral r ≡ true
+pub refers : (r : Reply) → IsReferral r → is_referral r ≡ true
 refers r h = by r.is_authoritative h.clear (any_server r.authority h.s h.there h.kind)
   where
     by : (aa : Bool) → aa ≡ false → list_any is_name_server r.authority ≡ true
@@ -99,7 +99,7 @@ refers r h = by r.is_authoritative h.clear (any_server r.authority h.s h.there h
     by true clear any = absurd (false≢true (sym clear))
     by false clear any = any
 
-is_a_referral : (r : Reply) → is_referral r ≡ true → IsReferral r
+pub is_a_referral : (r : Reply) → is_referral r ≡ true → IsReferral r
 is_a_referral r e = by r.is_authoritative refl e
   where
     by : (aa : Bool) → r.is_authoritative ≡ aa → (not aa && list_any is_name_server r.authority) ≡ true → IsReferral r
@@ -108,7 +108,7 @@ is_a_referral r e = by r.is_authoritative refl e
         let one : Passes is_name_server r.authority = a_server r.authority any in
         record { clear = is; s = one.s; there = one.there; kind = eqb-true one.s.kind 2 one.passes }
 
-not_referral : (r : Reply) → (IsReferral r → ⊥) → is_referral r ≡ false
+pub not_referral : (r : Reply) → (IsReferral r → ⊥) → is_referral r ≡ false
 not_referral r none = elim (cases_Bool (is_referral r)) [
   | inl is ↦ absurd (none (is_a_referral r is))
   | inr other ↦ other
@@ -117,19 +117,19 @@ not_referral r none = elim (cases_Bool (is_referral r)) [
 -- ---- what is met at a bare name
 
 -- by whether it lacks an SOA, is the asked name, and is in a referral
-abbrev bare_by : Reply → List (List ℕ) → Bool → Bool → Bool → AtName
+abbrev pub bare_by : Reply → List (List ℕ) → Bool → Bool → Bool → AtName
 bare_by r name soa is_first referral =
     cond (soa && not is_first) met_nothing (cond (soa && referral) met_lame (met_no_data (no_data_at r name)))
 
-bare_met : (r : Reply) (is_first : Bool) (name : List (List ℕ)) → IsBareAt r name
+pub bare_met : (r : Reply) (is_first : Bool) (name : List (List ℕ)) → IsBareAt r name
     → met_at r is_first name ≡ bare_by r name (lacks_soa r name) is_first (is_referral r)
 bare_met r is_first name b =
-    denial_is_met r is_first name b.on_route b.no_set b.no_alias
+    denial_is_met r is_first name b.on_route b.nothing
     ∙ cond-false (r.rcode == 3) (met_name_error (name_error_at r name)) _ (ne_eqb r.rcode 3 b.other)
 
 -- ---- the walk ends as at the name that aliases lead to
 
-lame_is : (end : End) → is_lame end ≡ true → end ≡ lame
+pub lame_is : (end : End) → is_lame end ≡ true → end ≡ lame
 lame_is found e = absurd (false≢true e)
 lame_is ends_no_data e = absurd (false≢true e)
 lame_is ends_denied e = absurd (false≢true e)
@@ -159,9 +159,9 @@ ends_at r end (suc left) zero is_first name last few lead h =
     subst (λ (n : List (List ℕ)). (go_on (λ target. walk_from r left false target) n (met_at r is_first n)).end ≡ end)
     (sym lead) (h (λ target. walk_from r left false target))
 ends_at r end (suc left) (suc count) is_first name last few lead h =
-    let a : HasAlias r name lead.0 = has_alias r name lead.0 lead.1 in
+    let a : HasAlias r name lead.0 = has_alias r name lead.0 lead.1.alias in
     ap (λ (met : AtName). (go_on (λ target. walk_from r left false target) name met).end)
-    (alias_met r is_first name lead.0 lead.1 a)
+    (alias_met r is_first name lead.0 lead.1.on_route lead.1.alias a)
     ∙ end_behind a.alias (walk_from r left false lead.0)
     ∙ ends_at r end left count false lead.0 last (omega (arith, few)) lead.2
     (λ rest. subst (λ (b : Bool). (go_on rest last (met_at r b last)).end ≡ end) (sym (never_first count)) (h rest))
@@ -246,8 +246,10 @@ lacking_here r left is_first name p e =
       bare = record {
         on_route = on_route_is r name h.on_is;
         other = λ is. both_ways (r.rcode == 3) h.rcode (eq-eqb r.rcode 3 is);
-        no_set = lacks r r.question.kind name h.set_is;
-        no_alias = no_alias r name h.set_is h.alias_is;
+        nothing = record {
+          no_set = lacks r r.question.kind name h.set_is;
+          no_alias = no_alias r name h.set_is h.alias_is;
+        };
       };
       told = elim h.told [
         | inl there ↦ inl (soa_is_there r name there)

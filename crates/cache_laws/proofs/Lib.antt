@@ -6,6 +6,17 @@ pub mod Denials
 pub mod Lifetimes
 pub mod Ends
 pub mod Servers
+pub mod Single
+pub mod AtNames
+pub mod WalkIs
+pub mod WalkOnly
+pub mod Beside
+pub mod Carried
+pub mod Replacing
+pub mod Serving
 pub mod LookUps
 pub mod Worked
 pub mod WorkedDenials
+pub mod WorkedCarried
+pub mod WorkedEnds
+pub mod WorkedShared

@@ -14,7 +14,7 @@ use Rattle.trust_rank.specs.Denials.{is_soa_for, soa_for, minimum_of, longest_de
 use Rattle.trust_rank.specs.Walks.{rank_at, at_name, no_data_at, name_error_at}
 use Rattle.cache_laws.specs.Lifetimes.{IsSoaFor, IsFirstSoa, four_octets, IsLeastOf, LivesBy, HoldsSoa, IsDenialFrom}
 use Rattle.cache_laws.specs.Lifetimes.{DenialsLiveByTheirSoa}
-use Rattle.cache_laws.proofs.Sets.{Begins, begins, min_is_one}
+use Rattle.cache_laws.proofs.Sets.{Begins, begins, min_is_one, one_seconds}
 use Rattle.cache_laws.proofs.Walks.{OfAll, each_piece}
 
 -- ---- the first SOA that fits
@@ -92,9 +92,11 @@ least_of ttl minimum = record {
 
 pub lives_by : (soa : Option Record) → LivesBy soa (denial_lifetime soa)
 lives_by None = refl
-lives_by (Some soa) = λ front a b c d is.
-    subst (λ (minimum : ℕ). IsLeastOf (seconds_of soa.ttl) minimum (denial_lifetime (Some soa)))
-    (ap minimum_of is ∙ minimum_is front a b c d) (least_of (seconds_of soa.ttl) (minimum_of soa.rdata))
+lives_by (Some soa) = λ front a b c d seconds is are.
+    subst (λ (ttl : ℕ). IsLeastOf ttl (four_octets a b c d) (denial_lifetime (Some soa)))
+    (sym (one_seconds soa.ttl seconds are))
+    (subst (λ (minimum : ℕ). IsLeastOf (seconds_of soa.ttl) minimum (denial_lifetime (Some soa)))
+    (ap minimum_of is ∙ minimum_is front a b c d) (least_of (seconds_of soa.ttl) (minimum_of soa.rdata)))
 
 -- ---- each denial
 
@@ -112,7 +114,7 @@ no_data_is a b e = cc
 denied_is : (a b : Option Record) → denied a ≡ denied b → a ≡ b
 denied_is a b e = cc
 
-of_reply : (r : Reply) → OfAll r (IsDenialFrom r.question.class r.authority)
+pub of_reply : (r : Reply) → OfAll r (IsDenialFrom r.question.class r.authority)
 of_reply r = record {
   sets = λ kind name p e.
       let b : Begins (rank_at r name) r.route (records_for (at_name r kind name) r.answers) p =

@@ -51,7 +51,7 @@ ranked_set r kind name p e =
     (ranked r.is_authoritative r.question.name name b.first.owner
     (for_is q r.answers b.first first_is).name)
 
-ranked_all : (r : Reply) → OfAll r (λ (p : Piece). IsRanked r.is_authoritative r.question.name p.owner p.rank)
+pub ranked_all : (r : Reply) → OfAll r (λ (p : Piece). IsRanked r.is_authoritative r.question.name p.owner p.rank)
 ranked_all r = record {
   sets = λ kind name p e. ranked_set r kind name p e;
   none = λ name. ranked r.is_authoritative r.question.name name name refl;
@@ -65,7 +65,7 @@ all_both : (P : Piece → Type 0) (xs ys : List Piece) → AllByRecursion P xs �
 all_both P [] ys a b = b
 all_both P (x ∷ xs) ys a b = (a.0, all_both P xs ys a.1 b)
 
-servers_ranked : (r : Reply) (carried : List Piece) (records : List Record)
+pub servers_ranked : (r : Reply) (carried : List Piece) (records : List Record)
     → AllByRecursion (λ (p : Piece). p.rank ≡ 2) (servers_from r carried records)
 unfolding servers_from
 servers_ranked r carried [] = tt

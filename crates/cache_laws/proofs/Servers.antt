@@ -27,7 +27,7 @@ use Rattle.cache_laws.proofs.Denials.{on_route_is, is_on}
 
 -- ---- owners
 
-owned_by_none : (name : List (List ℕ)) (pieces : List Piece) → list_any (has_owner name) pieces ≡ false
+pub owned_by_none : (name : List (List ℕ)) (pieces : List Piece) → list_any (has_owner name) pieces ≡ false
     → NoneOwns name pieces
 owned_by_none name [] e p there is = there
 owned_by_none name (x ∷ pieces) e p (inl one) is =
@@ -36,7 +36,7 @@ owned_by_none name (x ∷ pieces) e p (inl one) is =
 owned_by_none name (x ∷ pieces) e p (inr rest) is =
     owned_by_none name pieces (or_parts (same x.owner name) (list_any (has_owner name) pieces) e).1 p rest is
 
-none_owns : (name : List (List ℕ)) (pieces : List Piece) → NoneOwns name pieces
+pub none_owns : (name : List (List ℕ)) (pieces : List Piece) → NoneOwns name pieces
     → list_any (has_owner name) pieces ≡ false
 none_owns name [] h = refl
 none_owns name (x ∷ pieces) h =
@@ -49,13 +49,13 @@ none_owns name (x ∷ pieces) h =
 
 -- ---- what fits
 
-record Serves (r : Reply) (s : Record) : Type 0 where
+pub record Serves (r : Reply) (s : Record) : Type 0 where
   pub kind : s.kind ≡ 2
   pub class : s.class ≡ r.question.class
   pub above : is_under r.question.name s.owner ≡ true
   pub on_route : is_on_route r s.owner ≡ true
 
-serves : (r : Reply) (s : Record) → is_server_for r s ≡ true → Serves r s
+pub serves : (r : Reply) (s : Record) → is_server_for r s ≡ true → Serves r s
 serves r s e =
     let all = and_parts ((is_name_server s && (s.class == r.question.class)) && is_under r.question.name s.owner)
     (is_on_route r s.owner) e in
@@ -69,7 +69,7 @@ serves r s e =
       on_route = all.1;
     }
 
-is_server : (r : Reply) (s : Record) → Serves r s → is_server_for r s ≡ true
+pub is_server : (r : Reply) (s : Record) → Serves r s → is_server_for r s ≡ true
 is_server r s h =
     and_from ((is_name_server s && (s.class == r.question.class)) && is_under r.question.name s.owner)
     (is_on_route r s.owner)
@@ -140,7 +140,7 @@ or_cases : (a b : Bool) → (a || b) ≡ true → (a ≡ true) ⊎ (b ≡ true)
 or_cases true b e = inl refl
 or_cases false b e = inr e
 
-and_one : (a b : Bool) → a ≡ true → b ≡ false → (a && not b) ≡ true
+pub and_one : (a b : Bool) → a ≡ true → b ≡ false → (a && not b) ≡ true
 and_one true true t f = sym f
 and_one true false t f = refl
 and_one false b t f = absurd (false≢true t)
@@ -164,7 +164,7 @@ put_one r carried first others s there fits = cond_both (begins_set r carried fi
     only_has true e = refl
     only_has false e = e
 
-all_carried : (r : Reply) (carried : List Piece) (records : List Record) (s : Record) → IsOneOf s records → Serves r s
+pub all_carried : (r : Reply) (carried : List Piece) (records : List Record) (s : Record) → IsOneOf s records → Serves r s
     → (list_any (has_owner s.owner) carried ≡ true) ⊎ IsCarriedIn (servers_from r carried records) s
 unfolding servers_from
 all_carried r carried [] s there fits = absurd there
@@ -192,7 +192,7 @@ all_carried r carried (first ∷ others) s (inr rest) fits =
       | inr more ↦ inr (carried_behind put (servers_from r (carried ++ put) others) s more)
     ]
 
-not_lame : (end : End) → end ≢ lame → is_lame end ≡ false
+pub not_lame : (end : End) → end ≢ lame → is_lame end ≡ false
 not_lame found n = refl
 not_lame ends_no_data n = refl
 not_lame ends_denied n = refl
@@ -206,16 +206,16 @@ servers_are_all c m q route s aa lives fit =
     let living : w.end ≢ lame = λ is. lives (same_end r w ∙ is) in
     let carries : carries_servers r w.end ≡ true = and_one m.header.aa (is_lame w.end) aa (not_lame w.end living) in
     let fits : Serves r s = record {
-      kind = fit.kind;
-      class = fit.class;
-      above = (is_under_decides q.name s.owner).1 fit.above;
+      kind = fit.server.kind;
+      class = fit.server.class;
+      above = (is_under_decides q.name s.owner).1 fit.server.above;
       on_route = is_on r s.owner fit.on_route;
     } in
     let none : list_any (has_owner s.owner) w.pieces ≡ false =
     ap (list_any (has_owner s.owner)) (sym (same_pieces r w))
     ∙ none_owns s.owner (walk_of c m q route).pieces fit.no_piece in
     let all : IsCarriedIn (servers_from r w.pieces r.authority) s =
-    elim (all_carried r w.pieces r.authority s fit.there fits) [
+    elim (all_carried r w.pieces r.authority s fit.server.there fits) [
       | inl has ↦ absurd (both_ways (list_any (has_owner s.owner) w.pieces) none has)
       | inr there ↦ there
     ] in
@@ -232,7 +232,7 @@ others_carry_none c m q route clear =
 
 -- ---- sets are whole
 
-of_answers : (r : Reply) → OfAll r (IsSetFrom r.answers)
+pub of_answers : (r : Reply) → OfAll r (IsSetFrom r.answers)
 of_answers r = record {
   sets = λ kind name p e.
       let q : Question = record { name = name; kind = kind; class = r.question.class } in
@@ -266,7 +266,7 @@ none_before q (s ∷ front) rest none = elim (cases_Bool (is_of q s)) [
       ∙ none_before q front rest (λ x there. none x (inr there))
 ]
 
-has_one : (a b : List (List ℕ)) (pieces : List Piece) → IsSame a b
+pub has_one : (a b : List (List ℕ)) (pieces : List Piece) → IsSame a b
     → list_any (has_owner a) pieces ≡ list_any (has_owner b) pieces
 has_one a b [] is = refl
 has_one a b (p ∷ pieces) is = λ i. same_respects p.owner p.owner a b refl is i || has_one a b pieces is i
@@ -276,7 +276,7 @@ abbrev AllSeen : Reply → List Piece → List Record → Type 0
 AllSeen r carried front = (s : Record) → IsOneOf s front → Serves r s → list_any (has_owner s.owner) carried ≡ true
 
 -- a record of the slot of one that fits does, too
-serves_too : (r : Reply) (first s : Record) → Serves r first → Slotted (question_for first) s → Serves r s
+pub serves_too : (r : Reply) (first s : Record) → Serves r first → Slotted (question_for first) s → Serves r s
 serves_too r first s f at = record {
   kind = at.kind ∙ f.kind;
   class = at.class ∙ f.class;
@@ -350,13 +350,18 @@ whole_sets r carried front (first ∷ others) whole is seen =
     (whole_sets r (carried ++ put) (front ++ first ∷ []) others whole (append_assoc front (first ∷ []) others ∙ is)
     (seen_more r carried front first others seen))
 
+-- the sets of name servers that go with these pieces
+pub servers_whole : (r : Reply) (pieces : List Piece)
+    → AllByRecursion (IsSetFrom r.authority) (servers_from r pieces r.authority)
+servers_whole r pieces = whole_sets r pieces [] r.authority r.authority refl (λ s there _. absurd there)
+
 pub server_sets_are_whole : ServerSetsAreWhole
 server_sets_are_whole c m q route =
     let r : Reply = reply_of c m q route in
     let w : Walk = own_walk r in
     cond_both (carries_servers r w.end) (beside r w) w
     (λ (x : Walk). AllByRecursion (IsSetFrom m.authority) x.authority)
-    (λ _. whole_sets r w.pieces [] r.authority r.authority refl (λ s there _. absurd there))
+    (λ _. servers_whole r w.pieces)
     (λ _. subst (AllByRecursion (IsSetFrom m.authority)) (sym (own_walk_is_plain r)) tt)
 
 -- ---- owners differ
@@ -443,6 +448,11 @@ tested_apart : (old sets : List Piece) → AreApart old sets
 unfolding AreApart
 tested_apart old sets h = (each_apart old sets h.0, all_differ sets h.1)
 
+pub servers_apart : (r : Reply) (pieces : List Piece) (records : List Record)
+    → AllByRecursion (λ (p : Piece). NoneOwns p.owner pieces) (servers_from r pieces records)
+    × OwnersDiffer (servers_from r pieces records)
+servers_apart r pieces records = tested_apart pieces (servers_from r pieces records) (all_apart r pieces records)
+
 none_apart : (old : List Piece) → AllByRecursion (λ (p : Piece). NoneOwns p.owner old) [] × OwnersDiffer []
 none_apart old = (tt, tt)
 
@@ -452,6 +462,6 @@ servers_are_apart c m q route =
     let w : Walk = own_walk r in
     cond_both (carries_servers r w.end) (beside r w) w
     (λ (x : Walk). AllByRecursion (λ (p : Piece). NoneOwns p.owner x.pieces) x.authority × OwnersDiffer x.authority)
-    (λ _. tested_apart w.pieces (servers_from r w.pieces r.authority) (all_apart r w.pieces r.authority))
+    (λ _. servers_apart r w.pieces r.authority)
     (λ _. subst (λ (sets : List Piece). AllByRecursion (λ (p : Piece). NoneOwns p.owner w.pieces) sets
     × OwnersDiffer sets) (sym (own_walk_is_plain r)) (none_apart w.pieces))

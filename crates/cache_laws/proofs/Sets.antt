@@ -4,7 +4,7 @@ use Rattle.std.proofs.Common.{Some, refl, sym, ap, ◌∙◌, subst, arith}
 use Rattle.std.specs.Prelude.{min, nat_le, ◌==◌, ◌&&◌, ◌||◌}
 use Rattle.std.specs.List.{list_any}
 use Rattle.std.proofs.lemmas.Bool.{cond-true, cond-false, cond_both, or_parts, and_parts, and_from, eqb-true, eq-eqb}
-use Rattle.std.proofs.lemmas.Bool.{false≢true, both_ways}
+use Rattle.std.proofs.lemmas.Bool.{false≢true, both_ways, cases_lt}
 use Rattle.std.proofs.lemmas.Bool.Decides.{nat_tests}
 use Rattle.plain_list.specs.Octets.{same_octets}
 use Rattle.plain_list.proofs.CallerLemmas.{same_octets_decides}
@@ -15,8 +15,8 @@ use Rattle.trust_rank.specs.Values.{rows, Piece}
 use Rattle.trust_rank.specs.Sets.{is_of, records_for, with_data, with_all_data, seconds_of, lifetime_within, longest}
 use Rattle.trust_rank.specs.Sets.{set_with, set_of}
 use Rattle.cache_laws.specs.Lists.{IsOneOf, NoneTwice, IsBefore}
-use Rattle.cache_laws.specs.Sets.{IsRecordFor, AreDataOf, ComesFirst, AreInOrder, FirstOwns, HasSeconds, IsLowestTtl}
-use Rattle.cache_laws.specs.Sets.{IsSetFrom, TopBitIsNone}
+use Rattle.cache_laws.specs.Sets.{IsRecordFor, AreDataOf, ComesFirst, AreInOrder, FirstOwns, AreSeconds, HasSeconds}
+use Rattle.cache_laws.specs.Sets.{IsLowestTtl, IsSetFrom, TopBitIsNone}
 use Rattle.cache_laws.proofs.Lists.{before, behind, one_of_both, only_one, once_more, before_last}
 
 -- ---- data that is already there is left out
@@ -273,6 +273,21 @@ first_owns q (r ∷ records) first others e = (elim (is_of q r) as
       )
     ]) refl e
 
+-- ---- TTLs
+
+pub top_bit_is_none : TopBitIsNone
+top_bit_is_none ttl = record {
+  set = λ long. cond-true (nat_le (2 ^ 31) ttl) 0 ttl (grind (arith, nat_tests, long));
+  clear = λ short. cond-false (nat_le (2 ^ 31) ttl) 0 ttl (grind (arith, nat_tests, short));
+}
+
+-- there are no others
+pub one_seconds : (ttl seconds : ℕ) → AreSeconds ttl seconds → seconds ≡ seconds_of ttl
+one_seconds ttl seconds are = elim (cases_lt ttl (2 ^ 31)) [
+  | inl short ↦ are.clear short ∙ sym ((top_bit_is_none ttl).clear short)
+  | inr long ↦ are.set long ∙ sym ((top_bit_is_none ttl).set long)
+]
+
 -- ---- lifetimes
 
 within_most : (most : ℕ) (records : List Record) → lifetime_within most records ≤ most
@@ -323,11 +338,12 @@ life_of_set q records first others is =
       | inr h ↦ inr (record {
         r = h.r;
         fits = for_is q records h.r (subst (IsOneOf h.r) (sym is) h.there);
-        seconds_are = h.seconds_are;
+        seconds_are = subst (AreSeconds h.r.ttl) (sym h.seconds_are) (top_bit_is_none h.r.ttl);
       })
     ] in
     record {
-      least = λ r h. within_each longest (first ∷ others) r (subst (IsOneOf r) is (is_for q records r h));
+      least = λ r seconds h are. subst (λ (n : ℕ). life ≤ n) (sym (one_seconds r.ttl seconds are))
+          (within_each longest (first ∷ others) r (subst (IsOneOf r) is (is_for q records r h)));
       week = within_most longest (first ∷ others);
       one = one;
     }
@@ -390,7 +406,11 @@ own_life q first records lifetime s h =
       | inl e ↦ inl e
       | inr d ↦ inr (record { r = d.r; fits = other_for q first records d.r s d.fits; seconds_are = d.seconds_are })
     ] in
-    record { least = λ r fits. h.least r (back_for q first records r s fits); week = h.week; one = one }
+    record {
+      least = λ r seconds fits are. h.least r seconds (back_for q first records r s fits) are;
+      week = h.week;
+      one = one;
+    }
 
 some_is : (a b : ℕ) → Some a ≡ Some b → a ≡ b
 some_is a b e = cc
@@ -443,12 +463,4 @@ begins rank route (first ∷ others) p e = record {
   others = others;
   records_are = refl;
   piece_is = (let is : Some (set_with rank route first others) ≡ Some p = e in cc);
-}
-
--- ---- TTLs
-
-pub top_bit_is_none : TopBitIsNone
-top_bit_is_none = record {
-  set = λ ttl long. cond-true (nat_le (2 ^ 31) ttl) 0 ttl (grind (arith, nat_tests, long));
-  clear = λ ttl short. cond-false (nat_le (2 ^ 31) ttl) 0 ttl (grind (arith, nat_tests, short));
 }

@@ -17,20 +17,20 @@ use Rattle.trust_rank.specs.Walks.{walk_from, servers_from, walk_of}
 use Rattle.record_cache.specs.Values.{Held}
 use Rattle.cache_laws.specs.Lists.{NoneTwice, IsBefore}
 use Rattle.cache_laws.specs.Sets.{IsRecordFor, HasDatum, AreDataOf, ComesFirst, AreInOrder}
-use Rattle.cache_laws.specs.Sets.{FirstOwns, IsLowestTtl, IsSetFrom}
+use Rattle.cache_laws.specs.Sets.{FirstOwns, AreSeconds, IsLowestTtl, IsSetFrom}
 use Rattle.cache_laws.specs.Ranks.{IsRanked}
 use Rattle.cache_laws.specs.Servers.{NoneOwns, IsFitServer, IsCarriedIn, OwnersDiffer}
 use Rattle.cache_laws.specs.LookUps.{IsAskedSet, IsAskedAlias, IsAskedNoData, IsNameError}
 use Rattle.cache_laws.specs.LookUps.{IsNearestDenial}
 use Rattle.cache_laws.proofs.Lists.{only_one}
-use Rattle.cache_laws.proofs.Sets.{data_of_set, life_of_set, set_from}
+use Rattle.cache_laws.proofs.Sets.{data_of_set, top_bit_is_none, one_seconds, life_of_set, set_from}
 
 -- ---- names under two routes: the root's, and that of the suffix z
 
-abbrev server : Peer
+abbrev pub server : Peer
 server = record { ip = 192 ∷ 0 ∷ 2 ∷ 1 ∷ []; port = 53 }
 
-abbrev routes : List Route
+abbrev pub routes : List Route
 routes = record { suffix = []; deny = false; servers = server ∷ [] } ∷ record {
   suffix = (122 ∷ []) ∷ [];
   deny = false;
@@ -44,7 +44,7 @@ abbrev pub e : List (List ℕ)
 e = (101 ∷ []) ∷ []
 
 -- a name of one letter, below e
-abbrev below_e : ℕ → List (List ℕ)
+abbrev pub below_e : ℕ → List (List ℕ)
 below_e letter = (letter ∷ []) ∷ e
 
 -- such a name as data
@@ -60,10 +60,10 @@ b = below_e 98
 abbrev pub address : Question
 address = record { name = a; kind = 1; class = 1 }
 
-abbrev ip : ℕ → List ℕ
+abbrev pub ip : ℕ → List ℕ
 ip last = 192 ∷ 0 ∷ 2 ∷ last ∷ []
 
-abbrev host : List (List ℕ) → ℕ → ℕ → Record
+abbrev pub host : List (List ℕ) → ℕ → ℕ → Record
 host owner ttl last = record { owner = owner; kind = 1; class = 1; ttl = ttl; rdata = ip last }
 
 abbrev pub alias : List (List ℕ) → List ℕ → Record
@@ -127,10 +127,10 @@ behind_it h = elim h [
 -- ---- sets
 
 -- two addresses of a.e, one of them twice, and one of b.e
-abbrev section : List Record
+abbrev pub section : List Record
 section = host (below_e 65) 300 5 ∷ host a 300 6 ∷ host b 30 7 ∷ host a 60 5 ∷ []
 
-second_is_there : IsRecordFor address section (host a 300 6)
+pub second_is_there : IsRecordFor address section (host a 300 6)
 second_is_there = record { there = inr (inl refl); kind = refl; class = refl; name = refl }
 
 last_is_there : IsRecordFor address section (host a 60 5)
@@ -145,10 +145,10 @@ data_are = data_of_set address section (host (below_e 65) 300 5) (host a 300 6 �
 datum_twice : AreDataOf address section (ip 5 ∷ ip 6 ∷ ip 5 ∷ []) → ⊥
 datum_twice h = h.once.0 (inr (inl refl))
 
-differ : (x y : List ℕ) → same_octets x y ≡ false → x ≡ y → ⊥
+pub differ : (x y : List ℕ) → same_octets x y ≡ false → x ≡ y → ⊥
 differ x y isnt is = false≢true (sym isnt ∙ (same_octets_decides x y).1 is)
 
-datum_left_out : AreDataOf address section (ip 5 ∷ []) → ⊥
+pub datum_left_out : AreDataOf address section (ip 5 ∷ []) → ⊥
 datum_left_out h = elim (h.whole (host a 300 6) second_is_there) [
   | inl is ↦ differ (ip 6) (ip 5) refl is
   | inr none ↦ none
@@ -172,10 +172,10 @@ lowest : IsLowestTtl address section 60
 lowest = life_of_set address section (host (below_e 65) 300 5) (host a 300 6 ∷ host a 60 5 ∷ []) refl
 
 lives_longer : IsLowestTtl address section 61 → ⊥
-lives_longer h = omega (arith, h.least (host a 60 5) last_is_there)
+lives_longer h = omega (arith, h.least (host a 60 5) 60 last_is_there (top_bit_is_none 60))
 
-lives_as : (r s : Record) (seconds : ℕ) → r ≡ s → seconds ≡ seconds_of r.ttl → seconds ≡ seconds_of s.ttl
-lives_as r s seconds is lives = lives ∙ ap (λ (x : Record). seconds_of x.ttl) is
+lives_as : (r s : Record) (seconds : ℕ) → r ≡ s → AreSeconds r.ttl seconds → seconds ≡ seconds_of s.ttl
+lives_as r s seconds is lives = one_seconds r.ttl seconds lives ∙ ap (λ (x : Record). seconds_of x.ttl) is
 
 lives_shorter : IsLowestTtl address section 30 → ⊥
 lives_shorter h = elim h.one [
@@ -191,17 +191,17 @@ lives_shorter h = elim h.one [
 ]
 
 -- the set of these, and that of the first of them alone
-set_is_whole : IsSetFrom section (set_with 3 0 (host (below_e 65) 300 5) (host a 300 6 ∷ host a 60 5 ∷ []))
+pub set_is_whole : IsSetFrom section (set_with 3 0 (host (below_e 65) 300 5) (host a 300 6 ∷ host a 60 5 ∷ []))
 set_is_whole = set_from address 3 0 section (host (below_e 65) 300 5) (host a 300 6 ∷ host a 60 5 ∷ []) refl
 
-abbrev spelled : Question
+abbrev pub spelled : Question
 spelled = record { name = below_e 65; kind = 1; class = 1 }
 
-second_is_of_it : IsRecordFor spelled section (host a 300 6)
+pub second_is_of_it : IsRecordFor spelled section (host a 300 6)
 second_is_of_it = record { there = inr (inl refl); kind = refl; class = refl; name = refl }
 
 -- the order of the section, and another order
-first_is_there : IsRecordFor address section (host (below_e 65) 300 5)
+pub first_is_there : IsRecordFor address section (host (below_e 65) 300 5)
 first_is_there = record { there = inl refl; kind = refl; class = refl; name = refl }
 
 five_comes_first : ComesFirst address section (ip 5) (ip 6)
@@ -216,14 +216,14 @@ six_comes_first h = elim h [
 data_in_order : AreInOrder spelled section (ip 5 ∷ ip 6 ∷ [])
 data_in_order = set_is_whole.in_order 1 (ip 5 ∷ ip 6 ∷ []) refl refl
 
-data_turned_round : AreInOrder address section (ip 6 ∷ ip 5 ∷ []) → ⊥
+pub data_turned_round : AreInOrder address section (ip 6 ∷ ip 5 ∷ []) → ⊥
 data_turned_round h = six_comes_first (h (ip 6) (ip 5) (inl (refl, inl refl)))
 
 -- the owner is spelled as in the first record, and not as in the second
 spelled_as_the_first : FirstOwns address section (below_e 65)
 spelled_as_the_first = inl (first_is_there, refl)
 
-spelled_as_the_second : FirstOwns address section a → ⊥
+pub spelled_as_the_second : FirstOwns address section a → ⊥
 spelled_as_the_second h = elim h [
   | inl first ↦
       let owner : (65 ∷ []) ∷ e ≡ (97 ∷ []) ∷ e = first.1 in
@@ -248,7 +248,7 @@ without_top_bit is = omega (arith, is)
 
 -- ---- ranks
 
-own_answer : IsRanked true a (below_e 65) 3
+pub own_answer : IsRanked true a (below_e 65) 3
 own_answer = record {
   highest = λ _ _. refl;
   authoritative = λ _. refl;
@@ -264,7 +264,7 @@ another_answer = record {
   lowest = λ _. refl;
 }
 
-own_answer_is_low : IsRanked true a (below_e 65) 1 → ⊥
+pub own_answer_is_low : IsRanked true a (below_e 65) 1 → ⊥
 own_answer_is_low h = omega (arith, h.highest refl refl)
 
 another_answer_is_high : IsRanked true a b 3 → ⊥
@@ -287,7 +287,7 @@ only_a name other p there is = elim there [
   | inr none ↦ none
 ]
 
-e_differs : IsSame a e → ⊥
+pub e_differs : IsSame a e → ⊥
 e_differs is = let yes : same a e ≡ true = (same_decides a e).1 is in false≢true yes
 
 a_is_owned : NoneOwns a (walk_of config beside address 0).pieces → ⊥
@@ -297,19 +297,16 @@ a_is_owned none = none (set_with 3 0 (host a 300 5) []) (inl refl) refl
 fit : IsFitServer config beside address 0 (ns e 1)
 unfolding route_of
 fit = record {
-  there = inl refl;
-  kind = refl;
-  class = refl;
-  above = (is_under_decides a e).0 refl;
+  server = record { there = inl refl; kind = refl; class = refl; above = (is_under_decides a e).0 refl };
   on_route = refl;
   no_piece = only_a e e_differs;
 }
 
 class_is_not_fit : IsFitServer config beside address 0 (ns e 3) → ⊥
-class_is_not_fit h = omega (arith, h.class)
+class_is_not_fit h = omega (arith, h.server.class)
 
 sibling_is_not_fit : IsFitServer config beside address 0 (ns b 1) → ⊥
-sibling_is_not_fit h = let yes : is_under a b ≡ true = (is_under_decides a b).1 h.above in false≢true yes
+sibling_is_not_fit h = let yes : is_under a b ≡ true = (is_under_decides a b).1 h.server.above in false≢true yes
 
 answered_is_not_fit : IsFitServer config beside address 0 (ns a 1) → ⊥
 answered_is_not_fit h = a_is_owned h.no_piece

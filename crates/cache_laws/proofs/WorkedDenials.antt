@@ -17,7 +17,7 @@ use Rattle.cache_laws.specs.Denials.{LacksAt, IsAliasAt, IsDeniedAt, LeadsToDeni
 use Rattle.cache_laws.specs.Lifetimes.{IsSoaFor, IsFirstSoa, IsLeastOf, LivesBy, IsDenialFrom}
 use Rattle.cache_laws.specs.Ends.{IsBareAt, LeadsToBare, IsReferral, LeadsToNoData}
 use Rattle.cache_laws.proofs.Lists.{only_one}
-use Rattle.cache_laws.proofs.Sets.{data_of_set}
+use Rattle.cache_laws.proofs.Sets.{data_of_set, top_bit_is_none}
 use Rattle.cache_laws.proofs.Denials.{denies_exactly}
 use Rattle.cache_laws.proofs.Lifetimes.{lives_by}
 use Rattle.cache_laws.proofs.Ends.{no_data_exactly}
@@ -27,7 +27,7 @@ use Rattle.cache_laws.proofs.Worked.{names_differ, owner_is}
 -- ---- denials
 
 -- a.e is an alias of b.e, of which there is nothing
-abbrev to_b : Record
+abbrev pub to_b : Record
 to_b = alias a (data_of 98)
 
 abbrev led : ℕ → Reply
@@ -45,10 +45,14 @@ an_alias_of_a rcode none = none to_b (record { there = inl refl; kind = refl; cl
 
 last_is_denied : IsDeniedAt (led 3) b
 unfolding route_of
-last_is_denied = record { on_route = refl; rcode = refl; no_set = nothing_of_b 3 1; no_alias = nothing_of_b 3 5 }
+last_is_denied = record {
+  on_route = refl;
+  rcode = refl;
+  nothing = record { no_set = nothing_of_b 3 1; no_alias = nothing_of_b 3 5 };
+}
 
 first_is_denied : IsDeniedAt (led 3) a → ⊥
-first_is_denied h = an_alias_of_a 3 h.no_alias
+first_is_denied h = an_alias_of_a 3 h.nothing.no_alias
 
 denied_without_the_code : IsDeniedAt (led 0) b → ⊥
 denied_without_the_code h = omega (arith, h.rcode)
@@ -58,15 +62,17 @@ alias_at_the_first : (rcode : ℕ) (authority : List Record)
 unfolding route_of name_of_rdata name_within walk_in name_step
 alias_at_the_first rcode authority = record {
   on_route = refl;
-  other = λ is. omega (arith, is);
-  no_set = no_address_of_a rcode;
-  datum = data_of 98;
-  alone = data_of_set (record { name = a; kind = 5; class = 1 }) (to_b ∷ []) to_b [] refl;
-  leads = refl;
+  alias = record {
+    other = λ is. omega (arith, is);
+    no_set = no_address_of_a rcode;
+    datum = data_of 98;
+    alone = data_of_set (record { name = a; kind = 5; class = 1 }) (to_b ∷ []) to_b [] refl;
+    leads = refl;
+  };
 }
 
 alias_at_the_last : IsAliasAt (led 3) b a → ⊥
-alias_at_the_last h = let d = h.alone.only h.datum (inl refl) in nothing_of_b 3 5 d.r d.fits
+alias_at_the_last h = let d = h.alias.alone.only h.alias.datum (inl refl) in nothing_of_b 3 5 d.r d.fits
 
 leads : LeadsToDenied (led 3)
 leads = record {
@@ -92,14 +98,14 @@ leads_nowhere h = absurd (let wrong : elsewhere a ≡ ends_denied =
 -- ---- the SOA of a denial, and its lifetime
 
 -- with a MINIMUM of 600 seconds, after two names of the root and four other numbers
-abbrev other_numbers : List ℕ
+abbrev pub other_numbers : List ℕ
 other_numbers = 0 ∷ 0 ∷ 0 ∷ 0 ∷ 0 ∷ 1 ∷ 0 ∷ 0 ∷ 0 ∷ 2 ∷ 0 ∷ 0 ∷ 0 ∷ 3 ∷ 0 ∷ 0 ∷ 0 ∷ 4 ∷ []
 
-abbrev soa : List (List ℕ) → ℕ → ℕ → Record
+abbrev pub soa : List (List ℕ) → ℕ → ℕ → Record
 soa owner class ttl =
     record { owner = owner; kind = 6; class = class; ttl = ttl; rdata = other_numbers ++ 0 ∷ 0 ∷ 2 ∷ 88 ∷ [] }
 
-soa_fits : IsSoaFor 1 a (soa e 1 3600)
+pub soa_fits : IsSoaFor 1 a (soa e 1 3600)
 soa_fits = record { kind = refl; class_is = refl; above = (is_under_decides a e).0 refl }
 
 server_is_no_soa : IsSoaFor 1 a (ns e 1) → ⊥
@@ -184,11 +190,12 @@ below_all_three h = elim h.one [
   | inr (inr is) ↦ omega (arith, is)
 ]
 
-lives_ten_minutes : LivesBy (Some (soa e 1 3600)) 600
+pub lives_ten_minutes : LivesBy (Some (soa e 1 3600)) 600
 lives_ten_minutes = lives_by (Some (soa e 1 3600))
 
-lives_a_second_more : LivesBy (Some (soa e 1 3600)) 601 → ⊥
-lives_a_second_more h = let least : IsLeastOf 3600 600 601 = h other_numbers 0 0 2 88 refl in past_minimum least
+pub lives_a_second_more : LivesBy (Some (soa e 1 3600)) 601 → ⊥
+lives_a_second_more h = let least : IsLeastOf 3600 600 601 =
+    h other_numbers 0 0 2 88 3600 refl (top_bit_is_none 3600) in past_minimum least
 
 lives_without_soa : LivesBy None 1 → ⊥
 lives_without_soa h = omega (arith, h)
@@ -237,15 +244,14 @@ unfolding route_of
 bare_behind_the_alias = record {
   on_route = refl;
   other = λ is. omega (arith, is);
-  no_set = nothing_of_b 0 1;
-  no_alias = nothing_of_b 0 5;
+  nothing = record { no_set = nothing_of_b 0 1; no_alias = nothing_of_b 0 5 };
 }
 
 denied_is_not_bare : IsBareAt (seen (behind_alias 3 [])) b → ⊥
 denied_is_not_bare h = h.other refl
 
 alias_is_not_bare : IsBareAt (seen (behind_alias 0 [])) a → ⊥
-alias_is_not_bare h = an_alias_of_a 0 h.no_alias
+alias_is_not_bare h = an_alias_of_a 0 h.nothing.no_alias
 
 leads_to_bare : (authority : List Record) → LeadsToBare (seen (behind_alias 0 authority)) 1 b
 unfolding route_of
@@ -255,8 +261,7 @@ leads_to_bare authority = record {
   bare = record {
     on_route = refl;
     other = λ is. omega (arith, is);
-    no_set = nothing_of_b 0 1;
-    no_alias = nothing_of_b 0 5;
+    nothing = record { no_set = nothing_of_b 0 1; no_alias = nothing_of_b 0 5 };
   };
 }
 
@@ -268,12 +273,11 @@ asked_is_bare aa authority = record {
   bare = record {
     on_route = refl;
     other = λ is. omega (arith, is);
-    no_set = λ s h. h.there;
-    no_alias = λ s h. h.there;
+    nothing = record { no_set = λ s h. h.there; no_alias = λ s h. h.there };
   };
 }
 
-refers_on : IsReferral (seen (empty false (ns e 1 ∷ [])))
+pub refers_on : IsReferral (seen (empty false (ns e 1 ∷ [])))
 refers_on = record { clear = refl; s = ns e 1; there = inl refl; kind = refl }
 
 authoritative_is_no_referral : IsReferral (seen (empty true (ns e 1 ∷ []))) → ⊥

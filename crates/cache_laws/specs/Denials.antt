@@ -16,15 +16,24 @@ question_at r kind name = record { name = name; kind = kind; class = r.question.
 abbrev pub LacksAt : Reply → ℕ → List (List ℕ) → Type 0
 LacksAt r kind name = (s : Record) → IsRecordFor (question_at r kind name) r.answers s → ⊥
 
--- the name is on the asked route and has no record of the asked type, which is not CNAME (5), but
--- one alias, which is the target's name
-pub record IsAliasAt (r : Reply) (name target : List (List ℕ)) : Type 0 where
-  pub on_route : route_of r.config.routes name ≡ Some r.route
+-- the answer section has no record of the asked type at the name, which is not CNAME (5), but one
+-- alias, which is the target's name (RFC 1034 3.6.2)
+pub record IsLoneAlias (r : Reply) (name target : List (List ℕ)) : Type 0 where
   pub other : r.question.kind ≢ 5
   pub no_set : LacksAt r r.question.kind name
   pub datum : List ℕ
   pub alone : AreDataOf (question_at r 5 name) r.answers (datum ∷ [])
   pub leads : name_of_rdata datum ≡ Some target
+
+-- the answer section has neither the asked type nor an alias at the name
+pub record HasNothingAt (r : Reply) (name : List (List ℕ)) : Type 0 where
+  pub no_set : LacksAt r r.question.kind name
+  pub no_alias : LacksAt r 5 name
+
+-- the name is on the asked route, and has an alias alone
+pub record IsAliasAt (r : Reply) (name target : List (List ℕ)) : Type 0 where
+  pub on_route : route_of r.config.routes name ≡ Some r.route
+  pub alias : IsLoneAlias r name target
 
 -- this many aliases lead from one name to another
 abbrev pub AliasesLead : Reply → ℕ → List (List ℕ) → List (List ℕ) → Type 0
@@ -37,8 +46,7 @@ AliasesLead r (suc count) name last = (target : List (List ℕ)) × IsAliasAt r 
 pub record IsDeniedAt (r : Reply) (name : List (List ℕ)) : Type 0 where
   pub on_route : route_of r.config.routes name ≡ Some r.route
   pub rcode : r.rcode ≡ 3
-  pub no_set : LacksAt r r.question.kind name
-  pub no_alias : LacksAt r 5 name
+  pub nothing : HasNothingAt r name
 
 -- fewer than eight aliases lead from the asked name to one that is denied so
 pub record LeadsToDenied (r : Reply) : Type 0 where

@@ -6,7 +6,7 @@ use Rattle.suffix_routes.specs.Routes.{route_of}
 use Rattle.trust_rank.specs.Values.{ends_no_data, elsewhere, lame, Reply, reply_of}
 use Rattle.trust_rank.specs.Walks.{walk_of}
 use Rattle.cache_laws.specs.Lists.{IsOneOf}
-use Rattle.cache_laws.specs.Denials.{LacksAt, AliasesLead}
+use Rattle.cache_laws.specs.Denials.{HasNothingAt, AliasesLead}
 use Rattle.cache_laws.specs.Lifetimes.{IsSoaFor}
 
 -- the name is on the asked route, the answer section has neither the asked type nor an alias, and
@@ -14,8 +14,7 @@ use Rattle.cache_laws.specs.Lifetimes.{IsSoaFor}
 pub record IsBareAt (r : Reply) (name : List (List ℕ)) : Type 0 where
   pub on_route : route_of r.config.routes name ≡ Some r.route
   pub other : r.rcode ≢ 3
-  pub no_set : LacksAt r r.question.kind name
-  pub no_alias : LacksAt r 5 name
+  pub nothing : HasNothingAt r name
 
 -- `count` aliases, fewer than eight, lead from the asked name to such a one
 pub record LeadsToBare (r : Reply) (count : ℕ) (last : List (List ℕ)) : Type 0 where

@@ -5,4 +5,7 @@ pub mod Denials
 pub mod Lifetimes
 pub mod Ends
 pub mod Servers
+pub mod Carried
+pub mod Replacing
+pub mod Serving
 pub mod LookUps

@@ -5,8 +5,8 @@ use Rattle.dns_name.specs.Labels.{IsUnder}
 use Rattle.dns_message.specs.Values.{Question, Record, Message}
 use Rattle.suffix_routes.specs.Values.{Config}
 use Rattle.trust_rank.specs.Values.{no_data, denied, Piece}
-use Rattle.trust_rank.specs.Sets.{seconds_of}
 use Rattle.trust_rank.specs.Walks.{walk_of}
+use Rattle.cache_laws.specs.Sets.{AreSeconds}
 
 -- an SOA record (6) of this class, whose owner is at or above the name
 pub record IsSoaFor (class : ℕ) (name : List (List ℕ)) (s : Record) : Type 0 where
@@ -35,8 +35,8 @@ pub record IsLeastOf (ttl minimum lifetime : ℕ) : Type 0 where
 -- which is its last four octets (RFC 1035 3.3.13), and of three hours
 abbrev pub LivesBy : Option Record → ℕ → Type 0
 LivesBy None lifetime = lifetime ≡ 0
-LivesBy (Some soa) lifetime = (front : List ℕ) (a b c d : ℕ) → soa.rdata ≡ front ++ a ∷ b ∷ c ∷ d ∷ []
-    → IsLeastOf (seconds_of soa.ttl) (four_octets a b c d) lifetime
+LivesBy (Some soa) lifetime = (front : List ℕ) (a b c d seconds : ℕ) → soa.rdata ≡ front ++ a ∷ b ∷ c ∷ d ∷ []
+    → AreSeconds soa.ttl seconds → IsLeastOf seconds (four_octets a b c d) lifetime
 
 -- it is the section's first SOA for the piece's name, and the piece lives by it
 pub record HoldsSoa (class : ℕ) (authority : List Record) (p : Piece) (soa : Option Record) : Type 0 where

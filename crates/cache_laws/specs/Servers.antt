@@ -14,12 +14,16 @@ abbrev pub NoneOwns : List (List ℕ) → List Piece → Type 0
 NoneOwns name pieces = (p : Piece) → IsOneOf p pieces → IsSame p.owner name → ⊥
 
 -- an NS record of the authority section, of the asked class, whose owner is at or above the asked
--- name and on the asked route, and is the owner of no piece on the walk
-pub record IsFitServer (c : Config) (m : Message) (q : Question) (route : ℕ) (s : Record) : Type 0 where
-  pub there : IsOneOf s m.authority
+-- name
+pub record IsServerAbove (q : Question) (authority : List Record) (s : Record) : Type 0 where
+  pub there : IsOneOf s authority
   pub kind : s.kind ≡ 2
   pub class : s.class ≡ q.class
   pub above : IsUnder q.name s.owner
+
+-- such a record whose owner is on the asked route, and is the owner of no piece on the walk
+pub record IsFitServer (c : Config) (m : Message) (q : Question) (route : ℕ) (s : Record) : Type 0 where
+  pub server : IsServerAbove q m.authority s
   pub on_route : route_of c.routes s.owner ≡ Some route
   pub no_piece : NoneOwns s.owner (walk_of c m q route).pieces
 

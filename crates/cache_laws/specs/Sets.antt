@@ -45,16 +45,21 @@ FirstOwns q [] owner = ⊥
 FirstOwns q (r ∷ records) owner = (IsRecordFor q (r ∷ records) r × (r.owner ≡ owner))
     ⊎ ((IsRecordFor q (r ∷ records) r → ⊥) × FirstOwns q records owner)
 
+-- a TTL with its top bit set is no second, and any other as many as it says (RFC 2181 8)
+pub record AreSeconds (ttl seconds : ℕ) : Type 0 where
+  pub set : 2 ^ 31 ≤ ttl → seconds ≡ 0
+  pub clear : ttl < 2 ^ 31 → seconds ≡ ttl
+
 -- a record of the section has this lifetime in seconds
 pub record HasSeconds (q : Question) (records : List Record) (seconds : ℕ) : Type 0 where
   pub r : Record
   pub fits : IsRecordFor q records r
-  pub seconds_are : seconds ≡ seconds_of r.ttl
+  pub seconds_are : AreSeconds r.ttl seconds
 
 -- no record of the set has a shorter lifetime (RFC 2181 5.2), and one has the same, unless that is
 -- cut to a week
 pub record IsLowestTtl (q : Question) (records : List Record) (lifetime : ℕ) : Type 0 where
-  pub least : (r : Record) → IsRecordFor q records r → lifetime ≤ seconds_of r.ttl
+  pub least : (r : Record) (seconds : ℕ) → IsRecordFor q records r → AreSeconds r.ttl seconds → lifetime ≤ seconds
   pub week : lifetime ≤ 604800
   pub one : (lifetime ≡ 604800) ⊎ HasSeconds q records lifetime
 
@@ -81,7 +86,6 @@ abbrev pub ServerSetsAreWhole : Type 0
 ServerSetsAreWhole = (c : Config) (m : Message) (q : Question) (route : ℕ)
     → AllByRecursion (IsSetFrom m.authority) (walk_of c m q route).authority
 
--- A TTL with its top bit set is none, and any other is as many seconds (RFC 2181 8).
-pub record TopBitIsNone : Type 0 where
-  pub set : (ttl : ℕ) → 2 ^ 31 ≤ ttl → seconds_of ttl ≡ 0
-  pub clear : (ttl : ℕ) → ttl < 2 ^ 31 → seconds_of ttl ≡ ttl
+-- The code's reading of TTLs gives these seconds.
+abbrev pub TopBitIsNone : Type 0
+TopBitIsNone = (ttl : ℕ) → AreSeconds ttl (seconds_of ttl)

@@ -1,5 +1,6 @@
 //! The pieces that a reply carries.
 
+ghost use Rattle.cache_laws.specs.Carried.{CarriedExactly};
 ghost use Rattle.cache_laws.specs.Denials.{DeniesExactly};
 ghost use Rattle.cache_laws.specs.Ends.{AliasesAloneLeadOn, NoDataExactly, ReferralsAreLame};
 ghost use Rattle.cache_laws.specs.Lifetimes.{DenialsLiveByTheirSoa};
@@ -61,4 +62,13 @@ pub fn servers_are_all()
     ensures all { ServersAreAll }
     ensures apart { ServersAreApart }
     ensures none { OthersCarryNone }
+{}
+
+/// The content of a reply, by its records alone (`IsCarriedBy`): sets whole, in order, spelled and
+/// ranked; aliases one by one; NODATA, name errors, referrals and two aliases each exactly;
+/// lifetimes by TTL and SOA; all name servers that fit. With an accepted configuration, code and
+/// table compute a content of this kind. There is no other if the record data has the shapes of its
+/// types, as in each message that was read.
+pub fn carried_exactly()
+    ensures { CarriedExactly }
 {}
