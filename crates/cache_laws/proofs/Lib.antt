@@ -14,6 +14,7 @@ pub mod Beside
 pub mod Carried
 pub mod Replacing
 pub mod Serving
+pub mod CallerLemmas
 pub mod LookUps
 pub mod Worked
 pub mod WorkedDenials

@@ -25,7 +25,7 @@ kinds_test None (Some b) e = absurd (cc)
 kinds_test (Some a) None e = absurd (cc)
 kinds_test (Some a) (Some b) e = eq-eqb a b (let one : a ≡ b = cc in one)
 
-one_slot : (a b : Slot) → same_slot a b ≡ true → AreOfOneSlot a b
+pub one_slot : (a b : Slot) → same_slot a b ≡ true → AreOfOneSlot a b
 one_slot a b e =
     let all = and_parts (same a.key b.key && (a.class == b.class)) (same_kind a.kind b.kind) e in
     let both = and_parts (same a.key b.key) (a.class == b.class) all.0 in
@@ -35,7 +35,7 @@ one_slot a b e =
       kind = kinds_are a.kind b.kind all.1;
     }
 
-slot_test : (a b : Slot) → AreOfOneSlot a b → same_slot a b ≡ true
+pub slot_test : (a b : Slot) → AreOfOneSlot a b → same_slot a b ≡ true
 slot_test a b h =
     and_from (same a.key b.key && (a.class == b.class)) (same_kind a.kind b.kind)
     (and_from (same a.key b.key) (a.class == b.class) ((same_decides a.key b.key).1 h.name)
