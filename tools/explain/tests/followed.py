@@ -24,7 +24,7 @@ from office import FIRST, ONE, OTHER, Scene
 HERE = pathlib.Path(__file__).resolve().parent
 CAPTURES = HERE / "captures"
 TOOL = HERE.parent / "forwarder-explain"
-LONGEST = 10  # seconds that a line may take; it takes one, and a machine that has much to do some more
+LONGEST = 30  # seconds that a line may take; it takes one, and on a machine that is short of time ten
 PIECED = "answers", "connections", "dropped", "failures", "forgotten_alias", "gaps", "kept_before", "lost", "restarted"
 
 
