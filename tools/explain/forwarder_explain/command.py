@@ -10,7 +10,7 @@ from .configuration import shown
 from .doubts import Doubts
 from .files import captures_in, first_moment, opened, size_of
 from .following import Follower, follow
-from .leaps import straightened
+from .leaps import Straightened, by_time
 from .options import arguments, chosen, moment_of, span_of
 from .packets import Decoder
 from .report import Row, Summary, beginning_text, tallied, written
@@ -47,23 +47,39 @@ def note(path, text):
     print(f"forwarder-explain: {path}: {text}", file=sys.stderr)
 
 
-def packets_of(files, progress):
-    """What the packets of captures carry, by time, what is to be noted of them, and the moment of
-    the last packet."""
-    decoder, packets, last, notes = Decoder(), [], 0, []
-    for file in files:
-        capture, size = Capture(file), size_of(file)
-        for number, packet in enumerate(capture.packets()):
-            found, last = decoder.read(packet), max(last, packet.moment)
-            if found is not None:
-                packets.append(found)
-            if number % 10_000 == 0:
-                progress("reading", min(size, capture.source.at), size)
-        notes += capture.notes
-    packets, leaps, _ = straightened(packets, moment_text)
-    packets.sort(key=lambda found: found.moment)
-    last = packets[-1].moment if leaps else last
-    return packets, notes + list(decoder.notes()) + leaps, last
+class Packets:
+    """What the packets of captures carry, by time. Once all were taken, `first` and `last` are the
+    moments of the first and the last one."""
+
+    def __init__(self, files, progress):
+        self.files, self.progress, self.decoder = files, progress, Decoder()
+        self.first, self.last, self.said = None, 0, []
+        self.straightened = Straightened(self.read(), moment_text)
+
+    def __iter__(self):
+        for packet in by_time(self.straightened):
+            self.first = packet.moment if self.first is None else self.first
+            yield packet
+        if self.straightened.notes:
+            self.last = self.straightened.last
+
+    def read(self):
+        """Each packet that can be used, in the order of the files."""
+        for file in self.files:
+            capture, size = Capture(file), size_of(file)
+            for number, packet in enumerate(capture.packets()):
+                found = self.decoder.read(packet)
+                if packet.moment > self.last:
+                    self.last = packet.moment
+                if found is not None:
+                    yield found
+                if number % 10_000 == 0:
+                    self.progress("reading", min(size, capture.source.at), size)
+            self.said += capture.notes
+
+    def notes(self):
+        """What is to be said of them, a line each."""
+        return [*self.said, *self.decoder.notes(), *self.straightened.notes]
 
 
 def explained_by(cutter, wanted, options, progress):
@@ -80,21 +96,19 @@ def explained_by(cutter, wanted, options, progress):
 
 def run(options, settings, files, progress):
     """Explains captures, which follow one another; gives the status."""
-    packets, notes, last = packets_of(files, progress)
-    first = packets[0].moment if packets else 0
+    packets = Packets(files, progress)
     traffic = Traffic(settings, packets)
-    del packets
-    for text in [*notes, *traffic.notes(settings)]:
+    for text in [*packets.notes(), *traffic.notes(settings)]:
         note(options.capture, text)
     questions = [event for event in traffic.events if isinstance(event, Question)]
     if not questions:
         raise Unreadable(f"has no question to {shown(settings.listen)}, where the configuration listens")
-    wanted = chosen(options, questions, first)
+    wanted = chosen(options, questions, packets.first)
     if not wanted:
         span = " to ".join(moment_text(question.moment) for question in (questions[0], questions[-1]))
         note(options.capture, f"no question is chosen; the capture has those from {span}")
-    restarted = [moment_of(text, first) for text in options.restarted]
-    cutter = Cutter(settings, traffic, last, restarted)
+    restarted = [moment_of(text, packets.first) for text in options.restarted]
+    cutter = Cutter(settings, traffic, packets.last, restarted)
     explained = explained_by(cutter, set(wanted), options, progress)
     progress.end()
     doubts = Doubts(settings, traffic, cutter, explained.others)

@@ -1,5 +1,9 @@
 """Leaps of the clock with which packets were captured. The service's own clock has none, so they
 are taken out."""
+import heapq
+import itertools
+from collections import deque
+
 from .traffic import Answer, Query, Reply
 from .wording import counted
 
@@ -8,31 +12,60 @@ SOON = 60_000  # microseconds in which a reply is answered
 FEW = 8  # packets with a strange time, after which the clock is as before
 
 
-def straightened(packets, shown):
-    """The packets in the order of the file, with times as if the clock had not been set back; a note
-    for each leap; and by how much it was set back in all, in microseconds. `shown` puts a moment
+class Straightened:
+    """Packets in the order of the file, with times as if the clock had not been set back. Once all
+    were taken, `notes` has a line for each leap, and `last` the last moment. `shown` puts a moment
     into words."""
-    found, notes, offset, latest, strange = [], [], 0, None, 0
-    for place, packet in enumerate(packets):
-        moment = packet.moment + offset
+
+    def __init__(self, packets, shown):
+        self.ahead, self.packets, self.shown = deque(), iter(packets), shown
+        self.offset, self.latest, self.strange = 0, None, 0
+        self.found, self.notes, self.last = [], [], None
+
+    def __iter__(self):
+        self.ahead.extend(itertools.islice(self.packets, FEW + 1))
+        while self.ahead:
+            self.take(self.ahead[0])
+            if len(self.found) > 2 * FEW:
+                yield from self.found[:FEW]
+                del self.found[:FEW]
+            self.ahead.popleft()
+            self.ahead.extend(itertools.islice(self.packets, 1))
+        yield from self.found
+        self.last = self.found[-1].moment if self.found else None
+        if self.strange:
+            strange = counted(self.strange, "packet")
+            self.notes.append(f"{strange} with a strange time, taken for that of the one before")
+
+    def take(self, packet):
+        """Puts a packet behind those that were found."""
+        moment, latest = packet.moment + self.offset, self.latest
         if latest is not None and moment < latest - LEAP:
-            ahead = run_before(found, moment)
+            ahead = run_before(self.found, moment)
             if ahead:
-                latest = found[-ahead - 1].moment
-                found[-ahead:] = [each._replace(moment=latest) for each in found[-ahead:]]
-                strange += ahead
-            elif comes_back(packets, place, latest - offset, (latest - moment) // 2):
-                moment, strange = latest, strange + 1
+                self.latest = self.found[-ahead - 1].moment
+                self.found[-ahead:] = [each._replace(moment=self.latest) for each in self.found[-ahead:]]
+                self.strange += ahead
+            elif comes_back(self.ahead, latest - self.offset, (latest - moment) // 2):
+                moment, self.strange = latest, self.strange + 1
             else:
-                back = f"the clock was set back by {(latest - moment) / 1e6:,.1f} s at {shown(packet.moment)}"
-                notes.append(f"{back}: later times are those of the clock before")
-                offset += latest - moment
+                back = f"the clock was set back by {(latest - moment) / 1e6:,.1f} s at {self.shown(packet.moment)}"
+                self.notes.append(f"{back}: later times are those of the clock before")
+                self.offset += latest - moment
                 moment = latest
-        latest = moment if latest is None else max(latest, moment)
-        found.append(packet if moment == packet.moment else packet._replace(moment=moment))
-    if strange:
-        notes.append(f"{counted(strange, 'packet')} with a strange time, taken for that of the one before")
-    return found, notes, offset
+        self.latest = moment if self.latest is None else max(self.latest, moment)
+        self.found.append(packet if moment == packet.moment else packet._replace(moment=moment))
+
+
+def by_time(packets):
+    """Packets that are in order but for a leap's length, by their times."""
+    waiting = []
+    for number, packet in enumerate(packets):
+        heapq.heappush(waiting, (packet.moment, number, packet))
+        while waiting[0][0] < packet.moment - LEAP:
+            yield heapq.heappop(waiting)[2]
+    while waiting:
+        yield heapq.heappop(waiting)[2]
 
 
 def run_before(found, moment):
@@ -45,11 +78,11 @@ def run_before(found, moment):
     return 0
 
 
-def comes_back(packets, place, latest, leap):
+def comes_back(packets, latest, leap):
     """Whether the time of one of the next packets leaps as far as to a moment."""
-    near = packets[place : place + 1 + FEW]
     return any(
-        after.moment >= latest - LEAP and after.moment - before.moment >= leap for before, after in zip(near, near[1:])
+        after.moment >= latest - LEAP and after.moment - before.moment >= leap
+        for before, after in itertools.pairwise(packets)
     )
 
 

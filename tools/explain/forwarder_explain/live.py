@@ -1,6 +1,6 @@
 """The traffic of a capture that goes on: what is over is forgotten."""
 from .answering import Answering, question_text, text_of
-from .leaps import FEW, straightened
+from .leaps import FEW, Straightened
 from .packets import Decoder
 from .traffic import Answer, Query, Question, Traffic, is_foreign
 from .wording import moment_text
@@ -28,10 +28,11 @@ class Intake:
         """What has come, in the order of time; that of the last moment waits for what may have been
         captured before it, unless it is quiet."""
         moved = [each._replace(moment=each.moment + self.offset) for each in self.raw] if self.offset else self.raw
-        found, notes, back = straightened(self.last + moved, moment_text)
-        for text in notes:
+        straightened = Straightened(self.last + moved, moment_text)
+        found = list(straightened)
+        for text in straightened.notes:
             self.note(text)
-        self.offset += back
+        self.offset += straightened.offset
         self.waiting += found[len(self.last) :]
         self.last, self.raw = found[-FEW - 2 :], []
         self.latest = max([self.latest, *(each.moment for each in self.last)])

@@ -12,6 +12,7 @@ ACK = 16
 QUERY_FLAGS = b"\x01\0\0\1\0\0\0\0\0\0"  # RD, and one question, as the forwarder asks
 ANY_ADDRESS = bytes(4)
 PORT_CLOSED, LAST_PORT = 3, 65535
+MOST_KNOWN = 10_000  # clients of the last time
 MOST_ELSEWHERE = 50_000  # paths of what other programs ask, and connections that began before
 MOST_UNSOLICITED = 50_000  # records of messages that nobody asked for
 AT_ONCE = 50_000  # microseconds in which the service's own machine refuses a question
@@ -129,10 +130,12 @@ class Traffic:
     def __init__(self, configuration, packets):
         self.servers, self.events, self.orphans = configuration.servers, [], []
         self.paths, self.connections, self.last_of, self.known = {}, {}, {}, {}
-        self.elsewhere, self.unsolicited = {}, set()
+        self.elsewhere, self.unsolicited, self.most_last = {}, set(), MOST_KNOWN
         self.clients = self.foreign = self.gaps = 0
         self.late = set()
         self.has_question = self.has_query = False
+        if configuration.listen[0] == ANY_ADDRESS:  # its own addresses are looked for first
+            packets = list(packets)
         self.listen = self.own_peers(configuration.listen, packets)
         for packet in packets:
             self.take(packet)
@@ -199,9 +202,11 @@ class Traffic:
             self.unsolicited |= rows_of(octets)
 
     def client(self, peer):
-        """A client of UDP as a script has it, and its peer; there is one of each. A script has no port
-        0, from which anyone can send."""
+        """A client of UDP as a script has it, and its peer; there is one of each for a while. A script
+        has no port 0, from which anyone can send."""
         if peer not in self.known:
+            if len(self.known) >= MOST_KNOWN:
+                self.known.clear()
             self.known[peer] = f"udp {shown((peer[0], peer[1] or LAST_PORT))}", peer
         return self.known[peer]
 
@@ -338,6 +343,10 @@ class Traffic:
     def question(self, question):
         self.has_question = True
         self.events.append(question)
+        if len(self.last_of) >= self.most_last:
+            since = question.moment - AT_ONCE
+            self.last_of = {client: each for client, each in self.last_of.items() if each.moment >= since}
+            self.most_last = max(MOST_KNOWN, 2 * len(self.last_of))
         self.last_of[question.client] = question
 
     def query(self, query):

@@ -1,5 +1,6 @@
 """Cuts a capture into windows, since a script has at most 8,191 lines, and explains them side by
 side."""
+import bisect
 import multiprocessing
 import os
 from collections import Counter, defaultdict
@@ -258,21 +259,23 @@ class Explained:
 
 def explain(cutter, chosen, program, progress, keeps_scripts=True):
     """The results of the chosen questions, and the scripts if they are to be kept."""
-    places = {event: place for place, event in enumerate(cutter.events) if isinstance(event, (Question, Answer))}
-    jobs = []
-    for cut, end in cutter.ranges():
-        judged = [
-            place
-            for event, place in places.items()
-            if isinstance(event, Question) and event in chosen and cut.place <= places.get(event.answer, place) < end
-        ]
-        if judged:
-            jobs.append((cut, end, judged))
+    jobs = [(*window, judged) for window, judged in judged_in(cutter, chosen) if judged]
     explained = Explained()
     for done, part in enumerate(parts(cutter, jobs, program, keeps_scripts), 1):
         explained.add(part, cutter.events)
         progress(done, len(jobs))
     return explained
+
+
+def judged_in(cutter, chosen):
+    """The places of the chosen questions of each window: that of the answer, or of one without."""
+    ranges = cutter.ranges()
+    begins, judged = [cut.place for cut, _ in ranges], [[] for _ in ranges]
+    answers = {event: place for place, event in enumerate(cutter.events) if isinstance(event, Answer)}
+    for place, event in enumerate(cutter.events):
+        if isinstance(event, Question) and event in chosen:
+            judged[bisect.bisect_right(begins, answers.get(event.answer, place)) - 1].append(place)
+    return zip(ranges, judged)
 
 
 WORK = []  # what each process works on, as it was when it was forked
