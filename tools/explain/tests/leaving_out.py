@@ -18,7 +18,7 @@ from office import FORWARDER
 PAIRS = 60  # of a capture
 # Captures that lack packets, and others of which two packets are all that shows what happened.
 LOSSY = {scene.__name__ for scene in [*lossy.ALL, *losses.ALL]}
-SINGLE = {"one_identifier", "clock_set_back", "clock_set_forward"}
+SINGLE = {"one_identifier", "clock_set_back", "clock_set_forward", "taken_late", "stood_still_twice"}
 # Captures in which a loss next to what they show is not told apart: of two messages without a question nothing says
 # which one is missing, and a service that stands still past a deadline and a lost query look like another service.
 NOT_TOLD = {"one_identifier_without_a_question", "stood_still_past_the_deadline", "stood_still_and_asked_anew"}
