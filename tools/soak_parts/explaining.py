@@ -28,7 +28,7 @@ class Explanation(threading.Thread):
 
     def run(self):
         said, script = self.file.with_suffix(".json"), self.file.with_suffix(".script")
-        words = ["--program", self.program, "--json", "--failures", "--script", script, self.config, self.file]
+        words = ["--program", self.program, "--json", "--script", script, self.config, self.file]
         with open(said, "wb") as out:
             ran = subprocess.run(
                 [*aside(), EXPLAIN, *words], stdout=out, stderr=subprocess.PIPE, text=True, check=False)

@@ -25,7 +25,7 @@ def explained(explanations):
     yield f"forwarder-explain: {counts.pop('questions', 0):,} questions, {counts.pop('answers', 0):,} answers"
     yield "  " + ", ".join(f"{key.replace('_', ' ')} {value:,}" for key, value in counts.items())
     listed = ", ".join(f"{key}: {value:,}" for key, value in sorted(reasons.items(), key=str))
-    yield f"  failures by reason: {listed or 'none'}"
+    yield f"  by reason: {listed or 'none'}"
     for each in explanations:
         for row in each.different[:MOST_SHOWN]:
             yield f"  different: {each.file.name} {row['time']:.3f} {row['client']} {row['name']} {row['type']}"
