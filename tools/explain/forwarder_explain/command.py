@@ -13,10 +13,11 @@ from .following import Follower, follow
 from .leaps import Straightened, by_time
 from .options import arguments, chosen, moment_of, span_of
 from .packets import Decoder
+from .replay import TooLong
 from .report import Row, Summary, beginning_text, tallied, written
 from .story import Teller, clock
 from .traffic import Question, Traffic
-from .windows import Cutter, TooLong, explain
+from .windows import Cutter, explain
 from .wording import moment_text
 
 DIFFERENT, UNREADABLE = 1, 2

@@ -14,12 +14,13 @@ from .kept import History
 from .live import Intake, Live, fits
 from .options import chosen, moment_of, span_of
 from .remembered import Beginnings, Queries
+from .replay import TooLong
 from .report import Row, Summary
 from .rounds import Round, place_to_keep
 from .story import Teller
 from .tally import Tally
 from .traffic import Query, Question
-from .windows import TooLong, others_of
+from .windows import others_of
 
 PAUSE = 0.3  # seconds between two rounds
 SETTLED = 200_000  # microseconds after an answer in which what belongs to it may still come

@@ -9,6 +9,10 @@ MOST_LINES = 8063  # up to here each line draws a port that no other has
 MOST_OCTETS = 15_000_000
 
 
+class TooLong(Exception):
+    """A script has more lines than it may."""
+
+
 class Asked:
     """A query of the script: the line that made it, and the line that ended it."""
 
@@ -96,6 +100,8 @@ class Script:
     def run(self, lines, pairs):
         """The outcome of the script; which numbers its connections have is noted for the next run.
         """
+        if len(lines) > MOST_LINES:
+            raise TooLong
         # In a process group of its own, which the interrupt key of a terminal does not reach.
         text = self.text(lines, pairs).encode()
         ran = subprocess.run([self.program, "replay"], input=text, capture_output=True, process_group=0)

@@ -7,8 +7,7 @@ from .eras import is_output
 from .lines import FIRST_MOMENT
 from .messages import CNAME
 from .repairs import SLACK
-from .replay import MOST_LINES
-from .windows import SAID, Cut, Cutter, TooLong
+from .windows import SAID, Cut, Cutter
 
 MOST_EVENTS = 2500  # of a window; what is kept comes to it
 MOST_BEFORE = 3  # times that a beginning before the base is looked for
@@ -109,8 +108,6 @@ class Round(Cutter):
             window = self.window(cut, end, own, program)
             if until is not None and end == len(self.events):
                 window.maker.add(until // 1000 - self.history.first + FIRST_MOMENT, "tick", order=until)
-            if len(window.lines) > MOST_LINES - 200:
-                raise TooLong
             ends = self.events[end].moment if end < len(self.events) else float("inf")
             yield window, ends, window.results()[0]
 

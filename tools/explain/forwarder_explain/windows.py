@@ -23,10 +23,6 @@ SAID = 1_000_000  # microseconds before and after a moment that is said to be th
 SMALL_CACHE = 1000  # entries; a larger cache is carried into a window only as far as the window needs it
 
 
-class TooLong(Exception):
-    """A window has more lines than a script may."""
-
-
 class Cut:
     """Where a window begins, and what was kept then; `anew` if the service began anew there."""
 
@@ -103,7 +99,7 @@ class Cutter:
 
     def ranges(self):
         """Beginning and end of each window, as places of events."""
-        if self.total[0] <= MOST_LINES - 500 and self.total[1] < MOST_OCTETS:
+        if self.aim == AIM_LINES and self.total[0] <= MOST_LINES - 500 and self.total[1] < MOST_OCTETS:
             self.cuts = [cut for cut in self.cuts if cut.anew or cut.place == 0]
         ends = [cut.place for cut in self.cuts[1:]] + [len(self.events)]
         return list(zip(self.cuts, ends))
@@ -307,8 +303,6 @@ def run_one(number):
     cutter, jobs, program, keeps_scripts = WORK
     cut, end, judged = jobs[number]
     window = cutter.window(cut, end, [cutter.events[place] for place in judged], program)
-    if len(window.lines) > MOST_LINES - 200:
-        raise TooLong
     by_event, exchanged = window.results()
     results = {place: by_event[cutter.events[place]] for place in judged}
     others = others_of(window)
