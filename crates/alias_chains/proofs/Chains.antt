@@ -3,7 +3,7 @@ use Rattle.std.proofs.Common.{◌≡◌, ℕ, ◌+◌, ◌<◌, List, [], ◌∷
 use Rattle.std.proofs.lemmas.List.{take_more, map-append, append_assoc}
 use Rattle.trust_rank.specs.Values.{Piece}
 use Rattle.record_cache.specs.Values.{Held}
-use Rattle.plain_list.specs.Borrowed.{lent}
+use Rattle.plain_values.specs.Borrowed.{lent}
 
 abbrev pub held_with : Piece → ℕ → Held
 held_with p n = record { piece = p; accepted = n }

@@ -11,7 +11,7 @@ use Rattle.negative_cache.specs.Values.{Found, local, rows, alias, no_data, deni
 use Rattle.negative_cache.specs.Stale.{stale}
 use Rattle.negative_cache.specs.Laws.{FitsWithin}
 use Rattle.negative_cache.proofs.CallerLemmas.{stale_fits}
-use Rattle.plain_list.specs.Borrowed.{lent}
+use Rattle.plain_values.specs.Borrowed.{lent}
 use Rattle.alias_chains.specs.PastEnds.{past_led, past_followed, look_up_past}
 use Rattle.alias_chains.proofs.Seeing.{lent_put}
 use Rattle.alias_chains.proofs.Few.{AreAmong, put_among}

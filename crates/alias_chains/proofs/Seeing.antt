@@ -9,7 +9,7 @@ use Rattle.trust_rank.specs.Walks.{target_of}
 use Rattle.record_cache.specs.Values.{Held}
 use Rattle.negative_cache.specs.Values.{Found, local, rows, alias, no_data, denied, miss}
 use Rattle.negative_cache.specs.Finding.{found}
-use Rattle.plain_list.specs.Borrowed.{lent}
+use Rattle.plain_values.specs.Borrowed.{lent}
 use Rattle.alias_chains.specs.LookingUp.{LookUp, look_up_behind, look_up_after, one_too_many, through, look_up}
 use Rattle.alias_chains.specs.declared.looked.LookUpEnd.TheVariants.{Ends, TooLong, Missed}
 use Rattle.alias_chains.specs.Seen.{Seen, seen_of, led_on, goes_on, seen_from}

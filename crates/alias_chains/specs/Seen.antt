@@ -7,7 +7,7 @@ use Rattle.trust_rank.specs.Walks.{target_of}
 use Rattle.record_cache.specs.Values.{Held}
 use Rattle.negative_cache.specs.Values.{Found, local, rows, alias, no_data, denied, miss}
 use Rattle.negative_cache.specs.Finding.{found}
-use Rattle.plain_list.specs.Borrowed.{lent}
+use Rattle.plain_values.specs.Borrowed.{lent}
 use Rattle.alias_chains.specs.LookingUp as rules
 use Rattle.alias_chains.specs.LookingUp.{LookUp}
 use Rattle.alias_chains.specs.declared.used.UsedEntries.{UsedEntries}

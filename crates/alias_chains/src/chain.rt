@@ -1,7 +1,7 @@
 //! Chains of pieces, put together.
 
 ghost use Rattle.std.specs.Prelude.{◌≡◌, ◌++◌, IfOk};
-ghost use Rattle.plain_list.specs.Borrowed.{lent};
+ghost use Rattle.plain_values.specs.Borrowed.{lent};
 
 use record_cache::Held;
 use std::alloc::{AllocError, Allocator};

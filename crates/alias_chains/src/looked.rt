@@ -2,7 +2,7 @@
 
 ghost use Rattle.std.specs.Prelude.{◌≡◌, map, IfOk};
 ghost use Rattle.alias_chains.specs.Seen.{last_target};
-ghost use Rattle.plain_list.specs.Borrowed.{lent};
+ghost use Rattle.plain_values.specs.Borrowed.{lent};
 
 use crate::slots::SlotsRef;
 use crate::used::UsedEntries;

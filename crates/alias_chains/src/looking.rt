@@ -2,7 +2,7 @@
 
 ghost use Rattle.std.specs.Prelude.{◌≡◌, [], IfOk, OnErr, MatchOption, None, Some};
 ghost use Rattle.std.specs.List.{AllByRecursion};
-ghost use Rattle.plain_list.specs.Borrowed.{lent};
+ghost use Rattle.plain_values.specs.Borrowed.{lent};
 ghost use Rattle.record_cache.specs.Laws.{Among};
 ghost use Rattle.negative_cache.specs.Finding.{found};
 ghost use Rattle.negative_cache.specs.Values.{alias as alias_found};
@@ -14,9 +14,8 @@ ghost use Rattle.alias_chains.specs.Seen.{seen_from, seen_of, IsAlias, UsesFew};
 
 use crate::looked::{LookUp, LookUpEnd};
 use crate::used::UsedEntries;
-use dns_message::QuestionRef;
+use dns_message::{Bound, QuestionRef, skip_name};
 use dns_name::NameKey;
-use message_names::{Bound, skip_name};
 use negative_cache::{CacheAt, Found};
 use record_cache::Held;
 use std::alloc::{AllocError, Allocator};

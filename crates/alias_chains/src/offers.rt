@@ -8,7 +8,7 @@ ghost use Rattle.alias_chains.specs.Offering.{shown_by, ended_so, put, put_all, 
 ghost use Rattle.alias_chains.specs.Offering.{pieces_of};
 
 use negative_cache::shown;
-use plain_list::PlainList;
+use plain_values::PlainList;
 use record_cache::{Cache, Held, Offered};
 use std::alloc::{AllocError, Allocator};
 use std::hash::BuildHasher;

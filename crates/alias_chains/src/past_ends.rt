@@ -5,7 +5,7 @@ ghost use Rattle.std.specs.List.{AllByRecursion};
 ghost use Rattle.std.specs.Option.{IfSome};
 ghost use Rattle.dns_name.specs.Labels.{labels_of, IsLaidOut};
 ghost use Rattle.dns_message.specs.Questions.{asked_at};
-ghost use Rattle.plain_list.specs.Borrowed.{lent};
+ghost use Rattle.plain_values.specs.Borrowed.{lent};
 ghost use Rattle.record_cache.specs.Laws.{Among};
 ghost use Rattle.negative_cache.specs.Stale.{stale};
 ghost use Rattle.negative_cache.specs.Values.{found_of};

@@ -1,7 +1,7 @@
 //! Slots that a look-up used: borrowed from the cache, and on their own.
 
 ghost use Rattle.std.specs.Prelude.{◌≡◌, [], map, IfOk, IsOk};
-ghost use Rattle.plain_list.specs.Borrowed.{lent};
+ghost use Rattle.plain_values.specs.Borrowed.{lent};
 ghost use Rattle.alias_chains.specs.LookingUp.{promoted_all};
 ghost use Rattle.alias_chains.specs.Seen.{entries_of, HasItsSlot};
 

@@ -1,7 +1,7 @@
 //! The entries that a look-up used.
 
 ghost use Rattle.std.specs.Prelude.{◌≡◌, []};
-ghost use Rattle.plain_list.specs.Borrowed.{lent};
+ghost use Rattle.plain_values.specs.Borrowed.{lent};
 ghost use Rattle.alias_chains.specs.Seen.{entries_of, HasItsSlot};
 
 use record_cache::Held;

@@ -10,7 +10,7 @@ use Rattle.record_cache.specs.Values.{Held}
 use Rattle.answer_builder.specs.Values.{Told}
 use Rattle.answer_builder.specs.Answers.{answers_of, told_at, told_stale, sections_told}
 use Rattle.answer_builder.specs.Building.{end_of, end_authority, end_rcode, ending, listed}
-use Rattle.plain_list.specs.Borrowed.{lent}
+use Rattle.plain_values.specs.Borrowed.{lent}
 
 ending_is : (chain : List Told) → ending (flat_map answers_of chain) (end_of chain) ≡ sections_told chain
 ending_is [] = refl

@@ -1,6 +1,6 @@
 -- The answer of a call, unless memory ran out.
 use Rattle.std.specs.Prelude.{Bool, true, false, Result}
-use Rattle.first_fault.specs.Reading as reading
+use Rattle.plain_values.specs.FirstFault as reading
 use Rattle.answer_builder.specs.declared.fault.Fault.{Fault}
 use Rattle.answer_builder.specs.declared.fault.Fault.TheVariants.{TooLarge, Memory}
 

@@ -5,7 +5,7 @@ ghost use Rattle.std.specs.List.{AllByRecursion};
 ghost use Rattle.dns_message.specs.Writing.{written};
 ghost use Rattle.answer_builder.specs.Answers.{error_response, local_sections, sections_told, IsEarlier};
 ghost use Rattle.answer_builder.specs.Faults.{Gives};
-ghost use Rattle.plain_list.specs.Borrowed.{lent};
+ghost use Rattle.plain_values.specs.Borrowed.{lent};
 ghost use Rattle.answer_builder.specs.Transports.{answer_of, local_answer_of, stale_answer_of, text_of};
 
 use crate::asked::{Asked, AskedRef, Transport};
@@ -16,7 +16,7 @@ use crate::text::{UDP_LIMIT, header_of, put_bare, put_text};
 use crate::told::{ToldRef, last_at, told_left, told_stale};
 use dns_message::MessageParts;
 use dns_message::codes::NXDOMAIN;
-use plain_list::Octets;
+use plain_values::Octets;
 use record_cache::Held;
 use std::alloc::{AllocError, Allocator};
 

@@ -8,7 +8,7 @@ ghost use Rattle.dns_message.specs.Data.{IsShaped};
 ghost use Rattle.trust_rank.specs.Values.{unboxed};
 ghost use Rattle.answer_builder.specs.Answers.{aged, answers_of, authority_of, rcode_of, record_of, told_at, IsEarlier};
 ghost use Rattle.answer_builder.specs.Building.{end_authority, end_rcode, listed};
-ghost use Rattle.plain_list.specs.Borrowed.{lent};
+ghost use Rattle.plain_values.specs.Borrowed.{lent};
 
 use crate::told::ToldRef;
 use dns_message::codes::NXDOMAIN;

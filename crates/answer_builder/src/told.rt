@@ -5,7 +5,7 @@ ghost use Rattle.std.specs.List.{AllByRecursion};
 ghost use Rattle.record_cache.specs.Ageing.{seconds_left};
 ghost use Rattle.answer_builder.specs.Answers.{told_at, told_past, told_stale, IsEarlier};
 ghost use Rattle.answer_builder.specs.Building.{end_of};
-ghost use Rattle.plain_list.specs.Borrowed.{lent};
+ghost use Rattle.plain_values.specs.Borrowed.{lent};
 
 use record_cache::Held;
 use std::alloc::{AllocError, Allocator, Global};

@@ -6,8 +6,8 @@ use Rattle.std.specs.List.{list_any}
 use Rattle.std.proofs.lemmas.Bool.{cond-true, cond-false, cond_both, or_parts, and_parts, and_from, eqb-true, eq-eqb}
 use Rattle.std.proofs.lemmas.Bool.{false≢true, both_ways, cases_lt}
 use Rattle.std.proofs.lemmas.Bool.Decides.{nat_tests}
-use Rattle.plain_list.specs.Octets.{same_octets}
-use Rattle.plain_list.proofs.CallerLemmas.{same_octets_decides}
+use Rattle.plain_values.specs.Octets.{same_octets}
+use Rattle.plain_values.proofs.CallerLemmas.{same_octets_decides}
 use Rattle.dns_name.specs.Labels.{same, IsSame}
 use Rattle.dns_name.proofs.CallerLemmas.{same_decides}
 use Rattle.dns_message.specs.Values.{Question, Record}

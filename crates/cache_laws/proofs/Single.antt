@@ -4,8 +4,8 @@ use Rattle.std.proofs.Common.{None, Some, refl, sym, ap, ◌∙◌, subst, arith
 use Rattle.std.specs.Prelude.{◌==◌}
 use Rattle.std.specs.Option.{IfSome}
 use Rattle.std.proofs.lemmas.Bool.{cases_Bool, eqb-true, eq-eqb, both_ways}
-use Rattle.plain_list.specs.Octets.{same_octets}
-use Rattle.plain_list.proofs.CallerLemmas.{same_octets_decides}
+use Rattle.plain_values.specs.Octets.{same_octets}
+use Rattle.plain_values.proofs.CallerLemmas.{same_octets_decides}
 use Rattle.dns_name.specs.Labels.{lowered, IsSame}
 use Rattle.dns_message.specs.Values.{Question, Record}
 use Rattle.dns_message.specs.Data.{IsShaped}

@@ -3,8 +3,8 @@
 use Rattle.std.proofs.Common.{◌≡◌, ℕ, ◌-◌, ◌^◌, ◌≤◌, Bool, true, false, inl, inr, List, [], ◌∷◌}
 use Rattle.std.proofs.Common.{length, Option, Some, None, refl, sym, ap, ◌∙◌, subst, arith}
 use Rattle.std.proofs.lemmas.Bool.{false≢true}
-use Rattle.plain_list.specs.Octets.{same_octets}
-use Rattle.plain_list.proofs.CallerLemmas.{same_octets_decides}
+use Rattle.plain_values.specs.Octets.{same_octets}
+use Rattle.plain_values.proofs.CallerLemmas.{same_octets_decides}
 use Rattle.dns_name.specs.Labels.{lowered, same, is_under, IsSame}
 use Rattle.dns_name.proofs.CallerLemmas.{same_decides, is_under_decides}
 use Rattle.dns_message.specs.Values.{Question, Record, Message}

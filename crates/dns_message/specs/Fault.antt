@@ -1,3 +1,3 @@
 -- Why octets are no message, or a message could not be read or written.
-pub use Rattle.message_names.specs.declared.fault.Fault.{Fault}
-pub use Rattle.message_names.specs.declared.fault.Fault.TheVariants
+pub use Rattle.dns_message.specs.declared.names.fault.Fault.{Fault}
+pub use Rattle.dns_message.specs.declared.names.fault.Fault.TheVariants

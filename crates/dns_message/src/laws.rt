@@ -1,10 +1,10 @@
 //! A message that is written is read back: a law over writing and reading.
 
 ghost use Rattle.std.specs.Prelude.{◌≡◌, ◌≤◌, Ok, length};
-ghost use Rattle.message_reading.specs.Values as values;
-ghost use Rattle.message_reading.specs.Messages.{HasShapes, message_of};
-ghost use Rattle.message_writing.specs.Writing.{written};
-ghost use Rattle.message_writing.specs.Written.{IsMessage, IsCounted};
+ghost use Rattle.dns_message.specs.Values as values;
+ghost use Rattle.dns_message.specs.Messages.{HasShapes, message_of};
+ghost use Rattle.dns_message.specs.Writing.{written};
+ghost use Rattle.dns_message.specs.Written.{IsMessage, IsCounted};
 
 /// The octets that are written of a message are read as that message, wherever its header counts
 /// its lists, the data of its records is of their shapes, and the octets are no more than a message

@@ -1,7 +1,7 @@
 -- Labels that are a name, and the faults of those that are not.
 use Rattle.std.proofs.Common.{◌≡◌, ℕ, ◌+◌, ◌<◌, ◌≤◌, List, [], ◌∷◌, ◌++◌, length, take, drop, get_or, map, Option, Some, None, Result, Ok, Err, refl, sym, ap, ◌∙◌, append_assoc, arith, inl, inr}
 use Rattle.std.proofs.lemmas.Bool.{lt-ltb, le-ltb, cases_lt}
-use Rattle.first_fault.proofs.CallerLemmas.{fault_of_part}
+use Rattle.plain_values.proofs.CallerLemmas.{fault_of_part}
 use Rattle.dns_name.specs.declared.fault.NameFault.{NameFault}
 use Rattle.dns_name.specs.declared.fault.NameFault.TheVariants.{NameLong}
 use Rattle.std.specs.List.{AllByRecursion}

@@ -10,7 +10,7 @@ use crate::builder::NameBuilder;
 use crate::fault::NameFault;
 use crate::key::{NameKey, is_same_text, key_of};
 use crate::labels::{Labels, labels_in, split_label};
-use short_octets::ShortOctets;
+use plain_values::ShortOctets;
 use std::alloc::{AllocError, Allocator, Global};
 use std::marker::Model;
 

@@ -6,7 +6,7 @@ use crate::octets::{change, set16};
 use crate::questions::{client, question};
 use crate::replies::reply;
 use crate::turns::Turn;
-use plain_list::PlainList;
+use plain_values::PlainList;
 use std::alloc::{AllocError, Global};
 use step_values::{Event, Handed, Path};
 use suffix_routes::Peer;

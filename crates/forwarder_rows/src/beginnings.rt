@@ -4,7 +4,7 @@ ghost use Rattle.std.specs.Prelude.{◌≤◌};
 
 use crate::script::{Heap, Runner, Script, handed_in, run_again, run_first};
 use forwarder_core::{Event, Handed};
-use plain_list::PlainList;
+use plain_values::PlainList;
 use replay_script::{MOST_LINES, ReplayFault};
 use std::alloc::AllocError;
 use std::io::Write;

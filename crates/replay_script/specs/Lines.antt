@@ -4,8 +4,8 @@ use Rattle.std.specs.Prelude.{length, codes, Option, Some, None, Result, Ok, Err
 use Rattle.std.specs.List.{list_all, position_or_len, before_first, after_first}
 use Rattle.std.specs.Char.{is_ascii_digit}
 use Rattle.std.specs.Str.{bytes_eq, is_utf8}
-use Rattle.first_fault.specs.Reading as reading
-use Rattle.first_fault.specs.Reading.{◌>>=◌}
+use Rattle.plain_values.specs.FirstFault as reading
+use Rattle.plain_values.specs.FirstFault.{◌>>=◌}
 use Rattle.hex.specs.Hex.{decode_of}
 use Rattle.hex.specs.declared.error.FromHexError.{FromHexError}
 use Rattle.suffix_routes.specs.declared.peer.Peer.{Peer}

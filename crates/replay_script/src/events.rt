@@ -13,7 +13,7 @@ ghost use Rattle.replay_script.specs.Words.{words_of};
 use crate::fault::ReplayFault;
 use forwarder_core::{Client, Event, Handed, Path};
 use hex::FromHexError;
-use plain_list::{Octets, PlainList};
+use plain_values::{Octets, PlainList};
 use std::alloc::{AllocError, Allocator};
 use suffix_routes::Peer;
 

@@ -4,7 +4,7 @@ use Rattle.std.specs.Prelude.{Ok, map, nat_le, slice_index}
 use Rattle.std.specs.List.{AllByRecursion}
 use Rattle.std.proofs.lemmas.Bool.{cond-true, cond-false, cond_both, le-leb, lt-leb, leb-true, leb-false}
 use Rattle.std.proofs.lemmas.List.{append_assoc, map-append, length-append}
-use Rattle.plain_list.specs.Octets.{AreOctets}
+use Rattle.plain_values.specs.Octets.{AreOctets}
 use Rattle.dns_message.specs.Header.{Header, header_in}
 use Rattle.dns_message.specs.Values.{Question, Record, Message}
 use Rattle.dns_message.specs.Messages.{message_of, Spells}

@@ -1,6 +1,6 @@
 -- The walk of a reply that was read.
 use Rattle.std.specs.Prelude.{◌≡◌, ℕ, ◌<◌, List, length}
-use Rattle.plain_list.specs.Octets.{AreOctets}
+use Rattle.plain_values.specs.Octets.{AreOctets}
 use Rattle.dns_message.specs.Values.{Message}
 use Rattle.dns_message.specs.Messages.{HasShapes}
 use Rattle.suffix_routes.specs.Values.{Config}

@@ -18,7 +18,7 @@ ghost use Rattle.step_table.specs.Replies.{row_of_verdict, row_of_delivery, row_
 ghost use Rattle.step_table.specs.Replies.{row_of_message, verdict_on};
 ghost use Rattle.outstanding.specs.Lists.{on_path as ask_on};
 ghost use Rattle.step_actions.specs.Decision.{IsQuiet, MeetsRow};
-ghost use Rattle.plain_list.specs.Octets.{AreOctets};
+ghost use Rattle.plain_values.specs.Octets.{AreOctets};
 ghost use Rattle.reply_decisions.specs.Walked.{IsRead, IsWalkFor, ShowsOctets};
 ghost use Rattle.step_table.specs.State.{turn};
 

@@ -39,7 +39,7 @@ pub struct Fates<'a, A: Allocator = Global> {
 impl<'a, A: Allocator> Model for Fates<'a, A> {
     ghost use Rattle.std.specs.Prelude.{map};
     ghost use Rattle.std.specs.List.{AllByRecursion};
-    ghost use Rattle.plain_list.specs.Borrowed.{lent};
+    ghost use Rattle.plain_values.specs.Borrowed.{lent};
     ghost use Rattle.step_actions.specs.Fates.{becomes, IsSentOn};
     ghost use Rattle.reply_decisions.specs.Fates.{Fates};
 

@@ -30,7 +30,7 @@ use alias_chains::held_from;
 use dns_message::Question;
 use dns_name::Name;
 use outstanding::{Ask, KeyedAsk, Path, QuestionKey, draw};
-use plain_list::PlainList;
+use plain_values::PlainList;
 use record_cache::Held;
 use std::alloc::{AllocError, Allocator};
 use std::hash::BuildHasher;

@@ -1,6 +1,6 @@
 -- Peers, compared.
 use Rattle.std.specs.Prelude.{Bool, ◌==◌, ◌&&◌}
-use Rattle.plain_list.specs.Octets.{same_octets}
+use Rattle.plain_values.specs.Octets.{same_octets}
 use Rattle.suffix_routes.specs.declared.peer.Peer.{Peer}
 
 -- one address and one port

@@ -9,7 +9,7 @@ ghost use Rattle.wires.specs.Wire.Arrival.{nothing};
 ghost use Rattle.script_wire.specs.Scripts.{put_of, round_of, next_round, begun, calls_once, faults_once, refuses};
 ghost use Rattle.script_wire.specs.Scripts.{standing, counts_want, AllButTold, Tells, Stores};
 
-use plain_list::Octets;
+use plain_values::Octets;
 use std::alloc::{AllocError, Allocator, Global};
 use std::collections::VecDeque;
 use std::marker::Model;

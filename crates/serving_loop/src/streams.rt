@@ -10,7 +10,7 @@ ghost use Rattle.serving_loop.specs.Streams.{left_on, message_from, ServesFrames
 use crate::counts::Served;
 use crate::handing::hand_on;
 use forwarder_core::Forwarder;
-use plain_list::Octets;
+use plain_values::Octets;
 use std::alloc::{AllocError, Allocator};
 use std::collections::BTreeMap;
 use std::hash::BuildHasher;

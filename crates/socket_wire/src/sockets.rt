@@ -16,7 +16,7 @@ use crate::numbers::Numbers;
 use crate::spare::Spare;
 use crate::words::Words;
 use mio::net::{TcpListener, UdpSocket};
-use plain_list::Octets;
+use plain_values::Octets;
 use ready_sockets::Readiness;
 use std::alloc::{AllocError, Allocator};
 use std::collections::BTreeMap;

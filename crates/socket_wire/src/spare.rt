@@ -2,7 +2,7 @@
 
 ghost use Rattle.std.specs.Prelude.{◌≡◌, IfOk};
 
-use plain_list::{Octets, PlainList};
+use plain_values::{Octets, PlainList};
 use std::alloc::{AllocError, Allocator};
 use std::marker::Model;
 use std::mem;

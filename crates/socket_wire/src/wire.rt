@@ -7,7 +7,7 @@ use crate::answers::kept_if;
 use crate::moments::Moments;
 use crate::sockets::Sockets;
 use crate::words::Words;
-use plain_list::Octets;
+use plain_values::Octets;
 use std::alloc::{Allocator, Global};
 use std::io;
 use std::marker::Model;

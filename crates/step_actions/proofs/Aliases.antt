@@ -3,7 +3,7 @@ use Rattle.std.proofs.Common.{◌≡◌, ℕ, ◌+◌, ◌<◌, List, [], ◌∷
 use Rattle.std.specs.Prelude.{Result, Ok, Err}
 use Rattle.std.proofs.lemmas.List.{take_more, map-append}
 use Rattle.record_cache.specs.Values.{Held}
-use Rattle.plain_list.specs.Borrowed.{lent}
+use Rattle.plain_values.specs.Borrowed.{lent}
 use Rattle.answer_builder.specs.Transports.{answer_of, stale_answer_of, local_answer_of}
 use Rattle.answer_builder.specs.declared.fault.Fault.{Fault}
 use Rattle.step_values.specs.declared.event.Client.{Client}

@@ -7,7 +7,7 @@ ghost use Rattle.std.specs.Prelude.{option_map};
 ghost use Rattle.std.specs.List.{AllByRecursion, find};
 ghost use Rattle.std.specs.Option.{IfSome};
 ghost use Rattle.answer_builder.specs.Answers.{IsEarlier};
-ghost use Rattle.plain_list.specs.Borrowed.{lent};
+ghost use Rattle.plain_values.specs.Borrowed.{lent};
 ghost use Rattle.answer_builder.specs.Faults.{Gives};
 ghost use Rattle.answer_builder.specs.Transports.{answer_of};
 ghost use Rattle.answer_builder.specs.declared.fault.Fault.{Fault};
@@ -22,7 +22,7 @@ use answer_builder::{AskedRef, Fault, Transport, UDP_LIMIT, put_answer};
 use byteorder::{BigEndian, ByteOrder};
 use dns_message::Question;
 use dns_name::Name;
-use plain_list::{Octets, PlainList};
+use plain_values::{Octets, PlainList};
 use record_cache::Held;
 use std::alloc::{AllocError, Allocator, Global};
 use std::marker::Model;
@@ -198,7 +198,7 @@ pub struct Answers<'a, A: Allocator = Global> {
 impl<'a, A: Allocator> Model for Answers<'a, A> {
     ghost use Rattle.std.specs.List.{AllByRecursion};
     ghost use Rattle.answer_builder.specs.Answers.{IsEarlier};
-    ghost use Rattle.plain_list.specs.Borrowed.{lent};
+    ghost use Rattle.plain_values.specs.Borrowed.{lent};
     ghost use Rattle.step_actions.specs.Spelling.{Source, AreSpelled};
 
     ghost Value = { Source };

@@ -7,7 +7,7 @@ ghost use Rattle.std.specs.List.{AllByRecursion};
 ghost use Rattle.dns_message.specs.Questions.{asked_at};
 ghost use Rattle.suffix_routes.specs.Serving.{serving_route_of};
 ghost use Rattle.outstanding.specs.Orders.{question_key};
-ghost use Rattle.plain_list.specs.Borrowed.{lent};
+ghost use Rattle.plain_values.specs.Borrowed.{lent};
 ghost use Rattle.answer_builder.specs.Answers.{IsEarlier};
 ghost use Rattle.alias_chains.specs.LookingUp.{LookUp as LookUpValue, missing};
 ghost use Rattle.alias_chains.specs.Laws.{led_to};

@@ -5,7 +5,7 @@ ghost use Rattle.std.specs.Prelude.{◌≡◌, ◌∷◌, ◌++◌, [], IfOk, op
 ghost use Rattle.std.specs.List.{AllByRecursion};
 ghost use Rattle.std.specs.Option.{IfSome};
 ghost use Rattle.answer_builder.specs.Answers.{IsEarlier};
-ghost use Rattle.plain_list.specs.Borrowed.{lent};
+ghost use Rattle.plain_values.specs.Borrowed.{lent};
 ghost use Rattle.record_cache.specs.Laws.{Among};
 ghost use Rattle.step_values.specs.Values.{action_of, actions_of};
 ghost use Rattle.step_table.specs.Steps.{closes};

@@ -3,7 +3,7 @@
 ghost use Rattle.std.specs.Prelude.{◌≡◌, ◌++◌, IfOk, length};
 ghost use Rattle.std.specs.List.{AllByRecursion};
 ghost use Rattle.answer_builder.specs.Answers.{local_sections, sections_told, told_stale, IsEarlier};
-ghost use Rattle.plain_list.specs.Borrowed.{lent};
+ghost use Rattle.plain_values.specs.Borrowed.{lent};
 ghost use Rattle.answer_builder.specs.Transports.{stale_answer_of, text_of};
 ghost use Rattle.step_values.specs.Values.{action_of};
 ghost use Rattle.step_values.specs.declared.action.Why.TheVariants.{Stale};
@@ -12,7 +12,7 @@ ghost use Rattle.step_actions.specs.Spelling.{ok_text};
 
 use crate::answers::{behind, reply, text_put, transport_of};
 use answer_builder::{ToldRef, Transport, UDP_LIMIT, put_local, put_told};
-use plain_list::Octets;
+use plain_values::Octets;
 use record_cache::Held;
 use std::alloc::{AllocError, Allocator};
 use step_values::{Action, Why};

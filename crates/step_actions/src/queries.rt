@@ -11,7 +11,7 @@ ghost use Rattle.step_table.specs.Steps.{asks};
 use crate::refusals::BARE_ROOM;
 use dns_message::{Fault, Header, MessageParts, QuestionRef, write_parts};
 use outstanding::{Ask, Path};
-use plain_list::Octets;
+use plain_values::Octets;
 use std::alloc::{AllocError, Allocator};
 use step_values::Action;
 

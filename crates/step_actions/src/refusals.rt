@@ -8,7 +8,7 @@ ghost use Rattle.step_table.specs.Steps.{failed, gives_up};
 
 use answer_builder::{AskedRef, put_failure};
 use dns_message::{Header, codes};
-use plain_list::Octets;
+use plain_values::Octets;
 use std::alloc::{AllocError, Allocator};
 use step_values::{Action, Client, Why};
 use waiting_questions::Request;

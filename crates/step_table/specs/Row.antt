@@ -5,7 +5,7 @@ use Rattle.suffix_routes.specs.Values.{Config}
 use Rattle.outstanding.specs.Lists.{on_path as ask_on}
 use Rattle.outstanding.specs.Values.{Ask}
 use Rattle.reply_match.specs.declared.verdict.Verdict.TheVariants.{Stranger}
-use Rattle.plain_list.specs.Octets.{AreOctets}
+use Rattle.plain_values.specs.Octets.{AreOctets}
 use Rattle.step_values.specs.Values.{Event, from_client, delivery, path_failed, tick, restart, Handed, Outcome}
 use Rattle.step_values.specs.Requests.{is_taken}
 use Rattle.step_table.specs.State.{State, Turn, turn}

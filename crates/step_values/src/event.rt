@@ -3,7 +3,7 @@
 ghost use Rattle.std.specs.Prelude.{◌≡◌, IfOk};
 
 use outstanding::Path;
-use plain_list::{Octets, PlainList};
+use plain_values::{Octets, PlainList};
 use std::alloc::{AllocError, Allocator, Global};
 use suffix_routes::Peer;
 

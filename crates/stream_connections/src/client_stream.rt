@@ -12,7 +12,7 @@ ghost use Rattle.stream_connections.specs.Serving.{Serves, WroteBy, with_frame};
 use crate::answers::{Heard, heard_by, taken_by};
 use crate::lost::Lost;
 use mio::net::TcpStream;
-use plain_list::Octets;
+use plain_values::Octets;
 use std::alloc::{AllocError, Allocator};
 use std::io;
 use std::io::Read;

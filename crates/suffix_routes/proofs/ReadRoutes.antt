@@ -21,7 +21,7 @@ use Rattle.suffix_routes.specs.declared.peer.Peer.{Peer}
 use Rattle.suffix_routes.specs.Values.{Route, IsRoute, IsWithin, HasNoSuffix, AllDiffer}
 use Rattle.suffix_routes.specs.Excerpts.{excerpt}
 use Rattle.suffix_routes.specs.Routes.{route_at}
-use Rattle.first_fault.proofs.CallerLemmas.{fault_fails, fault_before_next}
+use Rattle.plain_values.proofs.CallerLemmas.{fault_fails, fault_before_next}
 use Rattle.suffix_routes.specs.Reading.{◌>>=◌, wants_memory, Fails, required, text_in, array_in, table_in, known_keys, suffix_name, new_suffix, servers_after, counted_servers, servers_in, suffix_in, deny_of, deny_in, no_servers, group_in, route_in, routes_after, counted_routes, routes_in}
 use Rattle.suffix_routes.proofs.RouteLaws.{no_own}
 use Rattle.suffix_routes.proofs.VersionLaws.{deny_is_strange}

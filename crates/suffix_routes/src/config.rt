@@ -10,7 +10,7 @@ use crate::peer::Peer;
 use crate::route::{Route, RouteId};
 use crate::routing::Routing;
 use dns_name::{Name, NameKey};
-use plain_list::PlainList;
+use plain_values::PlainList;
 use std::alloc::{AllocError, Allocator, Global};
 use std::marker::Model;
 

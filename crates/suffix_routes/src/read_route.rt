@@ -17,7 +17,7 @@ use crate::table::{
 };
 use crate::version::Version;
 use dns_name::{Name, NameFault};
-use plain_list::PlainList;
+use plain_values::PlainList;
 use std::alloc::Allocator;
 use toml::{Table, Value};
 

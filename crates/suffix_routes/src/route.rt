@@ -4,7 +4,7 @@ ghost use Rattle.std.specs.Prelude.{◌≡◌, IfOk};
 
 use crate::peer::Peer;
 use dns_name::Name;
-use plain_list::PlainList;
+use plain_values::PlainList;
 use std::alloc::{AllocError, Allocator, Global};
 use std::marker::Model;
 

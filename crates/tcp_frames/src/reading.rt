@@ -3,7 +3,7 @@
 ghost use Rattle.std.specs.Prelude.{◌≡◌, ◌+◌, ◌≤◌, [], length, drop, vec_len, MatchOption, IfOk, IsSome};
 ghost use Rattle.tcp_frames.specs.Frames.{Feeds, Finds, IsUnfinished, Leads, Takes};
 
-use plain_list::Octets;
+use plain_values::Octets;
 use std::alloc::{AllocError, Allocator, Global};
 use std::marker::Model;
 

@@ -5,7 +5,7 @@ ghost use Rattle.std.specs.Io.{WritesAtMost};
 ghost use Rattle.std.specs.Io.KnownBytes.{WriteAppends};
 ghost use Rattle.tcp_frames.specs.Unsent.{pushed, sent};
 
-use plain_list::Octets;
+use plain_values::Octets;
 use std::alloc::{AllocError, Allocator};
 use std::io;
 use std::io::Write;

@@ -4,7 +4,7 @@ ghost use Rattle.std.specs.Prelude.{◌≡◌, ◌/◌, ◌%◌, ◌<◌, ◌∷
 ghost use Rattle.tcp_frames.specs.Frames.{Frames};
 
 use crate::fault::FrameFault;
-use plain_list::Octets;
+use plain_values::Octets;
 use std::alloc::Allocator;
 
 /// The frame of a message: its length in two octets, the high one first, then its octets (RFC 1035

@@ -6,7 +6,7 @@ ghost use Rattle.answer_builder.specs.Answers.{IsEarlier};
 
 use answer_builder::{Asked, Fault, Transport, build, build_local, build_stale, put_answer};
 use dns_message::{MessageRef, Question};
-use plain_list::{Octets, PlainList};
+use plain_values::{Octets, PlainList};
 use record_cache::Held;
 use refusing_allocator::Refusing;
 use std::alloc::{AllocError, Allocator, Global};

@@ -1,7 +1,7 @@
 //! The octets that a TCP stream is still to take: one that takes a part, nothing, all, and one that
 //! fails.
 
-use plain_list::PlainList;
+use plain_values::PlainList;
 use refusing_allocator::Refusing;
 use std::alloc::Global;
 use std::io;

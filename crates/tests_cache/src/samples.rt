@@ -6,7 +6,7 @@ use dns_message::{MessageRef, QuestionRef, Rdata};
 use dns_name::{Name, NameFault};
 use lru::DefaultHasher;
 use negative_cache::{CacheAt, Found};
-use plain_list::PlainList;
+use plain_values::PlainList;
 use record_cache::{Cache, Offered};
 use std::alloc::{Allocator, Global};
 use std::hash::BuildHasher;

@@ -3,7 +3,7 @@
 use crate::messages::MESSAGES;
 use crate::shapes::SHAPES;
 use dns_message::{Fault, MessageRef, write};
-use plain_list::Octets;
+use plain_values::Octets;
 use rand_core::utils::NextWord;
 use rand_pcg::Pcg32;
 use std::alloc::{AllocError, Global};

@@ -3,7 +3,7 @@
 use crate::equal::is_equal_message;
 use crate::messages::REPLY;
 use dns_message::{Fault, Message, MessageRef, write};
-use plain_list::Octets;
+use plain_values::Octets;
 use std::alloc::{Allocator, Global};
 use std::test::Fail;
 

@@ -1,6 +1,6 @@
 //! Events, actions and what a step takes are copied whole, and each refused allocation is reported.
 
-use plain_list::PlainList;
+use plain_values::PlainList;
 use refusing_allocator::Refusing;
 use std::alloc::{AllocError, Allocator, Global};
 use std::test::Fail;

@@ -3,7 +3,7 @@
 use dns_name::Name;
 use forwarder_core::Forwarder;
 use lru::DefaultHasher;
-use plain_list::PlainList;
+use plain_values::PlainList;
 use std::alloc::{AllocError, Allocator};
 use step_values::{Action, Actions, Client, Event, Path, Why};
 use suffix_routes::{Config, Limits, Peer, Route};

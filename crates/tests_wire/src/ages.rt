@@ -7,7 +7,7 @@ use crate::watched::AGES;
 use crate::worked::QUESTION;
 use mio::net::{TcpStream, UdpSocket};
 use network_model::{Arrival, Wire};
-use plain_list::PlainList;
+use plain_values::PlainList;
 use socket_wire::MioWire;
 use std::io::Read;
 use std::mem::forget;

@@ -3,7 +3,7 @@
 use crate::system::{System, TURNS, address, send};
 use mio::net::{TcpStream, UdpSocket};
 use network_model::{Arrival, Wire};
-use plain_list::PlainList;
+use plain_values::PlainList;
 use socket_wire::MioWire;
 use std::alloc::Global;
 use std::net::{Ipv4Addr, SocketAddr};

@@ -5,7 +5,7 @@ use crate::worked::{CLIENT, QUESTION, REPLY, SECOND, SERVER, forwarder, forwarde
 use forwarder_core::Forwarder;
 use lru::DefaultHasher;
 use network_model::{Arrival, ScriptRound, ScriptWire, Served, Wire, serve};
-use plain_list::PlainList;
+use plain_values::PlainList;
 use std::alloc::{AllocError, Allocator};
 use std::mem::forget;
 use step_values::Path;

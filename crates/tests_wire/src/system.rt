@@ -7,7 +7,7 @@ use forwarder_core::Forwarder;
 use lru::DefaultHasher;
 use mio::net::TcpStream;
 use network_model::{Arrival, Wire, serve};
-use plain_list::PlainList;
+use plain_values::PlainList;
 use refusing_allocator::Refusing;
 use socket_wire::MioWire;
 use std::alloc::Global;

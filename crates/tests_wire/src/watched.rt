@@ -7,7 +7,7 @@ use crate::system::{System, TURNS, expected, local, send};
 use crate::worked::{QUERY, QUESTION, REPLY};
 use mio::net::{TcpListener, TcpStream, UdpSocket};
 use network_model::Wire;
-use plain_list::PlainList;
+use plain_values::PlainList;
 use socket_wire::MioWire;
 use std::alloc::Global;
 use std::io::{Read, Write};

@@ -5,7 +5,7 @@ ghost use Rattle.std.specs.Prelude.{◌<◌, ◌≤◌, length};
 use dns_name::Name;
 use forwarder_core::Forwarder;
 use lru::DefaultHasher;
-use plain_list::PlainList;
+use plain_values::PlainList;
 use std::alloc::{AllocError, Allocator};
 use suffix_routes::{Config, Limits, Peer, Route};
 

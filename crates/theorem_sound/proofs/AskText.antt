@@ -9,7 +9,7 @@ use Rattle.dns_message.specs.Messages.{Spells, first_question}
 use Rattle.dns_message.specs.Writing.{written}
 use Rattle.dns_message.specs.Written.{IsQuestion}
 use Rattle.dns_message.proofs.CallerLemmas.{first_question_read_stands, standing_first_question_is_read, standing_question_is_question, written_message_is_spelled}
-use Rattle.plain_list.specs.Octets.{AreOctets}
+use Rattle.plain_values.specs.Octets.{AreOctets}
 use Rattle.dns_message.specs.Questions.{question_read}
 use Rattle.step_history.specs.History.{Reads}
 use Rattle.outstanding.specs.Draws.{ask_message}

@@ -19,7 +19,7 @@ use Rattle.step_values.specs.declared.event.Client.{Client}
 use Rattle.step_values.specs.declared.action.Why.{Why}
 use Rattle.step_values.specs.declared.action.Why.TheVariants.{Answered, BadFormat, BadOpcode, NotServed, QuestionsFull, InquiriesFull, NoPort, ChainLong}
 use Rattle.step_values.specs.Values.{from_client, Action, ask_udp, ask_tcp, close_udp, close_tcp, send_reply, Handed, Step}
-use Rattle.plain_list.specs.Octets.{AreOctets}
+use Rattle.plain_values.specs.Octets.{AreOctets}
 use Rattle.suffix_routes.specs.Serving.{serving_route_of}
 use Rattle.step_history.specs.History.{moment_at, listed, Reads, NothingAccepted}
 use Rattle.step_values.specs.Requests.{is_taken}

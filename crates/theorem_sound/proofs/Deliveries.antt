@@ -25,7 +25,7 @@ use Rattle.retry_failover.specs.declared.Failure.TheVariants as failure
 use Rattle.step_values.specs.declared.action.Why.TheVariants.{NoPort}
 use Rattle.step_values.specs.Values.{delivery, Delivered, Action, Step}
 use Rattle.suffix_routes.specs.Serving.{serving_route_of}
-use Rattle.plain_list.specs.Octets.{AreOctets}
+use Rattle.plain_values.specs.Octets.{AreOctets}
 use Rattle.record_cache.specs.Values.{Cache}
 use Rattle.trust_rank.specs.declared.slot.Slot.{Slot}
 use Rattle.trust_rank.specs.Values.{Piece, End, found, ends_no_data, ends_denied, elsewhere, lame, Walk}

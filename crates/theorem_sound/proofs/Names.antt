@@ -11,8 +11,8 @@ use Rattle.suffix_routes.specs.declared.peer.Peer.{Peer}
 use Rattle.suffix_routes.specs.Values.{Config}
 use Rattle.suffix_routes.proofs.CallerLemmas.{serving_lowered}
 use Rattle.suffix_routes.specs.Serving.{serving_route_of}
-use Rattle.plain_list.specs.Octets.{same_octets}
-use Rattle.plain_list.proofs.CallerLemmas.{same_octets_reflexive, same_octets_equal}
+use Rattle.plain_values.specs.Octets.{same_octets}
+use Rattle.plain_values.proofs.CallerLemmas.{same_octets_reflexive, same_octets_equal}
 use Rattle.reply_match.specs.Peers.{same_peer}
 use Rattle.dns_message.specs.Questions.{same_question}
 

@@ -11,7 +11,7 @@ use Rattle.dns_message.specs.Messages.{first_question}
 use Rattle.dns_message.specs.Questions.{one_question, is_unserved}
 use Rattle.dns_message.specs.Values.{Question}
 use Rattle.dns_message.specs.Writing.{◌▹◌, each, name_text, written}
-use Rattle.plain_list.specs.Octets.{AreOctets}
+use Rattle.plain_values.specs.Octets.{AreOctets}
 use Rattle.suffix_routes.specs.Values.{Config, IsConfig}
 use Rattle.suffix_routes.specs.Routes.{route_of}
 use Rattle.outstanding.specs.declared.ask.Path.TheVariants.{Udp}

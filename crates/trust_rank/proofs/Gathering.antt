@@ -12,8 +12,8 @@ use Rattle.std.proofs.lemmas.List.{take-append-drop, drop_all, drop-append-le, l
 use Rattle.std.proofs.lemmas.List.Folds.{list_any-append}
 use Rattle.std.proofs.lemmas.Map.Text.{is_eq-slice_cmp}
 use Rattle.std.proofs.lemmas.Slice.Eq.{bytes_eq-Decides}
-use Rattle.plain_list.specs.Octets.{same_octets}
-use Rattle.plain_list.proofs.CallerLemmas.{same_octets_decides}
+use Rattle.plain_values.specs.Octets.{same_octets}
+use Rattle.plain_values.proofs.CallerLemmas.{same_octets_decides}
 use Rattle.dns_message.specs.Values.{Question, Record}
 use Rattle.trust_rank.specs.Sets.{is_of, records_for, with_data, with_all_data, seconds_of, lifetime_within}
 use Rattle.trust_rank.specs.Gathering.{few, Indexes, added_all, lowered_by_all}

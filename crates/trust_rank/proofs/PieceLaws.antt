@@ -4,7 +4,7 @@ use Rattle.std.specs.Prelude.{min, ◌==◌, ◌&&◌, ◌≢◌}
 use Rattle.std.specs.List.{list_any, AllByRecursion}
 use Rattle.std.proofs.lemmas.Bool.{cases_Bool, cond-true, cond-false, cond_both, and_parts, eqb-true}
 use Rattle.std.proofs.lemmas.List.{length-append}
-use Rattle.plain_list.specs.Octets.{same_octets}
+use Rattle.plain_values.specs.Octets.{same_octets}
 use Rattle.dns_name.specs.Labels.{lowered, same, is_under}
 use Rattle.dns_message.specs.Values.{Question, Record}
 use Rattle.dns_message.specs.Data.{IsShaped, HasParts, more_parts}

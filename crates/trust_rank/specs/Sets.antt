@@ -4,7 +4,7 @@ use Rattle.std.specs.Prelude.{Some, None}
 use Rattle.std.specs.List.{list_any}
 use Rattle.dns_name.specs.Labels.{lowered, same}
 use Rattle.dns_message.specs.Values.{Question, Record}
-use Rattle.plain_list.specs.Octets.{same_octets}
+use Rattle.plain_values.specs.Octets.{same_octets}
 use Rattle.trust_rank.specs.Values.{rows, Piece}
 
 -- the record has the question's type, class and name, letter case aside

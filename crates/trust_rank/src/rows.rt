@@ -4,7 +4,7 @@ ghost use Rattle.std.specs.Prelude.{◌≡◌, ◌≢◌, ◌∷◌, [], length,
 ghost use Rattle.dns_message.specs.Borrowed.{data_of};
 
 use dns_message::{DataRef, Rdata};
-use plain_list::PlainList;
+use plain_values::PlainList;
 use std::alloc::{AllocError, Allocator, Global};
 use std::marker::Model;
 

@@ -12,7 +12,7 @@ use crate::reply::{Reply, is_name_server};
 use crate::sets::{SetKey, Source, is_same_name, set_with};
 use dns_message::Record;
 use dns_name::Name;
-use plain_list::PlainList;
+use plain_values::PlainList;
 use std::alloc::{AllocError, Allocator};
 
 /// An NS record of the question's class, whose owner is at or above the asked name and on the

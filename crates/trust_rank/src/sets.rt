@@ -2,7 +2,7 @@
 
 ghost use Rattle.std.specs.Prelude.{◌≡◌, [], ◌∷◌, ◌++◌, min, take, IfOk, OnOk};
 ghost use Rattle.std.specs.List.{list_any};
-ghost use Rattle.plain_list.specs.Octets.{same_octets};
+ghost use Rattle.plain_values.specs.Octets.{same_octets};
 ghost use Rattle.dns_name.specs.Labels.{same};
 ghost use Rattle.dns_message.specs.Data.{IsShaped};
 ghost use Rattle.dns_message.specs.Messages.{AreShaped};
@@ -13,7 +13,7 @@ use crate::piece::{Body, Piece};
 use crate::rows::Rows;
 use dns_message::{Rdata, Record};
 use dns_name::Name;
-use plain_list::PlainList;
+use plain_values::PlainList;
 use std::alloc::{AllocError, Allocator};
 use std::collections::BTreeSet;
 use std::marker::Model;

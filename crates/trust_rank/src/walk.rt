@@ -2,7 +2,7 @@
 
 use crate::piece::Piece;
 use dns_name::Name;
-use plain_list::PlainList;
+use plain_values::PlainList;
 use std::alloc::{Allocator, Global};
 use std::marker::Model;
 

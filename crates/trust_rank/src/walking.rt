@@ -11,7 +11,7 @@ use crate::reply::{AtName, Reply};
 use crate::servers::servers_beside;
 use crate::walk::{End, Walk};
 use dns_message::{Message, Question};
-use plain_list::PlainList;
+use plain_values::PlainList;
 use std::alloc::{AllocError, Allocator};
 use suffix_routes::{Config, RouteId};
 

@@ -5,7 +5,7 @@ ghost use Rattle.step_values.specs.Values.{action_of};
 ghost use Rattle.wires.specs.Wire.{Told, TellsMore, telling, arrival_of, given, arrived, was_put, moment_was};
 ghost use Rattle.wires.specs.Wire.{words_were};
 
-use plain_list::{Octets, PlainList};
+use plain_values::{Octets, PlainList};
 use std::alloc::{AllocError, Allocator, Global};
 use step_values::{Action, Path};
 use suffix_routes::Peer;

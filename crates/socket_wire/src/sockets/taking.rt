@@ -14,7 +14,7 @@ use crate::address::peer_of;
 use crate::answers::kept_if;
 use crate::spare::Spare;
 use mio::net::TcpStream;
-use plain_list::Octets;
+use plain_values::Octets;
 use ready_sockets::Origin;
 use std::alloc::{AllocError, Allocator};
 use std::io;

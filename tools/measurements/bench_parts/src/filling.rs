@@ -5,7 +5,7 @@ ghost use Rattle.std.specs.Prelude.{◌≢◌, []};
 use anyhow::Result;
 use dns_message::Rdata;
 use dns_name::{Name, NameKey};
-use plain_list::PlainList;
+use plain_values::PlainList;
 use record_cache::{Cache, Held};
 use std::alloc::Global;
 use std::hash::RandomState;

@@ -7,7 +7,7 @@ use crate::filling::{ADDRESS, CLASS, ROUNDS, numbered};
 use anyhow::Result;
 use dns_message::{Header, Message, MessageRef, Question, Rdata, Record, write};
 use dns_name::NameKey;
-use plain_list::{Octets, PlainList};
+use plain_values::{Octets, PlainList};
 use refusing_allocator::Refusing;
 use std::alloc::Global;
 use std::time::Instant;

@@ -3,7 +3,7 @@
 use anyhow::Result;
 use forwarder_core::Forwarder;
 use lru::DefaultHasher;
-use plain_list::PlainList;
+use plain_values::PlainList;
 use std::alloc::Global;
 use std::fs;
 use std::time::Instant;

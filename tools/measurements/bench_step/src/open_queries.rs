@@ -4,7 +4,7 @@
 use anyhow::Result;
 use forwarder_core::Forwarder;
 use lru::DefaultHasher;
-use plain_list::PlainList;
+use plain_values::PlainList;
 use std::alloc::Global;
 use std::time::Instant;
 use step_values::{Client, Event, Path};

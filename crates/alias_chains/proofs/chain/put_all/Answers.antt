@@ -1,7 +1,7 @@
 use Rattle.std.proofs.Common.{◌∙◌, ◌++◌, List, ap}
 use Rattle.std.proofs.lemmas.List.{take_all}
 use Rattle.record_cache.specs.Values.{Held}
-use Rattle.plain_list.specs.Borrowed.{lent}
+use Rattle.plain_values.specs.Borrowed.{lent}
 use Rattle.alias_chains.proofs.Chains.{lent_more}
 use Rattle.alias_chains.proofs.chain.put_all.Goals as goal
 

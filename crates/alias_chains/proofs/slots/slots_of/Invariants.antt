@@ -1,6 +1,6 @@
 use Rattle.std.proofs.Common.{◌≡◌, take}
 use Rattle.std.specs.Prelude.{map}
-use Rattle.plain_list.specs.Borrowed.{lent}
+use Rattle.plain_values.specs.Borrowed.{lent}
 use Rattle.alias_chains.proofs.slots.slots_of.Given as goal
 
 abbrev pub invariant-loop-held : goal.invariant-loop-held

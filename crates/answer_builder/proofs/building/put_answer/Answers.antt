@@ -2,7 +2,7 @@ use Rattle.std.proofs.Common.{map, ap, ◌∙◌}
 use Rattle.dns_message.specs.Borrowed.{records_in}
 use Rattle.answer_builder.specs.Values.{Sections}
 use Rattle.answer_builder.specs.Answers.{told_at}
-use Rattle.plain_list.specs.Borrowed.{lent}
+use Rattle.plain_values.specs.Borrowed.{lent}
 use Rattle.answer_builder.specs.Transports.{text_of}
 use Rattle.answer_builder.proofs.Chains.{listed_slice, told_sections}
 use Rattle.answer_builder.proofs.Texts.{gives_as}

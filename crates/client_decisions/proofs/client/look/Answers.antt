@@ -1,6 +1,6 @@
 use Rattle.std.proofs.Common.{◌≡◌, ◌∙◌, ◌≤◌, [], List, length, ap, sym, subst}
 use Rattle.std.specs.List.{AllByRecursion}
-use Rattle.plain_list.specs.Borrowed.{lent}
+use Rattle.plain_values.specs.Borrowed.{lent}
 use Rattle.answer_builder.specs.Answers.{IsEarlier}
 use Rattle.negative_cache.specs.Moments.{CacheAt}
 use Rattle.record_cache.specs.Values.{Held}

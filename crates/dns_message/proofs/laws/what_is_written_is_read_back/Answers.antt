@@ -1,6 +1,6 @@
 use Rattle.std.proofs.Common.{◌≡◌, subst}
-use Rattle.message_reading.specs.Messages.{Spells}
-use Rattle.message_writing.specs.Writing.{written}
+use Rattle.dns_message.specs.Messages.{Spells}
+use Rattle.dns_message.specs.Writing.{written}
 use Rattle.dns_message.proofs.CallerLemmas.{written_message_is_spelled, spelled_message_is_read, one_message_is_spelled}
 use Rattle.dns_message.proofs.laws.what_is_written_is_read_back.Goals as goal
 

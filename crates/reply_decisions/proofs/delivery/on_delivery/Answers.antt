@@ -1,7 +1,7 @@
 use Rattle.std.proofs.Common.{ℕ, List, ◌∙◌, ap, sym, subst, refl, ◌+◌, arith}
 use Rattle.std.specs.Prelude.{nat_lt}
 use Rattle.std.proofs.lemmas.Grind.{get_or_default_zero}
-use Rattle.plain_list.specs.Octets.{AreOctets}
+use Rattle.plain_values.specs.Octets.{AreOctets}
 use Rattle.reply_match.specs.declared.verdict.Judged.{Judged}
 use Rattle.reply_match.specs.declared.verdict.Judged.TheVariants.{Stranger, Truncated, Failed, Malformed, Whole}
 use Rattle.reply_match.specs.Judged.{IsViewOf}

@@ -3,7 +3,7 @@ use Rattle.std.specs.List.{AllByRecursion}
 use Rattle.dns_message.specs.Values.{Question}
 use Rattle.record_cache.specs.Values.{Held}
 use Rattle.answer_builder.specs.Answers.{IsEarlier}
-use Rattle.plain_list.specs.Borrowed.{lent}
+use Rattle.plain_values.specs.Borrowed.{lent}
 use Rattle.alias_chains.specs.Laws.{led_to}
 use Rattle.alias_chains.specs.Seen.{last_target}
 use Rattle.step_actions.specs.Fates.{becomes, IsSeenAs}

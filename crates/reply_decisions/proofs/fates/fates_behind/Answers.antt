@@ -3,7 +3,7 @@ use Rattle.std.specs.Prelude.{map}
 use Rattle.std.specs.List.{AllByRecursion}
 use Rattle.record_cache.specs.Values.{Held}
 use Rattle.answer_builder.specs.Answers.{IsEarlier}
-use Rattle.plain_list.specs.Borrowed.{lent}
+use Rattle.plain_values.specs.Borrowed.{lent}
 use Rattle.waiting_questions.specs.Values.{Waiting}
 use Rattle.step_actions.specs.Fates.{becomes}
 use Rattle.reply_decisions.specs.Fates.{fates_in, fate_behind, looked_behind}

@@ -4,7 +4,7 @@ use Rattle.std.proofs.lemmas.Result.{IfOk-weaker}
 use Rattle.answer_builder.specs.Answers.{IsEarlier}
 use Rattle.answer_builder.specs.Transports.{answer_of}
 use Rattle.dns_message.specs.Values.{Question}
-use Rattle.plain_list.specs.Borrowed.{lent}
+use Rattle.plain_values.specs.Borrowed.{lent}
 use Rattle.alias_chains.specs.Seen.{last_target}
 use Rattle.alias_chains.specs.declared.looked.LookUpEnd.{LookUpEnd as SeenEnd}
 use Rattle.step_values.specs.Values.{Action}

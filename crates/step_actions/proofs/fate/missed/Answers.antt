@@ -1,7 +1,7 @@
 use Rattle.std.proofs.Common.{◌∙◌, Option, sym, ap, subst}
 use Rattle.std.specs.List.{AllByRecursion}
 use Rattle.outstanding.specs.declared.keyed.QuestionKey.{QuestionKey}
-use Rattle.plain_list.specs.Borrowed.{lent}
+use Rattle.plain_values.specs.Borrowed.{lent}
 use Rattle.suffix_routes.specs.Serving.{is_local, serving_route_of}
 use Rattle.answer_builder.specs.Answers.{IsEarlier}
 use Rattle.step_values.specs.Values.{Action}

@@ -2,7 +2,7 @@ use Rattle.std.proofs.Common.{◌≡◌, ◌∙◌, ◌++◌, length, refl, sym,
 use Rattle.std.specs.List.{AllByRecursion}
 use Rattle.std.proofs.lemmas.Result.{IfOk-weaker}
 use Rattle.answer_builder.specs.Answers.{IsEarlier}
-use Rattle.plain_list.specs.Borrowed.{lent}
+use Rattle.plain_values.specs.Borrowed.{lent}
 use Rattle.record_cache.specs.Laws.{Among}
 use Rattle.answer_builder.specs.Transports.{stale_answer_of}
 use Rattle.step_values.specs.declared.action.Why.TheVariants.{Stale}

@@ -1,7 +1,7 @@
 use Rattle.std.proofs.Common.{◌∙◌, length, ap}
 use Rattle.std.proofs.lemmas.Result.{IfOk-weaker}
 use Rattle.answer_builder.specs.Answers.{sections_told, told_stale}
-use Rattle.plain_list.specs.Borrowed.{lent}
+use Rattle.plain_values.specs.Borrowed.{lent}
 use Rattle.answer_builder.specs.Transports.{text_of}
 use Rattle.step_values.specs.declared.action.Why.TheVariants.{Stale}
 use Rattle.waiting_questions.specs.Values.{Waiting}

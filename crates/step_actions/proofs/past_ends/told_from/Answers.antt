@@ -1,6 +1,6 @@
 use Rattle.std.proofs.Common.{◌≡◌, ◌<◌, ◌∙◌, ◌++◌, ◌∷◌, [], length, get_or, sym, arith}
 use Rattle.answer_builder.specs.Answers.{IsEarlier}
-use Rattle.plain_list.specs.Borrowed.{lent}
+use Rattle.plain_values.specs.Borrowed.{lent}
 use Rattle.step_actions.proofs.Telling.{left_more, past_more, lent_at, lent_length, all_from_next}
 use Rattle.step_actions.proofs.past_ends.told_from.Goals.{then-place-past, else-place-past}
 use Rattle.step_actions.proofs.past_ends.told_from.Goals as goal

@@ -1,7 +1,7 @@
 use Rattle.std.proofs.Common.{◌≡◌, take, drop}
 use Rattle.std.specs.List.{AllByRecursion}
 use Rattle.answer_builder.specs.Answers.{told_stale, IsEarlier}
-use Rattle.plain_list.specs.Borrowed.{lent}
+use Rattle.plain_values.specs.Borrowed.{lent}
 use Rattle.step_actions.proofs.past_ends.told_from.Given as goal
 
 abbrev pub invariant-loop-place : goal.invariant-loop-place

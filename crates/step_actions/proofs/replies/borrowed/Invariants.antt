@@ -1,5 +1,5 @@
 use Rattle.std.proofs.Common.{◌≡◌, take}
-use Rattle.plain_list.specs.Borrowed.{lent}
+use Rattle.plain_values.specs.Borrowed.{lent}
 use Rattle.step_actions.proofs.replies.borrowed.Given as goal
 
 abbrev pub invariant-loop-entry : goal.invariant-loop-entry

@@ -1,7 +1,7 @@
 use Rattle.std.proofs.Common.{refl, ℕ, List, [], ◌∷◌, arith}
 use Rattle.std.specs.List.{AllByRecursion}
-use Rattle.message_reading.specs.Data.{IsShaped}
-use Rattle.message_reading.specs.Shapes.{shape_of}
+use Rattle.dns_message.specs.Data.{IsShaped}
+use Rattle.dns_message.specs.Shapes.{shape_of}
 use Rattle.tests_cache.proofs.samples.set_of.Goals as goal
 
 -- an address has no shape of its own

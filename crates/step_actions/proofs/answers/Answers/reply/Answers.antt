@@ -1,6 +1,6 @@
 use Rattle.std.proofs.Common.{◌++◌, ap, ◌∙◌}
 use Rattle.std.proofs.lemmas.Result.{IfOk-weaker}
-use Rattle.plain_list.specs.Borrowed.{lent}
+use Rattle.plain_values.specs.Borrowed.{lent}
 use Rattle.answer_builder.specs.Transports.{answer_of}
 use Rattle.step_values.specs.declared.action.Why.TheVariants.{Answered}
 use Rattle.step_table.specs.Steps.{sends, transport_of}

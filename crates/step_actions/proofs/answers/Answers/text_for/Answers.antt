@@ -1,6 +1,6 @@
 use Rattle.std.proofs.Common.{◌<◌, ◌∙◌, ap, subst, sym}
 use Rattle.std.proofs.lemmas.Result.{IfOk-weaker}
-use Rattle.plain_list.specs.Borrowed.{lent}
+use Rattle.plain_values.specs.Borrowed.{lent}
 use Rattle.waiting_questions.specs.Values.{Waiting}
 use Rattle.step_actions.proofs.Fronts.{has_front}
 use Rattle.step_actions.proofs.Texts.{found_text, own_text, spelled_more}

@@ -1,0 +1,11 @@
+pub mod DataLaws
+pub mod SpellLaws
+pub mod RecordLaws
+pub mod EndLaws
+pub mod NameLaws
+pub mod Counting
+pub mod MessageLaws
+pub mod QuestionLaws
+pub mod WholeLaws
+pub mod ShapeLaws
+pub mod SpanLaws

@@ -1,0 +1,101 @@
+//! The sizes of the names that pointers lead to, in octets, remembered.
+//!
+//! `sizes` has a number for each of the first places of a message: the octets of the name that
+//! begins here, the zero octet at its end counted, or 0 where that is not known. With it a name
+//! that many pointers lead to is walked once; without, as an empty slice, each pointer walks it.
+
+ghost use Rattle.std.specs.Prelude.{◌≡◌, ◌≤◌, ◌<◌, Ok, IfSome, slice_index};
+ghost use Rattle.dns_message.specs.Sizes.{AreSizes, size_behind};
+
+use crate::names::fault::Fault;
+use crate::names::walk::{Bound, NameCursor, NameOctet, step_at};
+
+/// The remembered size of the name at a place.
+fn known_size(sizes: &[u8], place: usize) -> Option<usize>
+    ensures { IfSome result (λ size. (0 < size) × (size ≡ slice_index sizes.now place)) }
+{
+    if place < sizes.len() && sizes[place] > 0 {
+        return Some(sizes[place] as usize);
+    }
+    None
+}
+
+/// The octets of the name at a place, after labels of `used` octets. Where a pointer leads to a
+/// place that is known, the walk ends.
+fn measure(bytes: &[u8], sizes: &[u8], start: usize, used: usize) -> Result<usize, Fault>
+    requires room { used ≤ 254 }
+    requires known { AreSizes bytes.now sizes.now }
+    ensures { result ≡ size_behind bytes.now start used }
+{
+    let mut walk = NameCursor::behind(bytes, start, used);
+    loop {
+        match step_at(bytes, walk)? {
+            NameOctet::End => return Ok(walk.used + 1 - used),
+            NameOctet::Label(len) => {
+                walk = NameCursor {
+                    offset: walk.offset + 1 + len,
+                    used: walk.used + len + 1,
+                    ..walk
+                };
+            }
+            NameOctet::Pointer(target) => {
+                if let Some(size) = known_size(sizes, target) {
+                    if walk.used + size > 255 {
+                        return Err(Fault::NameLong);
+                    }
+                    return Ok(walk.used + size - used);
+                }
+                walk = NameCursor::behind(bytes, target, walk.used);
+            }
+        }
+    }
+}
+
+/// Remembers the octets of the name at a place, and of the names that begin on the way to its end,
+/// up to the first that is known.
+fn remember(bytes: &[u8], sizes: &mut [u8], start: usize, size: usize)
+    requires known { AreSizes bytes.now sizes.old }
+    requires read { size_behind bytes.now start 0 ≡ Ok size }
+    ensures { AreSizes bytes.now sizes.new }
+{
+    let mut walk = NameCursor::behind(bytes, start, 0);
+    while walk.offset < sizes.len() && sizes[walk.offset] == 0 {
+        let left = (size - walk.used) as u8;
+        sizes[walk.offset] = left;
+        match step_at(bytes, walk) {
+            Ok(NameOctet::Label(len)) => {
+                walk = NameCursor {
+                    offset: walk.offset + 1 + len,
+                    used: walk.used + len + 1,
+                    ..walk
+                };
+            }
+            Ok(NameOctet::Pointer(target)) => walk = NameCursor::behind(bytes, target, walk.used),
+            _ => return,
+        }
+    }
+}
+
+/// The octets of the name at a place, after labels of `used` octets. Over all calls with the same
+/// `sizes` each place is remembered once, and a place that is known is not walked again.
+pub(crate) fn size_of_name(
+    bytes: &[u8],
+    sizes: &mut [u8],
+    start: usize,
+    used: usize,
+) -> Result<usize, Fault>
+    requires room { used ≤ 254 }
+    requires known { AreSizes bytes.now sizes.old }
+    ensures exact { result ≡ size_behind bytes.now start used }
+    ensures known { AreSizes bytes.now sizes.new }
+{
+    if let Some(size) = known_size(sizes, start) {
+        if used + size > 255 {
+            return Err(Fault::NameLong);
+        }
+        return Ok(size);
+    }
+    let size = measure(bytes, sizes, start, used)?;
+    remember(bytes, sizes, start, size);
+    Ok(size)
+}

@@ -1,7 +1,0 @@
-pub mod NameLaws
-pub mod EndLaws
-pub mod ShortcutLaws
-pub mod Loops
-pub mod SizeLaws
-pub mod RunLaws
-pub mod CallerLemmas

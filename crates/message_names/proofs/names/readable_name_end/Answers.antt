@@ -1,5 +1,0 @@
-use Rattle.std.proofs.Common.{rules}
-use Rattle.message_names.proofs.names.readable_name_end.Goals as goal
-
-pub returns-then-first-ge192 : goal.returns-then-first-ge192
-returns-then-first-ge192 c = search rules

@@ -1,9 +1,0 @@
-use Rattle.std.proofs.Common.{◌-◌, length}
-use Rattle.message_names.proofs.EndLaws.{GoesOn}
-use Rattle.message_names.proofs.names.readable_name_end.Given as goal
-
-abbrev pub invariant-loop-offset : goal.invariant-loop-offset
-invariant-loop-offset l = GoesOn l.bytes l.offset l.at
-
-abbrev pub decreases-loop-offset : goal.decreases-loop-offset
-decreases-loop-offset l = length l.bytes - l.at

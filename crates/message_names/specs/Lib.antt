@@ -1,6 +1,0 @@
-pub mod Reading
-pub mod Numbers
-pub mod Names
-pub mod Shortcuts
-pub mod Sizes
-pub mod Runs

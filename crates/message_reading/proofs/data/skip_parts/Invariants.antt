@@ -1,8 +1,0 @@
-use Rattle.std.proofs.Common.{◌≡◌, drop}
-use Rattle.message_names.specs.Reading.{behind}
-use Rattle.message_names.specs.Sizes.{AreSizes}
-use Rattle.message_reading.specs.Data.{parts_at}
-use Rattle.message_reading.proofs.data.skip_parts.Given as goal
-
-abbrev pub invariant-loop-part : goal.invariant-loop-part
-invariant-loop-part l = record { rest : behind (parts_at (drop l.part-index l.parts) l.bytes l.stop l.at) ≡ behind (parts_at l.parts l.bytes l.stop l.offset); known : AreSizes l.bytes l.sizes }

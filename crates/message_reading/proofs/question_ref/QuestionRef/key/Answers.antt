@@ -1,5 +1,0 @@
-use Rattle.std.proofs.Common.{rules}
-use Rattle.message_reading.proofs.question_ref.QuestionRef.key.Goals as goal
-
-pub from_octets-requires : goal.from_octets-requires
-from_octets-requires c = search rules

@@ -1,5 +1,0 @@
-use Rattle.std.proofs.Common.{rules}
-use Rattle.message_reading.proofs.question_ref.QuestionRef.name.Goals as goal
-
-pub returns-clause-laid : goal.returns-clause-laid
-returns-clause-laid c = search rules

@@ -1,8 +1,0 @@
-use Rattle.std.proofs.Common.{◌≡◌, ◌-◌}
-use Rattle.message_names.specs.Shortcuts.{AreShortcuts}
-use Rattle.message_reading.specs.Records.{counted, question_at}
-use Rattle.message_reading.proofs.Counting.{after_these}
-use Rattle.message_reading.proofs.records.read_questions.Given as goal
-
-abbrev pub invariant-loop : goal.invariant-loop
-invariant-loop g l = record { rest : after_these l.questions (counted (question_at l.bytes) (l.count - l.counter) l.at) ≡ counted (question_at l.bytes) l.count l.offset; known : AreShortcuts l.bytes l.ends }

@@ -1,6 +1,0 @@
-use Rattle.std.proofs.Common.{◌≡◌, drop}
-use Rattle.message_writing.specs.Fields.{has_name}
-use Rattle.message_writing.proofs.data.has_name.Given as goal
-
-abbrev pub invariant-loop-part : goal.invariant-loop-part
-invariant-loop-part l = has_name (drop l.part-index l.parts) ≡ has_name l.parts

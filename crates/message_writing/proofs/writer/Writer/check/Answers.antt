@@ -1,5 +1,0 @@
-use Rattle.std.proofs.Common.{rules}
-use Rattle.message_writing.proofs.writer.Writer.check.Goals as goal
-
-pub returns-then-len-limit : goal.returns-then-len-limit
-returns-then-len-limit g c = search rules

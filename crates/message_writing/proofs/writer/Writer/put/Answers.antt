@@ -1,6 +1,0 @@
-use Rattle.std.proofs.Common.{refl}
-use Rattle.message_writing.proofs.WriterLaws.{holds_more}
-use Rattle.message_writing.proofs.writer.Writer.put.Goals as goal
-
-pub returns : goal.returns
-returns g c = holds_more c.args.self.now _ c.args.octets.now c.in_ok-extend_from_slice.ensures.items refl

@@ -1,0 +1,4 @@
+pub mod Octets
+pub mod Borrowed
+pub mod Places
+pub mod FirstFault

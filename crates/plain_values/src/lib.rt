@@ -1,0 +1,9 @@
+//! Lists, octets and results that contracts see as plain values, without their memory. The
+//! definitions of reading with the first fault have no code.
+#![tactic(auto)]
+
+mod plain_list;
+mod short_octets;
+
+pub use plain_list::{Octets, PlainList};
+pub use short_octets::ShortOctets;
