@@ -36,9 +36,9 @@ use outstanding::{Ask, KeyedAsk, QuestionKey, draw};
 use std::alloc::{AllocError, Allocator};
 use std::hash::BuildHasher;
 use step_actions::{
-    Attempt, Change, Decision, Fate, Opening, TurnRef, ask as ask_action, by_udp, failure, fate_of,
-    new_ask, nothing, refusal,
+    Attempt, Change, Decision, Fate, Opening, TurnRef, by_udp, fate_of, new_ask, nothing,
 };
+use step_texts::{ask as ask_action, failure, refusal};
 use step_values::{Action, Actions, Client, Why};
 use suffix_routes::RouteId;
 use trust_rank::{MOST_ALIASES, Slot};

@@ -22,7 +22,7 @@ use Rattle.step_table.specs.Ticks.{expiry_step}
 use Rattle.step_table.specs.Replies.{timeout_of, row_of_verdict, row_of_delivery, verdict_on}
 use Rattle.step_table.specs.Failures.{told_past, found_past, runs_out}
 use Rattle.record_cache.specs.Values.{Held}
-use Rattle.step_actions.specs.Spelling.{Source}
+use Rattle.step_texts.specs.Spelling.{Source}
 use Rattle.reply_match.specs.Verdicts.{judge}
 use Rattle.step_actions.specs.declared.decision.Preferred.{Preferred}
 use Rattle.step_actions.specs.declared.decision.Change.TheVariants.{Close, SendOn, AskAgain, Expire}

@@ -14,9 +14,10 @@ use retry_failover::{Failure, Next, after};
 use std::alloc::{AllocError, Allocator};
 use std::hash::BuildHasher;
 use step_actions::{
-    Attempt, Change, Decision, TurnRef, ask as ask_action, by_tcp, by_udp, close_path,
-    draw_connection, failures, freed_port, last_replies, new_ask, nothing, plan,
+    Attempt, Change, Decision, TurnRef, by_tcp, by_udp, close_path, draw_connection, failures,
+    freed_port, last_replies, new_ask, nothing, plan,
 };
+use step_texts::ask as ask_action;
 use step_values::{Actions, Why};
 
 /// Closes the ask on a path; those that wait for it fail for this reason.

@@ -18,7 +18,8 @@ use dns_name::Name;
 use record_cache::Held;
 use std::alloc::{AllocError, Allocator, Global};
 use std::hash::BuildHasher;
-use step_actions::{Fate, TurnRef, failure, fate_of};
+use step_actions::{Fate, TurnRef, fate_of};
+use step_texts::failure;
 use step_values::Why;
 use waiting_questions::Waiting;
 

@@ -24,7 +24,8 @@ use record_cache::Held;
 use std::alloc::{AllocError, Allocator, Global};
 use std::hash::BuildHasher;
 use std::marker::Model;
-use step_actions::{Fate, TurnRef, failure};
+use step_actions::{Fate, TurnRef};
+use step_texts::failure;
 use step_values::{Action, Actions, Why};
 use waiting_questions::{SentOn, Waiting, WaitingFor};
 

@@ -12,8 +12,9 @@ use retry_failover::Failure;
 use std::alloc::{AllocError, Allocator};
 use std::hash::BuildHasher;
 use step_actions::{
-    Change, Decision, TurnRef, close_paths, comes_first, failure, is_late, is_overdue, nothing,
+    Change, Decision, TurnRef, close_paths, comes_first, is_late, is_overdue, nothing,
 };
+use step_texts::failure;
 use step_values::Why;
 use waiting_questions::Waiting;
 

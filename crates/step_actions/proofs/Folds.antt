@@ -9,7 +9,7 @@ use Rattle.record_cache.specs.Values.{Held}
 use Rattle.record_cache.specs.Laws.{Among}
 use Rattle.step_values.specs.declared.action.Why.{Why}
 use Rattle.step_values.specs.Values.{Action}
-use Rattle.step_actions.specs.Spelling.{Source}
+use Rattle.step_texts.specs.Spelling.{Source}
 use Rattle.waiting_questions.specs.Values.{Waiting, waits_for}
 use Rattle.step_table.specs.Steps.{Fate, gets, waits, reply_in, fails, gives_up}
 use Rattle.step_table.specs.Failures.{told_past, found_past, runs_out}

@@ -1,12 +1,7 @@
-pub mod Aliases
 pub mod CallerLemmas
 pub mod Carried
 pub mod Fates
 pub mod Folds
 pub mod Following
-pub mod Fronts
 pub mod Later
 pub mod Made
-pub mod Room
-pub mod Telling
-pub mod Texts

@@ -20,7 +20,7 @@ use Rattle.step_table.specs.Steps.{with_promoted, offering_step, sends, transpor
 use Rattle.step_table.specs.Row.{is_due_at, Happens}
 use Rattle.answer_builder.specs.Transports.{answer_of}
 use Rattle.trust_rank.specs.Values.{Piece}
-use Rattle.step_actions.specs.Spelling.{Source}
+use Rattle.step_texts.specs.Spelling.{Source}
 use Rattle.step_actions.specs.Kept.{IsKeptAsk, HoldsEarlier}
 use Rattle.answer_builder.specs.Answers.{IsEarlier}
 use Rattle.std.specs.List.{AllByRecursion}

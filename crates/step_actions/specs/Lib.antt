@@ -1,4 +1,3 @@
-pub mod Spelling
 pub mod Kept
 pub mod Decision
 pub mod LookUps

@@ -16,9 +16,6 @@ ghost use Rattle.alias_chains.specs.declared.looked.LookUpEnd.{LookUpEnd};
 ghost use Rattle.step_table.specs.Clients.{fate_missed, fate_of};
 ghost use Rattle.step_actions.specs.Fates.{becomes, began_at, fate_in, or_own, wanted_at, IfLed, IfWaits, IsSeenAs};
 
-use crate::answers::answer;
-use crate::past_ends::local_answer;
-use crate::refusals::failure;
 use crate::turn::TurnRef;
 use alias_chains::{LookUp, LookUpEnd, copies};
 use dns_message::{Question, QuestionRef};
@@ -27,6 +24,7 @@ use outstanding::QuestionKey;
 use record_cache::Held;
 use std::alloc::{AllocError, Allocator, Global};
 use std::hash::BuildHasher;
+use step_texts::{answer, failure, local_answer};
 use step_values::{Action, Why};
 use suffix_routes::{RouteId, Routing};
 use waiting_questions::{Request, SentOn};

@@ -12,8 +12,6 @@ ghost use Rattle.step_table.specs.Steps.{closes};
 ghost use Rattle.step_table.specs.Failures.{found_past, runs_out, told_past};
 ghost use Rattle.step_actions.specs.Decision.{with_replies};
 
-use crate::past_ends::stale_answer;
-use crate::refusals::failure;
 use crate::replies::close_path;
 use crate::turn::TurnRef;
 use alias_chains::look_up_past;
@@ -22,6 +20,7 @@ use outstanding::KeyedAsk;
 use record_cache::Held;
 use std::alloc::{AllocError, Allocator};
 use std::hash::BuildHasher;
+use step_texts::{failure, stale_answer};
 use step_values::{Action, Actions, Why};
 use trust_rank::MOST_ALIASES;
 use waiting_questions::Waiting;

@@ -9,7 +9,8 @@ use Rattle.step_values.specs.declared.action.Why.TheVariants.{Stale}
 use Rattle.step_table.specs.State.{Turn}
 use Rattle.step_table.specs.Steps.{sends, transport_of}
 use Rattle.step_table.specs.Failures.{told_past}
-use Rattle.step_actions.proofs.CallerLemmas.{stale_alike, later_entries}
+use Rattle.step_texts.proofs.CallerLemmas.{stale_alike}
+use Rattle.step_actions.proofs.CallerLemmas.{later_entries}
 use Rattle.step_actions.proofs.Folds.{held_among}
 use Rattle.step_actions.proofs.lasts.last_reply.Goals as goal
 

@@ -1,6 +1,6 @@
 use Rattle.std.proofs.Common.{◌∙◌}
 use Rattle.std.proofs.lemmas.List.{take_all}
-use Rattle.step_actions.proofs.Aliases.{lent_one_more}
+use Rattle.step_texts.proofs.CallerLemmas.{lent_one_more}
 use Rattle.step_actions.proofs.replies.borrowed.Goals as goal
 
 pub loop-entry-preserved : goal.loop-entry-preserved

@@ -1,6 +1,6 @@
 use Rattle.std.proofs.Common.{◌∙◌, ◌+◌, ◌∷◌, [], ◌++◌, List, drop, ap, sym, subst, arith}
 use Rattle.std.proofs.lemmas.List.{at_drop_all}
-use Rattle.step_actions.specs.Spelling.{Source}
+use Rattle.step_texts.specs.Spelling.{Source}
 use Rattle.step_values.specs.Values.{Action, actions_of}
 use Rattle.step_actions.specs.Decision.{with_replies, gives_from, told_from}
 use Rattle.step_actions.specs.Kept.{HoldsEarlier}

@@ -1,5 +1,0 @@
-use Rattle.std.proofs.Common.{rules}
-use Rattle.step_actions.proofs.answers.Answers.plain_reply.Goals as goal
-
-pub returns-clause-reply : goal.returns-clause-reply
-returns-clause-reply g c = search rules

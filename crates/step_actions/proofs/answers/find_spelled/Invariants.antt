@@ -1,7 +1,0 @@
-use Rattle.std.proofs.Common.{◌≡◌, drop}
-use Rattle.std.specs.List.{find}
-use Rattle.step_actions.specs.Spelling.{is_for}
-use Rattle.step_actions.proofs.answers.find_spelled.Given as goal
-
-abbrev pub invariant-loop-spelled : goal.invariant-loop-spelled
-invariant-loop-spelled g l = find (is_for l.transport l.question) (drop l.spelled-index l.texts) ≡ find (is_for l.transport l.question) l.texts

@@ -1,0 +1,6 @@
+pub mod Aliases
+pub mod CallerLemmas
+pub mod Fronts
+pub mod Room
+pub mod Telling
+pub mod Texts

@@ -1,0 +1,75 @@
+-- A chain as the answer has it, one piece after another.
+use Rattle.std.proofs.Common.{◌≡◌, ℕ, zero, suc, ◌+◌, ◌<◌, ◌≤◌, List, [], ◌∷◌, ◌++◌, length, map, take, drop, get_or, Bor, refl, sym, ap, subst, ◌∙◌, drop-cons, arith}
+use Rattle.std.proofs.lemmas.List.{take_more, map-append, length-map}
+use Rattle.std.specs.List.{AllByRecursion}
+use Rattle.std.specs.Prelude.{Result, Ok, Err}
+use Rattle.answer_builder.specs.declared.fault.Fault.{Fault}
+use Rattle.plain_values.specs.Borrowed.{lent}
+use Rattle.step_values.specs.declared.action.Why.{Why}
+use Rattle.waiting_questions.specs.Values.{Waiting}
+use Rattle.step_table.specs.Steps.{sends}
+use Rattle.step_texts.specs.Spelling.{ok_text, sends_text}
+use Rattle.record_cache.specs.Values.{Held}
+use Rattle.answer_builder.specs.Values.{Told}
+use Rattle.answer_builder.specs.Answers.{told_at, told_past, told_stale}
+
+-- with none before the others all are answered as stale
+all_past : (t : ℕ) (xs : List Held) → told_stale zero t xs ≡ map (told_past t) xs
+all_past t xs = refl
+
+past_one : (t : ℕ) (xs : List Held) (i : ℕ) (h : Held) → i < length xs → h ≡ get_or xs i h → told_stale zero t (take (i + 1) xs) ≡ told_stale zero t (take i xs) ++ told_past t h ∷ []
+past_one t xs i h lt is =
+    ap (map (told_past t)) (take_more xs i h lt) ∙ ap (λ (x : Held). map (told_past t) (take i xs ++ x ∷ [])) (sym is) ∙ map-append (told_past t) (take i xs) (h ∷ [])
+
+next_is : (i : ℕ) → suc i + 1 ≡ suc (i + 1)
+next_is i = omega arith
+
+nothing_told : (k t : ℕ) → told_stale k t [] ≡ []
+nothing_told zero t = refl
+nothing_told (suc k) t = refl
+
+-- one more of those that are answered with the lifetime that is left
+pub left_more : (past t : ℕ) (xs : List Held) (i : ℕ) (h : Held) → i < length xs → h ≡ get_or xs i h → i < past → told_stale past t (take (i + 1) xs) ≡ told_stale past t (take i xs) ++ told_at t h ∷ []
+left_more zero t xs i h lt is below = absurd (omega (arith, below))
+left_more (suc k) t [] i h lt is below = absurd (omega (arith, lt))
+left_more (suc k) t (x ∷ xs) zero h lt is below = ap (λ (told : List Told). told_at t x ∷ told) (nothing_told k t) ∙ ap (λ (y : Held). told_at t y ∷ []) (sym is)
+left_more (suc k) t (x ∷ xs) (suc i) h lt is below =
+    ap (λ (n : ℕ). told_stale (suc k) t (take n (x ∷ xs))) (next_is i)
+    ∙ ap (λ (told : List Told). told_at t x ∷ told) (left_more k t xs i h (omega (arith, lt)) is (omega (arith, below)))
+
+-- and of those after them
+pub past_more : (past t : ℕ) (xs : List Held) (i : ℕ) (h : Held) → i < length xs → h ≡ get_or xs i h → past ≤ i → told_stale past t (take (i + 1) xs) ≡ told_stale past t (take i xs) ++ told_past t h ∷ []
+past_more zero t xs i h lt is above = past_one t xs i h lt is
+past_more (suc k) t [] i h lt is above = absurd (omega (arith, lt))
+past_more (suc k) t (x ∷ xs) zero h lt is above = absurd (omega (arith, above))
+past_more (suc k) t (x ∷ xs) (suc i) h lt is above =
+    ap (λ (n : ℕ). told_stale (suc k) t (take n (x ∷ xs))) (next_is i)
+    ∙ ap (λ (told : List Told). told_at t x ∷ told) (past_more k t xs i h (omega (arith, lt)) is (omega (arith, above)))
+
+-- where none is after them, all are answered with the lifetime that is left
+pub none_past : (t : ℕ) (chain : List Held) → told_stale (length chain) t chain ≡ map (told_at t) chain
+none_past t [] = refl
+none_past t (h ∷ chain) = ap (λ (told : List Told). told_at t h ∷ told) (none_past t chain)
+
+-- ---- a borrowed chain
+
+pub lent_at : {X : Type 0} (refs : List (Bor X)) (i : ℕ) (r : Bor X) → r ≡ get_or refs i r → r.now ≡ get_or (lent refs) i r.now
+lent_at [] i r is = refl
+lent_at {X = X} (x ∷ refs) zero r is = ap (λ (y : Bor X). y.now) is
+lent_at (x ∷ refs) (suc i) r is = lent_at refs i r is
+
+pub lent_length : {X : Type 0} (refs : List (Bor X)) → length (lent refs) ≡ length refs
+lent_length {X = X} refs = length-map refs (λ (y : Bor X). y.now)
+
+-- a property of all from a place on is one of the element there, and of all after it
+pub all_from_next : {X : Type 0} (P : X → Type 0) (xs : List X) (i : ℕ) (x : X) → i < length xs → x ≡ get_or xs i x → AllByRecursion P (drop i xs) → P x × AllByRecursion P (drop (i + 1) xs)
+all_from_next P xs i x lt is all =
+    let rest = subst (AllByRecursion P) (drop-cons xs i x lt) all in
+    let next : suc i ≡ i + 1 = omega arith in
+    (subst P (sym is) rest.0, subst (λ (n : ℕ). AllByRecursion P (drop n xs)) next rest.1)
+
+-- ---- what is sent of a text
+
+pub sent_by : (why : Why) (x : Waiting) (r : Result (List ℕ) Fault) → sends_text why x (ok_text r) ≡ sends why x r
+sent_by why x (Ok text) = refl
+sent_by why x (Err fault) = refl

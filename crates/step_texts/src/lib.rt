@@ -1,0 +1,12 @@
+//! The texts of a step: its queries and replies as actions with their octets.
+#![tactic(auto)]
+
+mod answers;
+mod past_ends;
+mod queries;
+mod refusals;
+
+pub use answers::{Answers, answer};
+pub use past_ends::{local_answer, stale_answer};
+pub use queries::ask;
+pub use refusals::{failure, refusal};
