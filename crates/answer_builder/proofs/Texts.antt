@@ -2,14 +2,14 @@
 use Rattle.std.proofs.Common.{◌≡◌, ℕ, ◌<◌, ◌≤◌, List, [], ◌∷◌, length, Bool, true, false, cond, refl, sym, ap, subst, ◌∙◌, ⊎_elim, arith, Option, Some, None}
 use Rattle.std.specs.Prelude.{nat_lt, nat_le, Result, Ok, Err}
 use Rattle.std.proofs.lemmas.Bool.{cases_Bool, cond-true, cond-false, ltb-false, ltb-true, le-leb, leb-true}
-use Rattle.dns_message.specs.Fault.{Fault}
-use Rattle.dns_message.specs.Fault.TheVariants.{TooLarge}
+use Rattle.dns_message.specs.declared.names.fault.Fault.{Fault}
+use Rattle.dns_message.specs.declared.names.fault.Fault.TheVariants.{TooLarge}
 use Rattle.dns_message.specs.Values.{Question, Record, Message}
 use Rattle.dns_message.specs.Writing.{written, written_within}
 use Rattle.answer_builder.specs.declared.fault.Fault.{Fault as AnswerFault}
 use Rattle.answer_builder.specs.declared.fault.Fault.TheVariants as answer
 use Rattle.answer_builder.specs.Values.{Asked, Sections}
-use Rattle.dns_message.specs.Header.{Header}
+use Rattle.dns_message.specs.declared.reading.header.Header.{Header}
 use Rattle.dns_message.specs.Borrowed.{questions_of, records_in, message_of}
 use Rattle.answer_builder.specs.Answers.{answer_header, answer_message, bare, error_response}
 use Rattle.answer_builder.specs.Building.{cut_down, fitting}

@@ -2,7 +2,7 @@
 use Rattle.std.specs.Prelude.{◌≤◌, ℕ, Bool, true, false, if◌then◌else◌, List, [], ◌∷◌, ◌++◌, length, map, take, drop}
 use Rattle.std.specs.Prelude.{Option, Some, None}
 use Rattle.std.specs.List.{flat_map}
-use Rattle.dns_message.specs.Header.{Header}
+use Rattle.dns_message.specs.declared.reading.header.Header.{Header}
 use Rattle.dns_message.specs.Values.{Record, Message}
 use Rattle.dns_message.specs.Borrowed.{questions_of}
 use Rattle.trust_rank.specs.Values.{Body, rows, no_data, denied, Piece}

@@ -2,7 +2,7 @@
 use Rattle.std.specs.Prelude.{ℕ, Bool, List, Option}
 use Rattle.dns_message.specs.Values.{Question, Record}
 use Rattle.trust_rank.specs.Values.{Piece}
-use Rattle.dns_message.specs.Header.{Header}
+use Rattle.dns_message.specs.declared.reading.header.Header.{Header}
 
 -- the part of a request that its answer repeats: RFC 1035 4.1.1 and 4.1.2
 pub record Asked : Type 0 where

@@ -9,7 +9,8 @@ use Rattle.trust_rank.specs.declared.slot.Slot.{Slot}
 use Rattle.suffix_routes.specs.Serving.{serving_route_of}
 use Rattle.step_values.specs.Requests.{is_taken}
 use Rattle.answer_builder.specs.Values.{asked_in}
-use Rattle.dns_message.specs.Header.{Header, header_in}
+use Rattle.dns_message.specs.declared.reading.header.Header.{Header}
+use Rattle.dns_message.specs.Header.{header_in}
 use Rattle.outstanding.specs.declared.ask.Path.{Path}
 use Rattle.outstanding.specs.Draws.{udp_draw}
 use Rattle.outstanding.specs.Lists.{of_question}

@@ -1,7 +1,7 @@
 -- The message that a client reads in an answer: RFC 1035 3.2.1 and 4.1.1, RFC 2181 5.2, RFC 2308 2
 -- and 3. Neither code nor table computes any of these definitions.
 use Rattle.std.specs.Prelude.{◌≡◌, ℕ, ◌+◌, ◌*◌, ◌<◌, ◌≤◌, Bool, true, false, List, [], ◌∷◌, ◌++◌, Option, Some, None}
-use Rattle.dns_message.specs.Header.{Header}
+use Rattle.dns_message.specs.declared.reading.header.Header.{Header}
 use Rattle.dns_message.specs.Values.{Question, Record, Message}
 use Rattle.trust_rank.specs.Values.{Body, rows, no_data, denied}
 use Rattle.record_cache.specs.Values.{Held}

@@ -2,9 +2,10 @@
 use Rattle.std.proofs.Common.{◌≡◌, ℕ, List, Bool, true, false, cond, refl, sym, ap, ◌∙◌, subst, Option, None}
 use Rattle.std.specs.Prelude.{◌==◌, ◌||◌, IsOk, Result, Ok, Err, slice_index}
 use Rattle.std.proofs.lemmas.Bool.{and_right, cond-true, cond-false, eq-eqb}
-use Rattle.dns_message.specs.Fault.{Fault}
+use Rattle.dns_message.specs.declared.names.fault.Fault.{Fault}
 use Rattle.dns_message.specs.Values.{Question, Message}
-use Rattle.dns_message.specs.Header.{Header, header_in}
+use Rattle.dns_message.specs.declared.reading.header.Header.{Header}
+use Rattle.dns_message.specs.Header.{header_in}
 use Rattle.dns_message.specs.Messages.{first_question, message_of, QuestionIs, IsWhole}
 use Rattle.dns_message.proofs.CallerLemmas.{same_question_decides, spelled_message_is_read, message_read_is_spelled}
 use Rattle.suffix_routes.specs.declared.peer.Peer.{Peer}

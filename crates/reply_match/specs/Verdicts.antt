@@ -1,6 +1,6 @@
 -- The verdict on a delivery as the reply to an ask.
 use Rattle.std.specs.Prelude.{ℕ, Bool, if◌then◌else◌, ◌==◌, ◌&&◌, ◌||◌, nat_le, List, length, Result, Ok, Err}
-use Rattle.dns_message.specs.Fault.{Fault}
+use Rattle.dns_message.specs.declared.names.fault.Fault.{Fault}
 use Rattle.dns_message.specs.Values.{Message}
 use Rattle.dns_message.specs.Header.{header_in}
 use Rattle.dns_message.specs.Messages.{message_of}

@@ -4,7 +4,7 @@ use Rattle.std.proofs.Common.{◌≡◌, ℕ, ◌+◌, ◌*◌, ◌<◌, List, [
 use Rattle.suffix_routes.specs.declared.peer.Peer.{Peer}
 use Rattle.suffix_routes.specs.Values.{Config, default_limits}
 use Rattle.suffix_routes.specs.Routes.{route_of}
-use Rattle.dns_message.specs.Header.{Header}
+use Rattle.dns_message.specs.declared.reading.header.Header.{Header}
 use Rattle.std.specs.Prelude.{map}
 use Rattle.dns_message.specs.Values.{Question, Record}
 use Rattle.dns_message.specs.Writing.{◌▹◌, each, name_text, data_text, with_length, written}

@@ -1,7 +1,7 @@
 -- Answers, and the chains that justify them.
 use Rattle.std.specs.Prelude.{◌≡◌, ◌≢◌, ℕ, ◌≤◌, Bool, true, List, [], ◌∷◌, length, Option, Some}
 use Rattle.dns_name.specs.Labels.{is_under}
-use Rattle.dns_message.specs.Header.{Header}
+use Rattle.dns_message.specs.declared.reading.header.Header.{Header}
 use Rattle.dns_message.specs.Values.{Question, Message}
 use Rattle.dns_message.specs.Messages.{Spells}
 use Rattle.trust_rank.specs.Values.{Body, rows, no_data, denied, Piece}

@@ -2,7 +2,8 @@
 use Rattle.std.proofs.Common.{◌≡◌, ℕ, ◌≤◌, List, length, Some, None, true, false, sym, ◌∙◌, ⊎_elim}
 use Rattle.std.specs.Prelude.{nat_lt}
 use Rattle.std.proofs.lemmas.Bool.{cases_Bool, cond-true, cond-false, ltb-false}
-use Rattle.dns_message.specs.Header.{Header, header_of, header_in}
+use Rattle.dns_message.specs.declared.reading.header.Header.{Header}
+use Rattle.dns_message.specs.Header.{header_of, header_in}
 
 -- the header, if any
 pub header_there : (octets : List ℕ) (h : Header) → header_of octets ≡ Some h → (header_in octets ≡ h) × (12 ≤ length octets)

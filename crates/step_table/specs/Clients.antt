@@ -1,6 +1,7 @@
 -- The rows of a client's message.
 use Rattle.std.specs.Prelude.{ℕ, if◌then◌else◌, ◌==◌, nat_le, List, [], length, Option, Some, None}
-use Rattle.dns_message.specs.Header.{Header, header_in}
+use Rattle.dns_message.specs.declared.reading.header.Header.{Header}
+use Rattle.dns_message.specs.Header.{header_in}
 use Rattle.dns_message.specs.Values.{Question}
 use Rattle.dns_message.specs.Questions.{one_question, is_unserved}
 use Rattle.suffix_routes.specs.Values.{Config}

@@ -4,8 +4,8 @@ use Rattle.std.specs.Prelude.{nat_lt, Ok, Err}
 use Rattle.std.proofs.lemmas.Bool.{cond-false, le-ltb}
 use Rattle.dns_name.specs.Labels.{IsName}
 use Rattle.dns_message.specs.Borrowed.{message_of}
-use Rattle.dns_message.specs.Fault.TheVariants.{TooLarge}
-use Rattle.dns_message.specs.Header.{Header}
+use Rattle.dns_message.specs.declared.names.fault.Fault.TheVariants.{TooLarge}
+use Rattle.dns_message.specs.declared.reading.header.Header.{Header}
 use Rattle.dns_message.specs.Values.{Question, Message}
 use Rattle.dns_message.specs.Writing.{written, written_within}
 use Rattle.dns_message.proofs.CallerLemmas.{bare_message_is_short}

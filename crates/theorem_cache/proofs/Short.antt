@@ -1,7 +1,7 @@
 -- A message that has a question alone is short.
 use Rattle.std.proofs.Common.{◌≡◌, ◌≤◌, [], ◌∷◌, length, Some, sym, subst, arith}
 use Rattle.dns_name.specs.Labels.{IsName}
-use Rattle.dns_message.specs.Header.{Header}
+use Rattle.dns_message.specs.declared.reading.header.Header.{Header}
 use Rattle.dns_message.specs.Values.{Question, Message}
 use Rattle.dns_message.specs.Writing.{written}
 use Rattle.dns_message.proofs.CallerLemmas.{bare_message_is_short}

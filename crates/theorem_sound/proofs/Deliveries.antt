@@ -3,8 +3,9 @@ use Rattle.std.proofs.Common.{◌≡◌, ◌⊎◌, ℕ, ◌+◌, ◌^◌, ◌<�
 use Rattle.std.specs.Prelude.{slice_set, option_map, map, filter, ◌==◌, ◌||◌, min, max, nat_lt, Result, Ok, Err}
 use Rattle.std.specs.List.{AllByRecursion}
 use Rattle.std.proofs.lemmas.Bool.{and_from, lt-ltb, ltb-true, le-leb, cond-true, cond-false, cond_both, eq-eqb, eqb-true, or_cases, false≢true}
-use Rattle.dns_message.specs.Header.{Header, header_in}
-use Rattle.dns_message.specs.Fault.{Fault}
+use Rattle.dns_message.specs.declared.reading.header.Header.{Header}
+use Rattle.dns_message.specs.Header.{header_in}
+use Rattle.dns_message.specs.declared.names.fault.Fault.{Fault}
 use Rattle.dns_message.specs.Values.{Question, Message}
 use Rattle.dns_message.specs.Messages.{Spells, HasShapes, message_of}
 use Rattle.dns_message.specs.Questions.{same_question, one_question}

@@ -5,7 +5,7 @@ use Rattle.std.specs.List.{list_any, AllByRecursion}
 use Rattle.std.proofs.lemmas.Bool.{cond_both, cond-true, cond-false, true≢false, false≢true}
 use Rattle.std.proofs.lemmas.List.{length-append}
 use Rattle.dns_message.specs.Header.{header_in}
-use Rattle.dns_message.specs.Fault.{Fault}
+use Rattle.dns_message.specs.declared.names.fault.Fault.{Fault}
 use Rattle.dns_message.specs.Values.{Question, Message}
 use Rattle.dns_message.specs.Messages.{HasShapes, message_of}
 use Rattle.dns_message.specs.Questions.{same_question, one_question, is_unserved}

@@ -3,7 +3,7 @@ use Rattle.std.proofs.Common.{◌≡◌, ◌∙◌, ℕ, List, [], length, map, 
 use Rattle.std.specs.Prelude.{◌==◌, nat_le, nat_lt, Result, Ok, Err}
 use Rattle.std.proofs.lemmas.Bool.{cond_both, cond-true, cond-false}
 use Rattle.dns_message.specs.Header.{header_in}
-use Rattle.dns_message.specs.Fault.{Fault}
+use Rattle.dns_message.specs.declared.names.fault.Fault.{Fault}
 use Rattle.dns_message.specs.Values.{Question, Message}
 use Rattle.dns_message.specs.Messages.{message_of}
 use Rattle.dns_message.specs.Questions.{one_question, is_unserved}

@@ -4,7 +4,7 @@ use Rattle.std.proofs.Common.{◌≡◌, ℕ, List, [], ◌∷◌, ◌++◌, rep
 use Rattle.dns_name.specs.declared.fault.NameFault.TheVariants as name_fault
 use Rattle.dns_name.specs.Text.{written_label_fault, name_in}
 use Rattle.dns_message.specs.Data.{data_at, octets_within, text_within, parts_at}
-use Rattle.dns_message.specs.Fault.TheVariants.{Short, LabelForm, Pointer, NameLong, Rdata}
+use Rattle.dns_message.specs.declared.names.fault.Fault.TheVariants.{Short, LabelForm, Pointer, NameLong, Rdata}
 use Rattle.dns_message.specs.Names.{step as name_step, walk_in, name_within, name_at}
 use Rattle.dns_message.specs.Shapes.{shape_of}
 

@@ -6,7 +6,8 @@ use Rattle.std.proofs.lemmas.Bool.{true≢false}
 use Rattle.dns_message.specs.Names.{step as name_step, walk_in, name_within}
 use Rattle.dns_message.specs.Data.{octets_within, parts_at, data_at}
 use Rattle.dns_message.specs.Shapes.{shape_of}
-use Rattle.dns_message.specs.Header.{Header, header_of, header_in}
+use Rattle.dns_message.specs.declared.reading.header.Header.{Header}
+use Rattle.dns_message.specs.Header.{header_of, header_in}
 use Rattle.dns_message.specs.Records.{octets_end, question_at, record_at, counted}
 use Rattle.dns_message.specs.Messages.{message_at, message_of, first_question}
 use Rattle.dns_message.specs.Questions.{one_question, same_question}
