@@ -115,7 +115,7 @@ targets = (refl, refl, refl)
 abbrev text : ℕ → List ℕ
 text ttl = 18 ∷ 53 ∷ 129 ∷ 128 ∷ 0 ∷ 1 ∷ 0 ∷ 1 ∷ 0 ∷ 0 ∷ 0 ∷ 0 ∷ 1 ∷ 97 ∷ 1 ∷ 101 ∷ 0 ∷ 0 ∷ 1 ∷ 0 ∷ 1 ∷ 192 ∷ 12 ∷ 0 ∷ 1 ∷ 0 ∷ 1 ∷ 0 ∷ 0 ∷ 1 ∷ ttl ∷ 0 ∷ 4 ∷ 198 ∷ 51 ∷ 100 ∷ 5 ∷ []
 
-abbrev request : Rattle.dns_message.specs.Header.Header
+abbrev request : Rattle.dns_message.specs.declared.reading.header.Header.Header
 request = record { id = 4661; qr = false; opcode = 0; aa = false; tc = false; rd = true; ra = false; z = 0; rcode = 0; counts = 1 ∷ 0 ∷ 0 ∷ 0 ∷ [] }
 
 -- the answer with the seconds that are left
