@@ -225,7 +225,7 @@ impl<'a, A: Allocator + Copy> Answers<'a, A> {
     }
 
     /// How many pieces the chain has.
-    pub(crate) fn pieces(&self) -> usize
+    pub fn pieces(&self) -> usize
         ensures { result ≡ length self.now.chain }
     {
         self.chain.len()
