@@ -3,11 +3,11 @@ import socket
 import struct
 import threading
 
-from service.messages import name
+from repository import packing
+from repository.packing import CNAME, OF_QUESTION, SOA, name
 
 SERVED, SERVER = 15392, 15393
 NO_ERROR, NAME_ERROR, REFUSED = 0, 3, 5
-A, CNAME, SOA = 1, 5, 6
 HOUR = 3600
 
 FIRST_VERSION = f"""version = 1
@@ -27,11 +27,11 @@ deny = true
 
 
 def question(text):
-    return name(text) + struct.pack(">2H", A, 1)
+    return packing.question(name(text))
 
 
 def record(owner, kind, data):
-    return owner + struct.pack(">2HIH", kind, 1, HOUR, len(data)) + data
+    return packing.record(owner, kind, HOUR, data)
 
 
 class Server(threading.Thread):
@@ -53,19 +53,15 @@ class Server(threading.Thread):
 
     @staticmethod
     def reply(query):
-        asked, owner = query[12:], b"\xc0\x0c"
-        address = struct.pack(">4B", 192, 0, 2, 1)
+        asked = query[12:]
         if asked[1:6] == b"alias":
             target = name("target.example")
-            code, answers, authority = 0, [record(owner, CNAME, target), record(target, A, address)], []
-        elif b"\x04gone\x07example\0" in asked:
+            alias = record(OF_QUESTION, CNAME, target)
+            return packing.reply(query, 0x8580, [alias, packing.address(HOUR, 192, 0, 2, 1, owner=target)])
+        if name("gone.example") in asked:
             start = b"\0\0" + struct.pack(">5I", 1, 2, 3, 4, HOUR)
-            code, answers, authority = NAME_ERROR, [], [record(name("example"), SOA, start)]
-        else:
-            code, answers, authority = 0, [record(owner, A, address)], []
-        flags = 0x8580 | code
-        counts = struct.pack(">5H", flags, 1, len(answers), len(authority), 0)
-        return query[:2] + counts + asked + b"".join(answers) + b"".join(authority)
+            return packing.reply(query, 0x8580 | NAME_ERROR, authority=[record(name("example"), SOA, start)])
+        return packing.reply(query, 0x8580, [packing.address(HOUR, 192, 0, 2, 1)])
 
     def __exit__(self, *_):
         with socket.socket(socket.AF_INET, socket.SOCK_DGRAM) as last:

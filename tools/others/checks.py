@@ -8,6 +8,7 @@ import subprocess
 import time
 
 from others import askers, zone
+from repository import packing
 
 
 class Place:
@@ -120,8 +121,7 @@ def not_served(place):
 
 
 def question(number):
-    name = b"".join(bytes([len(label)]) + label for label in (f"n{number}".encode(), b"example", b""))
-    return struct.pack(">6H", number, 0x0100, 1, 0, 0, 0) + name + struct.pack(">2H", 1, 1)
+    return packing.message(number, 0x0100, packing.question(packing.name(f"n{number}.example")))
 
 
 def exactly(stream, count):
@@ -137,7 +137,7 @@ def exactly(stream, count):
 def pipelined(place):
     """A hundred questions in one piece over one connection, whose answers come in any order."""
     with socket.create_connection(("127.0.0.1", place.forwarder), 10) as stream:
-        stream.sendall(b"".join(struct.pack(">H", len(question(n))) + question(n) for n in range(100)))
+        stream.sendall(b"".join(packing.framed(question(n)) for n in range(100)))
         left = set(range(100))
         while left:
             message = exactly(stream, struct.unpack(">H", exactly(stream, 2))[0])

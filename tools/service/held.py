@@ -2,7 +2,7 @@
 differ.
 
 It takes root, tcpdump and python3-dpkt; without them cases run as ever, and that is said.
-`tools/explain` does the comparing. With KEEP in the environment the capture and the configuration
+`explain/` does the comparing. With KEEP in the environment the capture and the configuration
 of a case that differs are copied into that folder.
 """
 import os
@@ -14,7 +14,7 @@ import subprocess
 import tempfile
 import time
 
-EXPLAIN = pathlib.Path(__file__).resolve().parent.parent / "explain" / "forwarder-explain"
+EXPLAIN = pathlib.Path(__file__).resolve().parent.parent.parent / "explain" / "forwarder-explain"
 FILLER = 65000  # octets
 # Cases whose traffic is not the step's alone, on purpose.
 NOT_HELD = {

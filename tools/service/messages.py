@@ -1,6 +1,9 @@
 """Messages of the DNS in octets, and frames of them (RFC 1035 4.1 and 4.2.2)."""
 import struct
 
+from repository import packing
+from repository.packing import CNAME, OF_QUESTION, name, record
+
 SERVFAIL, REFUSED = 2, 5
 UNKNOWN = 65280
 # Data of a large record. It is made once: a server that makes it for each reply is too slow on a
@@ -8,30 +11,23 @@ UNKNOWN = 65280
 DATA = bytes(range(251)) * 262
 
 
-def name(text):
-    return b"".join(bytes([len(label)]) + label.encode() for label in text.split(".") if label) + b"\0"
-
-
-def question(text="a.example", kind=1, identifier=0x1234):
-    return struct.pack(">6H", identifier, 0x0100, 1, 0, 0, 0) + name(text) + struct.pack(">2H", kind, 1)
+def question(text="a.example", kind=packing.A, identifier=0x1234):
+    return packing.message(identifier, 0x0100, packing.question(name(text), kind))
 
 
 def reply_to(query, address=b"\xc6\x33\x64\x05", flags=0x8580, seconds=0):
     """An answer, by default for 0 seconds, so that it isn't kept (RFC 1035 3.2.1)."""
-    answer = b"\xc0\x0c" + struct.pack(">2HIH", 1, 1, seconds, 4) + address
-    return query[:2] + struct.pack(">5H", flags, 1, 1, 0, 0) + query[12:] + answer
+    return packing.reply(query, flags, [packing.address(seconds, *address)])
 
 
 def alias_reply_to(query, target, seconds=300):
     """A reply with an alias alone, which says nothing of the name that it leads to."""
-    alias = b"\xc0\x0c" + struct.pack(">2HIH", 5, 1, seconds, len(name(target))) + name(target)
-    return query[:2] + struct.pack(">5H", 0x8580, 1, 1, 0, 0) + query[12:] + alias
+    return packing.reply(query, 0x8580, [record(OF_QUESTION, CNAME, seconds, name(target))])
 
 
 def long_reply_to(query, octets, seconds=0):
     """A reply with a record of the unknown type 65280 (RFC 3597), with `octets` octets of data."""
-    answer = b"\xc0\x0c" + struct.pack(">2HIH", UNKNOWN, 1, seconds, octets) + DATA[:octets]
-    return query[:2] + struct.pack(">5H", 0x8580, 1, 1, 0, 0) + query[12:] + answer
+    return packing.reply(query, 0x8580, [record(OF_QUESTION, UNKNOWN, seconds, DATA[:octets])])
 
 
 def is_long_answer(message, asked, octets):
@@ -39,11 +35,7 @@ def is_long_answer(message, asked, octets):
 
 
 def cut_reply_to(query):
-    return query[:2] + struct.pack(">5H", 0x8780, 1, 0, 0, 0) + query[12:]
-
-
-def framed(message):
-    return struct.pack(">H", len(message)) + message
+    return packing.reply(query, 0x8780)
 
 
 def code(message):

@@ -5,7 +5,9 @@ import signal
 import socket
 import struct
 
-from .messages import SERVFAIL, cut_reply_to, expect, framed, is_answer, question, reply_to
+from repository.packing import framed
+
+from .messages import SERVFAIL, cut_reply_to, expect, is_answer, question, reply_to
 from .running import Forwarder, Server, case, free_port, sockets_of
 
 RECEIVE_BUFFER = 1 << 20

@@ -6,9 +6,11 @@ import subprocess
 import sys
 import time
 
+from repository.packing import CNAME, address, framed, name, record, reply
+
 from .messages import (
-    REFUSED, SERVFAIL, UNKNOWN, alias_reply_to, code, exactly, expect, framed, is_answer, is_long_answer, long_reply_to, name,
-    question, reply_to, take_frame)
+    REFUSED, SERVFAIL, UNKNOWN, alias_reply_to, code, exactly, expect, is_answer, is_long_answer, long_reply_to, question, reply_to,
+    take_frame)
 from .running import Forwarder, Server, case, resident
 
 
@@ -342,9 +344,8 @@ def memory_of_replies_that_were_taken_is_free_again(program):
 def chain_reply_to(query):
     """Eight aliases, each of the next name, and an address, for five minutes."""
     names = [name(f"chain{k}.example") for k in range(9)]
-    records = [owner + struct.pack(">2HIH", 5, 1, 300, len(target)) + target for owner, target in zip(names, names[1:])]
-    address = names[-1] + struct.pack(">2HIH", 1, 1, 300, 4) + b"\xc6\x33\x64\x05"
-    return query[:2] + struct.pack(">5H", 0x8580, 1, 9, 0, 0) + query[12:] + b"".join(records) + address
+    records = [record(owner, CNAME, 300, target) for owner, target in zip(names, names[1:])]
+    return reply(query, 0x8580, [*records, address(300, 198, 51, 100, 5, owner=names[-1])])
 
 
 FLOOD = """

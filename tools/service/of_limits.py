@@ -6,8 +6,10 @@ import statistics
 import struct
 import time
 
+from repository.packing import framed
+
 from .messages import (
-    REFUSED, SERVFAIL, UNKNOWN, code, cut_reply_to, expect, framed, is_answer, long_reply_to, question, reply_to, take_frame)
+    REFUSED, SERVFAIL, UNKNOWN, code, cut_reply_to, expect, is_answer, long_reply_to, question, reply_to, take_frame)
 from .running import Forwarder, Server, case, descriptors, free_port, in_a_network_of_its_own, resident, spent, waits
 
 

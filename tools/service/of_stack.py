@@ -5,7 +5,9 @@ import subprocess
 import tempfile
 import time
 
-from .messages import UNKNOWN, cut_reply_to, expect, framed, is_answer, is_long_answer, long_reply_to, name, question, reply_to
+from repository.packing import CNAME, address, framed, name, record, reply
+
+from .messages import UNKNOWN, cut_reply_to, expect, is_answer, is_long_answer, long_reply_to, question, reply_to
 from .running import WHOLE_LIFE, Forwarder, Server, case, free_port
 
 # In KiB: what docs/ADMIN.md says is enough. Arguments and environment take their part of it.
@@ -33,12 +35,11 @@ class Narrow(Forwarder):
 def aliases(seconds):
     """The records of eight aliases, each of the next name."""
     names = [name(f"chain{k}.example") for k in range(9)]
-    return b"".join(owner + struct.pack(">2HIH", 5, 1, seconds, len(target)) + target for owner, target in zip(names, names[1:]))
+    return [record(owner, CNAME, seconds, target) for owner, target in zip(names, names[1:])]
 
 
 def many_addresses_for(query, count):
-    records = b"".join(b"\xc0\x0c" + struct.pack(">2HIHI", 1, 1, 0, 4, k) for k in range(count))
-    return query[:2] + struct.pack(">5H", 0x8580, 1, count, 0, 0) + query[12:] + records
+    return reply(query, 0x8580, [address(0, *struct.pack(">I", number)) for number in range(count)])
 
 
 def times_to_live(message, offset, count):
@@ -68,7 +69,7 @@ def serves_with(program, kibibytes):
         if silent:
             return None
         if b"chain0" in query:
-            return query[:2] + struct.pack(">5H", 0x8580, 1, 8, 0, 0) + query[12:] + aliases(1)
+            return reply(query, 0x8580, aliases(1))
         if b"chain8" in query:
             return reply_to(query, seconds=1)
         if b"addresses" in query:

@@ -10,7 +10,9 @@ import tempfile
 import threading
 import time
 
-from .messages import expect, framed, is_answer, question, reply_to, take_frame
+from repository.packing import framed
+
+from .messages import expect, is_answer, question, reply_to, take_frame
 
 TOP = pathlib.Path(__file__).resolve().parent.parent.parent
 MAIN = TOP / "crates" / "forwarder_main"

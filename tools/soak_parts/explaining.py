@@ -7,7 +7,7 @@ import sys
 import threading
 from collections import Counter
 
-EXPLAIN = pathlib.Path(__file__).resolve().parent.parent / "explain" / "forwarder-explain"
+EXPLAIN = pathlib.Path(__file__).resolve().parent.parent.parent / "explain" / "forwarder-explain"
 TIMES = pathlib.Path(__file__).resolve().parent / "times.py"
 # Answers of which one may differ: what came together may have been taken in an order that is not found again.
 MOST_DIFFERENT = 50

@@ -3,11 +3,12 @@ import os
 import socket
 import struct
 
-from service.messages import framed, take_frame
-from service.messages import name as name_octets
+from repository.packing import ANY, framed, question, record
+from repository.packing import name as name_octets
+from service.messages import take_frame
 from soak_parts.zones import KINDS
 
-UPDATE, IN, ANY = 0x2800, 1, 255
+UPDATE = 0x2800
 
 
 class NotTaken(Exception):
@@ -17,11 +18,11 @@ class NotTaken(Exception):
 def message(zone, changes):
     """An update: each change is a name, a type, and the set that is there afterwards, or None. What goes is taken away
     first, since an alias has no other data beside it (RFC 2136 3.4.2.2)."""
-    removed = [name_octets(owner) + struct.pack(">2HIH", KINDS[kind], ANY, 0, 0) for owner, kind, _ in changes]
-    added = [name_octets(owner) + struct.pack(">2HIH", KINDS[kind], IN, held.ttl, len(data)) + data
+    removed = [record(name_octets(owner), KINDS[kind], 0, b"", ANY) for owner, kind, _ in changes]
+    added = [record(name_octets(owner), KINDS[kind], held.ttl, data)
              for owner, kind, held in changes if held for data in held.octets()]
     head = os.urandom(2) + struct.pack(">5H", UPDATE, 1, 0, len(removed) + len(added), 0)
-    return head + name_octets(zone) + struct.pack(">2H", KINDS["SOA"], IN) + b"".join(removed + added)
+    return head + question(name_octets(zone), KINDS["SOA"]) + b"".join(removed + added)
 
 
 def send(address, source, zone, changes):

@@ -5,7 +5,7 @@ import struct
 from collections import defaultdict
 from typing import NamedTuple
 
-from service.messages import name as name_octets
+from repository.packing import name as name_octets
 
 KINDS = {"A": 1, "NS": 2, "CNAME": 5, "SOA": 6, "PTR": 12, "MX": 15, "TXT": 16, "AAAA": 28, "SRV": 33, "HTTPS": 65}
 NUMBERS = {number: kind for kind, number in KINDS.items()}

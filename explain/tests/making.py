@@ -1,9 +1,10 @@
-"""Captures made by hand: packets, and messages of the DNS, octet by octet."""
+"""Captures made by hand: packets, octet by octet."""
 import struct
+
+from repository.packing import name, question
 
 START = 1_795_874_580_000_000  # 2026-11-28 14:03:00 UTC, in microseconds
 ETHERNET, COOKED_2 = 1, 276
-A, NS, CNAME, SOA, MX, TXT, ANY = 1, 2, 5, 6, 15, 16, 255
 # An SOA record of the root that lives 3600 s, with a MINIMUM of 600 s; all its names are the root.
 DENIAL = "00 0006 0001 00000e10 0016 00 00 00000001 00000002 00000003 00000004 00000258"
 
@@ -12,27 +13,9 @@ def octets(text):
     return bytes.fromhex(text.replace(" ", ""))
 
 
-def name(text):
-    return b"".join(bytes([len(label)]) + label.encode() for label in text.split(".") if label) + b"\0"
-
-
-def asked(text, kind=A):
-    return name(text) + struct.pack(">2H", kind, 1)
-
-
-def message(identifier, flags, question, answers=(), authority=()):
-    """A message with one question; records are octets."""
-    counts = struct.pack(">4H", 1, len(answers), len(authority), 0)
-    return struct.pack(">2H", identifier, flags) + counts + question + b"".join(answers) + b"".join(authority)
-
-
-def record(owner, kind, seconds, data):
-    return owner + struct.pack(">2HIH", kind, 1, seconds, len(data)) + data
-
-
-def address(seconds, *numbers, owner=b"\xc0\x0c"):
-    """An A record, of the question's name unless another owner is given."""
-    return record(owner, A, seconds, bytes(numbers))
+def asked(text, *kind):
+    """A question, of type A unless another is given."""
+    return question(name(text), *kind)
 
 
 def peer(text):
@@ -114,7 +97,3 @@ class Capturing:
 def block(kind, body):
     size = struct.pack(">I", 12 + len(body))
     return struct.pack(">I", kind) + size + body + size
-
-
-def framed(octets_):
-    return struct.pack(">H", len(octets_)) + octets_

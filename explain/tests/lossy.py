@@ -1,6 +1,7 @@
 """Captures that lack packets whose traces are left, and forged replies next to such losses."""
-from making import TXT, address, asked, framed, message, record
+from making import asked
 from office import ACK, FIRST, ONE, OTHER, PLAIN, QUERY, SECOND, SYN, Scene
+from repository.packing import TXT, address, framed, message, record
 
 FORGER, HELLO = "192.0.2.66:53", b"\x0bhello world"
 WWW = asked("www.example.com")

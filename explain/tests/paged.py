@@ -6,8 +6,9 @@ import subprocess
 import tempfile
 from html.parser import HTMLParser
 
-from making import ANY, CNAME, address, asked, record
+from making import asked
 from office import FIRST, ONE, Scene
+from repository.packing import ANY, CNAME, address, record
 
 HERE = pathlib.Path(__file__).resolve().parent
 CAPTURES = HERE / "captures"

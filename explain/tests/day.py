@@ -4,11 +4,12 @@ import heapq
 import itertools
 import random
 
-from making import address, asked, message
+from making import asked
 from office import FORWARDER, OFFICE, Scene
 from reading.configuration import read_configuration
 from reading.script import words_of
 from reading.step import Forwarder
+from repository.packing import address, message
 
 MINUTE = 60_000  # milliseconds
 LASTS = 60 * MINUTE

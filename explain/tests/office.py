@@ -1,5 +1,6 @@
 """The office of the tests: its addresses, its configuration, and its conversations."""
-from making import Capturing, address, message
+from making import Capturing
+from repository.packing import address, message
 
 FORWARDER, FIRST, SECOND, CORPORATE = "10.0.0.53:53", "192.0.2.1:53", "192.0.2.2:53", "10.0.0.10:53"
 ONE, OTHER = "10.0.0.7:40000", "10.0.0.8:40001"

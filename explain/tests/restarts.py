@@ -1,6 +1,7 @@
 """Captures of a service that begins anew."""
-from making import address, asked, framed
+from making import asked
 from office import ACK, FIRST, FORWARDER, ONE, OTHER, RST, SECOND, SYN, Scene
+from repository.packing import address, framed
 
 WWW = asked("www.example.com")
 

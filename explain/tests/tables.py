@@ -6,8 +6,9 @@ from forwarder_explain.packets import Datagram, Unreachable
 from forwarder_explain.story import Teller
 from forwarder_explain.traffic import Ending, Question, Traffic
 from forwarder_explain.window import Attempt, Result
-from making import asked, message, peer
+from making import asked, peer
 from office import FIRST, OFFICE, ONE, QUERY
+from repository.packing import message
 
 WWW = asked("www.example.com")
 SILENT = [

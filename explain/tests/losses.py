@@ -1,6 +1,7 @@
 """Captures that lack a packet, and captures whose clock is set."""
-from making import address, asked
+from making import asked
 from office import FIRST, ONE, OTHER, Scene
+from repository.packing import address
 
 
 def lost():

@@ -18,8 +18,9 @@ import many
 from forwarder_explain import command, comparing, configuration, following
 from forwarder_explain.capture import Capture
 from forwarder_explain.traffic import Question
-from making import address, asked
+from making import asked
 from office import FIRST, ONE, OTHER, Scene
+from repository.packing import address
 
 HERE = pathlib.Path(__file__).resolve().parent
 CAPTURES = HERE / "captures"

@@ -5,22 +5,9 @@ import losses
 import lossy
 import outages
 import restarts
-from making import (
-    ANY,
-    CNAME,
-    COOKED_2,
-    DENIAL,
-    MX,
-    TXT,
-    address,
-    asked,
-    framed,
-    message,
-    name,
-    octets,
-    record,
-)
+from making import COOKED_2, DENIAL, asked, octets
 from office import ACK, CORPORATE, FIN, FIRST, FORWARDER, ONE, OTHER, PLAIN, QUERY, REPLY, RST, SECOND, SYN, Scene
+from repository.packing import ANY, CNAME, MX, TXT, address, framed, message, name, record
 
 
 def answers():

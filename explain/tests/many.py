@@ -1,6 +1,7 @@
 """A long capture: a thousand questions a second, of which most are answered from the cache."""
-from making import address, asked
+from making import asked
 from office import Scene
+from repository.packing import address
 
 NAMES, SECONDS = 2000, 300
 OWN_PORTS = 60000

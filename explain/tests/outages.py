@@ -1,7 +1,8 @@
 """Captures of servers that can't be reached, of replies that are dropped, and of a service that
 stands still."""
-from making import TXT, address, asked, framed, message
+from making import asked
 from office import ACK, CORPORATE, FIN, FIRST, FORWARDER, ONE, OTHER, PLAIN, QUERY, REPLY, RST, SECOND, SYN, Scene
+from repository.packing import TXT, address, framed, message
 
 MULTIHOMED, FORGER = "10.0.0.11:53", "192.0.2.66:53"
 

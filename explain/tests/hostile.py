@@ -1,6 +1,7 @@
 """Captures with packets that anyone can send, and with clients that are more than clients."""
-from making import TXT, address, asked, framed, message, record
+from making import asked
 from office import ACK, CORPORATE, FIRST, FORWARDER, ONE, OTHER, PLAIN, QUERY, REPLY, SYN, Scene
+from repository.packing import TXT, address, framed, message, record
 
 WWW = asked("www.example.com")
 

@@ -1,0 +1,48 @@
+"""Messages of the DNS in octets, for all tools and tests that make some (RFC 1035 4.1)."""
+import struct
+
+A, NS, CNAME, SOA, MX, TXT, ANY = 1, 2, 5, 6, 15, 16, 255
+IN = 1
+OF_QUESTION = b"\xc0\x0c"  # a pointer to the name of the question (RFC 1035 4.1.4)
+
+
+def name(text):
+    """The labels of a name, without pointers. A dot at its end makes no difference."""
+    return b"".join(bytes([len(label)]) + label.encode() for label in text.split(".") if label) + b"\0"
+
+
+def question(owner, kind=A, class_=IN):
+    """A question; its name is octets."""
+    return owner + struct.pack(">2H", kind, class_)
+
+
+def record(owner, kind, seconds, data, class_=IN):
+    """A record; its owner and its data are octets."""
+    return owner + struct.pack(">2HIH", kind, class_, seconds, len(data)) + data
+
+
+def address(seconds, *numbers, owner=OF_QUESTION):
+    """An A record, of the question's name unless another owner is given."""
+    return record(owner, A, seconds, bytes(numbers))
+
+
+def counts(answers, authority):
+    """The four counts of a message with one question."""
+    return struct.pack(">4H", 1, len(answers), len(authority), 0)
+
+
+def message(identifier, flags, asked, answers=(), authority=()):
+    """A message with one question; questions and records are octets."""
+    head = struct.pack(">2H", identifier, flags) + counts(answers, authority)
+    return head + asked + b"".join(answers) + b"".join(authority)
+
+
+def reply(query, flags, answers=(), authority=()):
+    """A message with the identifier and the question of a query."""
+    head = query[:2] + struct.pack(">H", flags) + counts(answers, authority)
+    return head + query[12:] + b"".join(answers) + b"".join(authority)
+
+
+def framed(octets):
+    """A message with its length before it (RFC 1035 4.2.2)."""
+    return struct.pack(">H", len(octets)) + octets
