@@ -1,10 +1,12 @@
 """The command `forwarder-explain`: what it prints, and its status."""
+import itertools
 import os
 import sys
 import time
+from collections import deque
 from functools import partial
 
-from . import comparing, configuration, page
+from . import comparing, configuration, page, pieces
 from .capture import Capture, Unreadable
 from .configuration import shown
 from .doubts import Doubts
@@ -56,8 +58,20 @@ class Packets:
         self.files, self.progress, self.decoder = files, progress, Decoder()
         self.first, self.last, self.said = None, 0, []
         self.straightened = Straightened(self.read(), moment_text)
+        self.left, self.ahead = self.in_order(), deque()
+
+    def are_more_than(self, count):
+        """Whether there are more than so many. These are read now."""
+        self.ahead.extend(itertools.islice(self.left, count + 1))
+        return len(self.ahead) > count
 
     def __iter__(self):
+        while self.ahead:
+            yield self.ahead.popleft()
+        yield from self.left
+
+    def in_order(self):
+        """Each packet that can be used, by time."""
         for packet in by_time(self.straightened):
             self.first = packet.moment if self.first is None else self.first
             yield packet
@@ -98,22 +112,50 @@ def explained_by(cutter, wanted, options, progress):
 def run(options, settings, files, progress):
     """Explains captures, which follow one another; gives the status."""
     packets = Packets(files, progress)
+    if not (options.html or options.script) and packets.are_more_than(pieces.PIECE):
+        return run_in_pieces(options, settings, packets, progress)
+    return run_whole(options, settings, packets, progress)
+
+
+def run_in_pieces(options, settings, packets, progress):
+    """Explains so many packets that all of them at once would take much memory; gives the status."""
+    explaining = pieces.Pieces(options, settings, lambda row: (progress.end(), show(options, row)))
+    summary = explaining.explain(packets)
+    progress.end()
+    for text in [*packets.notes(), *explaining.live.notes(settings)]:
+        note(options.capture, text)
+    expect_question(options, settings, explaining.span, explaining.has_chosen)
+    for text in [*explaining.leaps, *explaining.queries.notes()]:
+        note(options.capture, text)
+    show_end(options, summary)
+    return DIFFERENT if summary.tally.differs() else 0
+
+
+def expect_question(options, settings, span, has_chosen):
+    """Says if no question is chosen; raises if the capture has none. `span` has the moments of the
+    first and the last one."""
+    if not span:
+        raise Unreadable(f"has no question to {shown(settings.listen)}, where the configuration listens")
+    if not has_chosen:
+        first, last = moment_text(span[0]), moment_text(span[-1])
+        note(options.capture, f"no question is chosen; the capture has those from {first} to {last}")
+
+
+def run_whole(options, settings, packets, progress):
+    """Explains packets together; gives the status."""
     traffic = Traffic(settings, packets)
     for text in [*packets.notes(), *traffic.notes(settings)]:
         note(options.capture, text)
     questions = [event for event in traffic.events if isinstance(event, Question)]
-    if not questions:
-        raise Unreadable(f"has no question to {shown(settings.listen)}, where the configuration listens")
-    wanted = chosen(options, questions, packets.first)
-    if not wanted:
-        span = " to ".join(moment_text(question.moment) for question in (questions[0], questions[-1]))
-        note(options.capture, f"no question is chosen; the capture has those from {span}")
+    wanted = chosen(options, questions, packets.first) if questions else []
+    expect_question(options, settings, [each.moment for each in (*questions[:1], *questions[-1:])], bool(wanted))
     restarted = [moment_of(text, packets.first) for text in options.restarted]
     cutter = Cutter(settings, traffic, packets.last, restarted)
     explained = explained_by(cutter, set(wanted), options, progress)
     progress.end()
     doubts = Doubts(settings, traffic, cutter, explained.others)
-    explained.results = {place: doubts.put_apart(place, each) for place, each in explained.results.items()}
+    for place, result in explained.results.items():
+        explained.results[place] = doubts.put_apart(traffic.events[place], result)
     for text in cutter.notes():
         note(options.capture, text)
     teller = Teller(settings, cutter.history)

@@ -52,7 +52,7 @@ class Configuration:
     def route_of(self, key):
         """The route of a name in lower case, or None."""
         if key not in self._found:
-            if len(self._found) > 200_000:
+            if len(self._found) > 20_000:
                 self._found.clear()
             self._found[key] = next((route for route in self.routes if is_under(key, route.suffix)), None)
         return self._found[key]

@@ -71,17 +71,16 @@ class Doubts:
         route = self.configuration.route_of(query.asked.key)
         return route is not None and query.server in route.servers
 
-    def put_apart(self, place, result):
-        """A result, put apart if its answer is not the step's and a loss explains it."""
-        loss = self.likely(place, result.octets) if result.same == comparing.DIFFERENT else ""
+    def put_apart(self, question, result):
+        """The result of a question, put apart if its answer is not the step's and a loss explains it."""
+        loss = self.likely(question, result.octets) if result.same == comparing.DIFFERENT else ""
         return result._replace(same=comparing.LOST, loss=loss) if loss else result
 
-    def likely(self, place, octets):
-        """The loss that explains the answer to the question at a place, in words; nothing if none
-        does. `octets` is the step's answer."""
+    def likely(self, question, octets):
+        """The loss that explains the answer to a question, in words; nothing if none does. `octets` is
+        the step's answer."""
         if self.queries is None:
             self.index()
-        question = self.events[place]
         answer = question.answer
         try:
             records = messages.records(answer.octets)

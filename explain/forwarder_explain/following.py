@@ -20,7 +20,6 @@ from .rounds import Round, place_to_keep
 from .story import Teller
 from .tally import Tally
 from .traffic import Query, Question
-from .windows import others_of
 
 PAUSE = 0.3  # seconds between two rounds
 SETTLED = 200_000  # microseconds after an answer in which what belongs to it may still come
@@ -41,6 +40,8 @@ class Stopped(Exception):
 class Follower:
     """Follows a capture. `show` prints a Row, `say` when the service began anew or had ended, and
     `note` what could not be read."""
+
+    context, most_context = CONTEXT, MOST_CONTEXT
 
     def __init__(self, options, settings, show, say, note):
         self.options, self.settings, self.show, self.note = options, settings, show, note
@@ -104,8 +105,7 @@ class Follower:
         self.events = self.live.without_others([each for each in self.events + events if each not in left])
         self.events.sort(key=lambda event: event.moment)
         self.came += len(events)
-        new = [each for each in events if isinstance(each, Question)]
-        self.wanted.update(chosen(self.options, new, self.first))
+        self.wanted.update(self.choose([each for each in events if isinstance(each, Question)]))
         if self.base is None and self.events:
             history = History(self.settings, [], self.events[0].moment // 1000, None)
             self.base = Base(history, self.events[0].moment, 0)
@@ -113,6 +113,10 @@ class Follower:
             self.live.forget(self.seen)
             self.intake.forget()
             self.forgotten = self.seen
+
+    def choose(self, questions):
+        """Those of new questions that the options choose."""
+        return chosen(self.options, questions, self.first)
 
     def look_for_questions(self):
         """Says once that there are packets, and no question among them."""
@@ -167,7 +171,7 @@ class Follower:
         over -= self.doubtful
         self.wanted -= over
         self.live.settle(over)
-        if has_begun or len(self.events) > MOST_CONTEXT:
+        if has_begun or len(self.events) > self.most_context:
             self.base = cutter.kept
             self.base.read_late(self.accepted)
         self.retire(self.base.moment - self.horizon())
@@ -188,16 +192,16 @@ class Follower:
         that waits for what becomes of it is before that, unless there are very many events."""
         begins = sum(event.moment < self.base.moment for event in self.events)
         count = len(self.events) - begins
-        if count <= 2 * CONTEXT:
+        if count <= 2 * self.context:
             return None
         waiting = [
             (each.answer or each).moment
             for each in self.live.questions
             if each in self.wanted and (each not in over or each in self.doubtful)
         ]
-        latest = float("inf") if count > MOST_CONTEXT else min(waiting, default=float("inf"))
+        latest = float("inf") if count > self.most_context else min(waiting, default=float("inf"))
         foreign = self.history.foreign if self.history else ()
-        keep = place_to_keep(self.events, len(self.events) - CONTEXT, latest, foreign)
+        keep = place_to_keep(self.events, len(self.events) - self.context, latest, foreign)
         return keep if keep is not None and keep.moment > self.base.moment else None
 
     def judge(self, cutter, traffic, judged, is_end):
@@ -207,22 +211,21 @@ class Follower:
         guessed = [each for each in self.wanted - set(judged) if not each.answer and each.moment < kept]
         while True:
             try:
-                found = list(cutter.windows(judged + guessed, self.options.program, until))
-                if not cutter.keep_longer(each for _, _, results in found for each in results.items()):
+                found = list(cutter.parts(judged + guessed, self.options.program, until))
+                if not cutter.keep_longer(each for part in found for each in part.results.items()):
                     break
             except TooLong:
                 if cutter.aim < 20:
                     raise Unreadable("has too much in flight at one time for a script") from None
                 cutter.cut_smaller()
         teller = Teller(self.settings, cutter.history)
-        others = [each for window, *_ in found for each in others_of(window)]
+        others = [each for part in found for each in part.others]
         doubts, rows = Doubts(self.settings, traffic, cutter, others), {}
-        places = {event: place for place, event in enumerate(cutter.events)}
-        for window, ends, results in found:
-            for question, result in results.items():
-                rows[question] = Row(question, doubts.put_apart(places[question], result), teller)
-            self.queries.judge(window, ends)
-            self.accepted.update(window_accepted(window))
+        for part in found:
+            for question, result in part.results.items():
+                rows[question] = Row(question, doubts.put_apart(question, result), teller)
+            self.queries.judge(part)
+            self.accepted.update(part.accepted)
         for question in guessed:
             if question in rows:
                 self.guessed[question] = rows[question]
@@ -231,8 +234,12 @@ class Follower:
             row = rows.get(question) or self.guessed.pop(question, None)
             self.guessed.pop(question, None)
             if row is not None and (row.failed() or not self.options.failures):
-                self.tally.add(row)
-                self.show(row)
+                self.tell(row)
+
+    def tell(self, row):
+        """Counts and shows a question."""
+        self.tally.add(row)
+        self.show(row)
 
     def is_doubtful(self, question, row, kept):
         """Whether an answer differs, and what comes soon may explain it, as long as it is not before
@@ -259,14 +266,6 @@ class Follower:
         for text in [*self.intake.decoder.notes(), *self.live.notes(self.settings), *self.queries.notes()]:
             self.note(text)
         return Summary(self.tally, self.beginnings.at_end())
-
-
-def window_accepted(window):
-    """When replies were read, as a window shows: milliseconds by reply."""
-    for reply in window.replies:
-        line = window.maker.line_of.get(reply)
-        if line is not None:
-            yield reply, window.maker.micros(line.moment) // 1000
 
 
 def follow(options, settings, follower):

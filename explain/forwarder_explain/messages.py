@@ -163,7 +163,7 @@ def name_at(octets, at):
         raise Malformed("a name") from None
 
 
-@functools.lru_cache(maxsize=100_000)
+@functools.lru_cache(maxsize=20_000)
 def question_in(body):
     """The one question of a message without its identifier, or None."""
     return read_question(b"\0\0" + body)

@@ -11,20 +11,18 @@ MOST_BEGINNINGS = 100
 
 class Queries:
     """Which queries are the step's, until they are counted. What later packets show of one takes
-    the place of what was known before."""
+    the place of what was known before. If `counts_all` is set, servers have those of no window, too."""
 
     def __init__(self, configuration, tally):
         self.configuration, self.tally = configuration, tally
-        self.is_step, self.never_left = {}, []
+        self.is_step, self.never_left, self.counts_all = {}, [], False
         self.lost, self.foreign = Counter(), 0
 
-    def judge(self, window, ends):
-        """Takes what a window shows, of what is before a moment."""
-        self.is_step.update(
-            (query, query in window.pairing.line_of) for query in window.queries if query.moment >= window.begins
-        )
-        left = [line.order[0] for line in window.lines if line.note == "never left" and line.order[0] >= window.begins]
-        self.never_left = [each for each in self.never_left if not window.begins <= each < ends] + left
+    def judge(self, part):
+        """Takes what a window shows."""
+        self.is_step.update(part.is_step)
+        before = [each for each in self.never_left if not part.begins <= each < part.ends]
+        self.never_left = before + part.never_left
 
     def count(self, events, history, since):
         """Counts events, and what could not be sent before a moment."""
@@ -40,8 +38,9 @@ class Queries:
         is_step = self.is_step.pop(query, None)
         if query in history.foreign:
             self.foreign += 1
-        elif is_step is not None and not query.is_lost:
+        elif self.counts_all or is_step is not None:
             self.tally.add_query(query, history)
+        if query not in history.foreign and is_step is not None and not query.is_lost:
             self.tally.paired += is_step
             if not is_step and query.asked:
                 route = self.configuration.route_of(query.asked.key)

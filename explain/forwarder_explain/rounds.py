@@ -1,5 +1,7 @@
 """The last part of a capture that goes on, explained with what was kept and open before it."""
 import bisect
+from functools import partial
+from typing import NamedTuple
 
 from . import comparing, messages
 from .carrying import Base, Continued
@@ -7,10 +9,42 @@ from .eras import is_output
 from .lines import FIRST_MOMENT
 from .messages import CNAME
 from .repairs import SLACK
-from .windows import SAID, Cut, Cutter
+from .windows import AIM_LINES, SAID, Cut, Cutter, others_of, side_by_side
 
 MOST_EVENTS = 2500  # of a window; what is kept comes to it
 MOST_BEFORE = 3  # times that a beginning before the base is looked for
+
+
+class Part(NamedTuple):
+    """What a window shows. `results` are by question. `others` are the captured queries that its script
+    does not make, and `is_step` says of each captured query whether it does. `never_left` are the
+    moments of the script's queries that could not be sent, `accepted` the milliseconds at which
+    replies were read.
+
+    In `answers` are the questions whose answers were exchanged, each with its answer. The next
+    window begins at the moment `ends`. Events are places, until `of_events` puts them there.
+    """
+
+    begins: int
+    ends: float
+    results: dict
+    answers: list
+    others: list
+    is_step: list
+    never_left: list
+    accepted: list
+
+    def of_events(self, events):
+        """The part with events for their places, which get their answers."""
+        for question, answer in self.answers:
+            events[question].answer = None if answer is None else events[answer]
+            if answer is not None:
+                events[answer].question = events[question]
+        return self._replace(
+            results={events[place]: result for place, result in self.results.items()},
+            is_step=[(events[place], said) for place, said in self.is_step],
+            accepted=[(events[place], moment) for place, moment in self.accepted],
+        )
 
 
 class Round(Cutter):
@@ -96,20 +130,42 @@ class Round(Cutter):
         ends = [event.moment for event in self.events if event in self.restarts]
         return [each for each in questions if any(each.moment < end for end in ends)]
 
-    def windows(self, judged, program, until):
-        """The windows of the questions that are to be judged, each with the moment at which the next
-        one begins, and the results. `until` is a moment to which time passes in the last one, or
-        None."""
+    def parts(self, judged, program, until):
+        """The parts of the questions that are to be judged. `until` is a moment to which time passes in
+        the last one, or None."""
         places = {event: place for place, event in enumerate(self.events)}
-        for cut, end in self.ranges():
-            own = [each for each in judged if cut.place <= places.get(each.answer, places.get(each, -1)) < end]
-            if not own:
-                continue
-            window = self.window(cut, end, own, program)
-            if until is not None and end == len(self.events):
-                window.maker.add(until // 1000 - self.history.first + FIRST_MOMENT, "tick", order=until)
-            ends = self.events[end].moment if end < len(self.events) else float("inf")
-            yield window, ends, window.results()[0]
+        ranges = self.ranges()
+        begins, own = [cut.place for cut, _ in ranges], [[] for _ in ranges]
+        for each in judged:
+            place = places.get(each.answer, places.get(each, -1))
+            if place >= begins[0]:
+                own[bisect.bisect_right(begins, place) - 1].append(each)
+        jobs = [(*span, questions) for span, questions in zip(ranges, own) if questions]
+        work = partial(self.part, places, program, until)
+        for part in side_by_side(work, jobs, len(self.events) >= 2 * AIM_LINES):
+            yield part.of_events(self.events)
+
+    def part(self, places, program, until, job):
+        """What the window of a job shows, by places."""
+        cut, end, judged = job
+        window = self.window(cut, end, judged, program)
+        if until is not None and end == len(self.events):
+            window.maker.add(until // 1000 - self.history.first + FIRST_MOMENT, "tick", order=until)
+        results, exchanged = window.results()
+        begins, line_of = window.begins, window.maker.line_of
+        left = [line.order[0] for line in window.lines if line.note == "never left" and line.order[0] >= begins]
+        queries = [query for query in window.queries if query.moment >= begins]
+        read = [(reply, line_of[reply]) for reply in window.replies if reply in line_of]
+        return Part(
+            begins=begins,
+            ends=self.events[end].moment if end < len(self.events) else float("inf"),
+            results={places[question]: result for question, result in results.items()},
+            answers=[(places[question], places.get(question.answer)) for question in exchanged],
+            others=others_of(window),
+            is_step=[(places[query], query in window.pairing.line_of) for query in queries],
+            never_left=left,
+            accepted=[(places[reply], window.maker.micros(line.moment) // 1000) for reply, line in read],
+        )
 
 
 def slots_of(name, asked):

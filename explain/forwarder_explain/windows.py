@@ -1,6 +1,7 @@
 """Cuts a capture into windows, since a script has at most 8,191 lines, and explains them side by
 side."""
 import bisect
+import functools
 import multiprocessing
 import os
 from collections import Counter, defaultdict
@@ -256,8 +257,8 @@ class Explained:
 def explain(cutter, chosen, program, progress, keeps_scripts=True):
     """The results of the chosen questions, and the scripts if they are to be kept."""
     jobs = [(*window, judged) for window, judged in judged_in(cutter, chosen) if judged]
-    explained = Explained()
-    for done, part in enumerate(parts(cutter, jobs, program, keeps_scripts), 1):
+    work, explained = functools.partial(explained_part, cutter, program, keeps_scripts), Explained()
+    for done, part in enumerate(side_by_side(work, jobs, len(cutter.events) >= AIM_LINES), 1):
         explained.add(part, cutter.events)
         progress(done, len(jobs))
     return explained
@@ -274,18 +275,23 @@ def judged_in(cutter, chosen):
     return zip(ranges, judged)
 
 
-WORK = []  # what each process works on, as it was when it was forked
+WORK = []  # what each process does, and the jobs, as they were when it was forked
 
 
-def parts(cutter, jobs, program, keeps_scripts):
-    """What comes of each job, in order; on several processors where there are several jobs."""
-    WORK[:] = cutter, jobs, program, keeps_scripts
+def side_by_side(work, jobs, is_long):
+    """What comes of each job, in order; if they take long, on several processors."""
+    WORK[:] = work, jobs
     processes = min(os.cpu_count() or 1, len(jobs))
-    if processes <= 1 or len(cutter.events) < AIM_LINES:
+    if processes <= 1 or not is_long:
         yield from map(run_one, range(len(jobs)))
         return
     with multiprocessing.get_context("fork").Pool(processes) as pool:
         yield from pool.imap(run_one, range(len(jobs)))
+
+
+def run_one(number):
+    work, jobs = WORK
+    return work(jobs[number])
 
 
 def others_of(window):
@@ -298,10 +304,9 @@ def others_of(window):
     ]
 
 
-def run_one(number):
+def explained_part(cutter, program, keeps_scripts, job):
     """The results of one window by place, its queries, and its script."""
-    cutter, jobs, program, keeps_scripts = WORK
-    cut, end, judged = jobs[number]
+    cut, end, judged = job
     window = cutter.window(cut, end, [cutter.events[place] for place in judged], program)
     by_event, exchanged = window.results()
     results = {place: by_event[cutter.events[place]] for place in judged}

@@ -218,11 +218,19 @@ def wrong_words(program):
     yield "/nowhere", Followed(program, "/nowhere").end(), wanted
 
 
+@contextlib.contextmanager
+def at_once():
+    """A round after each packet, with no more than a few events before it."""
+    rounds = unittest.mock.patch.multiple(following, PAUSE=0, SETTLED=0)
+    with rounds, unittest.mock.patch.object(following.Follower, "context", 4):
+        yield
+
+
 def packet_by_packet(program):
     """A round after each packet, with no more than a few events before it: what is carried on is
     what the questions after it need."""
     settings = configuration.read(CAPTURES / "office.toml", program)
-    with unittest.mock.patch.multiple(following, PAUSE=0, SETTLED=0, CONTEXT=4):
+    with at_once():
         for path in sorted(CAPTURES.glob("*.pcap*")):
             printed = []
             words = stored(path.stem, "options").split()
@@ -246,7 +254,7 @@ def ends_of_lifetimes(program):
         scene.question(at, OTHER, 9, question)
         scene.answer(at + 0.2, OTHER, 9, question, answers=[address(0, 192, 0, 2, last)])
     settings, printed = configuration.read(CAPTURES / "office.toml", program), []
-    with unittest.mock.patch.multiple(following, PAUSE=0, SETTLED=0, CONTEXT=4):
+    with at_once():
         followed(program, settings, scene.pcap(), printed.append)
     asked_at = "from the cache (asked of 192.0.2.1:53 at 14:03:0"
     wanted = [
