@@ -5,6 +5,9 @@
      bare relay PORT SERVER     hands each datagram to the server from a socket and a random port of its own
      bare answer PORT COUNTED   the server, over UDP and TCP: an address for each name, NXDOMAIN below gone.example
                                 (RFC 2308 2.1); the file COUNTED has eight octets, which count the questions
+     bare ask PORT NAMES WINDOW SECONDS
+                                asks for the addresses of n0.example and so on, NAMES in turn, WINDOW questions at a
+                                time, and never sleeps; prints the lines of dnsperf's report that are read
 
    All are at 127.0.0.1. They trust what they read: nobody but tools/beside asks them. */
 #define _GNU_SOURCE
@@ -24,6 +27,7 @@
 #include <sys/random.h>
 #include <sys/resource.h>
 #include <sys/socket.h>
+#include <time.h>
 #include <unistd.h>
 
 enum { ROOM = 65536, PATHS = 65536, EVENTS = 256, BUFFER = 1 << 20, HEADER = 12 };
@@ -242,6 +246,59 @@ static void relay(int port, int server)
     }
 }
 
+static double seconds_now(void)
+{
+    struct timespec now;
+    clock_gettime(CLOCK_MONOTONIC, &now);
+    return now.tv_sec + now.tv_nsec / 1e9;
+}
+
+/* Writes a question for the address of a name; its length. */
+static size_t question(uint8_t *message, uint16_t number, int name)
+{
+    static const uint8_t asks[] = {1, 0, 0, 1, 0, 0, 0, 0, 0, 0}, rest[] = "\7example\0\0\1\0";
+    char label[12];
+    int size = snprintf(label, sizeof label, "n%d", name);
+    message[0] = number >> 8;
+    message[1] = number;
+    memcpy(message + 2, asks, sizeof asks);
+    message[HEADER] = size;
+    memcpy(message + HEADER + 1, label, size);
+    memcpy(message + HEADER + 1 + size, rest, sizeof rest); /* with the zero octet of the text: class IN */
+    message[HEADER + size + sizeof rest] = 1;
+    return HEADER + 1 + size + sizeof rest;
+}
+
+/* A question that has no answer after a while is counted as lost, with all that were asked with it. */
+static const double LOST_AFTER = 0.2;
+
+static void ask(int port, int names, int window, double seconds)
+{
+    static uint8_t message[ROOM];
+    int fd = socket(AF_INET, SOCK_DGRAM | SOCK_NONBLOCK | SOCK_CLOEXEC, 0), under_way = 0;
+    struct sockaddr_in place = here(port);
+    uint64_t sent = 0, found = 0;
+    check(fd, "socket");
+    check(connect(fd, (struct sockaddr *)&place, sizeof place), "connect");
+    double now = seconds_now(), end = now + seconds, last = now;
+    for (; now < end || (under_way && now < last + LOST_AFTER); now = seconds_now()) {
+        if (now > last + LOST_AFTER)
+            under_way = 0;
+        for (; now < end && under_way < window; under_way++, last = now) {
+            size_t length = question(message, sent, sent % names);
+            if (send(fd, message, length, 0) < 0)
+                break;
+            sent++;
+        }
+        while (recv(fd, message, ROOM, 0) >= HEADER) {
+            found += message[2] & 0x80 && !(message[3] & 15) && message[7];
+            under_way -= under_way > 0;
+            last = now;
+        }
+    }
+    printf("Queries sent: %lu\nResponse codes: NOERROR %lu\n", sent, found);
+}
+
 int main(int count, char **words)
 {
     struct rlimit files = {PATHS, PATHS};
@@ -257,6 +314,11 @@ int main(int count, char **words)
         relay(atoi(words[2]), atoi(words[3]));
     else if (count == 4 && !strcmp(words[1], "answer"))
         answer(atoi(words[2]), words[3]);
-    fprintf(stderr, "usage: bare echo PORT | stream PORT | relay PORT SERVER | answer PORT COUNTED\n");
+    else if (count == 6 && !strcmp(words[1], "ask")) {
+        ask(atoi(words[2]), atoi(words[3]), atoi(words[4]), atof(words[5]));
+        return 0;
+    }
+    fprintf(stderr, "usage: bare echo PORT | stream PORT | relay PORT SERVER | answer PORT COUNTED |"
+                    " ask PORT NAMES WINDOW SECONDS\n");
     return 2;
 }

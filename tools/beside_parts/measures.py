@@ -1,5 +1,6 @@
 """What is measured of a program, and how."""
 import dataclasses
+import functools
 import os
 import pathlib
 import re
@@ -9,7 +10,7 @@ import subprocess
 from beside_parts import programs
 from beside_parts.programs import Bare, Failed
 
-OUTSTANDING, SLOW = 64, 1000
+OUTSTANDING, SLOW, FEW = 64, 1000, 10
 TRIES = 3
 # Ten connections, each for a hundred questions: dnsmasq ends one after a hundred.
 OVER_TCP = ["-m", "tcp", "-c", "10", "-O", "num-queries-per-conn=100"]
@@ -73,7 +74,7 @@ class Files:
     """What dnsperf asks: a file for each list of names."""
 
     def __init__(self, folder):
-        lists = {"ten": (f"n{k}.example" for k in range(10)),
+        lists = {"ten": (f"n{k}.example" for k in range(FEW)),
                  "full": (f"n{k}.example" for k in range(programs.NAMES)),
                  "new": (f"m{k}.example" for k in range(DIFFERENT)),
                  "gone": ["gone.example"],
@@ -131,6 +132,14 @@ class Bench:
             self.filled(self.files.ten)
             return an_answer(pid, asked, self.load(self.files.ten))[0]
 
+    def awake(self, program, asked):
+        """Asked by a generator that never sleeps, so the program needn't wake it."""
+        words = [str(word) for word in (self.bare, "ask", programs.SERVED, FEW, OUTSTANDING, self.seconds)]
+        ask = functools.partial(programs.output, *programs.on(programs.ASKS_ON, words))
+        with programs.running(program, self.folder) as pid:
+            self.filled(self.files.ten)
+            return an_answer(pid, asked, ask)[0]
+
     def many(self, program, asked):
         with programs.running(program, self.folder) as pid:
             start = resident(pid)
@@ -164,12 +173,12 @@ class Bench:
 
 
 # The measurements in the order of the table, each with the bare program next to it.
-BESIDE = {"cached": "echo", "many": "echo", "stream": "stream", "miss": "relay", "below": "echo", "slow": "echo"}
+BESIDE = {"cached": "echo", "awake": "echo", "many": "echo", "stream": "stream", "miss": "relay", "below": "echo", "slow": "echo"}
 
 
 def see_what_was_asked(name, of_hundred):
     """A miss has to be asked of the server, and a cached answer must not be."""
-    if name == "miss" and of_hundred < 99 or name in ("cached", "many", "stream", "slow") and of_hundred > 1:
+    if name == "miss" and of_hundred < 99 or name in ("cached", "awake", "many", "stream", "slow") and of_hundred > 1:
         raise Failed(f"of 100 questions it asked the server {of_hundred:.1f}")
 
 

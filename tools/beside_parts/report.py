@@ -12,6 +12,8 @@ BEGIN, END = "<!-- begin: tools/beside --costs -->", "<!-- end: tools/beside --c
 ROWS = [
     ("a cached answer, 10 names", "cached", "us"),
     ("– of it user, system", "cached", "split"),
+    ("– asked by a generator that never sleeps", "awake", "us"),
+    ("– of it user, system", "awake", "split"),
     ("a cached answer, 10,000 names", "many", "us"),
     ("a cached answer over TCP", "stream", "us"),
     ("a miss", "miss", "us"),
@@ -41,11 +43,11 @@ def cell(found, what):
 
 
 def table(run):
-    """The lines of the table."""
+    """The lines of the table. A row that an older run has no figure for is left out."""
     keys = list(run["programs"])
     lines = ["| µs of processor | " + " | ".join(run["programs"][key]["title"] for key in keys) + " |",
              "|---|" + "--:|" * len(keys)]
-    for title, name, what in ROWS:
+    for title, name, what in (row for row in ROWS if row[1] in run["figures"]):
         cells = [cell(run["figures"].get(name, {}).get(key), what) for key in keys]
         lines.append(f"| {title} | " + " | ".join(cells) + " |")
     return lines
