@@ -1,5 +1,5 @@
 -- Slots: the test of the definitions and that of the code are true exactly where two slots are one.
-use Rattle.std.proofs.Common.{◌≡◌, ℕ, Bool, true, false, ◌&&◌, ◌==◌, nat_eq, List, Option, None, Some, refl, ap}
+use Rattle.std.proofs.Common.{◌≡◌, ℕ, Bool, true, false, ◌&&◌, ◌==◌, nat_eq, List, Option, None, Some, refl, sym, ap, ◌∙◌}
 use Rattle.std.specs.Bool.{Decides}
 use Rattle.std.specs.Option.{option_eq}
 use Rattle.std.specs.Cmp.{first_so, second_so}
@@ -11,6 +11,9 @@ use Rattle.trust_rank.specs.declared.slot.Slot.{Slot}
 use Rattle.trust_rank.specs.Replacing.{same_kind}
 use Rattle.trust_rank.specs.contracts.slot.SlotPartialEq.TheImpl.{eq-value}
 use Rattle.record_cache.specs.Entries.{is_slot}
+use Rattle.record_cache.specs.Storing.{hashed}
+use Rattle.record_cache.specs.declared.hashed.HashedSlot.{HashedSlot}
+use Rattle.record_cache.specs.contracts.hashed.HashedSlotPartialEq.TheImpl.{eq-value as key_eq-value}
 
 both : (s t : Bool) → s ≡ true → t ≡ true → (s && t) ≡ true
 both true true h k = refl
@@ -67,5 +70,33 @@ eq_decides a b =
           (both kind key ((types_decide a.kind b.kind).1 (ap (λ s. s.kind) e)) ((key_decides a.key b.key).1 (ap (λ s. s.key) e))),
     )
 
-pub eq_is : (a b : Slot) → eq-value.it a b ≡ is_slot a b
-eq_is a b = same_from_decides (eq-value.it a b) (is_slot a b) (eq_decides a b) (is_slot_decides a b)
+-- ---- the test of the table's keys
+
+one_key : (a b : HashedSlot) → a.hash ≡ b.hash → a.slot ≡ b.slot → a ≡ b
+one_key a b h s = λ i. record { hash = h i; slot = s i }
+
+table_key_decides : (a b : HashedSlot) → Decides (key_eq-value.it a b) (a ≡ b)
+table_key_decides a b =
+    let hash = nat_eq a.hash b.hash in
+    let slot = eq-value.it a.slot b.slot in (
+      λ h. one_key a b
+          ((Decides-eqb a.hash b.hash).0 (first_so hash slot h))
+          ((eq_decides a.slot b.slot).0 (second_so hash slot h)),
+      λ e. both hash slot
+          ((Decides-eqb a.hash b.hash).1 (ap (λ k. k.hash) e))
+          ((eq_decides a.slot b.slot).1 (ap (λ k. k.slot) e)),
+    )
+
+slots_decide_keys : (hash : Slot → ℕ) (a b : Slot) → Decides (is_slot a b) (hashed hash a ≡ hashed hash b)
+slots_decide_keys hash a b = (
+  λ h. ap (hashed hash) ((is_slot_decides a b).0 h),
+  λ e. (is_slot_decides a b).1 (ap (λ (k : HashedSlot). k.slot) e),
+)
+
+-- slots with their own hashes are equal exactly where they are one
+pub key_is : (hash : Slot → ℕ) (a b : Slot) → key_eq-value.it (hashed hash a) (hashed hash b) ≡ is_slot a b
+key_is hash a b = same_from_decides (key_eq-value.it (hashed hash a) (hashed hash b)) (is_slot a b) (table_key_decides (hashed hash a) (hashed hash b)) (slots_decide_keys hash a b)
+
+-- what equals a slot with its own hash is one too
+pub own_hash : (hash : Slot → ℕ) (k : HashedSlot) (s : Slot) → key_eq-value.it k (hashed hash s) ≡ true → k ≡ hashed hash k.slot
+own_hash hash k s same = let is : k ≡ hashed hash s = (table_key_decides k (hashed hash s)).0 same in is ∙ ap (hashed hash) (sym (ap (λ (t : HashedSlot). t.slot) is))

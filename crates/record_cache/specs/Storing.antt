@@ -1,17 +1,29 @@
 -- The entries in the `lru` cache, and the counts next to it.
-use Rattle.std.specs.Prelude.{◌≡◌, ◌<◌, ◌^◌, ℕ, ◌+◌, if◌then◌else◌, List, [], ◌∷◌, map, get_or, Option, Some, None}
+use Rattle.std.specs.Prelude.{◌≡◌, ◌<◌, ◌^◌, ℕ, ◌+◌, if◌then◌else◌, List, [], ◌∷◌, map, fold, get_or, Option, Some, None}
 use Rattle.std.specs.Prelude.{IfSome}
 use Rattle.std.specs.Map.{values_of}
+use Rattle.std.specs.declared.hash.Hasher as hasher
+use Rattle.std.specs.declared.hash.BuildHasher as builder
 use Rattle.lru.specs.LruCache.{LruCache}
 use Rattle.trust_rank.specs.declared.slot.Slot.{Slot}
+use Rattle.trust_rank.specs.contracts.slot.SlotHash.TheImpl.{hash_input-value}
 use Rattle.record_cache.specs.Values.{Held}
 use Rattle.record_cache.specs.Entries.{name_error_size, name_error_ending, alias_ending, is_number, AreHeld}
 use Rattle.record_cache.specs.declared.counts.Marks.{Marks}
 use Rattle.record_cache.specs.declared.counts.Tables.{Tables}
+use Rattle.record_cache.specs.declared.hashed.HashedSlot.{HashedSlot}
 
--- each entry under its slot
-abbrev pub keyed : List Held → List (Slot × Held)
-keyed entries = map (λ h. (h.piece.slot, h)) entries
+-- the hash that a hasher makes of a slot
+abbrev pub hash_of : {S H : Type 0} → builder.Ghosts S H → hasher.Ghosts H → S → Slot → ℕ
+hash_of build feed s slot = feed.finish (fold feed.write (build.build_hasher s) (hash_input-value.it slot))
+
+-- a slot with the hash that is made of it so
+abbrev pub hashed : (Slot → ℕ) → Slot → HashedSlot
+hashed hash slot = record { hash = hash slot; slot = slot }
+
+-- each entry under its slot with the slot's hash
+abbrev pub keyed : (Slot → ℕ) → List Held → List (HashedSlot × Held)
+keyed hash entries = map (λ h. (hashed hash h.piece.slot, h)) entries
 
 -- the number of an entry, where there is an entry and it has one
 abbrev pub number_in : (Slot → Option ℕ) → Option Held → Option ℕ
@@ -67,9 +79,9 @@ pub record AreOneMore (more : Tables) (marks : Marks) (less : Tables) : Type 0 w
   pub endings : OneMore more.endings.counts marks.ending less.endings.counts
   pub aliases : OneMore more.aliases.counts marks.alias less.aliases.counts
 
--- what holds of the two at all times
-pub record IsStored (stored : LruCache Slot Held) (tables : Tables) : Type 0 where
-  pub keyed : stored.entries ≡ keyed (values_of stored.entries)
+-- what holds of the two at all times, where a slot's hash is made so
+pub record IsStored (hash : Slot → ℕ) (stored : LruCache HashedSlot Held) (tables : Tables) : Type 0 where
+  pub keyed : stored.entries ≡ keyed hash (values_of stored.entries)
   pub fits : stored.cap < 2 ^ 64
   pub held : AreHeld (record { capacity = stored.cap; entries = values_of stored.entries })
   pub sizes : AreCounted name_error_size tables.sizes.counts (values_of stored.entries)

@@ -5,11 +5,13 @@ ghost use Rattle.std.specs.Prelude.{MatchOption};
 ghost use Rattle.record_cache.specs.Entries.{AreHeld, entry_of, has_name_error, has_slot, may_deny_at};
 ghost use Rattle.record_cache.specs.Entries.{may_have_alias_at, promoted, without};
 ghost use Rattle.record_cache.specs.Offers.{answer, found_room, is_outranked, kept, offered};
-ghost use Rattle.record_cache.specs.Storing.{AreFew, IsStored, marks_in};
+ghost use Rattle.record_cache.specs.Storing.{AreFew, IsStored, hash_of, marks_in};
 ghost use Rattle.std.specs.Map.{values_of};
 
 use crate::counts::{Marks, Tables};
+use crate::hashed::{CarriedHashes, HashedSlot, hashed_by};
 use crate::held::Held;
+use crate::look_up_slot::LookUpSlot;
 use lru::LruCache;
 use std::alloc::{AllocError, Allocator, Global};
 use std::hash::BuildHasher;
@@ -33,7 +35,10 @@ pub enum Offered {
 /// Entries of different slots, at most `capacity` of them, the most recently used first.
 #[derive(Drop)]
 pub struct Cache<H: BuildHasher, A: Allocator = Global> {
-    entries: LruCache<Slot, Held<A>, H, A>,
+    /// Each under its slot with the hash that the hasher makes of it.
+    entries: LruCache<HashedSlot, Held<A>, CarriedHashes, A>,
+    /// Hashes each slot that is looked up.
+    hasher: H,
     /// Counts of the entries.
     tables: Tables,
 }
@@ -41,13 +46,13 @@ pub struct Cache<H: BuildHasher, A: Allocator = Global> {
 impl<H: BuildHasher, A: Allocator> Model for Cache<H, A> {
     ghost use Rattle.std.specs.Map.{values_of};
     ghost use Rattle.record_cache.specs.Values.{Cache};
-    ghost use Rattle.record_cache.specs.Storing.{IsStored};
+    ghost use Rattle.record_cache.specs.Storing.{IsStored, hash_of};
 
     ghost Value = { Cache };
 
     ghost view = { λ c. record { capacity = c.entries.cap; entries = values_of c.entries.entries } };
 
-    ghost invariant = { λ c. IsStored c.entries c.tables };
+    ghost invariant = { λ c. IsStored (hash_of H.BuildHasher H.Hasher.Hasher c.hasher) c.entries c.tables };
 }
 
 impl<H: BuildHasher + Drop, A: Allocator + Copy> Cache<H, A> {
@@ -61,7 +66,8 @@ impl<H: BuildHasher + Drop, A: Allocator + Copy> Cache<H, A> {
             unreachable!();
         };
         Ok(Cache {
-            entries: LruCache::with_hasher(alloc, room, hasher)?,
+            entries: LruCache::with_hasher(alloc, room, CarriedHashes::new())?,
+            hasher,
             tables: Tables::new(),
         })
     }
@@ -91,7 +97,7 @@ impl<H: BuildHasher + Drop, A: Allocator + Copy> Cache<H, A> {
             self.forget(&held.slot());
             return Offered::NotKept;
         }
-        if put_first(&mut self.entries, &mut self.tables, held) {
+        if put_first(&self.hasher, &mut self.entries, &mut self.tables, held) {
             Offered::Kept
         } else {
             Offered::Unkept
@@ -106,7 +112,8 @@ impl<H: BuildHasher + Drop, A: Allocator + Copy> Cache<H, A> {
         if held.is_name_error() {
             return false;
         }
-        match self.entries.peek(&held.slot()) {
+        let key = hashed_by(&self.hasher, &held.slot());
+        match self.entries.peek(&key) {
             Some(other) => other.outranks(held),
             None => false,
         }
@@ -119,7 +126,21 @@ impl<H: BuildHasher + Drop, A: Allocator + Copy> Cache<H, A> {
             (λ held. entry_of slot.now self.now.entries ≡ Some held.now) }
         ensures held { AreHeld self.now }
     {
-        self.entries.peek(slot)
+        let key = hashed_by(&self.hasher, slot);
+        self.entries.peek(&key)
+    }
+
+    /// The entry of a slot, as `peek`. The slot keeps its hash, with which `promote_found` finds the
+    /// entry again. It does not allocate. `held` repeats what holds of all entries.
+    pub fn look_up(&self, slot: &mut LookUpSlot) -> Option<&Held<A>>
+        ensures found { MatchOption result (entry_of slot.old self.now.entries ≡ None)
+            (λ held. entry_of slot.old self.now.entries ≡ Some held.now) }
+        ensures slot { slot.new ≡ slot.old }
+        ensures held { AreHeld self.now }
+    {
+        let key = &mut slot.hashed;
+        key.hash = self.hasher.hash_one(&key.slot);
+        self.entries.peek(&*key)
     }
 
     /// Makes the entry of a slot the most recently used; nothing where the slot has none. It does
@@ -127,14 +148,27 @@ impl<H: BuildHasher + Drop, A: Allocator + Copy> Cache<H, A> {
     pub fn promote(&mut self, slot: &Slot)
         ensures { self.new ≡ record self.old { entries = promoted slot.now self.old.entries } }
     {
-        self.entries.promote(slot);
+        let key = hashed_by(&self.hasher, slot);
+        self.entries.promote(&key);
+    }
+
+    /// Makes the entry of a slot the most recently used, as `promote`, with the hash of the slot's
+    /// last look-up. The hash is computed again only where it finds nothing: the slot was changed
+    /// since, or another cache made the hash. It does not allocate.
+    pub fn promote_found(&mut self, slot: &LookUpSlot)
+        ensures { self.new ≡ record self.old { entries = promoted slot.now self.old.entries } }
+    {
+        if !self.entries.promote(&slot.hashed) {
+            let own = hashed_by(&self.hasher, &slot.hashed.slot);
+            self.entries.promote(&own);
+        }
     }
 
     /// Removes the entry of a slot; nothing where the slot has none. It does not allocate.
     pub fn forget(&mut self, slot: &Slot)
         ensures { self.new ≡ record self.old { entries = without slot.now self.old.entries } }
     {
-        take_out(&mut self.entries, &mut self.tables, slot);
+        take_out(&self.hasher, &mut self.entries, &mut self.tables, slot);
     }
 
     /// Removes all entries. It does not allocate.
@@ -188,21 +222,22 @@ impl<H: BuildHasher + Drop, A: Allocator + Copy> Cache<H, A> {
 
 /// Puts an entry first, in place of its slot's or of the last one of a full cache. `false` where
 /// its slot has no entry and an allocation was refused: nothing has changed.
-fn put_first<H: BuildHasher + Drop, A: Allocator + Copy>(
-    entries: &mut LruCache<Slot, Held<A>, H, A>,
+fn put_first<H: BuildHasher, A: Allocator + Copy>(
+    hasher: &H,
+    entries: &mut LruCache<HashedSlot, Held<A>, CarriedHashes, A>,
     tables: &mut Tables,
     held: Held<A>,
 ) -> bool
-    requires { IsStored entries.old tables.old }
-    ensures stored { IsStored entries.new tables.new }
+    requires { IsStored (hash_of H.BuildHasher H.Hasher.Hasher hasher.now) entries.old tables.old }
+    ensures stored { IsStored (hash_of H.BuildHasher H.Hasher.Hasher hasher.now) entries.new tables.new }
     ensures list { values_of entries.new.entries ≡ (if result
         then kept entries.old.cap held (values_of entries.old.entries) else values_of entries.old.entries) }
     ensures capacity { entries.new.cap ≡ entries.old.cap }
     ensures room { result || has_slot held.piece.slot (values_of entries.old.entries) ≡ result }
 {
-    let slot = held.slot();
+    let key = hashed_by(hasher, &held.slot());
     let marks = held.marks();
-    match entries.push(slot, held) {
+    match entries.push(key, held) {
         Ok(displaced) => {
             tables.remove(marks_in(value_of(displaced)));
             tables.add(marks);
@@ -213,17 +248,19 @@ fn put_first<H: BuildHasher + Drop, A: Allocator + Copy>(
 }
 
 /// Takes the entry of a slot out.
-fn take_out<H: BuildHasher + Drop, A: Allocator + Copy>(
-    entries: &mut LruCache<Slot, Held<A>, H, A>,
+fn take_out<H: BuildHasher, A: Allocator + Copy>(
+    hasher: &H,
+    entries: &mut LruCache<HashedSlot, Held<A>, CarriedHashes, A>,
     tables: &mut Tables,
     slot: &Slot,
 )
-    requires { IsStored entries.old tables.old }
-    ensures stored { IsStored entries.new tables.new }
+    requires { IsStored (hash_of H.BuildHasher H.Hasher.Hasher hasher.now) entries.old tables.old }
+    ensures stored { IsStored (hash_of H.BuildHasher H.Hasher.Hasher hasher.now) entries.new tables.new }
     ensures list { values_of entries.new.entries ≡ without slot.now (values_of entries.old.entries) }
     ensures capacity { entries.new.cap ≡ entries.old.cap }
 {
-    let taken = entries.pop(slot);
+    let key = hashed_by(hasher, slot);
+    let taken = entries.pop(&key);
     tables.remove(marks_in(taken));
 }
 
@@ -243,7 +280,7 @@ fn marks_in<A: Allocator>(held: Option<Held<A>>) -> Marks
 }
 
 /// The value of a pair.
-fn value_of<A: Allocator>(pair: Option<(Slot, Held<A>)>) -> Option<Held<A>>
+fn value_of<A: Allocator>(pair: Option<(HashedSlot, Held<A>)>) -> Option<Held<A>>
     ensures { result ≡ option_map (λ p. p.1) pair }
 {
     match pair {

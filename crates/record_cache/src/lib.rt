@@ -6,8 +6,10 @@
 mod cache;
 mod counts;
 mod endings;
+mod hashed;
 mod held;
 mod laws;
+mod look_up_slot;
 
 pub use cache::{Cache, Offered};
 pub use endings::{ending, key_ending};
@@ -16,3 +18,4 @@ pub use laws::{
     counts_tell_what_is_there, gone_only_so, kept_is_found, one_slot_is_the_same,
     promotion_changes_no_look_up, unkept_is_new,
 };
+pub use look_up_slot::LookUpSlot;
