@@ -17,7 +17,7 @@ pub use laws::{
     same_questions_are_looked_up_alike,
 };
 pub use looked::{LookUp, LookUpEnd};
-pub use looking::{look_up, slot_for_look_ups};
+pub use looking::look_up;
 pub use offers::{held_from, offer_all};
 pub use past_ends::look_up_past;
 pub use slots::{Slots, SlotsRef, promote_all};

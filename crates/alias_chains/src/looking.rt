@@ -15,25 +15,11 @@ ghost use Rattle.alias_chains.specs.Seen.{seen_from, seen_of, IsAlias, UsesFew};
 use crate::looked::{LookUp, LookUpEnd};
 use crate::used::UsedEntries;
 use dns_message::{Bound, QuestionRef, skip_name};
-use dns_name::NameKey;
 use negative_cache::{CacheAt, Found};
-use record_cache::Held;
+use record_cache::{Held, LookUpSlot};
 use std::alloc::{AllocError, Allocator};
 use std::hash::BuildHasher;
-use trust_rank::{Body, Slot};
-
-/// A slot that serves look-ups one after another: that of the root, of no class and no type. It
-/// does not allocate.
-#[tactic(auto, using(dns_name::proofs::CallerLemmas::no_octets_are_laid_out))]
-pub fn slot_for_look_ups() -> Slot
-    ensures { result ≡ record { class = 0; kind = None; key = [] } }
-{
-    Slot {
-        class: 0,
-        kind: None,
-        key: NameKey::from_octets(&[]),
-    }
-}
+use trust_rank::Body;
 
 /// Looks a question up along aliases (RFC 1034 3.6.2): at its name, then at the name that a found
 /// alias leads to, and so on. It ends with a set or a denial, with one alias more than `most`, or
@@ -44,7 +30,7 @@ pub fn slot_for_look_ups() -> Slot
 pub fn look_up<'a, 's, H: BuildHasher + Drop, A: Allocator + Copy>(
     alloc: A,
     at: &CacheAt<'a, H, A>,
-    slot: &'s mut Slot,
+    slot: &'s mut LookUpSlot,
     question: &QuestionRef<'_>,
     most: usize,
 ) -> Result<LookUp<'a, 's, A>, AllocError>
@@ -72,7 +58,7 @@ pub fn look_up<'a, 's, H: BuildHasher + Drop, A: Allocator + Copy>(
 fn follow<'a, 's, H: BuildHasher + Drop, A: Allocator + Copy>(
     alloc: A,
     at: &CacheAt<'a, H, A>,
-    slot: &mut Slot,
+    slot: &mut LookUpSlot,
     question: &QuestionRef<'_>,
     first: &'a Held<A>,
     most: usize,

@@ -11,19 +11,18 @@ ghost use Rattle.negative_cache.specs.Stale.{stale};
 ghost use Rattle.negative_cache.specs.Values.{found_of};
 ghost use Rattle.alias_chains.specs.PastEnds.{look_up_past};
 
-use crate::looking::{slot_for_look_ups, target_octets};
+use crate::looking::target_octets;
 use dns_message::QuestionRef;
 use negative_cache::{CacheAt, Found};
-use record_cache::Held;
+use record_cache::{Held, LookUpSlot};
 use std::alloc::{AllocError, Allocator};
 use std::hash::BuildHasher;
-use trust_rank::Slot;
 
 /// Looks a question up among living and stale entries, at the name of these octets in place of its
 /// own.
 fn stale_at<'a, H: BuildHasher + Drop, A: Allocator + Copy>(
     at: &CacheAt<'a, H, A>,
-    slot: &mut Slot,
+    slot: &mut LookUpSlot,
     question: &QuestionRef<'_>,
     name: &[u8],
     window: u64,
@@ -54,7 +53,7 @@ pub fn look_up_past<'a, H: BuildHasher + Drop, A: Allocator + Copy>(
     ensures from_cache { IfOk result
         (λ found. IfSome found (λ f. AllByRecursion (λ h. Among h at.now.cache.entries) (lent f.items))) }
 {
-    let mut slot = slot_for_look_ups();
+    let mut slot = LookUpSlot::new();
     let mut found = Vec::new(alloc);
     let mut rest = question.name();
     loop {

@@ -6,7 +6,7 @@ ghost use Rattle.alias_chains.specs.LookingUp.{promoted_all};
 ghost use Rattle.alias_chains.specs.Seen.{entries_of, HasItsSlot};
 
 use crate::used::UsedEntries;
-use record_cache::{Cache, Held};
+use record_cache::{Cache, Held, LookUpSlot};
 use std::alloc::{AllocError, Allocator, Global};
 use std::hash::BuildHasher;
 use std::marker::Model;
@@ -62,7 +62,7 @@ impl<'a, 's, A: Allocator + Copy> SlotsRef<'a, 's, A> {
 /// Slots in order, apart from the cache. One may be borrowed, and comes first.
 #[derive(Drop)]
 pub struct Slots<'s, A: Allocator = Global> {
-    lent: Option<&'s Slot>,
+    lent: Option<&'s LookUpSlot>,
     others: Vec<Slot, A>,
 }
 
@@ -137,7 +137,7 @@ pub fn promote_all<H: BuildHasher + Drop, A: Allocator + Copy>(
     ensures { cache.new ≡ record cache.old { entries = promoted_all slots.now cache.old.entries } }
 {
     if let Some(slot) = slots.lent {
-        cache.promote(slot);
+        cache.promote_found(slot);
     }
     for slot in &slots.others {
         cache.promote(slot);

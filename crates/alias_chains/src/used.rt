@@ -4,16 +4,15 @@ ghost use Rattle.std.specs.Prelude.{◌≡◌, []};
 ghost use Rattle.plain_values.specs.Borrowed.{lent};
 ghost use Rattle.alias_chains.specs.Seen.{entries_of, HasItsSlot};
 
-use record_cache::Held;
+use record_cache::{Held, LookUpSlot};
 use std::alloc::Allocator;
 use std::slice;
-use trust_rank::Slot;
 
 /// Entries in order. One alone does not allocate, and comes with its slot, which the look-up has
 /// filled.
 #[derive(Drop)]
 pub(crate) enum UsedEntries<'a, 's, A: Allocator> {
-    One(&'a Held<A>, &'s Slot),
+    One(&'a Held<A>, &'s LookUpSlot),
     More(Vec<&'a Held<A>, A>),
 }
 

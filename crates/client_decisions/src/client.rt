@@ -33,6 +33,7 @@ use crate::request::{is_not_served, owned_question, taken_header, with_one_quest
 use alias_chains::{SlotsRef, look_up};
 use dns_message::{Header, MessageRef, Question, QuestionRef};
 use outstanding::{Ask, KeyedAsk, QuestionKey, draw};
+use record_cache::LookUpSlot;
 use std::alloc::{AllocError, Allocator};
 use std::hash::BuildHasher;
 use step_actions::{
@@ -41,7 +42,7 @@ use step_actions::{
 use step_texts::{ask as ask_action, failure, refusal};
 use step_values::{Action, Actions, Client, Why};
 use suffix_routes::RouteId;
-use trust_rank::{MOST_ALIASES, Slot};
+use trust_rank::MOST_ALIASES;
 use waiting_questions::{KeyedWaiting, Request, SentOn, Waiting};
 
 /// Decides one reply, and the promotion of the entries that a look-up used.
@@ -247,7 +248,7 @@ fn decide_fate<'a, 's, H: BuildHasher + Drop, A: Allocator + Copy>(
 /// entry is within its name's route.
 fn look<'a, 's, H: BuildHasher + Drop, A: Allocator + Copy>(
     turn: &TurnRef<'a, H, A>,
-    slot: &'s mut Slot,
+    slot: &'s mut LookUpSlot,
     request: &Request<'_>,
 ) -> Result<Decision<'a, 's, A>, AllocError>
     requires taken { request.now.taken ≡ turn.now.moment }
@@ -269,7 +270,7 @@ fn look<'a, 's, H: BuildHasher + Drop, A: Allocator + Copy>(
 /// served.
 fn serve<'a, 's, H: BuildHasher + Drop, A: Allocator + Copy>(
     turn: &TurnRef<'a, H, A>,
-    slot: &'s mut Slot,
+    slot: &'s mut LookUpSlot,
     request: &Request<'_>,
 ) -> Result<Decision<'a, 's, A>, AllocError>
     requires taken { request.now.taken ≡ turn.now.moment }
@@ -299,7 +300,7 @@ fn refuse_message<'a, 's, H: BuildHasher + Drop, A: Allocator + Copy>(
 /// Decides a message with one question. It copies the name only where that has a pointer.
 fn serve_message<'a, 's, H: BuildHasher + Drop, A: Allocator + Copy>(
     turn: &TurnRef<'a, H, A>,
-    slot: &'s mut Slot,
+    slot: &'s mut LookUpSlot,
     client: Client,
     header: Header,
     message: &MessageRef<'_>,
@@ -335,7 +336,7 @@ fn serve_message<'a, 's, H: BuildHasher + Drop, A: Allocator + Copy>(
 /// one question that can be read. `Err` where memory ran out: nothing is changed.
 pub fn on_client<'a, 's, H: BuildHasher + Drop, A: Allocator + Copy>(
     turn: &TurnRef<'a, H, A>,
-    slot: &'s mut Slot,
+    slot: &'s mut LookUpSlot,
     client: Client,
     bytes: &[u8],
 ) -> Result<Decision<'a, 's, A>, AllocError>

@@ -6,18 +6,18 @@ ghost use Rattle.step_table.specs.Row.{HandsOctets, TakesNoMemory};
 ghost use Rattle.step_actions.specs.Decision.{IsDecided, IsDecidedQuietly, CanChange};
 
 use client_decisions::on_client;
+use record_cache::LookUpSlot;
 use reply_decisions::{on_delivery, on_failed_path, on_tick};
 use std::alloc::{AllocError, Allocator};
 use std::hash::BuildHasher;
 use step_actions::{Decision, TurnRef};
 use step_values::Event;
-use trust_rank::Slot;
 
 /// The decision on an event; `None` where it is a restart. The slot, whatever it was, serves a
 /// look-up, and the decision may borrow it. `Err` where memory ran out.
 pub(crate) fn decide<'a, 's, H: BuildHasher + Drop, A: Allocator + Copy>(
     turn: &TurnRef<'a, H, A>,
-    slot: &'s mut Slot,
+    slot: &'s mut LookUpSlot,
     event: &Event<A>,
 ) -> Result<Option<Decision<'a, 's, A>>, AllocError>
     ensures row { IfOk result (λ next. IsDecided turn.now (event_of event.now) next) }

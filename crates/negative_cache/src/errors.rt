@@ -11,18 +11,17 @@ use crate::cache_at::CacheAt;
 use crate::living::living_entry;
 use dns_message::QuestionRef;
 use dns_name::{Name, ends_in, split_label};
-use record_cache::Held;
+use record_cache::{Held, LookUpSlot};
 use std::alloc::Allocator;
 use std::hash::BuildHasher;
 use suffix_routes::Config;
-use trust_rank::Slot;
 
 /// The nearest living name error of the name of a question, whose ending this is, or of one above
 /// it whose own name has the route of the name. Routes are looked at only where a living one of a
 /// name above is met. The slot becomes that of each name in turn, so that no new key is made.
 pub(crate) fn nearest_name_error<'a, H: BuildHasher + Drop, A: Allocator + Copy>(
     at: &CacheAt<'a, H, A>,
-    slot: &mut Slot,
+    slot: &mut LookUpSlot,
     question: &QuestionRef<'_>,
     end: usize,
 ) -> Option<&'a Held<A>>
@@ -44,7 +43,7 @@ pub(crate) fn nearest_name_error<'a, H: BuildHasher + Drop, A: Allocator + Copy>
 /// of the name.
 fn nearest_above<'a, H: BuildHasher + Drop, A: Allocator + Copy>(
     at: &CacheAt<'a, H, A>,
-    slot: &mut Slot,
+    slot: &mut LookUpSlot,
     question: &QuestionRef<'_>,
 ) -> Option<&'a Held<A>>
     ensures found { option_copied result
@@ -66,7 +65,7 @@ fn nearest_above<'a, H: BuildHasher + Drop, A: Allocator + Copy>(
 /// question's name, which is below it.
 fn name_error_on<'a, H: BuildHasher + Drop, A: Allocator + Copy>(
     at: &CacheAt<'a, H, A>,
-    slot: &mut Slot,
+    slot: &mut LookUpSlot,
     octets: &[u8],
     question: &QuestionRef<'_>,
 ) -> Option<&'a Held<A>>
@@ -118,7 +117,7 @@ fn is_under_longer<A: Allocator>(octets: &[u8], suffix: &Name<A>, size: usize) -
 /// The living name error of the name of these octets, whose slot is made in place of another.
 fn name_error_of<'a, H: BuildHasher + Drop, A: Allocator + Copy>(
     at: &CacheAt<'a, H, A>,
-    slot: &mut Slot,
+    slot: &mut LookUpSlot,
     octets: &[u8],
     class: u16,
 ) -> Option<&'a Held<A>>
@@ -130,8 +129,6 @@ fn name_error_of<'a, H: BuildHasher + Drop, A: Allocator + Copy>(
     if !at.cache.has_name_error(octets.len()) {
         return None;
     }
-    slot.key.set_octets(octets);
-    slot.class = class;
-    slot.kind = None;
+    slot.set(octets, class, None);
     living_entry(at, slot)
 }

@@ -14,11 +14,10 @@ use crate::living::{living_entry, no_data_in, set_in};
 use dns_message::QuestionRef;
 use dns_message::types::CNAME;
 use dns_name::Name;
-use record_cache::{Cache, Held, key_ending};
+use record_cache::{Cache, Held, LookUpSlot, key_ending};
 use std::alloc::Allocator;
 use std::hash::BuildHasher;
 use suffix_routes::{Config, Routing};
-use trust_rank::Slot;
 
 /// Looks a question up at a moment, in milliseconds. `Local` where the configuration denies its
 /// name. Otherwise the first of these that is held alive: the set of the type, the alias where
@@ -40,11 +39,7 @@ pub fn find<'a, H: BuildHasher + Drop, A: Allocator + Copy>(
     if matches!(config.routing(name), Routing::Denied) {
         return Found::Local;
     }
-    let mut slot = Slot {
-        class,
-        kind: None,
-        key: name.key(),
-    };
+    let mut slot = LookUpSlot::new();
     let at = CacheAt {
         cache,
         config,
@@ -61,25 +56,23 @@ impl<'a, H: BuildHasher + Drop, A: Allocator + Copy> CacheAt<'a, H, A> {
     /// Its value before does not matter: one slot serves many look-ups, and no key is moved. Routes
     /// are looked at only where a living name error of a name above it is met. It does not
     /// allocate.
-    pub fn find(&self, slot: &mut Slot, question: &QuestionRef<'_>) -> Found<'a, A>
+    pub fn find(&self, slot: &mut LookUpSlot, question: &QuestionRef<'_>) -> Found<'a, A>
         ensures found { found_of result
             ≡ found self.now.config.routes self.now.moment self.now.cache.entries question.now }
         ensures slot { IsSlotOf slot.new (found_of result) }
     {
         let kind = question.kind();
-        slot.key.set_octets(question.name());
-        slot.class = question.class();
-        slot.kind = Some(kind);
+        slot.set(question.name(), question.class(), Some(kind));
         let own = living_entry(self, slot);
         if let Some(held) = set_in(own) {
             return Found::Rows(held);
         }
-        let end = key_ending(&slot.key);
+        let end = key_ending(slot.key());
         if let Some(held) = alias_beside(self, slot, end, kind) {
             return Found::Alias(held);
         }
         if let Some(held) = no_data_in(own) {
-            slot.kind = Some(kind);
+            slot.set_kind(Some(kind));
             return Found::NoData(held);
         }
         match nearest_name_error(self, slot, question, end) {
@@ -94,7 +87,7 @@ impl<'a, H: BuildHasher + Drop, A: Allocator + Copy> CacheAt<'a, H, A> {
 /// looked up.
 fn alias_beside<'a, H: BuildHasher + Drop, A: Allocator + Copy>(
     at: &CacheAt<'a, H, A>,
-    slot: &mut Slot,
+    slot: &mut LookUpSlot,
     end: usize,
     kind: u16,
 ) -> Option<&'a Held<A>>
@@ -110,6 +103,6 @@ fn alias_beside<'a, H: BuildHasher + Drop, A: Allocator + Copy>(
     if !at.cache.may_have_alias(end) {
         return None;
     }
-    slot.kind = Some(CNAME);
+    slot.set_kind(Some(CNAME));
     set_in(living_entry(at, slot))
 }

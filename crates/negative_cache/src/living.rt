@@ -7,22 +7,24 @@ ghost use Rattle.negative_cache.specs.Entries.{is_no_data, is_set};
 ghost use Rattle.negative_cache.specs.BySlot.{living_entry, only, slots_of};
 
 use crate::cache_at::CacheAt;
-use record_cache::Held;
+use record_cache::{Held, LookUpSlot};
 use std::alloc::Allocator;
 use std::hash::BuildHasher;
-use trust_rank::{Body, Slot};
+use trust_rank::Body;
 
-/// The entry of a slot, where it is alive. `held` says what holds of all entries.
+/// The entry of a slot, where it is alive. The slot keeps its hash. `held` says what holds of all
+/// entries.
 pub(crate) fn living_entry<'a, H: BuildHasher + Drop, A: Allocator + Copy>(
     at: &CacheAt<'a, H, A>,
-    slot: &Slot,
+    slot: &mut LookUpSlot,
 ) -> Option<&'a Held<A>>
     ensures found { option_copied result
-        ≡ living_entry at.now.moment (slots_of at.now.cache.entries) slot.now }
-    ensures slot { IfSome (option_copied result) (λ h. slot.now ≡ h.piece.slot) }
+        ≡ living_entry at.now.moment (slots_of at.now.cache.entries) slot.old }
+    ensures slot { IfSome (option_copied result) (λ h. slot.new ≡ h.piece.slot) }
+    ensures same { slot.new ≡ slot.old }
     ensures held { AreHeld at.now.cache }
 {
-    let held = at.cache.peek(slot)?;
+    let held = at.cache.look_up(slot)?;
     if held.is_alive(at.moment) {
         Some(held)
     } else {

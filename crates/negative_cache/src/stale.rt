@@ -13,10 +13,9 @@ use crate::living::set_in;
 use dns_message::QuestionRef;
 use dns_message::types::CNAME;
 use dns_name::Name;
-use record_cache::{Cache, Held};
+use record_cache::{Cache, Held, LookUpSlot};
 use std::alloc::Allocator;
 use std::hash::BuildHasher;
-use trust_rank::Slot;
 
 /// Looks a question up among living entries and those that expired fewer than `window` seconds ago,
 /// at most 86,400, at a moment in milliseconds (RFC 8767 5). `Rows` for the set of the type;
@@ -35,11 +34,7 @@ pub fn find_stale<'a, H: BuildHasher + Drop, A: Allocator + Copy>(
     ensures { found_of result
         ≡ stale window moment cache.now.entries (record { name = name.now; kind = kind; class = class }) }
 {
-    let mut slot = Slot {
-        class,
-        kind: None,
-        key: name.key(),
-    };
+    let mut slot = LookUpSlot::new();
     let question = QuestionRef::from_octets(name.octets(), kind, class);
     look_up(cache, &mut slot, &question, moment, window)
 }
@@ -49,7 +44,7 @@ impl<'a, H: BuildHasher + Drop, A: Allocator + Copy> CacheAt<'a, H, A> {
     /// seconds. The slot may be any, before and after. It does not allocate.
     pub fn find_stale(
         &self,
-        slot: &mut Slot,
+        slot: &mut LookUpSlot,
         question: &QuestionRef<'_>,
         window: u64,
     ) -> Found<'a, A>
@@ -63,7 +58,7 @@ impl<'a, H: BuildHasher + Drop, A: Allocator + Copy> CacheAt<'a, H, A> {
 /// Looks a question up, slot by slot. The slot may be any, before and after.
 fn look_up<'a, H: BuildHasher + Drop, A: Allocator + Copy>(
     cache: &'a Cache<H, A>,
-    slot: &mut Slot,
+    slot: &mut LookUpSlot,
     question: &QuestionRef<'_>,
     moment: u64,
     window: u64,
@@ -72,9 +67,7 @@ fn look_up<'a, H: BuildHasher + Drop, A: Allocator + Copy>(
     ensures { found_of result ≡ stale window moment cache.now.entries question.now }
 {
     let kind = question.kind();
-    slot.key.set_octets(question.name());
-    slot.class = question.class();
-    slot.kind = Some(kind);
+    slot.set(question.name(), question.class(), Some(kind));
     if let Some(held) = set_in(entry_within(cache, slot, moment, window)) {
         return Found::Rows(held);
     }
@@ -88,7 +81,7 @@ fn look_up<'a, H: BuildHasher + Drop, A: Allocator + Copy>(
 /// none.
 fn alias_within<'a, H: BuildHasher + Drop, A: Allocator + Copy>(
     cache: &'a Cache<H, A>,
-    slot: &mut Slot,
+    slot: &mut LookUpSlot,
     kind: u16,
     moment: u64,
     window: u64,
@@ -100,23 +93,24 @@ fn alias_within<'a, H: BuildHasher + Drop, A: Allocator + Copy>(
     if kind == CNAME {
         return None;
     }
-    slot.kind = Some(CNAME);
+    slot.set_kind(Some(CNAME));
     set_in(entry_within(cache, slot, moment, window))
 }
 
 /// The entry of a slot, where it is within the window. `held` says what holds of all entries.
 fn entry_within<'a, H: BuildHasher + Drop, A: Allocator + Copy>(
     cache: &'a Cache<H, A>,
-    slot: &Slot,
+    slot: &mut LookUpSlot,
     moment: u64,
     window: u64,
 ) -> Option<&'a Held<A>>
     requires { window ≤ 86400 }
     ensures found { option_copied result
-        ≡ only (is_within window moment) (entry_of slot.now cache.now.entries) }
+        ≡ only (is_within window moment) (entry_of slot.old cache.now.entries) }
+    ensures same { slot.new ≡ slot.old }
     ensures held { AreHeld cache.now }
 {
-    let held = cache.peek(slot)?;
+    let held = cache.look_up(slot)?;
     if is_within(held, moment, window) {
         Some(held)
     } else {

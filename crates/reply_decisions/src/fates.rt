@@ -18,9 +18,9 @@ ghost use Rattle.reply_decisions.specs.Fates.{reply_of, OneMore};
 
 use crate::fate::{AliasLead, fate_behind, unless_waits};
 use crate::looking_on::look_on;
-use alias_chains::{LookUp, SlotsRef, slot_for_look_ups};
+use alias_chains::{LookUp, SlotsRef};
 use dns_message::Question;
-use record_cache::Held;
+use record_cache::{Held, LookUpSlot};
 use std::alloc::{AllocError, Allocator, Global};
 use std::hash::BuildHasher;
 use std::marker::Model;
@@ -137,7 +137,7 @@ impl<'a, A: Allocator + Copy> Fates<'a, A> {
             ++ (looked_behind turn.now.config turn.now.moment turn.now.state.cache.entries lead.now.aliases.now
             lead.now.name.now waiting.now).used) }
     {
-        let mut slot = slot_for_look_ups();
+        let mut slot = LookUpSlot::new();
         match look_on(turn, &mut slot, lead, waiting)? {
             None => {
                 let action = failure(turn.alloc, &waiting.request(), Why::ChainLong)?;

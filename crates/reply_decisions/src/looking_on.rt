@@ -5,17 +5,18 @@ ghost use Rattle.reply_decisions.specs.Fates.{IfLooksOn};
 
 use crate::fate::AliasLead;
 use alias_chains::{LookUp, look_up};
+use record_cache::LookUpSlot;
 use std::alloc::{AllocError, Allocator};
 use std::hash::BuildHasher;
 use step_actions::TurnRef;
-use trust_rank::{MOST_ALIASES, Slot};
+use trust_rank::MOST_ALIASES;
 use waiting_questions::Waiting;
 
 /// Looks a question up at the name that a reply leads on to, once it holds the aliases of the reply
 /// too; `None` where these are too many. The slot may be any: the look-up fills it.
 pub(crate) fn look_on<'a, 's, H: BuildHasher + Drop, A: Allocator + Copy>(
     turn: &TurnRef<'a, H, A>,
-    slot: &'s mut Slot,
+    slot: &'s mut LookUpSlot,
     lead: &AliasLead<'_, A>,
     waiting: &Waiting<A>,
 ) -> Result<Option<LookUp<'a, 's, A>>, AllocError>

@@ -1,10 +1,10 @@
-//! A look-up computes few hashes, however many labels the name has.
+//! A look-up computes few hashes, however many labels the name has, and the promotion after it none.
 
 use crate::samples::{CONFIG, Denial, found_past};
 use dns_name::{Name, NameFault};
 use lru::DefaultHasher;
 use negative_cache::{CacheAt, Found, find, shown};
-use record_cache::Cache;
+use record_cache::{Cache, LookUpSlot};
 use std::alloc::Global;
 use std::cell::Cell;
 use std::hash::BuildHasher;
@@ -83,7 +83,41 @@ fn begun_for_the_longest(
     Ok(begun_by(begun, cache, &name, config))
 }
 
+/// The number of hashes of a look-up that finds a denied name, and of the promotion after it.
+fn begun_by_use(
+    alloc: Global,
+    begun: &Cell<u64>,
+    cache: &mut Cache<Counting<'_, DefaultHasher>>,
+) -> Result<Option<[u64; 2]>, Fail> {
+    cache.offer(Denial::of(DENIED[0], None).piece(alloc)?, 1000);
+    let name = Name::from_text(alloc, DENIED[0])?;
+    let mut slot = LookUpSlot::new();
+    slot.set(name.octets(), 1, None);
+    begun.set(0);
+    let is_found = cache.look_up(&mut slot).is_some();
+    let looked_up = begun.replace(0);
+    cache.promote_found(&slot);
+    if is_found {
+        Ok(Some([looked_up, begun.get()]))
+    } else {
+        Ok(None)
+    }
+}
+
 /// The same in a new cache, which is forgotten.
+fn begun_by_use_in_new(alloc: Global) -> Result<Option<[u64; 2]>, Fail> {
+    let begun = Cell::new(0);
+    let hasher = Counting {
+        begun: &begun,
+        inner: DefaultHasher::default(),
+    };
+    let mut cache = Cache::new(alloc, 4, hasher)?;
+    let counts = begun_by_use(alloc, &begun, &mut cache);
+    forget(cache);
+    counts
+}
+
+/// What `begun_for_the_longest` gives in a new cache, which is forgotten.
 fn begun_in_new(alloc: Global, config: &Config) -> Result<Option<[u64; 3]>, Fail> {
     let begun = Cell::new(0);
     let hasher = Counting {
@@ -106,5 +140,12 @@ fn begun(alloc: Global) -> Result<Option<[u64; 3]>, Fail> {
 fn a_name_of_127_labels_takes_few_look_ups(rt: HostRuntime) -> Result<(), Fail> {
     let counts = begun(rt.alloc())?.ok_or("a miss")?;
     assert!(rt; counts[0] > 0 && counts.iter().all(|count| *count <= MOST));
+    Ok(())
+}
+
+#[test]
+fn a_promotion_after_a_look_up_computes_no_hash(rt: HostRuntime) -> Result<(), Fail> {
+    let counts = begun_by_use_in_new(rt.alloc())?.ok_or("a miss")?;
+    assert_eq!(rt; counts, [1, 0]);
     Ok(())
 }

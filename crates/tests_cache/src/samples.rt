@@ -7,7 +7,7 @@ use dns_name::{Name, NameFault};
 use lru::DefaultHasher;
 use negative_cache::{CacheAt, Found};
 use plain_values::PlainList;
-use record_cache::{Cache, Offered};
+use record_cache::{Cache, LookUpSlot, Offered};
 use std::alloc::{Allocator, Global};
 use std::hash::BuildHasher;
 use std::test::Fail;
@@ -160,11 +160,7 @@ pub(crate) fn found_past<'a, H: BuildHasher + Drop, A: Allocator + Copy>(
 ) -> Found<'a, A>
     requires { window ≤ 86400 }
 {
-    let mut slot = Slot {
-        class: 0,
-        kind: None,
-        key: name.key(),
-    };
+    let mut slot = LookUpSlot::new();
     let question = QuestionRef::from_octets(name.octets(), 1, 1);
     at.find_stale(&mut slot, &question, window)
 }

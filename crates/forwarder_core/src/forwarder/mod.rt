@@ -17,9 +17,8 @@ mod tick;
 
 use crate::deciding::decide;
 use crate::lists::forget_all;
-use alias_chains::slot_for_look_ups;
 use outstanding::Inquiries;
-use record_cache::Cache;
+use record_cache::{Cache, LookUpSlot};
 use std::alloc::{AllocError, Allocator, Global};
 use std::hash::BuildHasher;
 use std::marker::Model;
@@ -194,7 +193,7 @@ impl<H: BuildHasher + Drop, A: Allocator + Copy> Forwarder<H, A> {
             self.new }
     {
         let moment = self.effective(now);
-        let mut slot = slot_for_look_ups();
+        let mut slot = LookUpSlot::new();
         let Some(
             Decision {
                 actions,

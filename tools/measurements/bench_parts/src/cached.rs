@@ -2,14 +2,14 @@
 
 ghost use Rattle.std.specs.Prelude.{◌≤◌};
 
-use crate::filling::{MANY, ROUNDS, addresses, any_slot, full_cache, held_of, numbered, slots_of};
+use crate::filling::{MANY, ROUNDS, addresses, full_cache, held_of, numbered, slots_of};
 use answer_builder::{AskedRef, Transport, put_answer};
 use anyhow::Result;
 use dns_message::{Header, MessageRef, QuestionRef};
 use dns_name::Name;
 use lru::LruCache;
 use negative_cache::{CacheAt, Found};
-use record_cache::{Cache, Held};
+use record_cache::{Cache, Held, LookUpSlot};
 use std::alloc::Global;
 use std::hash::RandomState;
 use std::num::NonZeroUsize;
@@ -79,7 +79,7 @@ fn write_answer(
 #[derive(Drop)]
 struct Room {
     /// The slot of a look-up.
-    slot: Slot,
+    slot: LookUpSlot,
     /// The octets of an answer.
     text: Vec<u8>,
 }
@@ -88,7 +88,7 @@ impl Room {
     /// Room for an answer of 512 octets.
     fn new(alloc: Global) -> Result<Room> {
         Ok(Room {
-            slot: any_slot(),
+            slot: LookUpSlot::new(),
             text: Vec::with_capacity(alloc, 512)?,
         })
     }
@@ -117,7 +117,7 @@ fn answer(
         }
         _ => return Ok(false),
     }
-    cache.promote(&room.slot);
+    cache.promote_found(&room.slot);
     Ok(true)
 }
 

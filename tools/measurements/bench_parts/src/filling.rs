@@ -4,7 +4,7 @@ ghost use Rattle.std.specs.Prelude.{◌≢◌, []};
 
 use anyhow::Result;
 use dns_message::Rdata;
-use dns_name::{Name, NameKey};
+use dns_name::Name;
 use plain_values::PlainList;
 use record_cache::{Cache, Held};
 use std::alloc::Global;
@@ -30,16 +30,6 @@ pub fn numbered(alloc: Global, number: usize) -> Result<Name> {
     let digits = number.saturating_add(10_000);
     let text = format!(in alloc; "host{digits}.some-example.com")?;
     Ok(Name::from_text(alloc, text.as_str())?)
-}
-
-/// A slot that look-ups set.
-#[tactic(auto, using(dns_name::proofs::CallerLemmas::no_octets_are_laid_out))]
-pub fn any_slot() -> Slot {
-    Slot {
-        class: CLASS,
-        kind: None,
-        key: NameKey::from_octets(&[]),
-    }
 }
 
 /// The addresses of a name for a day: one of them.

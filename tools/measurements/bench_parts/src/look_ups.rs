@@ -1,17 +1,14 @@
 //! The cost of looking a name up in a full cache, by its octets, and of changing the cache.
 
-use crate::filling::{
-    ADDRESS, CLASS, MANY, ROUNDS, addresses, any_slot, full_cache, name_error, numbered,
-};
+use crate::filling::{ADDRESS, CLASS, MANY, ROUNDS, addresses, full_cache, name_error, numbered};
 use anyhow::Result;
 use dns_message::QuestionRef;
 use dns_name::Name;
 use negative_cache::{CacheAt, Found, shown};
-use record_cache::Cache;
+use record_cache::{Cache, LookUpSlot};
 use std::hash::RandomState;
 use std::time::Instant;
 use suffix_routes::Config;
-use trust_rank::Slot;
 
 /// Two routes, so that one is looked for.
 const CONFIG: &str = r#"version = 1
@@ -44,7 +41,12 @@ fn each(rt: &HostRuntime, started: &Instant, calls: usize) -> Result<u128> {
 }
 
 /// Makes the entry that answers a question the most recently used; returns whether there is one.
-fn answer(cache: &mut Cache<RandomState>, slot: &mut Slot, name: &Name, config: &Config) -> bool {
+fn answer(
+    cache: &mut Cache<RandomState>,
+    slot: &mut LookUpSlot,
+    name: &Name,
+    config: &Config,
+) -> bool {
     let at = CacheAt {
         cache,
         config,
@@ -52,7 +54,7 @@ fn answer(cache: &mut Cache<RandomState>, slot: &mut Slot, name: &Name, config: 
     };
     let question = QuestionRef::from_octets(name.octets(), ADDRESS, CLASS);
     match at.find(slot, &question) {
-        Found::Rows(_) | Found::Denied(_) => cache.promote(slot),
+        Found::Rows(_) | Found::Denied(_) => cache.promote_found(slot),
         _ => return false,
     }
     true
@@ -66,7 +68,7 @@ fn of_name(
     config: &Config,
 ) -> Result<(bool, u128)> {
     let name = Name::from_text(rt.alloc(), name)?;
-    let mut slot = any_slot();
+    let mut slot = LookUpSlot::new();
     let mut least = u128::MAX;
     let mut answered = false;
     for _ in 0..ROUNDS {

@@ -1,4 +1,4 @@
-use Rattle.std.proofs.Common.{◌≡◌, ℕ, List, length, false, None, sym, ap, subst, ◌∙◌}
+use Rattle.std.proofs.Common.{◌≡◌, ℕ, length, false, sym, ap, subst, ◌∙◌}
 use Rattle.dns_name.specs.Labels.{labels_of, lowered, octets_of}
 use Rattle.dns_name.proofs.CallerLemmas.{lowered_is_same}
 use Rattle.record_cache.specs.Entries.{has_name_error}
@@ -18,4 +18,4 @@ returns-then-not-has_name_error-clause-found g c =
 pub returns-clause-found : goal.returns-clause-found
 returns-clause-found g c =
     c.living_entry.ensures.found
-    ∙ ap (λ (key : List (List ℕ)). living_entry c.args.at.now.moment (slots_of c.args.at.now.cache.entries) (record { key = key; class = c.args.class; kind = None })) c.set_octets.ensures
+    ∙ ap (living_entry c.args.at.now.moment (slots_of c.args.at.now.cache.entries)) c.set.ensures
