@@ -9,23 +9,19 @@ use Rattle.dns_message.specs.Borrowed.{records_in}
 use Rattle.record_cache.specs.Values.{Held}
 use Rattle.answer_builder.specs.Values.{Told}
 use Rattle.answer_builder.specs.Answers.{answers_of, told_at, told_stale, sections_told}
-use Rattle.answer_builder.specs.Building.{end_of, end_authority, end_rcode, ending, listed}
+use Rattle.answer_builder.specs.Building.{end_of, ending, listed}
 use Rattle.plain_values.specs.Borrowed.{lent}
 
 ending_is : (chain : List Told) → ending (flat_map answers_of chain) (end_of chain) ≡ sections_told chain
 ending_is [] = refl
 ending_is (t ∷ chain) = refl
 
--- sections of the records of a chain that end with its last piece
-pub told_sections : (chain : List Told) (records authority : List Record) (rcode : ℕ) (last : Option Told)
-    → records ≡ flat_map answers_of chain → authority ≡ end_authority last → rcode ≡ end_rcode last
-    → last ≡ end_of chain
-    → record { answers = records; authority = authority; rcode = rcode } ≡ sections_told chain
-told_sections chain records authority rcode last all soa code is =
-    (λ i. record { answers = all i; authority = soa i; rcode = code i })
-    ∙ ap (ending (flat_map answers_of chain)) is ∙ ending_is chain
+-- the sections with the records of a chain that end with its last piece
+pub told_ending : (chain : List Told) (records : List Record) (last : Option Told)
+    → records ≡ flat_map answers_of chain → last ≡ end_of chain → ending records last ≡ sections_told chain
+told_ending chain records last all is = (λ i. ending (all i) (is i)) ∙ ending_is chain
 
--- it is the last one
+-- the last of the pieces, if any
 pub last_is : (chain : List Told) → slice_get chain (length chain - 1) ≡ end_of chain
 last_is [] = refl
 last_is (t ∷ []) = refl

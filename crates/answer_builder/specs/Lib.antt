@@ -3,3 +3,4 @@ pub mod Answers
 pub mod Transports
 pub mod Faults
 pub mod Building
+pub mod Sets

@@ -10,9 +10,8 @@ mod text;
 mod told;
 
 pub use asked::{Asked, AskedRef, Transport};
-pub use building::{
-    build, build_local, build_stale, failure, put_answer, put_failure, put_local, put_told,
-};
+pub use building::{build, build_local, build_stale, failure, put_failure};
 pub use fault::Fault;
+pub use sections::Sections;
 pub use text::UDP_LIMIT;
 pub use told::ToldRef;

@@ -2,12 +2,12 @@
 
 ghost use Rattle.std.specs.Prelude.{◌≡◌, ◌<◌, map, IfOk, Some};
 ghost use Rattle.std.specs.List.{flat_map, AllByRecursion};
-ghost use Rattle.std.specs.Option.{option_copied, IfSome};
+ghost use Rattle.std.specs.Option.{IfSome};
 ghost use Rattle.dns_message.specs.Borrowed.{data_of, records_in};
 ghost use Rattle.dns_message.specs.Data.{IsShaped};
 ghost use Rattle.trust_rank.specs.Values.{unboxed};
 ghost use Rattle.answer_builder.specs.Answers.{aged, answers_of, authority_of, rcode_of, record_of, told_at, IsEarlier};
-ghost use Rattle.answer_builder.specs.Building.{end_authority, end_rcode, listed};
+ghost use Rattle.answer_builder.specs.Building.{listed};
 ghost use Rattle.plain_values.specs.Borrowed.{lent};
 
 use crate::told::ToldRef;
@@ -17,14 +17,14 @@ use record_cache::Held;
 use std::alloc::{AllocError, Allocator};
 use trust_rank::{Body, Piece};
 
-/// The response code of an answer that ends with this piece.
-fn rcode_of<A: Allocator>(piece: &Piece<A>) -> u8
-    ensures code { result ≡ rcode_of piece.now.body }
-    ensures small { result < 16 }
+/// The records of a set; `None` for a denial.
+pub(crate) fn set_of<'a, A: Allocator>(told: &ToldRef<'a, A>) -> Option<RowsRef<'a, A>>
+    ensures { listed result ≡ answers_of told.now }
 {
-    match &piece.body {
-        Body::Denied(_) => NXDOMAIN,
-        _ => 0,
+    let piece = told.piece;
+    match (piece.kind, &piece.body) {
+        (Some(kind), Body::Rows(rows)) => Some(rows_of(piece, kind, rows.data(), told.seconds)),
+        _ => None,
     }
 }
 
@@ -47,17 +47,6 @@ fn rows_of<'a, A: Allocator>(
     }
 }
 
-/// The records of a set; `None` for a denial.
-pub(crate) fn set_of<'a, A: Allocator>(told: &ToldRef<'a, A>) -> Option<RowsRef<'a, A>>
-    ensures { listed result ≡ answers_of told.now }
-{
-    let piece = told.piece;
-    match (piece.kind, &piece.body) {
-        (Some(kind), Body::Rows(rows)) => Some(rows_of(piece, kind, rows.data(), told.seconds)),
-        _ => None,
-    }
-}
-
 /// The records of a chain, set after set.
 pub(crate) fn sets_of<'a, A: Allocator + Copy>(
     alloc: A,
@@ -74,7 +63,8 @@ pub(crate) fn sets_of<'a, A: Allocator + Copy>(
     Ok(sets)
 }
 
-/// The same of a chain of held pieces, with what is left of them at a moment, in milliseconds.
+/// The records of a chain of held pieces, with the seconds that are left of each at a moment, in
+/// milliseconds.
 pub(crate) fn sets_at<'a, A: Allocator + Copy>(
     alloc: A,
     chain: &[&'a Held<A>],
@@ -91,6 +81,18 @@ pub(crate) fn sets_at<'a, A: Allocator + Copy>(
         }
     }
     Ok(sets)
+}
+
+/// The SOA of a denial, if it has one; a set has none.
+pub(crate) fn soa_of<'a, A: Allocator>(told: &ToldRef<'a, A>) -> Option<RowsRef<'a, A>>
+    ensures { listed result ≡ authority_of told.now }
+{
+    let piece = told.piece;
+    match &piece.body {
+        Body::Rows(_) => None,
+        Body::NoData(soa) => aged(soa, told.seconds),
+        Body::Denied(soa) => aged(soa, told.seconds),
+    }
 }
 
 /// The SOA as a set of its own, if any.
@@ -118,28 +120,13 @@ fn aged_soa<A: Allocator>(soa: &Record<A>, ttl: u32) -> RowsRef<'_, A>
     }
 }
 
-/// The SOA of a denial, if it has one; a set has none.
-fn soa_of<'a, A: Allocator>(told: &ToldRef<'a, A>) -> Option<RowsRef<'a, A>>
-    ensures { listed result ≡ authority_of told.now }
+/// The response code of an answer that ends with this piece.
+pub(crate) fn rcode_of<A: Allocator>(piece: &Piece<A>) -> u8
+    ensures code { result ≡ rcode_of piece.now.body }
+    ensures small { result < 16 }
 {
-    let piece = told.piece;
     match &piece.body {
-        Body::Rows(_) => None,
-        Body::NoData(soa) => aged(soa, told.seconds),
-        Body::Denied(soa) => aged(soa, told.seconds),
-    }
-}
-
-/// The SOA and the response code of an answer that ends with this piece, if any.
-pub(crate) fn end_of<'a, A: Allocator>(
-    last: Option<&ToldRef<'a, A>>,
-) -> (Option<RowsRef<'a, A>>, u8)
-    ensures soa { listed result.0 ≡ end_authority (option_copied last.entry) }
-    ensures code { result.1 ≡ end_rcode (option_copied last.entry) }
-    ensures small { result.1 < 16 }
-{
-    match last {
-        None => (None, 0),
-        Some(told) => (soa_of(told), rcode_of(told.piece)),
+        Body::Denied(_) => NXDOMAIN,
+        _ => 0,
     }
 }

@@ -44,39 +44,21 @@ pub(crate) fn header_of(asked: &AskedRef<'_>, rcode: u8) -> Header
     }
 }
 
-/// Writes the message, if it has at most `limit` octets; returns whether it has.
-fn put_whole<A: Allocator + Copy>(
+/// Writes the octets of an answer that are sent.
+pub(crate) fn put_text<A: Allocator + Copy>(
     alloc: A,
     octets: &mut Vec<u8, A>,
-    message: &MessageParts<'_, A>,
-    limit: usize,
-) -> Result<bool, AllocError>
-    requires limit { limit ≤ 65535 }
-    requires bits { FitsBits message.now.header }
-    ensures { IfOk result (λ whole. (if whole then Some octets.new.items else None)
-        ≡ fitting limit (written message.now)) }
+    message: MessageParts<'_, A>,
+    transport: Transport,
+) -> Result<(), Fault>
+    requires bits { FitsBits message.header }
+    requires short { length (written (cut_down message)) ≤ 65535 }
+    ensures { Gives (λ _. octets.new.items) result (sent_over transport (written message.entry)
+        (written (cut_down message.entry))) }
 {
-    match write_parts(alloc, octets, message, limit) {
-        Ok(()) => Ok(true),
-        Err(dns_message::Fault::TooLarge) => Ok(false),
-        Err(_) => Err(AllocError),
-    }
-}
-
-/// Writes a message without records: a header and a question have 271 octets at most.
-pub(crate) fn put_bare<A: Allocator + Copy>(
-    alloc: A,
-    octets: &mut Vec<u8, A>,
-    message: &MessageParts<'_, A>,
-) -> Result<(), AllocError>
-    requires bits { FitsBits message.now.header }
-    requires short { length (written message.now) ≤ 65535 }
-    ensures { OnOk result (octets.new.items ≡ written message.now) }
-{
-    if put_whole(alloc, octets, message, TCP_LIMIT)? {
-        Ok(())
-    } else {
-        unreachable!()
+    match transport {
+        Transport::Udp => Ok(put_udp(alloc, octets, message)?),
+        Transport::Tcp => put_tcp(alloc, octets, &message),
     }
 }
 
@@ -125,20 +107,38 @@ fn put_tcp<A: Allocator + Copy>(
     }
 }
 
-/// Writes the octets of an answer that are sent.
-pub(crate) fn put_text<A: Allocator + Copy>(
+/// Writes a message without records: a header and a question have 271 octets at most.
+pub(crate) fn put_bare<A: Allocator + Copy>(
     alloc: A,
     octets: &mut Vec<u8, A>,
-    message: MessageParts<'_, A>,
-    transport: Transport,
-) -> Result<(), Fault>
-    requires bits { FitsBits message.header }
-    requires short { length (written (cut_down message)) ≤ 65535 }
-    ensures { Gives (λ _. octets.new.items) result (sent_over transport (written message.entry)
-        (written (cut_down message.entry))) }
+    message: &MessageParts<'_, A>,
+) -> Result<(), AllocError>
+    requires bits { FitsBits message.now.header }
+    requires short { length (written message.now) ≤ 65535 }
+    ensures { OnOk result (octets.new.items ≡ written message.now) }
 {
-    match transport {
-        Transport::Udp => Ok(put_udp(alloc, octets, message)?),
-        Transport::Tcp => put_tcp(alloc, octets, &message),
+    if put_whole(alloc, octets, message, TCP_LIMIT)? {
+        Ok(())
+    } else {
+        unreachable!()
+    }
+}
+
+/// Writes the message, if it has at most `limit` octets; returns whether it has.
+fn put_whole<A: Allocator + Copy>(
+    alloc: A,
+    octets: &mut Vec<u8, A>,
+    message: &MessageParts<'_, A>,
+    limit: usize,
+) -> Result<bool, AllocError>
+    requires limit { limit ≤ 65535 }
+    requires bits { FitsBits message.now.header }
+    ensures { IfOk result (λ whole. (if whole then Some octets.new.items else None)
+        ≡ fitting limit (written message.now)) }
+{
+    match write_parts(alloc, octets, message, limit) {
+        Ok(()) => Ok(true),
+        Err(dns_message::Fault::TooLarge) => Ok(false),
+        Err(_) => Err(AllocError),
     }
 }

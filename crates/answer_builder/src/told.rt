@@ -72,18 +72,23 @@ fn ttl_of<A: Allocator>(held: &Held<A>, moment: u64) -> u32
     left as u32
 }
 
-/// The last of borrowed pieces, if any, with what is left of it at a moment, in milliseconds.
-pub(crate) fn last_at<'a, A: Allocator>(
-    chain: &[&'a Held<A>],
+/// Pieces with what is left of them at a moment, in milliseconds; those from index `past` on that
+/// have expired are stale (RFC 8767 4).
+pub(crate) fn told_stale<'a, A: Allocator + Copy>(
+    alloc: A,
+    chain: &'a [Held<A>],
+    past: usize,
     moment: u64,
-) -> Option<ToldRef<'a, A>>
-    requires { AllByRecursion (IsEarlier moment) (lent chain.now) }
-    ensures { result ≡ end_of (map (told_at moment) (lent chain.now)) }
+) -> Result<Vec<ToldRef<'a, A>, A>, AllocError>
+    requires within { past ≤ length chain.now }
+    requires earlier { AllByRecursion (IsEarlier moment) chain.now }
+    ensures { IfOk result (λ told. told.items ≡ told_stale past moment chain.now) }
 {
-    match chain.last() {
-        None => None,
-        Some(held) => Some(ToldRef::at(held, moment)),
-    }
+    let (before, behind) = chain.split_at(past);
+    let mut told = Vec::with_capacity(alloc, chain.len())?;
+    add_left(&mut told, before, moment)?;
+    add_past(&mut told, behind, moment)?;
+    Ok(told)
 }
 
 /// Adds pieces with what is left of them at a moment, in milliseconds.
@@ -101,7 +106,7 @@ fn add_left<'a, A: Allocator + Copy>(
     Ok(())
 }
 
-/// Adds pieces at a moment in milliseconds; expired ones are stale.
+/// Adds pieces at a moment, in milliseconds; expired ones are stale.
 fn add_past<'a, A: Allocator + Copy>(
     told: &mut Vec<ToldRef<'a, A>, A>,
     chain: &'a [Held<A>],
@@ -116,35 +121,16 @@ fn add_past<'a, A: Allocator + Copy>(
     Ok(())
 }
 
-/// Pieces with what is left of them at a moment, in milliseconds.
-pub(crate) fn told_left<'a, A: Allocator + Copy>(
-    alloc: A,
-    chain: &'a [Held<A>],
+/// The last of borrowed pieces, if any, with what is left of it at a moment, in milliseconds.
+pub(crate) fn last_at<'a, A: Allocator>(
+    chain: &[&'a Held<A>],
     moment: u64,
-) -> Result<Vec<ToldRef<'a, A>, A>, AllocError>
-    requires { AllByRecursion (IsEarlier moment) chain.now }
-    ensures { IfOk result (λ told. told.items ≡ map (told_at moment) chain.now) }
+) -> Option<ToldRef<'a, A>>
+    requires { AllByRecursion (IsEarlier moment) (lent chain.now) }
+    ensures { result ≡ end_of (map (told_at moment) (lent chain.now)) }
 {
-    let mut told = Vec::with_capacity(alloc, chain.len())?;
-    add_left(&mut told, chain, moment)?;
-    Ok(told)
-}
-
-/// Pieces with what is left of them at a moment, in milliseconds; those from index `past` on that
-/// have expired are stale.
-pub(crate) fn told_stale<'a, A: Allocator + Copy>(
-    alloc: A,
-    chain: &'a [Held<A>],
-    past: usize,
-    moment: u64,
-) -> Result<Vec<ToldRef<'a, A>, A>, AllocError>
-    requires within { past ≤ length chain.now }
-    requires earlier { AllByRecursion (IsEarlier moment) chain.now }
-    ensures { IfOk result (λ told. told.items ≡ told_stale past moment chain.now) }
-{
-    let (before, behind) = chain.split_at(past);
-    let mut told = Vec::with_capacity(alloc, chain.len())?;
-    add_left(&mut told, before, moment)?;
-    add_past(&mut told, behind, moment)?;
-    Ok(told)
+    match chain.last() {
+        None => None,
+        Some(held) => Some(ToldRef::at(held, moment)),
+    }
 }

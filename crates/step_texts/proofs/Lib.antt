@@ -3,4 +3,4 @@ pub mod CallerLemmas
 pub mod Fronts
 pub mod Room
 pub mod Telling
-pub mod Texts
+pub mod TextLaws

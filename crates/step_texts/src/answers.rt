@@ -2,23 +2,21 @@
 //! are spelled alike and came over one transport, since the answers to them differ in identifier,
 //! opcode and RD alone (RFC 1035 4.1.1).
 
-ghost use Rattle.std.specs.Prelude.{◌≡◌, ◌<◌, ◌≤◌, ◌++◌, ℕ, List, Result, IfOk, MatchOption, Some, None, length};
+ghost use Rattle.std.specs.Prelude.{◌≡◌, ◌<◌, ◌≤◌, ◌++◌, IfOk, MatchOption, Some, None, length};
 ghost use Rattle.std.specs.Prelude.{option_map};
 ghost use Rattle.std.specs.List.{AllByRecursion, find};
 ghost use Rattle.std.specs.Option.{IfSome};
 ghost use Rattle.answer_builder.specs.Answers.{IsEarlier};
 ghost use Rattle.plain_values.specs.Borrowed.{lent};
-ghost use Rattle.answer_builder.specs.Faults.{Gives};
 ghost use Rattle.answer_builder.specs.Transports.{answer_of};
-ghost use Rattle.answer_builder.specs.declared.fault.Fault.{Fault};
 ghost use Rattle.step_values.specs.Values.{action_of};
 ghost use Rattle.step_values.specs.declared.action.Why.TheVariants.{Answered};
 ghost use Rattle.step_table.specs.Steps.{sends, transport_of};
 ghost use Rattle.step_texts.specs.Spelling.{are_alike, front_of, is_for, IsSpelled, ok_text, same_spelling};
-ghost use Rattle.step_texts.specs.Spelling.{sends_text, with_front};
+ghost use Rattle.step_texts.specs.Spelling.{with_front};
 
-use crate::refusals::failure;
-use answer_builder::{AskedRef, Fault, Transport, UDP_LIMIT, put_answer};
+use crate::texts::{reply, reply_with, text_of, transport_of};
+use answer_builder::{AskedRef, Sections, Transport};
 use byteorder::{BigEndian, ByteOrder};
 use dns_message::Question;
 use dns_name::Name;
@@ -26,76 +24,8 @@ use plain_values::{Octets, PlainList};
 use record_cache::Held;
 use std::alloc::{AllocError, Allocator, Global};
 use std::marker::Model;
-use step_values::{Action, Client, Why};
+use step_values::{Action, Why};
 use waiting_questions::{Request, Waiting};
-
-/// The transport of the answer to a client.
-pub(crate) fn transport_of(client: Client) -> Transport
-    ensures { result ≡ transport_of client }
-{
-    match client {
-        Client::Udp(_) => Transport::Udp,
-        Client::Tcp(_) => Transport::Tcp,
-    }
-}
-
-/// The text of the answer from a chain of pieces; `None` where it is too large.
-fn text_from<A: Allocator + Copy>(
-    alloc: A,
-    request: &Request<'_>,
-    chain: &[&Held<A>],
-    moment: u64,
-    transport: Transport,
-) -> Result<Option<Octets<A>>, AllocError>
-    requires earlier { AllByRecursion (IsEarlier moment) (lent chain.now) }
-    ensures { IfOk result (λ text. text ≡ ok_text (answer_of request.now.asked (lent chain.now) moment transport)) }
-{
-    let mut octets = Vec::with_capacity(alloc, UDP_LIMIT)?;
-    let put = put_answer(
-        alloc,
-        &mut octets,
-        request.asked(),
-        chain,
-        moment,
-        transport,
-    );
-    text_put(octets, put)
-}
-
-/// The text that was written as these octets; `None` where it is too large. `Err` where memory ran
-/// out.
-pub(crate) fn text_put<A: Allocator>(
-    octets: Vec<u8, A>,
-    put: Result<(), Fault>,
-) -> Result<Option<Octets<A>>, AllocError>
-    ensures { (text : Result (List ℕ) Fault) → Gives (λ _. octets.items) put text
-        → IfOk result (λ own. own ≡ ok_text text) }
-{
-    match put {
-        Ok(()) => Ok(Some(Octets::from_vec(octets))),
-        Err(Fault::TooLarge) => Ok(None),
-        Err(Fault::Memory) => Err(AllocError),
-    }
-}
-
-/// The reply with this text for this reason, or that it is too large.
-pub(crate) fn reply<A: Allocator + Copy>(
-    alloc: A,
-    request: &Request<'_>,
-    text: Option<Octets<A>>,
-    why: Why,
-) -> Result<Action<A>, AllocError>
-    ensures { IfOk result (λ action. action_of action ≡ sends_text why request.now text) }
-{
-    match text {
-        Some(bytes) => Ok(Action::Reply {
-            client: request.client,
-            bytes,
-            why,
-        }),
-        None => failure(alloc, request, Why::TooLarge),
-    }
-}
 
 /// The reply to a question from a chain of pieces, none accepted after the moment, in milliseconds:
 /// aliases in order, then a set or a denial. `Err` where memory ran out.
@@ -109,77 +39,8 @@ pub fn answer<A: Allocator + Copy>(
     ensures { IfOk result (λ action. action_of action ≡ sends Answered request.now
         (answer_of request.now.asked (lent chain.now) moment (transport_of request.now.client))) }
 {
-    let transport = transport_of(request.client);
-    let text = text_from(alloc, request, chain, moment, transport)?;
-    reply(alloc, request, text, Why::Answered)
-}
-
-/// The text for a question as it is spelled; `None` where it is too large.
-#[derive(Drop)]
-pub(crate) struct Spelled<'a, A: Allocator = Global> {
-    question: &'a Question<A>,
-    transport: Transport,
-    text: Option<Octets<A>>,
-}
-
-/// Whether the names are equal, letter case included.
-fn is_same_spelling<A: Allocator>(a: &Name<A>, b: &Name<A>) -> bool
-    ensures { result ≡ same_spelling a.now b.now }
-{
-    a.octets() == b.octets()
-}
-
-/// Whether the questions are equal, letter case included.
-fn is_alike<A: Allocator>(a: &Question<A>, b: &Question<A>) -> bool
-    ensures { result ≡ are_alike a.now b.now }
-{
-    is_same_spelling(&a.name, &b.name) && a.kind == b.kind && a.class == b.class
-}
-
-/// The text for this question over this transport, if it was written.
-fn find_spelled<'a, 'b, A: Allocator>(
-    texts: &'b [Spelled<'a, A>],
-    question: &Question<A>,
-    transport: Transport,
-) -> Option<&'b Spelled<'a, A>>
-    ensures { MatchOption result (find (is_for transport question.now) texts.now ≡ None)
-        (λ s. find (is_for transport question.now) texts.now ≡ Some s.now) }
-{
-    for spelled in texts {
-        if spelled.transport == transport && is_alike(spelled.question, question) {
-            return Some(spelled);
-        }
-    }
-    None
-}
-
-/// The first three octets of the answer to a request: identifier, QR, opcode and RD, and the TC of
-/// these flags; AA is clear.
-fn front_of(asked: &AskedRef<'_>, flags: u8) -> [u8; 3]
-    requires { asked.now.opcode < 16 }
-    ensures { result ≡ front_of asked.now flags }
-{
-    let cut = flags / 2 % 2;
-    let mut front = [0; 3];
-    BigEndian::write_u16(&mut front, asked.id);
-    front[2] = 128 + 8 * asked.opcode + 2 * cut + u8::from(asked.rd);
-    front
-}
-
-/// The octets of an answer under the front of another one.
-fn under_front<A: Allocator + Copy>(
-    alloc: A,
-    asked: &AskedRef<'_>,
-    text: &[u8],
-) -> Result<Octets<A>, AllocError>
-    requires opcode { asked.now.opcode < 16 }
-    requires some { 3 ≤ length text.now }
-    ensures { IfOk result (λ own. own ≡ with_front asked.now text.now) }
-{
-    let mut octets = Vec::with_capacity(alloc, text.len())?;
-    octets.extend_from_slice(&front_of(asked, text[2]))?;
-    octets.extend_from_slice(&text[3..])?;
-    Ok(Octets::from_vec(octets))
+    let sections = Sections::answer(alloc, chain, moment)?;
+    reply(alloc, request, &sections, Why::Answered)
 }
 
 /// The replies to all that wait, from one chain of pieces.
@@ -231,47 +92,6 @@ impl<'a, A: Allocator + Copy> Answers<'a, A> {
         self.chain.len()
     }
 
-    /// The text for a question that is spelled like one before, or that is written now and kept.
-    fn text_for(
-        &mut self,
-        waiting: &'a Waiting<A>,
-        transport: Transport,
-    ) -> Result<Option<Octets<A>>, AllocError>
-        ensures same { self.new ≡ self.old }
-        ensures text { IfOk result (λ text. text
-            ≡ ok_text (answer_of waiting.now.asked self.old.chain self.old.moment transport)) }
-    {
-        let request = waiting.request();
-        if let Some(spelled) = find_spelled(self.spelled.as_slice(), &waiting.question, transport) {
-            return repeated(self.alloc, &request, spelled);
-        }
-        let text = text_from(self.alloc, &request, self.chain, self.moment, transport)?;
-        let spelled = Spelled {
-            question: &waiting.question,
-            transport,
-            text,
-        };
-        let own = repeated(self.alloc, &request, &spelled)?;
-        self.spelled.push(spelled)?;
-        Ok(own)
-    }
-
-    /// The reply to a question that holds no aliases.
-    fn plain_reply(&mut self, waiting: &'a Waiting<A>) -> Result<Action<A>, AllocError>
-        ensures same { self.new ≡ self.old }
-        ensures reply { IfOk result (λ action. action_of action
-            ≡ sends Answered waiting.now (answer_of waiting.now.asked self.old.chain self.old.moment
-            (transport_of waiting.now.client))) }
-    {
-        let request = waiting.request();
-        if !self.has_replied {
-            self.has_replied = true;
-            return answer(self.alloc, &request, self.chain, self.moment);
-        }
-        let text = self.text_for(waiting, transport_of(waiting.client))?;
-        reply(self.alloc, &request, text, Why::Answered)
-    }
-
     /// The reply to a question, from the aliases that it holds and then the chain. The caller makes
     /// sure that none of the aliases was accepted after the moment. `Err` where memory ran out.
     pub fn reply(&mut self, waiting: &'a Waiting<A>) -> Result<Action<A>, AllocError>
@@ -288,23 +108,79 @@ impl<'a, A: Allocator + Copy> Answers<'a, A> {
         let whole = behind(self.alloc, aliases, self.chain)?;
         answer(self.alloc, &waiting.request(), &whole, self.moment)
     }
+
+    /// The reply to a question that holds no aliases.
+    fn plain_reply(&mut self, waiting: &'a Waiting<A>) -> Result<Action<A>, AllocError>
+        ensures same { self.new ≡ self.old }
+        ensures reply { IfOk result (λ action. action_of action
+            ≡ sends Answered waiting.now (answer_of waiting.now.asked self.old.chain self.old.moment
+            (transport_of waiting.now.client))) }
+    {
+        let request = waiting.request();
+        if !self.has_replied {
+            self.has_replied = true;
+            return answer(self.alloc, &request, self.chain, self.moment);
+        }
+        let text = self.text_for(waiting, transport_of(waiting.client))?;
+        reply_with(self.alloc, &request, text, Why::Answered)
+    }
+
+    /// The text for a question that is spelled like one before, or that is written now and kept.
+    fn text_for(
+        &mut self,
+        waiting: &'a Waiting<A>,
+        transport: Transport,
+    ) -> Result<Option<Octets<A>>, AllocError>
+        ensures same { self.new ≡ self.old }
+        ensures text { IfOk result (λ text. text
+            ≡ ok_text (answer_of waiting.now.asked self.old.chain self.old.moment transport)) }
+    {
+        let request = waiting.request();
+        if let Some(spelled) = find_spelled(self.spelled.as_slice(), &waiting.question, transport) {
+            return repeated(self.alloc, &request, spelled);
+        }
+        let sections = Sections::answer(self.alloc, self.chain, self.moment)?;
+        let text = text_of(self.alloc, &request, &sections, transport)?;
+        let spelled = Spelled {
+            question: &waiting.question,
+            transport,
+            text,
+        };
+        let own = repeated(self.alloc, &request, &spelled)?;
+        self.spelled.push(spelled)?;
+        Ok(own)
+    }
 }
 
-/// The aliases and then the chain, borrowed. `Err` where memory ran out.
-pub(crate) fn behind<'a, A: Allocator + Copy>(
-    alloc: A,
-    aliases: &'a [Held<A>],
-    chain: &[&'a Held<A>],
-) -> Result<Vec<&'a Held<A>, A>, AllocError>
-    ensures { IfOk result (λ whole. lent whole.items ≡ aliases.now ++ lent chain.now) }
+/// The text for this question over this transport, if it was written.
+fn find_spelled<'a, 'b, A: Allocator>(
+    texts: &'b [Spelled<'a, A>],
+    question: &Question<A>,
+    transport: Transport,
+) -> Option<&'b Spelled<'a, A>>
+    ensures { MatchOption result (find (is_for transport question.now) texts.now ≡ None)
+        (λ s. find (is_for transport question.now) texts.now ≡ Some s.now) }
 {
-    let count = aliases.len().saturating_add(chain.len());
-    let mut whole = Vec::with_capacity(alloc, count)?;
-    for held in aliases {
-        whole.push(held)?;
+    for spelled in texts {
+        if spelled.transport == transport && is_alike(spelled.question, question) {
+            return Some(spelled);
+        }
     }
-    whole.extend_from_slice(chain)?;
-    Ok(whole)
+    None
+}
+
+/// Whether the questions are equal, letter case included.
+fn is_alike<A: Allocator>(a: &Question<A>, b: &Question<A>) -> bool
+    ensures { result ≡ are_alike a.now b.now }
+{
+    is_same_spelling(&a.name, &b.name) && a.kind == b.kind && a.class == b.class
+}
+
+/// Whether the names are equal, letter case included.
+fn is_same_spelling<A: Allocator>(a: &Name<A>, b: &Name<A>) -> bool
+    ensures { result ≡ same_spelling a.now b.now }
+{
+    a.octets() == b.octets()
 }
 
 /// The text that was written, under the front of the answer to this question.
@@ -323,4 +199,58 @@ fn repeated<A: Allocator + Copy>(
             Ok(Some(own))
         }
     }
+}
+
+/// The octets of an answer under the front of another one.
+fn under_front<A: Allocator + Copy>(
+    alloc: A,
+    asked: &AskedRef<'_>,
+    text: &[u8],
+) -> Result<Octets<A>, AllocError>
+    requires opcode { asked.now.opcode < 16 }
+    requires some { 3 ≤ length text.now }
+    ensures { IfOk result (λ own. own ≡ with_front asked.now text.now) }
+{
+    let mut octets = Vec::with_capacity(alloc, text.len())?;
+    octets.extend_from_slice(&front_of(asked, text[2]))?;
+    octets.extend_from_slice(&text[3..])?;
+    Ok(Octets::from_vec(octets))
+}
+
+/// The first three octets of the answer to a request: identifier, QR, opcode and RD, and the TC of
+/// these flags; AA is clear.
+fn front_of(asked: &AskedRef<'_>, flags: u8) -> [u8; 3]
+    requires { asked.now.opcode < 16 }
+    ensures { result ≡ front_of asked.now flags }
+{
+    let cut = flags / 2 % 2;
+    let mut front = [0; 3];
+    BigEndian::write_u16(&mut front, asked.id);
+    front[2] = 128 + 8 * asked.opcode + 2 * cut + u8::from(asked.rd);
+    front
+}
+
+/// The text for a question as it is spelled; `None` where it is too large.
+#[derive(Drop)]
+pub(crate) struct Spelled<'a, A: Allocator = Global> {
+    question: &'a Question<A>,
+    transport: Transport,
+    text: Option<Octets<A>>,
+}
+
+/// The aliases and then the chain, borrowed. `Err` where memory ran out.
+pub(crate) fn behind<'a, A: Allocator + Copy>(
+    alloc: A,
+    aliases: &'a [Held<A>],
+    chain: &[&'a Held<A>],
+) -> Result<Vec<&'a Held<A>, A>, AllocError>
+    ensures { IfOk result (λ whole. lent whole.items ≡ aliases.now ++ lent chain.now) }
+{
+    let count = aliases.len().saturating_add(chain.len());
+    let mut whole = Vec::with_capacity(alloc, count)?;
+    for held in aliases {
+        whole.push(held)?;
+    }
+    whole.extend_from_slice(chain)?;
+    Ok(whole)
 }

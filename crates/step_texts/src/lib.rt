@@ -5,6 +5,7 @@ mod answers;
 mod past_ends;
 mod queries;
 mod refusals;
+mod texts;
 
 pub use answers::{Answers, answer};
 pub use past_ends::{local_answer, stale_answer};

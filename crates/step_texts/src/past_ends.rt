@@ -2,21 +2,59 @@
 
 ghost use Rattle.std.specs.Prelude.{◌≡◌, ◌++◌, IfOk, length};
 ghost use Rattle.std.specs.List.{AllByRecursion};
-ghost use Rattle.answer_builder.specs.Answers.{local_sections, sections_told, told_stale, IsEarlier};
+ghost use Rattle.answer_builder.specs.Answers.{told_stale, IsEarlier};
 ghost use Rattle.plain_values.specs.Borrowed.{lent};
-ghost use Rattle.answer_builder.specs.Transports.{stale_answer_of, text_of};
+ghost use Rattle.answer_builder.specs.Transports.{stale_answer_of};
 ghost use Rattle.step_values.specs.Values.{action_of};
 ghost use Rattle.step_values.specs.declared.action.Why.TheVariants.{Stale};
 ghost use Rattle.step_table.specs.Steps.{denied_locally, sends, transport_of};
-ghost use Rattle.step_texts.specs.Spelling.{ok_text};
 
-use crate::answers::{behind, reply, text_put, transport_of};
-use answer_builder::{ToldRef, Transport, UDP_LIMIT, put_local, put_told};
-use plain_values::Octets;
+use crate::answers::behind;
+use crate::texts::reply;
+use answer_builder::{Sections, ToldRef};
 use record_cache::Held;
 use std::alloc::{AllocError, Allocator};
 use step_values::{Action, Why};
 use waiting_questions::Request;
+
+/// The reply to a question whose tries are used up: from the aliases that it holds, then the found
+/// pieces, which may be stale. None was accepted after the moment, in milliseconds. The expired of
+/// the found pieces get a TTL of 30 seconds (RFC 8767 4). `Err` where memory ran out.
+pub fn stale_answer<A: Allocator + Copy>(
+    alloc: A,
+    request: &Request<'_>,
+    aliases: &[Held<A>],
+    found: &[&Held<A>],
+    moment: u64,
+) -> Result<Action<A>, AllocError>
+    requires aliases { AllByRecursion (IsEarlier moment) aliases.now }
+    requires found { AllByRecursion (IsEarlier moment) (lent found.now) }
+    ensures { IfOk result (λ action. action_of action ≡ sends Stale request.now
+        (stale_answer_of request.now.asked (aliases.now ++ lent found.now) (length aliases.now) moment
+        (transport_of request.now.client))) }
+{
+    let chain = behind(alloc, aliases, found)?;
+    let told = told_from(alloc, &chain, aliases.len(), moment)?;
+    let sections = Sections::stale(alloc, &told)?;
+    reply(alloc, request, &sections, Why::Stale)
+}
+
+/// The reply to a question whose own name, or the one that these aliases lead to, the configuration
+/// denies: a name error with the aliases alone (RFC 6761 6.4). None of the aliases was accepted
+/// after the moment, in milliseconds. `Err` where memory ran out.
+pub fn local_answer<A: Allocator + Copy>(
+    alloc: A,
+    request: &Request<'_>,
+    aliases: &[&Held<A>],
+    moment: u64,
+) -> Result<Action<A>, AllocError>
+    requires { AllByRecursion (IsEarlier moment) (lent aliases.now) }
+    ensures { IfOk result (λ action. action_of action ≡ denied_locally moment request.now (lent aliases.now)) }
+{
+    let told = told_from(alloc, aliases, aliases.len(), moment)?;
+    let sections = Sections::denied(alloc, &told)?;
+    reply(alloc, request, &sections, Why::LocalDenied)
+}
 
 /// The pieces of a chain as the answer has them at a moment, in milliseconds: the first `past` with
 /// the lifetime that is left, the others as stale ones.
@@ -39,71 +77,4 @@ fn told_from<'a, A: Allocator + Copy>(
         told.push(one)?;
     }
     Ok(told)
-}
-
-/// The text of the answer from these pieces; `None` where it is too large.
-fn told_text<A: Allocator + Copy>(
-    alloc: A,
-    request: &Request<'_>,
-    told: &[ToldRef<'_, A>],
-    transport: Transport,
-) -> Result<Option<Octets<A>>, AllocError>
-    ensures { IfOk result (λ text. text ≡ ok_text (text_of request.now.asked (sections_told told.now) transport)) }
-{
-    let mut octets = Vec::with_capacity(alloc, UDP_LIMIT)?;
-    let put = put_told(alloc, &mut octets, request.asked(), told, transport);
-    text_put(octets, put)
-}
-
-/// The text of the denial after these aliases; `None` where it is too large.
-fn local_text<A: Allocator + Copy>(
-    alloc: A,
-    request: &Request<'_>,
-    aliases: &[ToldRef<'_, A>],
-    transport: Transport,
-) -> Result<Option<Octets<A>>, AllocError>
-    ensures { IfOk result (λ text. text ≡ ok_text (text_of request.now.asked (local_sections aliases.now) transport)) }
-{
-    let mut octets = Vec::with_capacity(alloc, UDP_LIMIT)?;
-    let put = put_local(alloc, &mut octets, request.asked(), aliases, transport);
-    text_put(octets, put)
-}
-
-/// The reply to a question whose tries are used up: from the aliases that it holds, then the found
-/// pieces, which may be stale. None was accepted after the moment, in milliseconds. The expired of
-/// the found pieces get a TTL of 30 seconds (RFC 8767 4). `Err` where memory ran out.
-pub fn stale_answer<A: Allocator + Copy>(
-    alloc: A,
-    request: &Request<'_>,
-    aliases: &[Held<A>],
-    found: &[&Held<A>],
-    moment: u64,
-) -> Result<Action<A>, AllocError>
-    requires aliases { AllByRecursion (IsEarlier moment) aliases.now }
-    requires found { AllByRecursion (IsEarlier moment) (lent found.now) }
-    ensures { IfOk result (λ action. action_of action ≡ sends Stale request.now
-        (stale_answer_of request.now.asked (aliases.now ++ lent found.now) (length aliases.now) moment
-        (transport_of request.now.client))) }
-{
-    let chain = behind(alloc, aliases, found)?;
-    let told = told_from(alloc, &chain, aliases.len(), moment)?;
-    let text = told_text(alloc, request, &told, transport_of(request.client))?;
-    reply(alloc, request, text, Why::Stale)
-}
-
-/// The reply to a question whose own name, or the one that these aliases lead to, the configuration
-/// denies: a name error with the aliases alone (RFC 6761 6.4). None of the aliases was accepted
-/// after the moment, in milliseconds. `Err` where memory ran out.
-pub fn local_answer<A: Allocator + Copy>(
-    alloc: A,
-    request: &Request<'_>,
-    aliases: &[&Held<A>],
-    moment: u64,
-) -> Result<Action<A>, AllocError>
-    requires { AllByRecursion (IsEarlier moment) (lent aliases.now) }
-    ensures { IfOk result (λ action. action_of action ≡ denied_locally moment request.now (lent aliases.now)) }
-{
-    let told = told_from(alloc, aliases, aliases.len(), moment)?;
-    let text = local_text(alloc, request, &told, transport_of(request.client))?;
-    reply(alloc, request, text, Why::LocalDenied)
 }

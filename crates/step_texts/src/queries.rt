@@ -15,22 +15,23 @@ use plain_values::Octets;
 use std::alloc::{AllocError, Allocator};
 use step_values::Action;
 
-/// The header of a query: RD alone (RFC 1035 4.1.1).
-fn query_header(id: u16) -> Header
-    ensures header { (q : Question) → result ≡ (ask_message id q).header }
-    ensures bits { FitsBits result }
+/// The action that sends an ask. `Err` where memory ran out.
+pub fn ask<A: Allocator + Copy>(alloc: A, ask: &Ask<A>) -> Result<Action<A>, AllocError>
+    ensures { IfOk result (λ action. action_of action ≡ asks ask.now) }
 {
-    Header {
-        id,
-        qr: false,
-        opcode: 0,
-        aa: false,
-        tc: false,
-        rd: true,
-        ra: false,
-        z: 0,
-        rcode: 0,
-        counts: [1, 0, 0, 0],
+    let bytes = query_text(alloc, ask)?;
+    let server = ask.peer;
+    match ask.path {
+        Path::Udp(port) => Ok(Action::AskUdp {
+            port,
+            server,
+            bytes,
+        }),
+        Path::Tcp(conn) => Ok(Action::AskTcp {
+            conn,
+            server,
+            bytes,
+        }),
     }
 }
 
@@ -54,22 +55,21 @@ fn query_text<A: Allocator + Copy>(alloc: A, ask: &Ask<A>) -> Result<Octets<A>, 
     }
 }
 
-/// The action that sends an ask. `Err` where memory ran out.
-pub fn ask<A: Allocator + Copy>(alloc: A, ask: &Ask<A>) -> Result<Action<A>, AllocError>
-    ensures { IfOk result (λ action. action_of action ≡ asks ask.now) }
+/// The header of a query: RD alone (RFC 1035 4.1.1).
+fn query_header(id: u16) -> Header
+    ensures header { (q : Question) → result ≡ (ask_message id q).header }
+    ensures bits { FitsBits result }
 {
-    let bytes = query_text(alloc, ask)?;
-    let server = ask.peer;
-    match ask.path {
-        Path::Udp(port) => Ok(Action::AskUdp {
-            port,
-            server,
-            bytes,
-        }),
-        Path::Tcp(conn) => Ok(Action::AskTcp {
-            conn,
-            server,
-            bytes,
-        }),
+    Header {
+        id,
+        qr: false,
+        opcode: 0,
+        aa: false,
+        tc: false,
+        rd: true,
+        ra: false,
+        z: 0,
+        rcode: 0,
+        counts: [1, 0, 0, 0],
     }
 }

@@ -16,46 +16,6 @@ use waiting_questions::Request;
 /// A header and a question have 271 octets at most.
 pub(crate) const BARE_ROOM: usize = 271;
 
-/// The response code of a reply (RFC 1035 4.1.1).
-fn rcode_of(why: Why) -> u8
-    ensures code { result ≡ rcode_of_why why }
-    ensures small { result < 16 }
-{
-    match why {
-        Why::Answered | Why::Stale => codes::NOERROR,
-        Why::BadFormat => codes::FORMERR,
-        Why::BadOpcode | Why::NotServed => codes::NOTIMP,
-        Why::LocalDenied => codes::NXDOMAIN,
-        Why::NoRoute => codes::REFUSED,
-        Why::QuestionsFull
-        | Why::InquiriesFull
-        | Why::NoPort
-        | Why::Exhausted
-        | Why::Deadline
-        | Why::ChainLong
-        | Why::TooLarge => codes::SERVFAIL,
-    }
-}
-
-/// The reply to a client whose question fails, with the reason.
-fn failed<A: Allocator + Copy>(
-    alloc: A,
-    client: Client,
-    asked: AskedRef<'_>,
-    why: Why,
-) -> Result<Action<A>, AllocError>
-    requires { asked.opcode < 16 }
-    ensures { IfOk result (λ action. action_of action ≡ failed client asked.entry why) }
-{
-    let mut octets = Vec::with_capacity(alloc, BARE_ROOM)?;
-    put_failure(alloc, &mut octets, asked, rcode_of(why))?;
-    Ok(Action::Reply {
-        client,
-        bytes: Octets::from_vec(octets),
-        why,
-    })
-}
-
 /// The reply to a question that fails, with the question as it came. `Err` where memory ran out.
 pub fn failure<A: Allocator + Copy>(
     alloc: A,
@@ -85,4 +45,44 @@ pub fn refusal<A: Allocator + Copy>(
         question: None,
     };
     failed(alloc, client, asked, why)
+}
+
+/// The reply to a client whose question fails, with the reason.
+fn failed<A: Allocator + Copy>(
+    alloc: A,
+    client: Client,
+    asked: AskedRef<'_>,
+    why: Why,
+) -> Result<Action<A>, AllocError>
+    requires { asked.opcode < 16 }
+    ensures { IfOk result (λ action. action_of action ≡ failed client asked.entry why) }
+{
+    let mut octets = Vec::with_capacity(alloc, BARE_ROOM)?;
+    put_failure(alloc, &mut octets, asked, rcode_of(why))?;
+    Ok(Action::Reply {
+        client,
+        bytes: Octets::from_vec(octets),
+        why,
+    })
+}
+
+/// The response code of a reply (RFC 1035 4.1.1).
+fn rcode_of(why: Why) -> u8
+    ensures code { result ≡ rcode_of_why why }
+    ensures small { result < 16 }
+{
+    match why {
+        Why::Answered | Why::Stale => codes::NOERROR,
+        Why::BadFormat => codes::FORMERR,
+        Why::BadOpcode | Why::NotServed => codes::NOTIMP,
+        Why::LocalDenied => codes::NXDOMAIN,
+        Why::NoRoute => codes::REFUSED,
+        Why::QuestionsFull
+        | Why::InquiriesFull
+        | Why::NoPort
+        | Why::Exhausted
+        | Why::Deadline
+        | Why::ChainLong
+        | Why::TooLarge => codes::SERVFAIL,
+    }
 }

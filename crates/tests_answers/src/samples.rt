@@ -4,7 +4,7 @@ ghost use Rattle.std.specs.Prelude.{◌<◌, ◌≤◌, IfOk};
 ghost use Rattle.std.specs.List.{AllByRecursion};
 ghost use Rattle.answer_builder.specs.Answers.{IsEarlier};
 
-use answer_builder::{Asked, Fault, Transport, build, build_local, build_stale, put_answer};
+use answer_builder::{Asked, Fault, Sections, Transport, build, build_local, build_stale};
 use dns_message::{MessageRef, Question};
 use plain_values::{Octets, PlainList};
 use record_cache::Held;
@@ -170,10 +170,12 @@ fn put<A: Allocator + Copy>(
     let asked = asked.borrowed();
     match chain {
         [only] if only.accepted <= moment => {
-            put_answer(alloc, octets, asked, &[only], moment, Transport::Udp)
+            let sections = Sections::answer(alloc, &[only], moment)?;
+            sections.put(alloc, octets, asked, Transport::Udp)
         }
         [alias, last] if alias.accepted <= moment && last.accepted <= moment => {
-            put_answer(alloc, octets, asked, &[alias, last], moment, Transport::Udp)
+            let sections = Sections::answer(alloc, &[alias, last], moment)?;
+            sections.put(alloc, octets, asked, Transport::Udp)
         }
         _ => Err(Fault::TooLarge),
     }

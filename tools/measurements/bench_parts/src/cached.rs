@@ -3,7 +3,7 @@
 ghost use Rattle.std.specs.Prelude.{◌≤◌};
 
 use crate::filling::{MANY, ROUNDS, addresses, full_cache, held_of, numbered, slots_of};
-use answer_builder::{AskedRef, Transport, put_answer};
+use answer_builder::{AskedRef, Sections, Transport};
 use anyhow::Result;
 use dns_message::{Header, MessageRef, QuestionRef};
 use dns_name::Name;
@@ -71,7 +71,8 @@ fn write_answer(
         rd: header.rd,
         question: Some(question),
     };
-    put_answer(alloc, text, asked, &[held], NOW, Transport::Udp)?;
+    let sections = Sections::answer(alloc, &[held], NOW)?;
+    sections.put(alloc, text, asked, Transport::Udp)?;
     Ok(())
 }
 

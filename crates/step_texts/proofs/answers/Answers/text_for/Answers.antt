@@ -1,9 +1,12 @@
 use Rattle.std.proofs.Common.{◌<◌, ◌∙◌, ap, subst, sym}
 use Rattle.std.proofs.lemmas.Result.{IfOk-weaker}
 use Rattle.plain_values.specs.Borrowed.{lent}
+use Rattle.answer_builder.specs.Transports.{text_of}
+use Rattle.answer_builder.specs.Values.{Sections}
 use Rattle.waiting_questions.specs.Values.{Waiting}
+use Rattle.step_texts.specs.Spelling.{ok_text}
 use Rattle.step_texts.proofs.Fronts.{has_front}
-use Rattle.step_texts.proofs.Texts.{found_text, own_text, spelled_more}
+use Rattle.step_texts.proofs.TextLaws.{found_text, own_text, spelled_more}
 use Rattle.step_texts.proofs.answers.Answers.text_for.Goals as goal
 
 pub repeated-requires : goal.repeated-requires
@@ -23,15 +26,15 @@ returns-in-Some-clause-text g c =
 pub repeated-requires-2 : goal.repeated-requires-2
 repeated-requires-2 g c =
     let small = subst (λ (w : Waiting). w.asked.opcode < 16) c.waiting.view_is c.waiting.invariant in
-    let text = own_text (lent c.self.inside.chain.now) c.self.inside.moment c.args.transport c.args.waiting.now.asked c.in_ok-text.text small (rw c.request-request.ensures.asked at c.in_ok-text.ensures) in
+    let text = own_text (lent c.self.inside.chain.now) c.self.inside.moment c.args.transport c.args.waiting.now.asked c.in_ok-text.text small ((rw c.request-request.ensures.asked at c.in_ok-text.ensures) ∙ ap (λ (s : Sections). ok_text (text_of c.args.waiting.now.asked s c.args.transport)) c.in_ok-sections.ensures) in
     has_front (lent c.self.inside.chain.now) c.self.inside.moment c.args.transport c.args.waiting.now.asked c.in_ok-text.text text
 
 pub invariant_of-self-2 : goal.invariant_of-self-2
 invariant_of-self-2 g c =
     let asked = sym (ap (λ (w : Waiting). w.asked.question) c.waiting.view_is) in
-    spelled_more (lent c.self.inside.chain.now) c.self.inside.moment c.args.waiting.now.asked c.self.inside.spelled c.push.new.self _ c.self.invariant c.in_ok-push.ensures.ok asked (rw c.request-request.ensures.asked at c.in_ok-text.ensures)
+    spelled_more (lent c.self.inside.chain.now) c.self.inside.moment c.args.waiting.now.asked c.self.inside.spelled c.push.new.self _ c.self.invariant c.in_ok-push.ensures.ok asked ((rw c.request-request.ensures.asked at c.in_ok-text.ensures) ∙ ap (λ (s : Sections). ok_text (text_of c.args.waiting.now.asked s c.args.transport)) c.in_ok-sections.ensures)
 
 pub returns-clause-text : goal.returns-clause-text
 returns-clause-text g c =
     let small = subst (λ (w : Waiting). w.asked.opcode < 16) c.waiting.view_is c.waiting.invariant in
-    rw (← c.self.view_is) ((rw c.request-request.ensures.asked at c.in_ok-own.ensures) ∙ own_text (lent c.self.inside.chain.now) c.self.inside.moment c.args.transport c.args.waiting.now.asked c.in_ok-text.text small (rw c.request-request.ensures.asked at c.in_ok-text.ensures))
+    rw (← c.self.view_is) ((rw c.request-request.ensures.asked at c.in_ok-own.ensures) ∙ own_text (lent c.self.inside.chain.now) c.self.inside.moment c.args.transport c.args.waiting.now.asked c.in_ok-text.text small ((rw c.request-request.ensures.asked at c.in_ok-text.ensures) ∙ ap (λ (s : Sections). ok_text (text_of c.args.waiting.now.asked s c.args.transport)) c.in_ok-sections.ensures))

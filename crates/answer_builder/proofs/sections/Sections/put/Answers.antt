@@ -4,8 +4,9 @@ use Rattle.dns_name.specs.Labels.{IsName}
 use Rattle.dns_message.proofs.CallerLemmas.{bare_message_is_short}
 use Rattle.answer_builder.specs.Values.{Asked, Sections}
 use Rattle.answer_builder.specs.Answers.{answer_header}
+use Rattle.answer_builder.proofs.Chains.{listed_slice}
 use Rattle.answer_builder.proofs.Texts.{sent_text, gives_as}
-use Rattle.answer_builder.proofs.building.put_sections.Goals as goal
+use Rattle.answer_builder.proofs.sections.Sections.put.Goals as goal
 
 pub put_text-requires-clause-short : goal.put_text-requires-clause-short
 put_text-requires-clause-short g c =
@@ -15,14 +16,14 @@ put_text-requires-clause-short g c =
 
 pub returns : goal.returns
 returns g c =
-    let is = c.sections.view_is in
+    let is = c.self.view_is in
     let asked = c.args.asked in
     let code = ap (λ (s : Sections). answer_header asked false s.rcode (0 ∷ 0 ∷ 0 ∷ 0 ∷ [])) is in
     let header = c.header_of.ensures.header ∙ code in
     let question = ap (λ (a : Asked). a.question) c.asked.view_is in
-    let answers = ap (λ (s : Sections). s.answers) is in
-    let authority = ap (λ (s : Sections). s.authority) is in
-    let sets = c.sections.inside in
-    let same = sent_text asked c.args.sections c.args.transport c.header_of.result c.asked.inside.question sets.answers.now
-    sets.authority.now header question answers authority in
+    let answers = c.as_slice.ensures ∙ ap (λ (s : Sections). s.answers) is in
+    let soa = c.as_slice-2 in
+    let authority = listed_slice c.self.inside.soa soa.result.now soa.ensures ∙ ap (λ (s : Sections). s.authority) is in
+    let same = sent_text asked c.args.self.now c.args.transport c.header_of.result c.asked.inside.question c.as_slice.result.now
+    soa.result.now header question answers authority in
     gives_as _ c.put_text.result _ _ same c.put_text.ensures
