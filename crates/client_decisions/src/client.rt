@@ -134,13 +134,19 @@ fn first_ask<'a, H: BuildHasher + Drop, A: Allocator + Copy>(
 ) -> Result<Option<Ask<A>>, AllocError>
     ensures { IfOk result (λ ask. ask ≡ first_ask turn.now question.now route) }
 {
-    let server = turn.preferred.get(route.place).copied().unwrap_or(0);
+    let server = turn
+        .kept
+        .preferred
+        .as_slice()
+        .get(route.place)
+        .copied()
+        .unwrap_or(0);
     let attempt = Attempt {
         route,
         server,
         used: 1,
     };
-    let drawn = by_udp(draw(turn.words, turn.inquiries, None));
+    let drawn = by_udp(draw(turn.words, &turn.kept.inquiries, None));
     new_ask(turn, question, attempt, drawn)
 }
 
@@ -148,7 +154,7 @@ fn first_ask<'a, H: BuildHasher + Drop, A: Allocator + Copy>(
 fn asks_under_way<'a, H: BuildHasher + Drop, A: Allocator + Copy>(turn: &TurnRef<'a, H, A>) -> usize
     ensures count { result ≡ length turn.now.state.asks }
 {
-    turn.inquiries.len()
+    turn.kept.inquiries.len()
 }
 
 /// Decides a question of which no ask is listed. It fails with `InquiriesFull` at the limit of
@@ -195,7 +201,7 @@ fn admit<'a, 's, H: BuildHasher + Drop, A: Allocator + Copy>(
         (of_question waiting.wanted turn.now.state.asks))) }
 {
     let key = QuestionKey::of(waiting.wanted());
-    match turn.inquiries.by_question(&key) {
+    match turn.kept.inquiries.by_question(&key) {
         Some(_) => join(turn, waiting, &key, used),
         None => ask_anew(turn, waiting, &key, route, used),
     }
@@ -219,7 +225,7 @@ fn wait<'a, 's, H: BuildHasher + Drop, A: Allocator + Copy>(
         (from_state (with_promoted used.entry turn.now.state) turn.now) (waits_on sent_on request.now))) }
 {
     let config = turn.config;
-    if turn.waiting.len() >= config.limits.questions {
+    if turn.kept.waiting.len() >= config.limits.questions {
         return refuse(turn, request, Why::QuestionsFull, used);
     }
     let waiting = request.to_waiting(turn.alloc, sent_on)?;

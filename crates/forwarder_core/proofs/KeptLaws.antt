@@ -1,17 +1,15 @@
 -- What a forwarder keeps still holds after each change.
 use Rattle.std.proofs.Common.{Vec, ◌≡◌, ℕ, zero, suc, ◌+◌, ◌^◌, ◌<◌, ◌≤◌, List, [], ◌∷◌, ◌++◌, length, Bool, true, false, cond, refl, sym, ap, ◌∙◌, subst, arith, Option, Some, None}
-use Rattle.std.specs.Prelude.{filter, not, option_map, min, take, drop, map, slice_set, slice_get, nat_le}
+use Rattle.std.specs.Prelude.{◌||◌, filter, not, take, drop, map, slice_set, nat_le}
 use Rattle.std.specs.List.{cons_option, AllByRecursion, list_any}
 use Rattle.std.specs.Option.{IfSome}
 use Rattle.std.proofs.lemmas.List.{length-append, length-set, with_items_is, append-nil}
 use Rattle.std.specs.Vec.{with_items}
-use Rattle.std.proofs.Math.Nat.{min-eq_left, min-eq_right}
-use Rattle.std.proofs.lemmas.Bool.{cond_both, leb-true, leb-false, cond-true, cond-false}
+use Rattle.std.proofs.lemmas.Bool.{cond_both}
 use Rattle.suffix_routes.specs.Values.{Config, Route, IsConfig}
 use Rattle.outstanding.specs.declared.ask.Path.{Path}
 use Rattle.outstanding.specs.declared.ask.Path.TheVariants.{Udp, Tcp}
-use Rattle.outstanding.specs.Lists.{without_path, AreInTurn, AreListed, MayBegin}
-use Rattle.outstanding.specs.Due as due
+use Rattle.outstanding.specs.Lists.{without_path, AreListed, MayBegin}
 use Rattle.outstanding.specs.Values.{Ask, Inquiries}
 use Rattle.step_table.specs.State.{State}
 use Rattle.waiting_questions.specs.Values.{Waiting, waits_for}
@@ -21,15 +19,16 @@ use Rattle.step_table.specs.Ticks.{deadline_of}
 use Rattle.step_table.specs.Replies.{timeout_of}
 use Rattle.record_cache.specs.Values.{Held, Cache}
 use Rattle.answer_builder.specs.Answers.{IsEarlier}
-use Rattle.step_table.specs.Progress.{AreTakenInTurn, IsTry, IsOnRoute, lesser, least, IsInOrder, IsBelow, ArePreferred}
-use Rattle.step_table.proofs.CallerLemmas.{first_due, first_late, first_deadline, All-append, All-filter, All-weaker, preferred_first, preferred_put}
+use Rattle.step_table.specs.Progress.{AreTakenInTurn, IsTry, IsOnRoute, least, next_due, IsInOrder, IsBelow, ArePreferred}
+use Rattle.step_table.specs.Row.{is_due_at}
+use Rattle.step_table.proofs.CallerLemmas.{All-append, All-filter, All-weaker, preferred_first, preferred_put}
 use Rattle.step_actions.specs.declared.decision.Preferred.{Preferred}
 use Rattle.step_actions.specs.Kept.{IsKeptAsk, HoldsEarlier, IsKeptForwarder}
 use Rattle.step_actions.specs.Decision.{left_waiting, left_or_sent, with_preferred, IfFollows, IsSentEarlier, IsServed}
 use Rattle.waiting_questions.specs.Onward.{Onward, sent_on}
 use Rattle.waiting_questions.specs.Settling.{left_by, settled}
 use Rattle.dns_message.specs.Values.{Question}
-use Rattle.step_actions.proofs.CallerLemmas.{later_entries, later_held, kept_rest, kept_without}
+use Rattle.step_actions.proofs.CallerLemmas.{later_entries, later_held, later_taken, kept_rest, kept_without}
 
 -- ---- asks, later
 
@@ -44,9 +43,6 @@ later_same : (c : Config) (m n k : ℕ) (asks : List Ask) → m ≤ n → AllByR
 later_same c m n k asks le all = All-weaker (IsKeptAsk c m k) (IsKeptAsk c n k) (λ a h. record { earlier = let e = h.earlier in omega (arith, e, le); on_route = h.on_route; server = h.server; tries = h.tries; path = h.path }) asks all
 
 -- ---- questions, later
-
-pub later_taken : (m n : ℕ) (xs : List Waiting) → m ≤ n → AllByRecursion (λ x. x.taken ≤ m) xs → AllByRecursion (λ x. x.taken ≤ n) xs
-later_taken m n xs le all = All-weaker (λ (x : Waiting). x.taken ≤ m) (λ (x : Waiting). x.taken ≤ n) (λ x h. let at : x.taken ≤ m = h in omega (arith, at, le)) xs all
 
 in_turn_put : (m : ℕ) (xs : List Waiting) (y : Waiting) → AreTakenInTurn xs → AllByRecursion (λ x. x.taken ≤ m) xs → m ≤ y.taken → AreTakenInTurn (xs ++ y ∷ [])
 in_turn_put m [] y turn all le = (tt, tt)
@@ -315,31 +311,15 @@ kept_first c e i ws ps config empty is none places =
       counted = omega arith;
     })))
 
--- ---- what is due: the first of each list tells
+-- ---- nothing waits, and no ask is listed
 
-pub oldest_due : (d n : ℕ) (x : Waiting) (xs ws : List Waiting) → ws ≡ x ∷ xs → AreTakenInTurn ws → nat_le (x.taken + d) n ≡ list_any (λ (y : Waiting). nat_le (y.taken + d) n) ws
-oldest_due d n x xs ws is turn = first_due d n x xs (subst AreTakenInTurn is turn) ∙ sym (ap (λ (ys : List Waiting). list_any (λ (y : Waiting). nat_le (y.taken + d) n) ys) is)
+pub none_due : (c : Config) (n : ℕ) (s : State) → s.waiting ≡ [] → s.asks ≡ [] → is_due_at c n s ≡ false
+none_due c n s none no_ask = λ i. list_any (λ (x : Waiting). nat_le (deadline_of c x) n) (none i) || list_any (λ (a : Ask). nat_le (timeout_of c a) n) (no_ask i)
 
-pub oldest_late : (d n : ℕ) (a : Ask) (asks : List Ask) → slice_get asks 0 ≡ Some a → AreInTurn asks → nat_le (a.asked + d) n ≡ list_any (λ (b : Ask). nat_le (b.asked + d) n) asks
-oldest_late d n a [] there turn = absurd (cc)
-oldest_late d n a (b ∷ asks) there turn = let same : b ≡ a = cc in subst (λ (x : Ask). nat_le (x.asked + d) n ≡ list_any (λ (y : Ask). nat_le (y.asked + d) n) (b ∷ asks)) same (first_late d n b asks turn)
+pub none_next : (c : Config) (s : State) → s.waiting ≡ [] → s.asks ≡ [] → next_due c s ≡ None
+none_next c s none no_ask = λ i. least (map (deadline_of c) (none i) ++ map (timeout_of c) (no_ask i))
 
--- the oldest question has the least deadline
-pub oldest_deadline : (c : Config) (x : Waiting) (xs ws : List Waiting) → ws ≡ x ∷ xs → AreTakenInTurn ws → least (map (deadline_of c) ws) ≡ Some (deadline_of c x)
-oldest_deadline c x xs ws is turn = ap (λ (ys : List Waiting). least (map (deadline_of c) ys)) is ∙ first_deadline c x xs (subst AreTakenInTurn is turn)
-
--- an ask that is due first, as a moment alone
-sooner_one : (p : ℕ × Path) (o : Option (ℕ × Path)) → option_map (λ d. d.0) (due.sooner p o) ≡ Some (lesser p.0 (option_map (λ d. d.0) o))
-sooner_one p None = refl
-sooner_one p (Some q) = by (nat_le p.0 q.0) refl
-  where
-    by : (b : Bool) → nat_le p.0 q.0 ≡ b → option_map (λ d. d.0) (cond (nat_le p.0 q.0) (Some p) (Some q)) ≡ Some (min p.0 q.0)
-    by true t = ap (option_map (λ (d : ℕ × Path). d.0)) (cond-true (nat_le p.0 q.0) (Some p) (Some q) t) ∙ sym (ap (λ (m : ℕ). Some m) (min-eq_left (leb-true p.0 q.0 t)))
-    by false f = ap (option_map (λ (d : ℕ × Path). d.0)) (cond-false (nat_le p.0 q.0) (Some p) (Some q) f) ∙ sym (ap (λ (m : ℕ). Some m) (min-eq_right (let less = leb-false p.0 q.0 f in omega (arith, less))))
-
-pub timeouts_least : (c : Config) (asks : List Ask) → option_map (λ d. d.0) (due.next_due c.limits.ask_ms asks) ≡ least (map (timeout_of c) asks)
-timeouts_least c [] = refl
-timeouts_least c (a ∷ asks) = sooner_one (due.due_of c.limits.ask_ms a) (due.next_due c.limits.ask_ms asks) ∙ ap (λ (o : Option ℕ). Some (lesser (timeout_of c a) o)) (timeouts_least c asks)
+-- ---- the order of the lists
 
 -- both lists are in order
 pub kept_in_order : (c : Config) (e : Cache) (i : Inquiries) (ws : List Waiting) (ps : List ℕ) (m k : ℕ) → IsKeptForwarder c e i ws ps m k → IsInOrder c (record { cache = e; asks = i.asks; waiting = ws; preferred = ps; moment = m; tcp_asks = k })

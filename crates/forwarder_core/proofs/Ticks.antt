@@ -1,9 +1,9 @@
 -- A tick where nothing is due.
-use Rattle.std.proofs.Common.{◌≡◌, ℕ, ◌+◌, ◌^◌, ◌≤◌, List, [], ◌∷◌, Bool, true, false, refl, sym, ap, subst, ◌∙◌, Some, arith, Fits, w64}
-use Rattle.std.specs.Prelude.{nat_le, slice_get, if◌then◌else◌}
-use Rattle.std.specs.List.{list_any, AllByRecursion}
+use Rattle.std.proofs.Common.{◌≡◌, ℕ, List, [], ◌∷◌, Bool, true, false, refl, sym, ap, subst, ◌∙◌}
+use Rattle.std.specs.Prelude.{nat_le, if◌then◌else◌}
+use Rattle.std.specs.List.{list_any}
 use Rattle.std.proofs.lemmas.Bool.{cond-false, or_parts}
-use Rattle.suffix_routes.specs.Values.{Config, IsConfig}
+use Rattle.suffix_routes.specs.Values.{Config}
 use Rattle.outstanding.specs.Values.{Ask}
 use Rattle.step_table.specs.State.{State, turn}
 use Rattle.waiting_questions.specs.Values.{Waiting}
@@ -12,15 +12,6 @@ use Rattle.step_table.specs.Row.{is_due_at, effective, Happens, HandsOctets, Row
 use Rattle.step_table.specs.Ticks.{question, attempt, deadline_of, first_item, row_of_item, row_of_tick}
 use Rattle.step_table.specs.Replies.{timeout_of}
 use Rattle.step_values.specs.Values.{Event, Outcome, tick}
-use Rattle.reply_decisions.proofs.CallerLemmas.{rest_is}
-
--- the deadline of the oldest question is a number of 64 bits
-pub deadline_fits : (c : Config) (n : ℕ) (x : Waiting) (xs : List Waiting) (taken wait : ℕ) → IsConfig c → n ≤ 2 ^ 62 → AllByRecursion (λ (y : Waiting). y.taken ≤ n) xs → slice_get xs 0 ≡ Some x → taken ≡ x.taken → wait ≡ c.limits.deadline_ms
-    → Fits w64 (taken + wait)
-deadline_fits c n x xs taken wait config in_time all there same limit =
-    let first = subst (AllByRecursion (λ (y : Waiting). y.taken ≤ n)) (rest_is xs x there) all in
-    let earlier : x.taken ≤ n = first.0 in
-    let most = config.limits.deadline_ms.1 in omega (arith, earlier, in_time, same, limit, most)
 
 idle_item : (c : Config) (n : ℕ) (words : List ℕ) (s : State) (xs : List Waiting) (listed : List Ask) → list_any (λ (x : Waiting). nat_le (deadline_of c x) n) xs ≡ false → list_any (λ (a : Ask). nat_le (timeout_of c a) n) listed ≡ false
     → row_of_item (turn c n words s) (first_item c xs listed) ≡ idle_step n s

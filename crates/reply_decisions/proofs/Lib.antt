@@ -1,7 +1,6 @@
 pub mod Accepting
 pub mod Becoming
 pub mod Beside
-pub mod CallerLemmas
 pub mod Deciding
 pub mod Earlier
 pub mod Going

@@ -4,7 +4,7 @@ use Rattle.plain_values.specs.Octets.{AreOctets}
 use Rattle.dns_message.specs.Values.{Message}
 use Rattle.dns_message.specs.Messages.{HasShapes}
 use Rattle.suffix_routes.specs.Values.{Config}
-use Rattle.trust_rank.specs.Values.{Piece, elsewhere, Walk}
+use Rattle.trust_rank.specs.Values.{Piece, End, elsewhere, Walk}
 use Rattle.trust_rank.specs.Walks.{walk_of}
 use Rattle.outstanding.specs.Values.{Ask}
 use Rattle.reply_match.specs.declared.verdict.Judged.{Judged}
@@ -26,6 +26,10 @@ pub record IsWalkFor (c : Config) (a : Ask) (w : Walk) : Type 0 where
   pub read : IsRead message
   pub is : w ≡ walk_of c message a.question a.route
 
+-- the walk that carries these and ends so
+abbrev pub walk_to : List Piece → List Piece → End → Walk
+walk_to pieces authority e = record { pieces = pieces; authority = authority; end = e }
+
 -- the walk that carries these and leads on to this name
 abbrev pub walk_on : List Piece → List Piece → List (List ℕ) → Walk
-walk_on pieces authority name = record { pieces = pieces; authority = authority; end = elsewhere name }
+walk_on pieces authority name = walk_to pieces authority (elsewhere name)

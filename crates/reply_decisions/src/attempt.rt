@@ -20,71 +20,74 @@ use step_actions::{
 use step_texts::ask as ask_action;
 use step_values::{Actions, Why};
 
-/// Closes the ask on a path; those that wait for it fail for this reason.
+/// Closes the ask; those that wait for it fail for this reason.
 pub(crate) fn give_up<'a, 's, H: BuildHasher + Drop, A: Allocator + Copy>(
     turn: &TurnRef<'a, H, A>,
-    path: Path,
     ask: &KeyedAsk<A>,
     why: Why,
 ) -> Result<Decision<'a, 's, A>, AllocError>
-    requires { ask_on path turn.now.state.asks ≡ Some ask.now }
+    requires { ask_on ask.now.path turn.now.state.asks ≡ Some ask.now }
     ensures decides { IfOk result (MeetsStep turn.now (closing_step turn.now.moment ask.now
         (fails why ask.now.question) None turn.now.state)) }
 {
-    let actions = failures(turn.alloc, ask, turn.waiting, why)?;
-    Ok(Decision::without_cache(turn.alloc, actions, Change::Close(path, None)))
+    let asked = ask.ask();
+    let actions = failures(turn.alloc, ask, &turn.kept.waiting, why)?;
+    let change = Change::Close(asked.path, None);
+    Ok(Decision::without_cache(turn.alloc, actions, change))
 }
 
-/// Closes the ask on a path, whose question has no try left; those that wait for it get their last
+/// Closes the ask, whose question has no try left; those that wait for it get their last
 /// reply.
 fn run_out<'a, 's, H: BuildHasher + Drop, A: Allocator + Copy>(
     turn: &TurnRef<'a, H, A>,
-    path: Path,
     ask: &KeyedAsk<A>,
 ) -> Result<Decision<'a, 's, A>, AllocError>
-    requires on { ask_on path turn.now.state.asks ≡ Some ask.now }
+    requires on { ask_on ask.now.path turn.now.state.asks ≡ Some ask.now }
     ensures decides { IfOk result (MeetsStep turn.now (closing_step turn.now.moment ask.now
         (runs_out turn.now.config turn.now.moment turn.now.state.cache.entries ask.now.question) None
         turn.now.state)) }
 {
+    let asked = ask.ask();
     let actions = last_replies(turn, ask)?;
-    Ok(Decision::without_cache(turn.alloc, actions, Change::Close(path, None)))
+    let change = Change::Close(asked.path, None);
+    Ok(Decision::without_cache(turn.alloc, actions, change))
 }
 
-/// Closes the ask on a path, and sends the next one.
+/// Closes the ask, and sends the next one.
 fn ask_again<'a, 's, H: BuildHasher + Drop, A: Allocator + Copy>(
     turn: &TurnRef<'a, H, A>,
-    path: Path,
     ask: &KeyedAsk<A>,
     next: Ask<A>,
 ) -> Result<Decision<'a, 's, A>, AllocError>
-    requires on { ask_on path turn.now.state.asks ≡ Some ask.now }
+    requires on { ask_on ask.now.path turn.now.state.asks ≡ Some ask.now }
     requires follows { CanFollow turn.now.config turn.now.moment turn.now.state
-        (without_path path turn.now.state.asks) next }
+        (without_path ask.now.path turn.now.state.asks) next }
     ensures decides { IfOk result (MeetsStep turn.now (row_of_attempt turn.now.moment ask.now turn.now.state
         (Some next))) }
 {
-    let mut actions = Actions::one(turn.alloc, close_path(ask.ask().path));
+    let asked = ask.ask();
+    let mut actions = Actions::one(turn.alloc, close_path(asked.path));
     let action = ask_action(turn.alloc, &next)?;
     actions.push(action)?;
     let next = Box::new(turn.alloc, next)?;
-    Ok(Decision::without_cache(turn.alloc, actions, Change::AskAgain(path, next)))
+    let change = Change::AskAgain(asked.path, next);
+    Ok(Decision::without_cache(turn.alloc, actions, change))
 }
 
-/// Closes the ask on a path, and asks another server over the drawn path. Without one those that
+/// Closes the ask, and asks another server over the drawn path. Without one those that
 /// wait fail.
 fn retry<'a, 's, H: BuildHasher + Drop, A: Allocator + Copy>(
     turn: &TurnRef<'a, H, A>,
-    path: Path,
     ask: &KeyedAsk<A>,
     server: u8,
     drawn: Option<(u16, Path)>,
 ) -> Result<Decision<'a, 's, A>, AllocError>
-    requires on { ask_on path turn.now.state.asks ≡ Some ask.now }
+    requires on { ask_on ask.now.path turn.now.state.asks ≡ Some ask.now }
     requires tries { ask.now.used < 255 }
     requires follows { (next : AskValue) → ask_by turn.now.moment ask.now.question ask.now.route server
         (ask.now.used + 1) (peer_at turn.now.config ask.now.route server) drawn ≡ Some next
-        → CanFollow turn.now.config turn.now.moment turn.now.state (without_path path turn.now.state.asks) next }
+        → CanFollow turn.now.config turn.now.moment turn.now.state
+        (without_path ask.now.path turn.now.state.asks) next }
     ensures decides { IfOk result (MeetsStep turn.now (row_of_attempt turn.now.moment ask.now turn.now.state
         (ask_by turn.now.moment ask.now.question ask.now.route server (ask.now.used + 1)
         (peer_at turn.now.config ask.now.route server) drawn))) }
@@ -96,8 +99,8 @@ fn retry<'a, 's, H: BuildHasher + Drop, A: Allocator + Copy>(
         used: asked.used + 1,
     };
     match new_ask(turn, &asked.question, attempt, drawn)? {
-        Some(next) => ask_again(turn, path, ask, next),
-        None => give_up(turn, path, ask, Why::NoPort),
+        Some(next) => ask_again(turn, ask, next),
+        None => give_up(turn, ask, Why::NoPort),
     }
 }
 
@@ -105,24 +108,23 @@ fn retry<'a, 's, H: BuildHasher + Drop, A: Allocator + Copy>(
 /// the reason.
 pub(crate) fn fail<'a, 's, H: BuildHasher + Drop, A: Allocator + Copy>(
     turn: &TurnRef<'a, H, A>,
-    path: Path,
     ask: &KeyedAsk<A>,
     failure: Failure,
 ) -> Result<Decision<'a, 's, A>, AllocError>
-    requires on { ask_on path turn.now.state.asks ≡ Some ask.now }
+    requires on { ask_on ask.now.path turn.now.state.asks ≡ Some ask.now }
     ensures decides { IfOk result (MeetsStep turn.now (row_of_failure turn.now ask.now failure)) }
 {
     let asked = ask.ask();
     let plan = plan(turn.config, asked);
     match after(&plan, failure) {
-        Next::GiveUp => run_out(turn, path, ask),
+        Next::GiveUp => run_out(turn, ask),
         Next::AskUdp(server) => {
-            let drawn = draw(turn.words, turn.inquiries, freed_port(asked.path));
-            retry(turn, path, ask, server, by_udp(drawn))
+            let drawn = draw(turn.words, &turn.kept.inquiries, freed_port(asked.path));
+            retry(turn, ask, server, by_udp(drawn))
         }
         Next::AskTcp(server) => {
-            let drawn = draw_connection(turn.words, turn.tcp_asks);
-            retry(turn, path, ask, server, by_tcp(drawn))
+            let drawn = draw_connection(turn.words, turn.kept.tcp_asks);
+            retry(turn, ask, server, by_tcp(drawn))
         }
     }
 }
@@ -137,8 +139,8 @@ pub fn on_failed_path<'a, 's, H: BuildHasher + Drop, A: Allocator + Copy>(
         (ask_on path turn.now.state.asks))) }
     ensures unlisted { ask_on path turn.now.state.asks ≡ None → IsQuiet result }
 {
-    match turn.inquiries.by_path(path) {
-        Some(ask) => fail(turn, path, ask, Failure::Broken),
+    match turn.kept.inquiries.by_path(path) {
+        Some(ask) => fail(turn, ask, Failure::Broken),
         None => Ok(nothing(turn)),
     }
 }

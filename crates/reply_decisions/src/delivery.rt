@@ -11,6 +11,7 @@
 ghost use Rattle.std.specs.Prelude.{◌≡◌, ◌^◌, ◌≤◌, ℕ, true, false, Bool, List, IfOk, Some};
 ghost use Rattle.dns_message.specs.Messages.{message_of};
 ghost use Rattle.dns_message.specs.Reading.{wants_memory};
+ghost use Rattle.trust_rank.specs.Values.{End as EndValue};
 ghost use Rattle.trust_rank.specs.Walks.{walk_of, has_last};
 ghost use Rattle.reply_match.specs.Judged.{IsViewOf, verdict_of};
 ghost use Rattle.reply_match.specs.declared.verdict.Verdict.TheVariants as Verdict;
@@ -19,7 +20,7 @@ ghost use Rattle.step_table.specs.Replies.{row_of_message, verdict_on};
 ghost use Rattle.outstanding.specs.Lists.{on_path as ask_on};
 ghost use Rattle.step_actions.specs.Decision.{IsQuiet, MeetsRow};
 ghost use Rattle.plain_values.specs.Octets.{AreOctets};
-ghost use Rattle.reply_decisions.specs.Walked.{IsRead, IsWalkFor, ShowsOctets};
+ghost use Rattle.reply_decisions.specs.Walked.{walk_to, IsRead, IsWalkFor, ShowsOctets};
 ghost use Rattle.step_table.specs.State.{turn};
 
 use crate::attempt::fail;
@@ -27,34 +28,32 @@ use crate::sending::send_on;
 use alias_chains::{SlotsRef, held_from};
 use dns_message::{Fault, Message, MessageRef};
 use outstanding::{KeyedAsk, Path};
+use plain_values::PlainList;
 use reply_match::{Judged, judge};
 use retry_failover::Failure;
 use std::alloc::{AllocError, Allocator};
 use std::hash::BuildHasher;
 use step_actions::{Change, Decision, Preferred, TurnRef, answers_to, is_live, nothing};
 use suffix_routes::Peer;
-use trust_rank::{End, Walk, pieces};
+use trust_rank::{End, Piece, Walk, pieces};
 
-/// Accepts a reply that answers: all that wait for it are answered, and its pieces are kept.
+/// Accepts a reply that answers, with these pieces: all that wait for it are answered, and its
+/// pieces are kept.
 fn accept<'a, 's, H: BuildHasher + Drop, A: Allocator + Copy>(
     turn: &TurnRef<'a, H, A>,
-    path: Path,
     ask: &KeyedAsk<A>,
-    walk: Walk<A>,
+    pieces: PlainList<Piece<A>, A>,
+    authority: PlainList<Piece<A>, A>,
 ) -> Result<Decision<'a, 's, A>, AllocError>
-    requires on { ask_on path turn.now.state.asks ≡ Some ask.now }
-    requires ends { has_last walk.end ≡ true }
-    requires carried { IsWalkFor turn.now.config ask.now walk }
-    ensures decides { IfOk result (MeetsRow turn.now (λ rooms. row_of_acceptance turn.now rooms ask.now walk)) }
+    requires on { ask_on ask.now.path turn.now.state.asks ≡ Some ask.now }
+    ensures decides { (e : EndValue) → has_last e ≡ true → IsWalkFor turn.now.config ask.now (walk_to pieces authority e)
+        → IfOk result (MeetsRow turn.now (λ rooms. row_of_acceptance turn.now rooms ask.now
+        (walk_to pieces authority e))) }
 {
-    let Walk {
-        pieces,
-        authority,
-        end: _,
-    } = walk;
     let walked = pieces.as_slice().len();
     let held = held_from(turn.alloc, pieces, authority, turn.moment)?;
-    let actions = answers_to(turn.alloc, ask, &held[..walked], turn.moment, turn.waiting)?;
+    let waiting = &turn.kept.waiting;
+    let actions = answers_to(turn.alloc, ask, &held[..walked], turn.moment, waiting)?;
     let answered = ask.ask();
     let preferred = Preferred {
         route: answered.route,
@@ -63,7 +62,7 @@ fn accept<'a, 's, H: BuildHasher + Drop, A: Allocator + Copy>(
     Ok(Decision {
         actions,
         used: SlotsRef::none(turn.alloc),
-        change: Change::Close(path, Some(preferred)),
+        change: Change::Close(answered.path, Some(preferred)),
         carried: held,
     })
 }
@@ -71,11 +70,10 @@ fn accept<'a, 's, H: BuildHasher + Drop, A: Allocator + Copy>(
 /// Decides a message that matches the ask. A lame server is a failed attempt.
 fn on_message<'a, 's, H: BuildHasher + Drop, A: Allocator + Copy>(
     turn: &TurnRef<'a, H, A>,
-    path: Path,
     ask: &KeyedAsk<A>,
     message: &Message<A>,
 ) -> Result<Decision<'a, 's, A>, AllocError>
-    requires on { ask_on path turn.now.state.asks ≡ Some ask.now }
+    requires on { ask_on ask.now.path turn.now.state.asks ≡ Some ask.now }
     requires read { IsRead message.now }
     ensures decides { IfOk result (MeetsRow turn.now (λ rooms. row_of_walk turn.now rooms ask.now
         (walk_of turn.now.config message.now ask.now.question ask.now.route))) }
@@ -93,16 +91,9 @@ fn on_message<'a, 's, H: BuildHasher + Drop, A: Allocator + Copy>(
         turn.config,
     )?;
     match end {
-        End::Lame => fail(turn, path, ask, Failure::Lame),
+        End::Lame => fail(turn, ask, Failure::Lame),
         End::Elsewhere(name) => send_on(turn, ask, pieces, authority, name),
-        End::Found | End::NoData | End::Denied => {
-            let walk = Walk {
-                pieces,
-                authority,
-                end,
-            };
-            accept(turn, path, ask, walk)
-        }
+        End::Found | End::NoData | End::Denied => accept(turn, ask, pieces, authority),
     }
 }
 
@@ -117,30 +108,28 @@ fn wants_memory(fault: Fault) -> bool
 /// attempt; `Err` where memory ran out.
 fn on_whole<'a, 's, H: BuildHasher + Drop, A: Allocator + Copy>(
     turn: &TurnRef<'a, H, A>,
-    path: Path,
     ask: &KeyedAsk<A>,
     view: &MessageRef<'_>,
 ) -> Result<Decision<'a, 's, A>, AllocError>
-    requires on { ask_on path turn.now.state.asks ≡ Some ask.now }
+    requires on { ask_on ask.now.path turn.now.state.asks ≡ Some ask.now }
     requires octets { AreOctets view.now }
     ensures decides { IfOk result (MeetsRow turn.now (λ rooms. row_of_message turn.now rooms ask.now
         (message_of view.now))) }
 {
     match view.read_whole(turn.alloc) {
-        Ok(message) => on_message(turn, path, ask, &message),
+        Ok(message) => on_message(turn, ask, &message),
         Err(fault) if wants_memory(fault) => Err(AllocError),
-        Err(_) => fail(turn, path, ask, Failure::Malformed),
+        Err(_) => fail(turn, ask, Failure::Malformed),
     }
 }
 
 /// Decides a delivery that was judged. Nothing for a stranger's octets.
 fn on_verdict<'a, 's, H: BuildHasher + Drop, A: Allocator + Copy>(
     turn: &TurnRef<'a, H, A>,
-    path: Path,
     ask: &KeyedAsk<A>,
     judged: Judged<'_>,
 ) -> Result<Decision<'a, 's, A>, AllocError>
-    requires on { ask_on path turn.now.state.asks ≡ Some ask.now }
+    requires on { ask_on ask.now.path turn.now.state.asks ≡ Some ask.now }
     requires octets { ShowsOctets judged }
     ensures decides { (octets : List ℕ) → IsViewOf octets judged.entry
         → IfOk result (MeetsRow turn.now (λ rooms. row_of_verdict turn.now rooms ask.now octets
@@ -149,10 +138,10 @@ fn on_verdict<'a, 's, H: BuildHasher + Drop, A: Allocator + Copy>(
 {
     match judged {
         Judged::Stranger => Ok(nothing(turn)),
-        Judged::Truncated => fail(turn, path, ask, Failure::Truncated),
-        Judged::Failed(_) => fail(turn, path, ask, Failure::Rcode),
-        Judged::Malformed => fail(turn, path, ask, Failure::Malformed),
-        Judged::Whole(view) => on_whole(turn, path, ask, &view),
+        Judged::Truncated => fail(turn, ask, Failure::Truncated),
+        Judged::Failed(_) => fail(turn, ask, Failure::Rcode),
+        Judged::Malformed => fail(turn, ask, Failure::Malformed),
+        Judged::Whole(view) => on_whole(turn, ask, &view),
     }
 }
 
@@ -171,7 +160,7 @@ pub fn on_delivery<'a, 's, H: BuildHasher + Drop, A: Allocator + Copy>(
     ensures unmatched { verdict_on turn.now.config turn.now.moment from bytes.now
         (ask_on path turn.now.state.asks) ≡ Verdict.Stranger → IsQuiet result }
 {
-    let Some(ask) = turn.inquiries.by_path(path) else {
+    let Some(ask) = turn.kept.inquiries.by_path(path) else {
         return Ok(nothing(turn));
     };
     let asked = ask.ask();
@@ -179,5 +168,5 @@ pub fn on_delivery<'a, 's, H: BuildHasher + Drop, A: Allocator + Copy>(
         return Ok(nothing(turn));
     }
     let judged = judge(asked, from, bytes);
-    on_verdict(turn, path, ask, judged)
+    on_verdict(turn, ask, judged)
 }

@@ -69,7 +69,13 @@ fn preferred_then<'a, H: BuildHasher + Drop, A: Allocator + Copy>(
 {
     let ask = answered.ask();
     let own = ask.route;
-    let before = turn.preferred.get(route.place).copied().unwrap_or(0);
+    let before = turn
+        .kept
+        .preferred
+        .as_slice()
+        .get(route.place)
+        .copied()
+        .unwrap_or(0);
     if route.place == own.place {
         ask.server
     } else {
@@ -97,7 +103,7 @@ fn first_ask_then<'a, H: BuildHasher + Drop, A: Allocator + Copy>(
         used: 1,
     };
     let ask = answered.ask();
-    let drawn = by_udp(draw(turn.words, turn.inquiries, freed_port(ask.path)));
+    let drawn = by_udp(draw(turn.words, &turn.kept.inquiries, freed_port(ask.path)));
     new_ask(turn, question, attempt, drawn)
 }
 
@@ -112,7 +118,7 @@ fn is_asked_beside<'a, H: BuildHasher + Drop, A: Allocator + Copy>(
 {
     let ask = answered.ask();
     let key = QuestionKey::of(question);
-    match turn.inquiries.by_question(&key) {
+    match turn.kept.inquiries.by_question(&key) {
         Some(open) => !open.path.is_same(ask.path),
         None => false,
     }
@@ -211,7 +217,7 @@ pub(crate) fn send_on<'a, 's, H: BuildHasher + Drop, A: Allocator + Copy>(
 {
     let walked = pieces.as_slice().len();
     let held = held_from(turn.alloc, pieces, authority, turn.moment)?;
-    let those = turn.waiting.for_ask(answered);
+    let those = turn.kept.waiting.for_ask(answered);
     let lead = AliasLead {
         aliases: &held[..walked],
         name: &name,

@@ -20,6 +20,9 @@ later_entries m n es le all = All-weaker (IsEarlier m) (IsEarlier n) (λ h was. 
 pub later_held : (m n : ℕ) (xs : List Waiting) → m ≤ n → AllByRecursion (HoldsEarlier m) xs → AllByRecursion (HoldsEarlier n) xs
 later_held m n xs le all = All-weaker (HoldsEarlier m) (HoldsEarlier n) (λ x h. later_entries m n x.held le h) xs all
 
+pub later_taken : (m n : ℕ) (xs : List Waiting) → m ≤ n → AllByRecursion (λ x. x.taken ≤ m) xs → AllByRecursion (λ x. x.taken ≤ n) xs
+later_taken m n xs le all = All-weaker (λ (x : Waiting). x.taken ≤ m) (λ (x : Waiting). x.taken ≤ n) (λ x h. let at : x.taken ≤ m = h in omega (arith, at, le)) xs all
+
 pub kept_rest : (c : Config) (m k : ℕ) (path : Path) (asks : List Ask) → AllByRecursion (IsKeptAsk c m k) asks → AllByRecursion (IsKeptAsk c m k) (without_path path asks)
 kept_rest c m k path asks all = All-filter (IsKeptAsk c m k) (λ b. not (same_path b.path path)) asks all
 

@@ -1,5 +1,6 @@
 pub mod CallerLemmas
 pub mod Carried
+pub mod DueFirst
 pub mod Fates
 pub mod Folds
 pub mod Following

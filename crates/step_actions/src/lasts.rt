@@ -93,7 +93,7 @@ pub fn last_replies<'a, H: BuildHasher + Drop, A: Allocator + Copy>(
         (closes ask.now.path ∷ []) turn.now.state.waiting) }
 {
     let mut actions = Actions::one(turn.alloc, close_path(ask.ask().path));
-    let those = turn.waiting.for_ask(ask);
+    let those = turn.kept.waiting.for_ask(ask);
     for place in 0..those.len() {
         put_last(turn, &mut actions, those.get(place))?;
     }

@@ -1,7 +1,7 @@
 //! The actions at the end of a query: its path is closed, and those that wait for it get their
 //! replies.
 
-ghost use Rattle.std.specs.Prelude.{◌≡◌, ◌∷◌, ◌++◌, [], length, IfOk};
+ghost use Rattle.std.specs.Prelude.{◌≡◌, ◌∷◌, ◌++◌, [], IfOk};
 ghost use Rattle.std.specs.List.{AllByRecursion};
 ghost use Rattle.answer_builder.specs.Answers.{IsEarlier};
 ghost use Rattle.plain_values.specs.Borrowed.{lent};
@@ -71,20 +71,18 @@ pub fn failures<A: Allocator + Copy>(
     Ok(actions)
 }
 
-/// The answer of a question from the aliases that it holds and the chain of these answers, which
-/// has `pieces` pieces, or the failure that it would hold too many aliases.
+/// The answer of a question from the aliases that it holds and the chain of these answers, or the
+/// failure that it would hold too many aliases.
 fn answer_or_fail<'a, A: Allocator + Copy>(
     alloc: A,
     answers: &mut Answers<'a, A>,
-    pieces: usize,
     waiting: &'a Waiting<A>,
 ) -> Result<Action<A>, AllocError>
-    requires pieces { pieces ≡ length answers.old.chain }
-    requires earlier { AllByRecursion (IsEarlier answers.old.moment) waiting.now.held }
+    requires { AllByRecursion (IsEarlier answers.old.moment) waiting.now.held }
     ensures same { answers.new ≡ answers.old }
     ensures told { IfOk result (λ action. action_of action ≡ told_from answers.old waiting.now) }
 {
-    if waiting.aliases().len().saturating_add(pieces) > MOST_ALIASES + 1 {
+    if waiting.aliases().len().saturating_add(answers.pieces()) > MOST_ALIASES + 1 {
         return failure(alloc, &waiting.request(), Why::ChainLong);
     }
     answers.reply(waiting)
@@ -95,16 +93,14 @@ fn put_answer<'a, A: Allocator + Copy>(
     alloc: A,
     actions: &mut Actions<A>,
     answers: &mut Answers<'a, A>,
-    pieces: usize,
     waiting: &'a Waiting<A>,
 ) -> Result<(), AllocError>
-    requires pieces { pieces ≡ length answers.old.chain }
-    requires earlier { AllByRecursion (IsEarlier answers.old.moment) waiting.now.held }
+    requires { AllByRecursion (IsEarlier answers.old.moment) waiting.now.held }
     ensures same { answers.new ≡ answers.old }
     ensures put { IfOk result (λ _. actions_of actions.new ≡ actions_of actions.old ++ told_from answers.old waiting.now
         ∷ []) }
 {
-    let action = answer_or_fail(alloc, answers, pieces, waiting)?;
+    let action = answer_or_fail(alloc, answers, waiting)?;
     actions.push(action)
 }
 
@@ -120,10 +116,9 @@ fn put_answers<'a, A: Allocator + Copy>(
     ensures { IfOk result (λ _. actions_of actions.new ≡ with_replies (gives_from answers.old ask.now.question)
         (actions_of actions.old) waiting.now.items) }
 {
-    let pieces = answers.pieces();
     let those = waiting.for_ask(ask);
     for place in 0..those.len() {
-        put_answer(alloc, actions, answers, pieces, those.get(place))?;
+        put_answer(alloc, actions, answers, those.get(place))?;
     }
     Ok(())
 }

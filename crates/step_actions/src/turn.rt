@@ -6,15 +6,13 @@ ghost use Rattle.step_actions.specs.Decision.{next_of, CanChange, MeetsStep};
 ghost use Rattle.step_actions.specs.LookUps.{cache_at};
 
 use crate::decision::{Change, Decision};
+use crate::kept::Kept;
 use negative_cache::CacheAt;
-use outstanding::Inquiries;
-use record_cache::Cache;
 use std::alloc::{Allocator, Global};
 use std::hash::BuildHasher;
 use std::marker::Model;
 use step_values::Actions;
 use suffix_routes::Config;
-use waiting_questions::WaitingQuestions;
 
 /// A forwarder as a step finds it, borrowed, with the moment and the random words of the step. The
 /// decision depends on nothing else.
@@ -22,16 +20,10 @@ use waiting_questions::WaitingQuestions;
 pub struct TurnRef<'a, H: BuildHasher, A: Allocator = Global> {
     pub alloc: A,
     pub config: &'a Config<A>,
-    pub cache: &'a Cache<H, A>,
-    pub inquiries: &'a Inquiries<A>,
-    pub waiting: &'a WaitingQuestions<A>,
-    /// For each route the place of the server that is asked first.
-    pub preferred: &'a [usize],
-    /// The number of asks that went by TCP.
-    pub tcp_asks: u64,
-    /// The effective moment of the step before, in milliseconds.
-    pub before: u64,
-    /// The effective moment of this step, in milliseconds: no earlier, and at most 2^62.
+    /// The state in which the step begins.
+    pub kept: &'a Kept<H, A>,
+    /// The effective moment of this step, in milliseconds: no earlier than that of the step
+    /// before, and at most 2^62.
     pub moment: u64,
     /// The random words of this step.
     pub words: [u32; 8],
@@ -49,17 +41,18 @@ impl<'a, H: BuildHasher, A: Allocator> Model for TurnRef<'a, H, A> {
       moment = f.moment;
       words = f.words;
       state = record {
-        cache = f.cache.now;
-        asks = f.inquiries.now.asks;
-        waiting = f.waiting.now.items;
-        preferred = f.preferred.now;
-        moment = f.before;
-        tcp_asks = f.tcp_asks;
+        cache = f.kept.now.cache;
+        asks = f.kept.now.inquiries.asks;
+        waiting = f.kept.now.waiting.items;
+        preferred = f.kept.now.preferred.items;
+        moment = f.kept.now.moment;
+        tcp_asks = f.kept.now.tcp_asks;
       };
     } };
 
-    ghost invariant = { λ f. IsKeptForwarder f.config.now f.cache.now f.inquiries.now f.waiting.now.items
-        f.preferred.now f.before f.tcp_asks × (f.before ≤ f.moment) × (f.moment ≤ 2 ^ 62) };
+    ghost invariant = { λ f. IsKeptForwarder f.config.now f.kept.now.cache f.kept.now.inquiries f.kept.now.waiting.items
+        f.kept.now.preferred.items f.kept.now.moment f.kept.now.tcp_asks × (f.kept.now.moment ≤ f.moment)
+        × (f.moment ≤ 2 ^ 62) };
 }
 
 impl<'a, H: BuildHasher + Drop, A: Allocator + Copy> TurnRef<'a, H, A> {
@@ -68,7 +61,7 @@ impl<'a, H: BuildHasher + Drop, A: Allocator + Copy> TurnRef<'a, H, A> {
         ensures { result ≡ cache_at self.now }
     {
         CacheAt {
-            cache: self.cache,
+            cache: &self.kept.cache,
             config: self.config,
             moment: self.moment,
         }

@@ -2,14 +2,12 @@
 
 ghost use Rattle.outstanding.specs.Lists.{on_path as ask_on, without_path};
 ghost use Rattle.std.specs.Prelude.{◌≡◌, ◌^◌, ◌<◌, ◌≤◌, ◌+◌, ◌∷◌, ◌++◌, [], Bool, List, drop, slice_set, length};
-ghost use Rattle.std.specs.Prelude.{nat_le, IfOk, OnOk, OnErr, IsOk, IsSome, Some};
-ghost use Rattle.std.specs.List.{AllByRecursion, list_any};
+ghost use Rattle.std.specs.Prelude.{IfOk, OnOk, OnErr, IsOk, IsSome, Some};
+ghost use Rattle.std.specs.List.{AllByRecursion};
 ghost use Rattle.alias_chains.specs.LookingUp.{promoted_all};
 ghost use Rattle.alias_chains.specs.Offering.{put_all, unkept_of, pieces_of};
 ghost use Rattle.step_table.specs.Steps.{ask_list, tcp_count, with_entries};
 ghost use Rattle.step_table.specs.Row.{is_due_at};
-ghost use Rattle.step_table.specs.Ticks.{deadline_of};
-ghost use Rattle.step_table.specs.Replies.{timeout_of};
 ghost use Rattle.step_actions.specs.Decision.{tcp_count_of, left_or_sent, left_waiting, with_preferred, without_closed};
 ghost use Rattle.step_actions.specs.Decision.{next_of, IsOutcome, IsRouted, CanWait, CanFollow, CanSendOn};
 ghost use Rattle.step_actions.specs.Decision.{CanChange, IsServed};
@@ -22,7 +20,7 @@ use outstanding::{Ask, KeyedAsk, Path};
 use record_cache::Held;
 use std::alloc::{AllocError, Allocator};
 use std::hash::BuildHasher;
-use step_actions::{Change, Opening, Preferred, Sending, is_late, is_overdue};
+use step_actions::{Change, Opening, Preferred, Sending};
 use step_values::{Actions, Outcome};
 use waiting_questions::KeyedWaiting;
 
@@ -33,7 +31,7 @@ impl<H: BuildHasher + Drop, A: Allocator + Copy> Forwarder<H, A> {
         requires in_time { moment ≤ 2 ^ 62 }
         ensures { self.new ≡ record { config = self.old.config; state = record self.old.state { moment = moment } } }
     {
-        self.moment = moment;
+        self.kept.moment = moment;
     }
 
     /// Does what was decided. An `Err` changes nothing.
@@ -72,13 +70,6 @@ impl<H: BuildHasher + Drop, A: Allocator + Copy> Forwarder<H, A> {
             unkept,
             more,
         })
-    }
-
-    /// Something is due at this moment.
-    pub(crate) fn is_due_by(&self, moment: u64) -> bool
-        ensures { result ≡ is_due_at self.now.config moment self.now.state }
-    {
-        self.is_question_due(moment) || self.is_ask_due(moment)
     }
 
     /// Puts a change in place. An `Err` changes nothing. A step that changes no list does without
@@ -142,8 +133,8 @@ impl<H: BuildHasher + Drop, A: Allocator + Copy> Forwarder<H, A> {
         }) }
         ensures err { OnErr result (self.new ≡ self.old) }
     {
-        self.waiting.push(waiting)?;
-        self.moment = moment;
+        self.kept.waiting.push(waiting)?;
+        self.kept.moment = moment;
         Ok(())
     }
 
@@ -169,12 +160,12 @@ impl<H: BuildHasher + Drop, A: Allocator + Copy> Forwarder<H, A> {
         }) }
         ensures err { OnErr result (self.new ≡ self.old) }
     {
-        let count = count_tcp(self.tcp_asks, ask.ask().path);
-        self.waiting.reserve_one()?;
-        list_ask(&mut self.inquiries, ask)?;
-        self.waiting.push_reserved(waiting);
-        self.tcp_asks = count;
-        self.moment = moment;
+        let count = count_tcp(self.kept.tcp_asks, ask.ask().path);
+        self.kept.waiting.reserve_one()?;
+        list_ask(&mut self.kept.inquiries, ask)?;
+        self.kept.waiting.push_reserved(waiting);
+        self.kept.tcp_asks = count;
+        self.kept.moment = moment;
         Ok(())
     }
 
@@ -193,9 +184,9 @@ impl<H: BuildHasher + Drop, A: Allocator + Copy> Forwarder<H, A> {
           };
         } }
     {
-        close_inquiry(&mut self.inquiries, &mut self.waiting, path);
-        prefer(&mut self.preferred, preferred);
-        self.moment = moment;
+        close_inquiry(&mut self.kept.inquiries, &mut self.kept.waiting, path);
+        prefer(&mut self.kept.preferred, preferred);
+        self.kept.moment = moment;
     }
 
     /// The ask on a path is closed, and the first ask for what those want that are sent on is
@@ -224,10 +215,16 @@ impl<H: BuildHasher + Drop, A: Allocator + Copy> Forwarder<H, A> {
             onward,
             ask,
         } = sending;
-        self.tcp_asks = count_next(self.tcp_asks, &ask);
-        send_on(&mut self.inquiries, &mut self.waiting, path, ask, onward);
-        prefer(&mut self.preferred, Some(preferred));
-        self.moment = moment;
+        self.kept.tcp_asks = count_next(self.kept.tcp_asks, &ask);
+        send_on(
+            &mut self.kept.inquiries,
+            &mut self.kept.waiting,
+            path,
+            ask,
+            onward,
+        );
+        prefer(&mut self.kept.preferred, Some(preferred));
+        self.kept.moment = moment;
     }
 
     /// The ask on the path is closed, and another one for its question is listed.
@@ -245,9 +242,9 @@ impl<H: BuildHasher + Drop, A: Allocator + Copy> Forwarder<H, A> {
           };
         } }
     {
-        self.tcp_asks = count_tcp(self.tcp_asks, ask.path);
-        let _ended = self.inquiries.replace(path, ask);
-        self.moment = moment;
+        self.kept.tcp_asks = count_tcp(self.kept.tcp_asks, ask.path);
+        let _ended = self.kept.inquiries.replace(path, ask);
+        self.kept.moment = moment;
     }
 
     /// The oldest question waits no more, and the ask on the path, if any, is closed.
@@ -263,9 +260,9 @@ impl<H: BuildHasher + Drop, A: Allocator + Copy> Forwarder<H, A> {
           };
         } }
     {
-        end_closed(&mut self.inquiries, closed);
-        self.waiting.drop_first();
-        self.moment = moment;
+        end_closed(&mut self.kept.inquiries, closed);
+        self.kept.waiting.drop_first();
+        self.kept.moment = moment;
     }
 
     /// Promotes the entries that a look-up used, then offers what an accepted reply carries.
@@ -281,36 +278,15 @@ impl<H: BuildHasher + Drop, A: Allocator + Copy> Forwarder<H, A> {
             × (result ≡ unkept_of self.old.state.cache.capacity self.old.state.moment rooms (pieces_of carried.items)
             (promoted_all used.now self.old.state.cache.entries)) }
     {
-        promote_all(&mut self.cache, used);
-        offer_all(&mut self.cache, carried, self.moment)
+        promote_all(&mut self.kept.cache, used);
+        offer_all(&mut self.kept.cache, carried, self.kept.moment)
     }
 
     /// More is due at the moment that it is now.
     fn is_due(&self) -> bool
         ensures { result ≡ is_due_at self.now.config self.now.state.moment self.now.state }
     {
-        self.is_due_by(self.moment)
-    }
-
-    /// Whether a question has waited as long as it may. The list is in the order of time, so the
-    /// first one decides.
-    fn is_question_due(&self, moment: u64) -> bool
-        ensures { result ≡ list_any (λ x. nat_le (deadline_of self.now.config x) moment) self.now.state.waiting }
-    {
-        match self.waiting.first() {
-            Some(oldest) => is_overdue(&self.config, moment, oldest),
-            None => false,
-        }
-    }
-
-    /// Whether an ask is past its time. The list is in the order of time, so the first one decides.
-    fn is_ask_due(&self, moment: u64) -> bool
-        ensures { result ≡ list_any (λ a. nat_le (timeout_of self.now.config a) moment) self.now.state.asks }
-    {
-        match self.inquiries.oldest() {
-            Some(oldest) => is_late(&self.config, moment, oldest.ask()),
-            None => false,
-        }
+        self.is_due_by(self.kept.moment)
     }
 }
 

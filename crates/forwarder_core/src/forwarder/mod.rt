@@ -22,7 +22,7 @@ use record_cache::{Cache, LookUpSlot};
 use std::alloc::{AllocError, Allocator, Global};
 use std::hash::BuildHasher;
 use std::marker::Model;
-use step_actions::{Decision, TurnRef};
+use step_actions::{Decision, Kept, TurnRef};
 use step_values::{Actions, Event, Outcome};
 use suffix_routes::{Config, Route};
 use waiting_questions::WaitingQuestions;
@@ -30,19 +30,12 @@ use waiting_questions::WaitingQuestions;
 /// The greatest effective moment, in milliseconds.
 const LATEST: u64 = 1 << 62;
 
-/// A forwarder: its configuration, what it keeps of replies, the asks that are under way, the
-/// questions that wait, the server of each group that is asked first, its effective moment, and how
-/// many asks went by TCP.
+/// A forwarder: its configuration, and all that it keeps from step to step.
 #[derive(Drop)]
 pub struct Forwarder<H: BuildHasher, A: Allocator = Global> {
     alloc: A,
     config: Config<A>,
-    cache: Cache<H, A>,
-    inquiries: Inquiries<A>,
-    waiting: WaitingQuestions<A>,
-    preferred: Vec<usize, A>,
-    moment: u64,
-    tcp_asks: u64,
+    kept: Kept<H, A>,
 }
 
 impl<H: BuildHasher, A: Allocator> Model for Forwarder<H, A> {
@@ -54,17 +47,17 @@ impl<H: BuildHasher, A: Allocator> Model for Forwarder<H, A> {
     ghost view = { λ f. record {
       config = f.config;
       state = record {
-        cache = f.cache;
-        asks = f.inquiries.asks;
-        waiting = f.waiting.items;
-        preferred = f.preferred.items;
-        moment = f.moment;
-        tcp_asks = f.tcp_asks;
+        cache = f.kept.cache;
+        asks = f.kept.inquiries.asks;
+        waiting = f.kept.waiting.items;
+        preferred = f.kept.preferred.items;
+        moment = f.kept.moment;
+        tcp_asks = f.kept.tcp_asks;
       };
     } };
 
-    ghost invariant = { λ f. IsKeptForwarder f.config f.cache f.inquiries f.waiting.items f.preferred.items f.moment
-        f.tcp_asks };
+    ghost invariant = { λ f. IsKeptForwarder f.config f.kept.cache f.kept.inquiries f.kept.waiting.items
+        f.kept.preferred.items f.kept.moment f.kept.tcp_asks };
 }
 
 impl<H: BuildHasher + Drop, A: Allocator + Copy> Forwarder<H, A> {
@@ -81,12 +74,14 @@ impl<H: BuildHasher + Drop, A: Allocator + Copy> Forwarder<H, A> {
         Ok(Forwarder {
             alloc,
             config,
-            cache,
-            inquiries: Inquiries::new(alloc, capacity),
-            waiting: WaitingQuestions::new(alloc),
-            preferred,
-            moment: 0,
-            tcp_asks: 0,
+            kept: Kept {
+                cache,
+                inquiries: Inquiries::new(alloc, capacity),
+                waiting: WaitingQuestions::new(alloc),
+                preferred,
+                moment: 0,
+                tcp_asks: 0,
+            },
         })
     }
 
@@ -95,10 +90,14 @@ impl<H: BuildHasher + Drop, A: Allocator + Copy> Forwarder<H, A> {
     pub fn restart(&mut self)
         ensures { self.new ≡ record { config = self.old.config; state = start self.old.config } }
     {
-        forget_all(&mut self.cache, &mut self.inquiries, &mut self.waiting);
-        forget_places(&mut self.preferred);
-        self.moment = 0;
-        self.tcp_asks = 0;
+        forget_all(
+            &mut self.kept.cache,
+            &mut self.kept.inquiries,
+            &mut self.kept.waiting,
+        );
+        forget_places(&mut self.kept.preferred);
+        self.kept.moment = 0;
+        self.kept.tcp_asks = 0;
     }
 
     /// One step: what is to be done about the event, at this moment in milliseconds and with these
@@ -154,10 +153,9 @@ impl<H: BuildHasher + Drop, A: Allocator + Copy> Forwarder<H, A> {
     pub fn next_due(&self) -> Option<u64>
         ensures { result ≡ next_due self.now.config self.now.state }
     {
-        match (self.first_deadline(), self.first_timeout()) {
-            (Some(deadline), Some(timeout)) => Some(deadline.min(timeout)),
-            (Some(deadline), None) => Some(deadline),
-            (None, timeout) => timeout,
+        match self.first_due() {
+            Some(due) => Some(due.moment),
+            None => None,
         }
     }
 
@@ -217,12 +215,7 @@ impl<H: BuildHasher + Drop, A: Allocator + Copy> Forwarder<H, A> {
         TurnRef {
             alloc: self.alloc,
             config: &self.config,
-            cache: &self.cache,
-            inquiries: &self.inquiries,
-            waiting: &self.waiting,
-            preferred: &self.preferred,
-            tcp_asks: self.tcp_asks,
-            before: self.moment,
+            kept: &self.kept,
             moment: self.effective(now),
             words,
         }
@@ -236,7 +229,7 @@ impl<H: BuildHasher + Drop, A: Allocator + Copy> Forwarder<H, A> {
         ensures in_time { result ≤ 2 ^ 62 }
         ensures in_order { IsInOrder self.now.config self.now.state }
     {
-        now.min(LATEST).max(self.moment)
+        now.min(LATEST).max(self.kept.moment)
     }
 
     /// The outcome of a step that does nothing, where nothing is due.

@@ -1,41 +1,41 @@
-//! Whether something is due, and when it will be: the oldest question and the oldest ask decide.
+//! What is due first, and so whether something is.
 
-ghost use Rattle.std.specs.Prelude.{◌≡◌, false, map, IsTrue};
+ghost use Rattle.std.specs.Prelude.{◌≡◌, [], false, IsTrue, MatchOption};
 ghost use Rattle.step_table.specs.Row.{is_due_at};
-ghost use Rattle.step_table.specs.Ticks.{deadline_of};
-ghost use Rattle.step_table.specs.Replies.{timeout_of};
-ghost use Rattle.step_table.specs.Progress.{least};
+ghost use Rattle.step_actions.specs.Due.{IsDueFirst};
 ghost use Rattle.step_values.specs.Values.{event_of, tick};
 
 use crate::forwarder::Forwarder;
 use std::alloc::Allocator;
 use std::hash::BuildHasher;
+use step_actions::{Due, first_due};
 use step_values::Event;
 
 impl<H: BuildHasher + Drop, A: Allocator + Copy> Forwarder<H, A> {
+    /// The question or the ask that is due first. `None` exactly where nothing waits and no ask is
+    /// listed.
+    pub(crate) fn first_due(&self) -> Option<Due<'_, A>>
+        ensures { MatchOption result ((self.now.state.waiting ≡ []) × (self.now.state.asks ≡ []))
+            (IsDueFirst self.now.config self.now.state.waiting self.now.state.asks) }
+    {
+        first_due(&self.config, &self.kept.waiting, &self.kept.inquiries)
+    }
+
+    /// Something is due at this moment.
+    pub(crate) fn is_due_by(&self, moment: u64) -> bool
+        ensures { result ≡ is_due_at self.now.config moment self.now.state }
+    {
+        match self.first_due() {
+            Some(due) => due.moment <= moment,
+            None => false,
+        }
+    }
+
     /// The event is a tick, and nothing is due at this moment.
     pub(crate) fn is_idle_tick(&self, moment: u64, event: &Event<A>) -> bool
         ensures { IsTrue result → (event_of event.now ≡ tick) × (is_due_at self.now.config moment self.now.state
             ≡ false) }
     {
         matches!(event, Event::Tick) && !self.is_due_by(moment)
-    }
-
-    /// The deadline of the oldest question, in milliseconds.
-    pub(crate) fn first_deadline(&self) -> Option<u64>
-        ensures { result ≡ least (map (deadline_of self.now.config) self.now.state.waiting) }
-    {
-        let oldest = self.waiting.first()?;
-        Some(oldest.taken + self.config.limits.deadline_ms)
-    }
-
-    /// The moment from which the oldest ask is past its time, in milliseconds.
-    pub(crate) fn first_timeout(&self) -> Option<u64>
-        ensures { result ≡ least (map (timeout_of self.now.config) self.now.state.asks) }
-    {
-        match self.inquiries.next_due(self.config.limits.ask_ms) {
-            Some((due, _)) => Some(due),
-            None => None,
-        }
     }
 }

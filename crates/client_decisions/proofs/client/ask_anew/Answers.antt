@@ -48,21 +48,21 @@ open-requires-clause-follows g c =
     subst (λ (r : Turn). CanFollow r.config r.moment r.state r.state.asks c.in-Some.ask) c.turn.view_is
     (first_follows c.turn.inside.config.now c.turn.inside.moment c.turn.inside.words c.wanted.result.now c.args.route
     (record {
-      cache = c.turn.inside.cache.now;
-      asks = c.turn.inside.inquiries.now.asks;
-      waiting = c.turn.inside.waiting.now.items;
-      preferred = c.turn.inside.preferred.now;
-      moment = c.turn.inside.before;
-      tcp_asks = c.turn.inside.tcp_asks;
-    }) c.turn.inside.inquiries.now c.turn.inside.preferred.now c.in-Some.ask
+      cache = c.turn.inside.kept.now.cache;
+      asks = c.turn.inside.kept.now.inquiries.asks;
+      waiting = c.turn.inside.kept.now.waiting.items;
+      preferred = c.turn.inside.kept.now.preferred.items;
+      moment = c.turn.inside.kept.now.moment;
+      tcp_asks = c.turn.inside.kept.now.tcp_asks;
+    }) c.turn.inside.kept.now.inquiries c.turn.inside.kept.now.preferred.items c.in-Some.ask
     c.turn.invariant.0 refl
     (subst (λ (q : Question). serving_route_of c.turn.inside.config.now q.name ≡ Some c.args.route) (sym c.wanted.ensures)
     (subst (λ (r : Turn). serving_route_of r.config c.args.waiting.wanted.name ≡ Some c.args.route)
     (sym c.turn.view_is) c.requires.on))
     c.turn.invariant.1 c.turn.invariant.2
-    (subst (λ (q : Question). of_question q c.turn.inside.inquiries.now.asks ≡ None) (sym c.wanted.ensures)
+    (subst (λ (q : Question). of_question q c.turn.inside.kept.now.inquiries.asks ≡ None) (sym c.wanted.ensures)
     (subst (λ (r : Turn). of_question c.args.waiting.wanted r.state.asks ≡ None) (sym c.turn.view_is) c.requires.new))
-    (let count = c.asks_under_way.ensures.count in let asks : length c.turn.inside.inquiries.now.asks
+    (let count = c.asks_under_way.ensures.count in let asks : length c.turn.inside.kept.now.inquiries.asks
     ≡ length c.args.turn.now.state.asks = ap (λ (r : Turn). length r.state.asks) c.turn.view_is in let limit :
     c.config.inside.limits.inquiries ≡ c.turn.inside.config.now.limits.inquiries = λ i.
     (c.config.view_is i).limits.inquiries in let test = c.if-asks_under_way-config.false in omega

@@ -8,20 +8,20 @@ use Rattle.client_decisions.proofs.client.first_ask.Goals as goal
 
 pub returns : goal.returns
 returns g c =
-    let server : c.unwrap_or-server.result ≡ get_or c.turn.inside.preferred.now c.args.route 0 =
+    let server : c.unwrap_or-server.result ≡ get_or c.turn.inside.kept.now.preferred.items c.args.route 0 =
     c.unwrap_or-server.ensures ∙ (λ i. unwrap_or (c.copied.ensures i) 0) ∙ c.get.ensures.lookup.4 (omega arith) 0
-    ∙ (λ i. get_or c.turn.inside.preferred.now (c.route.view_is i) 0) in
+    ∙ (λ i. get_or (c.as_slice.ensures.value i) (c.route.view_is i) 0) in
     IfOk-weaker c.new_ask.result _ _ (λ ask is.
     subst (λ (r : Turn). ask ≡ first_ask (turn r.config r.moment r.words r.state) c.args.question.now c.args.route)
     c.turn.view_is
     (asked_first c.turn.inside.config.now c.turn.inside.moment c.turn.inside.words c.args.question.now c.args.route
     (record {
-      cache = c.turn.inside.cache.now;
-      asks = c.turn.inside.inquiries.now.asks;
-      waiting = c.turn.inside.waiting.now.items;
-      preferred = c.turn.inside.preferred.now;
-      moment = c.turn.inside.before;
-      tcp_asks = c.turn.inside.tcp_asks;
+      cache = c.turn.inside.kept.now.cache;
+      asks = c.turn.inside.kept.now.inquiries.asks;
+      waiting = c.turn.inside.kept.now.waiting.items;
+      preferred = c.turn.inside.kept.now.preferred.items;
+      moment = c.turn.inside.kept.now.moment;
+      tcp_asks = c.turn.inside.kept.now.tcp_asks;
     })
     c.unwrap_or-server.result c.draw.result c.by_udp-drawn.result ask server c.draw.ensures.drawn
     c.by_udp-drawn.ensures

@@ -32,8 +32,8 @@ fate_of-requires-clause-earlier g c =
     (subst (λ (v : Seen). AllByRecursion (IsEarlier c.turn.inside.moment) v.used)
     (sym (c.in_ok-looked.ensures.exact ∙ ap (λ (a : CacheAt). seen_of (look_up a.config.routes a.moment a.cache.entries
     most_aliases [] c.request.inside.question)) (c.cache_at.ensures ∙ ap cache_at (sym c.turn.view_is))))
-    (earlier_used c.turn.inside.config.now.routes c.turn.inside.before c.turn.inside.moment
-    c.turn.inside.cache.now.entries c.request.inside.question c.turn.invariant.0.accepted c.turn.invariant.1)))
+    (earlier_used c.turn.inside.config.now.routes c.turn.inside.kept.now.moment c.turn.inside.moment
+    c.turn.inside.kept.now.cache.entries c.request.inside.question c.turn.invariant.0.accepted c.turn.invariant.1)))
 
 -- a question of a client holds no alias
 pub fate_of-requires-clause-own : goal.fate_of-requires-clause-own

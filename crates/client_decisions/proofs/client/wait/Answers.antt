@@ -10,7 +10,7 @@ pub returns : goal.returns
 returns g c = record {
   decides =
       let room : length c.args.turn.now.state.waiting < c.args.turn.now.config.limits.questions =
-      (let count = c.len.ensures in let waiting : length c.turn.inside.waiting.now.items
+      (let count = c.len.ensures in let waiting : length c.turn.inside.kept.now.waiting.items
       ≡ length c.args.turn.now.state.waiting = ap (λ (r : Turn). length r.state.waiting) c.turn.view_is in let limit :
       c.config.inside.limits.questions ≡ c.args.turn.now.config.limits.questions =
       (λ i. (c.config.view_is i).limits.questions) ∙ ap (λ (r : Turn). r.config.limits.questions)
@@ -24,7 +24,7 @@ pub returns-then-len-config : goal.returns-then-len-config
 returns-then-len-config g c = record {
   decides =
       let full : c.args.turn.now.config.limits.questions ≤ length c.args.turn.now.state.waiting =
-      (let count = c.len.ensures in let waiting : length c.turn.inside.waiting.now.items
+      (let count = c.len.ensures in let waiting : length c.turn.inside.kept.now.waiting.items
       ≡ length c.args.turn.now.state.waiting = ap (λ (r : Turn). length r.state.waiting) c.turn.view_is in let limit :
       c.config.inside.limits.questions ≡ c.args.turn.now.config.limits.questions =
       (λ i. (c.config.view_is i).limits.questions) ∙ ap (λ (r : Turn). r.config.limits.questions)

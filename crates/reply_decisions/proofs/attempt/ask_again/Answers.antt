@@ -1,5 +1,5 @@
 use Rattle.std.proofs.Common.{◌∙◌, ap, sym, subst, [], ◌∷◌, ◌++◌}
-use Rattle.outstanding.specs.Lists.{without_path}
+use Rattle.outstanding.specs.Lists.{on_path as ask_on, without_path}
 use Rattle.step_actions.specs.Decision.{CanFollow}
 use Rattle.step_values.specs.Values.{actions_of}
 use Rattle.step_table.specs.Steps.{closes}
@@ -14,20 +14,28 @@ returns g c = record {
   decides = record {
     row = λ rooms.
         plain_next c.args.turn.now.moment rooms c.args.turn.now.state c.without_cache.result
-        (AskAgain c.args.path c.in_ok-next.next) _ c.without_cache.ensures.used c.without_cache.ensures.change
+        (AskAgain c.asked.inside.path c.in_ok-next.next) _ c.without_cache.ensures.used c.without_cache.ensures.change
         c.without_cache.ensures.carried
-        (again_row g.row.A.Denot c.args.turn.now.moment c.args.path c.args.turn.now.state c.args.ask.now c.args.next
-        c.in_ok-next.next _ c.requires.on c.in_ok-next.ensures.ok
+        (again_row g.row.A.Denot c.args.turn.now.moment c.asked.inside.path c.args.turn.now.state c.args.ask.now c.args.next
+        c.in_ok-next.next _
+        (ap (λ (a : Ask). ask_on a.path c.args.turn.now.state.asks) (c.asked.view_is ∙ c.ask-asked.ensures)
+        ∙ c.requires.on)
+        c.in_ok-next.ensures.ok
         (c.without_cache.ensures.actions ∙ ap (λ xs. actions_of {A = g.row.A.Denot} xs)
         (c.in_ok-push.ensures.ok ∙ ap (λ xs. xs ++ c.in_ok-action.action ∷ []) c.one-actions.ensures)
-        ∙ (λ i. (c.close_path.ensures ∙ ap (λ (a : Ask). closes a.path) (c.behind-ask.view_is ∙ c.ask.ensures)) i ∷ c.in_ok-action.ensures i
+        ∙ (λ i. (c.close_path.ensures ∙ ap (λ (a : Ask). closes a.path) (c.asked.view_is ∙ c.ask-asked.ensures)) i ∷ c.in_ok-action.ensures i
         ∷ [])));
     fits =
         fits_plain c.args.turn.now.config c.args.turn.now.moment c.args.turn.now.state c.without_cache.result
-        (AskAgain c.args.path c.in_ok-next.next) c.without_cache.ensures.change (
-          listed_some c.args.path c.args.turn.now.state.asks c.args.ask.now c.requires.on,
+        (AskAgain c.asked.inside.path c.in_ok-next.next) c.without_cache.ensures.change (
+          listed_some c.asked.inside.path c.args.turn.now.state.asks c.args.ask.now
+              (ap (λ (a : Ask). ask_on a.path c.args.turn.now.state.asks) (c.asked.view_is ∙ c.ask-asked.ensures)
+              ∙ c.requires.on),
           subst (λ (a : Ask). CanFollow c.args.turn.now.config c.args.turn.now.moment c.args.turn.now.state
-              (without_path c.args.path c.args.turn.now.state.asks) a) (sym c.in_ok-next.ensures.ok) c.requires.follows,
+              (without_path c.asked.inside.path c.args.turn.now.state.asks) a) (sym c.in_ok-next.ensures.ok)
+              (subst (λ (a : Ask). CanFollow c.args.turn.now.config c.args.turn.now.moment c.args.turn.now.state
+              (without_path a.path c.args.turn.now.state.asks) c.args.next)
+              (sym (c.asked.view_is ∙ c.ask-asked.ensures)) c.requires.follows),
         ) c.without_cache.ensures.carried;
   };
 }

@@ -16,64 +16,64 @@ pub plan-plan-requires-clause-server : goal.plan-plan-requires-clause-server
 plan-plan-requires-clause-server g c =
     subst (λ (a : Ask). a.server < length (servers_in (group_of c.turn.inside.config.now a.route)))
     (sym c.ask-asked.ensures)
-    (server_within c.turn.inside.config.now c.turn.inside.before
-    c.turn.inside.tcp_asks c.args.path c.turn.inside.inquiries.now.asks c.args.ask.now
-    (subst (λ (r : Turn). ask_on c.args.path r.state.asks ≡ Some c.args.ask.now) (sym c.turn.view_is) c.requires.on)
+    (server_within c.turn.inside.config.now c.turn.inside.kept.now.moment
+    c.turn.inside.kept.now.tcp_asks c.args.ask.now.path c.turn.inside.kept.now.inquiries.asks c.args.ask.now
+    (subst (λ (r : Turn). ask_on c.args.ask.now.path r.state.asks ≡ Some c.args.ask.now) (sym c.turn.view_is) c.requires.on)
     c.turn.invariant.0.asks)
 
 pub after-requires : goal.after-requires
 after-requires g c = subst (λ (p : Plan). p.server < p.servers) (sym (c.plan-plan.ensures ∙ ap (plan_of c.turn.inside.config.now) c.ask-asked.ensures))
-    (server_within c.turn.inside.config.now c.turn.inside.before c.turn.inside.tcp_asks c.args.path
-    c.turn.inside.inquiries.now.asks c.args.ask.now (subst
-    (λ (r : Turn). ask_on c.args.path r.state.asks ≡ Some c.args.ask.now) (sym c.turn.view_is) c.requires.on)
+    (server_within c.turn.inside.config.now c.turn.inside.kept.now.moment c.turn.inside.kept.now.tcp_asks c.args.ask.now.path
+    c.turn.inside.kept.now.inquiries.asks c.args.ask.now (subst
+    (λ (r : Turn). ask_on c.args.ask.now.path r.state.asks ≡ Some c.args.ask.now) (sym c.turn.view_is) c.requires.on)
     c.turn.invariant.0.asks)
 
 pub retry-requires-clause-tries : goal.retry-requires-clause-tries
 retry-requires-clause-tries g c =
-    let more = more_left c.turn.inside.config.now c.turn.inside.cache.now c.turn.inside.inquiries.now
-    c.turn.inside.waiting.now.items c.turn.inside.preferred.now c.turn.inside.before c.turn.inside.tcp_asks
-    c.args.path c.args.ask.now c.args.failure c.turn.invariant.0
-    (subst (λ (r : Turn). ask_on c.args.path r.state.asks ≡ Some c.args.ask.now) (sym c.turn.view_is) c.requires.on)
+    let more = more_left c.turn.inside.config.now c.turn.inside.kept.now.cache c.turn.inside.kept.now.inquiries
+    c.turn.inside.kept.now.waiting.items c.turn.inside.kept.now.preferred.items c.turn.inside.kept.now.moment c.turn.inside.kept.now.tcp_asks
+    c.args.ask.now.path c.args.ask.now c.args.failure c.turn.invariant.0
+    (subst (λ (r : Turn). ask_on c.args.ask.now.path r.state.asks ≡ Some c.args.ask.now) (sym c.turn.view_is) c.requires.on)
     (udp_goes_on _ c.in-AskUdp.server (ap (λ (p : Plan). after_failure p c.args.failure) (sym (c.plan-plan.ensures ∙ ap (plan_of c.turn.inside.config.now) c.ask-asked.ensures))
     ∙ sym c.in-AskUdp.ensures)) in
     let most = c.turn.invariant.0.config.limits.tries.1 in omega (arith, more, most)
 
 pub retry-requires-clause-follows : goal.retry-requires-clause-follows
 retry-requires-clause-follows g c =
-    λ next is. subst (λ (r : Turn). CanFollow r.config r.moment r.state (without_path c.args.path r.state.asks) next)
+    λ next is. subst (λ (r : Turn). CanFollow r.config r.moment r.state (without_path c.args.ask.now.path r.state.asks) next)
     c.turn.view_is
-    (next_by_udp c.turn.inside.config.now c.turn.inside.cache.now c.turn.inside.inquiries.now
-    c.turn.inside.waiting.now.items c.turn.inside.preferred.now c.turn.inside.before c.turn.inside.tcp_asks
-    c.turn.inside.moment c.turn.inside.words c.args.path c.args.ask.now c.args.failure c.turn.invariant.0
+    (next_by_udp c.turn.inside.config.now c.turn.inside.kept.now.cache c.turn.inside.kept.now.inquiries
+    c.turn.inside.kept.now.waiting.items c.turn.inside.kept.now.preferred.items c.turn.inside.kept.now.moment c.turn.inside.kept.now.tcp_asks
+    c.turn.inside.moment c.turn.inside.words c.args.ask.now.path c.args.ask.now c.args.failure c.turn.invariant.0
     c.turn.invariant.1 c.turn.invariant.2
-    (subst (λ (r : Turn). ask_on c.args.path r.state.asks ≡ Some c.args.ask.now) (sym c.turn.view_is) c.requires.on)
+    (subst (λ (r : Turn). ask_on c.args.ask.now.path r.state.asks ≡ Some c.args.ask.now) (sym c.turn.view_is) c.requires.on)
     c.in-AskUdp.server (ap (λ (p : Plan). after_failure p c.args.failure) (sym (c.plan-plan.ensures ∙ ap (plan_of c.turn.inside.config.now) c.ask-asked.ensures))
     ∙ sym c.in-AskUdp.ensures) next
     ((λ i. ask_by (c.turn.view_is i).moment c.args.ask.now.question c.args.ask.now.route c.in-AskUdp.server
     (c.args.ask.now.used + 1) (peer_at (c.turn.view_is i).config c.args.ask.now.route c.in-AskUdp.server)
     (sym (c.by_udp.ensures ∙ ap over_udp (c.draw-drawn.ensures.drawn
-    ∙ ap (udp_draw c.turn.inside.words c.turn.inside.inquiries.now.asks)
+    ∙ ap (udp_draw c.turn.inside.words c.turn.inside.kept.now.inquiries.asks)
     (c.freed_port.ensures ∙ ap (λ (a : Ask). freed_by a.path) (c.asked.view_is ∙ c.ask-asked.ensures)))) i)) ∙ is))
 
 pub retry-requires-in-AskTcp-clause-tries : goal.retry-requires-in-AskTcp-clause-tries
 retry-requires-in-AskTcp-clause-tries g c =
-    let more = more_left c.turn.inside.config.now c.turn.inside.cache.now c.turn.inside.inquiries.now
-    c.turn.inside.waiting.now.items c.turn.inside.preferred.now c.turn.inside.before c.turn.inside.tcp_asks
-    c.args.path c.args.ask.now c.args.failure c.turn.invariant.0
-    (subst (λ (r : Turn). ask_on c.args.path r.state.asks ≡ Some c.args.ask.now) (sym c.turn.view_is) c.requires.on)
+    let more = more_left c.turn.inside.config.now c.turn.inside.kept.now.cache c.turn.inside.kept.now.inquiries
+    c.turn.inside.kept.now.waiting.items c.turn.inside.kept.now.preferred.items c.turn.inside.kept.now.moment c.turn.inside.kept.now.tcp_asks
+    c.args.ask.now.path c.args.ask.now c.args.failure c.turn.invariant.0
+    (subst (λ (r : Turn). ask_on c.args.ask.now.path r.state.asks ≡ Some c.args.ask.now) (sym c.turn.view_is) c.requires.on)
     (tcp_goes_on _ c.in-AskTcp.server (ap (λ (p : Plan). after_failure p c.args.failure) (sym (c.plan-plan.ensures ∙ ap (plan_of c.turn.inside.config.now) c.ask-asked.ensures))
     ∙ sym c.in-AskTcp.ensures)) in
     let most = c.turn.invariant.0.config.limits.tries.1 in omega (arith, more, most)
 
 pub retry-requires-in-AskTcp-clause-follows : goal.retry-requires-in-AskTcp-clause-follows
 retry-requires-in-AskTcp-clause-follows g c =
-    λ next is. subst (λ (r : Turn). CanFollow r.config r.moment r.state (without_path c.args.path r.state.asks) next)
+    λ next is. subst (λ (r : Turn). CanFollow r.config r.moment r.state (without_path c.args.ask.now.path r.state.asks) next)
     c.turn.view_is
-    (next_by_tcp c.turn.inside.config.now c.turn.inside.cache.now c.turn.inside.inquiries.now
-    c.turn.inside.waiting.now.items c.turn.inside.preferred.now c.turn.inside.before c.turn.inside.tcp_asks
-    c.turn.inside.moment c.turn.inside.words c.args.path c.args.ask.now c.args.failure c.turn.invariant.0
+    (next_by_tcp c.turn.inside.config.now c.turn.inside.kept.now.cache c.turn.inside.kept.now.inquiries
+    c.turn.inside.kept.now.waiting.items c.turn.inside.kept.now.preferred.items c.turn.inside.kept.now.moment c.turn.inside.kept.now.tcp_asks
+    c.turn.inside.moment c.turn.inside.words c.args.ask.now.path c.args.ask.now c.args.failure c.turn.invariant.0
     c.turn.invariant.1 c.turn.invariant.2
-    (subst (λ (r : Turn). ask_on c.args.path r.state.asks ≡ Some c.args.ask.now) (sym c.turn.view_is) c.requires.on)
+    (subst (λ (r : Turn). ask_on c.args.ask.now.path r.state.asks ≡ Some c.args.ask.now) (sym c.turn.view_is) c.requires.on)
     c.in-AskTcp.server (ap (λ (p : Plan). after_failure p c.args.failure) (sym (c.plan-plan.ensures ∙ ap (plan_of c.turn.inside.config.now) c.ask-asked.ensures))
     ∙ sym c.in-AskTcp.ensures) next
     ((λ i. ask_by (c.turn.view_is i).moment c.args.ask.now.question c.args.ask.now.route c.in-AskTcp.server
@@ -98,7 +98,7 @@ returns-in-AskUdp g c = record {
       c.in-AskUdp.server (c.args.ask.now.used + 1) (peer_at c.args.turn.now.config c.args.ask.now.route
       c.in-AskUdp.server) d))
       (c.by_udp.ensures ∙ ap over_udp (c.draw-drawn.ensures.drawn
-      ∙ ap (udp_draw c.turn.inside.words c.turn.inside.inquiries.now.asks)
+      ∙ ap (udp_draw c.turn.inside.words c.turn.inside.kept.now.inquiries.asks)
       (c.freed_port.ensures ∙ ap (λ (a : Ask). freed_by a.path) (c.asked.view_is ∙ c.ask-asked.ensures)))
       ∙ ap (λ (r : Turn). over_udp (udp_draw r.words r.state.asks (freed_by c.args.ask.now.path))) c.turn.view_is)
       ∙ sym (ap (row_of_next c.args.turn.now c.args.ask.now)

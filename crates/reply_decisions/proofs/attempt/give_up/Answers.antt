@@ -1,4 +1,6 @@
 use Rattle.std.proofs.Common.{◌∙◌, ap, [], ◌∷◌, None}
+use Rattle.outstanding.specs.Lists.{on_path as ask_on}
+use Rattle.outstanding.specs.Values.{Ask}
 use Rattle.step_table.specs.State.{Turn}
 use Rattle.step_table.specs.Steps.{closes, fails}
 use Rattle.step_actions.specs.declared.decision.Change.TheVariants.{Close}
@@ -12,16 +14,17 @@ returns g c = record {
   decides = record {
     row = λ rooms.
         plain_next c.args.turn.now.moment rooms c.args.turn.now.state c.without_cache.result
-        (Close c.args.path None) _ c.without_cache.ensures.used c.without_cache.ensures.change
+        (Close c.asked.inside.path None) _ c.without_cache.ensures.used c.without_cache.ensures.change
         c.without_cache.ensures.carried
-        (closed_is g.row.A.Denot c.args.turn.now.moment c.args.path c.args.turn.now.state c.args.ask.now
-        (fails c.args.why c.args.ask.now.question) None _ c.requires
+        (closed_is g.row.A.Denot c.args.turn.now.moment c.asked.inside.path c.args.turn.now.state c.args.ask.now
+        (fails c.args.why c.args.ask.now.question) None _ (ap (λ (a : Ask). ask_on a.path c.args.turn.now.state.asks) (c.asked.view_is ∙ c.ask-asked.ensures)
+        ∙ c.requires)
         (c.without_cache.ensures.actions ∙ c.in_ok-actions.ensures
         ∙ ap (with_replies (fails c.args.why c.args.ask.now.question) (closes c.args.ask.now.path ∷ []))
         (ap (λ (r : Turn). r.state.waiting) c.turn.view_is))
         (fails_frees c.args.why c.args.ask.now.question));
     fits =
         fits_plain c.args.turn.now.config c.args.turn.now.moment c.args.turn.now.state c.without_cache.result
-        (Close c.args.path None) c.without_cache.ensures.change tt c.without_cache.ensures.carried;
+        (Close c.asked.inside.path None) c.without_cache.ensures.change tt c.without_cache.ensures.carried;
   };
 }

@@ -1,4 +1,6 @@
-use Rattle.std.proofs.Common.{◌∙◌, None}
+use Rattle.std.proofs.Common.{◌∙◌, ap, None}
+use Rattle.outstanding.specs.Lists.{on_path as ask_on}
+use Rattle.outstanding.specs.Values.{Ask}
 use Rattle.step_table.specs.Failures.{runs_out}
 use Rattle.step_actions.specs.declared.decision.Change.TheVariants.{Close}
 use Rattle.reply_decisions.proofs.Deciding.{closed_is, lasts_frees}
@@ -10,16 +12,17 @@ returns g c = record {
   decides = record {
     row = λ rooms.
         plain_next c.args.turn.now.moment rooms c.args.turn.now.state c.without_cache.result
-        (Close c.args.path None) _ c.without_cache.ensures.used c.without_cache.ensures.change
+        (Close c.asked.inside.path None) _ c.without_cache.ensures.used c.without_cache.ensures.change
         c.without_cache.ensures.carried
-        (closed_is g.row.A.Denot c.args.turn.now.moment c.args.path c.args.turn.now.state c.args.ask.now
+        (closed_is g.row.A.Denot c.args.turn.now.moment c.asked.inside.path c.args.turn.now.state c.args.ask.now
         (runs_out c.args.turn.now.config c.args.turn.now.moment c.args.turn.now.state.cache.entries
-        c.args.ask.now.question) None _ c.requires.on
+        c.args.ask.now.question) None _ (ap (λ (a : Ask). ask_on a.path c.args.turn.now.state.asks) (c.asked.view_is ∙ c.ask-asked.ensures)
+        ∙ c.requires.on)
         (c.without_cache.ensures.actions ∙ c.in_ok-actions.ensures)
         (lasts_frees c.args.turn.now.config c.args.turn.now.moment c.args.turn.now.state.cache.entries
         c.args.ask.now.question));
     fits =
         fits_plain c.args.turn.now.config c.args.turn.now.moment c.args.turn.now.state c.without_cache.result
-        (Close c.args.path None) c.without_cache.ensures.change tt c.without_cache.ensures.carried;
+        (Close c.asked.inside.path None) c.without_cache.ensures.change tt c.without_cache.ensures.carried;
   };
 }

@@ -1,4 +1,4 @@
-use Rattle.std.proofs.Common.{ℕ, List, ◌∙◌, ap, sym, subst, refl, ◌+◌, arith}
+use Rattle.std.proofs.Common.{ℕ, List, ◌∙◌, ap, sym, subst, refl, ◌+◌, ◌<◌, ◌^◌, arith}
 use Rattle.std.specs.Prelude.{nat_lt}
 use Rattle.std.proofs.lemmas.Grind.{get_or_default_zero}
 use Rattle.plain_values.specs.Octets.{AreOctets}
@@ -11,8 +11,8 @@ use Rattle.step_table.specs.Replies.{row_of_verdict, timeout_of}
 use Rattle.outstanding.specs.Lists.{on_path as ask_on}
 use Rattle.outstanding.specs.Values.{Ask}
 use Rattle.reply_decisions.specs.Walked.{ShowsOctets}
-use Rattle.reply_decisions.proofs.Deciding.{idle_unlisted, idle_late, judged_is, verdict_is}
-use Rattle.step_actions.proofs.CallerLemmas.{decides_as, decides_by}
+use Rattle.reply_decisions.proofs.Deciding.{idle_unlisted, idle_late, judged_is, on_own, verdict_is}
+use Rattle.step_actions.proofs.CallerLemmas.{decides_as, decides_by, timeout_fits}
 use Rattle.reply_decisions.proofs.delivery.on_delivery.Goals as goal
 
 -- a view of octets shows octets
@@ -31,6 +31,13 @@ returns-in_default-clause-decides g c =
     (sym (ap (ask_on c.args.path) (ap (λ (r : Turn). r.state.asks) c.turn.view_is)) ∙ c.in_default.ensures.found)
     refl)
 
+pub is_live-requires : goal.is_live-requires
+is_live-requires g c =
+    subst (λ (a : Ask). timeout_of c.turn.inside.config.now a < 2 ^ 64) (sym c.ask-asked.ensures)
+    (timeout_fits c.turn.inside.config.now c.turn.inside.kept.now.cache c.turn.inside.kept.now.inquiries
+    c.turn.inside.kept.now.waiting.items c.turn.inside.kept.now.preferred.items c.turn.inside.kept.now.moment c.turn.inside.kept.now.tcp_asks
+    c.args.path c.in-Some.ask.now c.turn.invariant.0 c.in-Some.ensures.found)
+
 pub returns-then-not-is_live-clause-decides : goal.returns-then-not-is_live-clause-decides
 returns-then-not-is_live-clause-decides g c =
     decides_as c.nothing-then-not-is_live.ensures.decides (λ rooms.
@@ -42,8 +49,9 @@ returns-then-not-is_live-clause-decides g c =
     refl)
 
 pub on_verdict-requires-clause-on : goal.on_verdict-requires-clause-on
-on_verdict-requires-clause-on g c = sym (ap (ask_on c.args.path) (ap (λ (r : Turn). r.state.asks) c.turn.view_is))
-    ∙ c.in-Some.ensures.found
+on_verdict-requires-clause-on g c =
+    on_own c.args.path c.args.turn.now.state.asks c.in-Some.ask.now
+    (sym (ap (ask_on c.args.path) (ap (λ (r : Turn). r.state.asks) c.turn.view_is)) ∙ c.in-Some.ensures.found)
 
 pub on_verdict-requires-clause-octets : goal.on_verdict-requires-clause-octets
 on_verdict-requires-clause-octets g c =

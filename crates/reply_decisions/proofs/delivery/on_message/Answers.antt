@@ -3,7 +3,6 @@ use Rattle.trust_rank.specs.Values.{Walk, end_of}
 use Rattle.trust_rank.specs.Walks.{walk_of, is_lame}
 use Rattle.step_table.specs.Replies.{row_of_acceptance}
 use Rattle.reply_decisions.proofs.Accepting.{lame_row, accepted_row, ends_there, ends_fine}
-use Rattle.reply_decisions.proofs.Deciding.{on_own}
 use Rattle.step_actions.proofs.CallerLemmas.{decides_by}
 use Rattle.reply_decisions.proofs.delivery.on_message.Goals as goal
 
@@ -59,28 +58,10 @@ returns-in-Found g c = record {
       c.args.ask.now.route).end ≡ false =
       ap (λ (w : Walk). is_lame w.end) (sym (c.pieces-2.view_is ∙ walk))
       ∙ ends_fine c.pieces-2.inside.end c.in-Found.is in
-      decides_by c.accept.result _ _ _ c.accept.ensures.decides
+      decides_by c.accept.result _ _ _ (c.accept.ensures.decides (end_of c.pieces-2.inside.end)
+      (ends_there c.pieces-2.inside.end c.in-Found.is)
+      (record { message = c.args.message.now; read = c.requires.read; is = c.pieces-2.view_is ∙ walk }))
       (λ rooms. ap (λ (w : Walk). row_of_acceptance c.args.turn.now rooms c.args.ask.now w) (c.pieces-2.view_is ∙ walk)
       ∙ sym (accepted_row c.args.turn.now.config c.args.turn.now.moment c.args.turn.now.words rooms c.args.ask.now
       c.args.turn.now.state _ fine));
 }
-
-pub send_on-requires-clause-on : goal.send_on-requires-clause-on
-send_on-requires-clause-on g c = on_own c.args.path c.args.turn.now.state.asks c.args.ask.now c.requires.on
-
-pub accept-requires : goal.accept-requires
-accept-requires g c =
-    let walk : c.in_ok-pieces.field-0 ≡ walk_of c.args.turn.now.config c.args.message.now c.args.ask.now.question
-    c.args.ask.now.route =
-    c.in_ok-pieces.ensures
-    ∙ (λ i. walk_of (c.turn.view_is i).config c.args.message.now
-    ((c.asked.view_is ∙ c.ask-asked.ensures) i).question ((c.asked.view_is ∙ c.ask-asked.ensures) i).route) in
-    record {
-      on = c.requires.on;
-      ends = ends_there c.pieces-2.inside.end c.in-Found.is;
-      carried = record {
-        message = c.args.message.now;
-        read = c.requires.read;
-        is = c.pieces-2.view_is ∙ walk;
-      };
-    }

@@ -26,7 +26,7 @@ returns g c = record {
       λ fate become.
       let on : ask_on c.ask.inside.path c.args.turn.now.state.asks ≡ Some c.args.answered.now = ap
       (λ (a : Ask). ask_on a.path c.args.turn.now.state.asks) (c.ask.view_is ∙ c.ask-ask.ensures) ∙ c.requires.on in
-      let on_inside : ask_on c.args.answered.now.path c.turn.inside.inquiries.now.asks
+      let on_inside : ask_on c.args.answered.now.path c.turn.inside.kept.now.inquiries.asks
       ≡ Some c.args.answered.now = subst (λ (r : Turn). ask_on c.args.answered.now.path r.state.asks
       ≡ Some c.args.answered.now) (sym c.turn.view_is) c.requires.on in
       record {
@@ -67,8 +67,8 @@ returns g c = record {
                     (sym (c.ask.view_is ∙ c.ask-ask.ensures))
                     (subst (λ (r : Turn). c.args.answered.now.server < length
                     (servers_in (group_of r.config c.args.answered.now.route))) c.turn.view_is
-                    (server_within c.turn.inside.config.now c.turn.inside.before c.turn.inside.tcp_asks
-                    c.args.answered.now.path c.turn.inside.inquiries.now.asks c.args.answered.now on_inside
+                    (server_within c.turn.inside.config.now c.turn.inside.kept.now.moment c.turn.inside.kept.now.tcp_asks
+                    c.args.answered.now.path c.turn.inside.kept.now.inquiries.asks c.args.answered.now on_inside
                     c.turn.invariant.0.asks));
                 follows = subst (λ (a : Ask). IfFollows c.args.turn.now.config c.args.turn.now.moment
                     c.args.turn.now.state

@@ -13,15 +13,15 @@ pub returns-then-route-own : goal.returns-then-route-own
 returns-then-route-own g c =
     let are : ArePreferred c.args.turn.now.config.routes c.args.turn.now.state.preferred = subst
     (λ (r : Turn). ArePreferred r.config.routes r.state.preferred) c.turn.view_is c.turn.invariant.0.places in
-    let listed : ask_on c.args.answered.now.path c.turn.inside.inquiries.now.asks ≡ Some c.args.answered.now = subst
+    let listed : ask_on c.args.answered.now.path c.turn.inside.kept.now.inquiries.asks ≡ Some c.args.answered.now = subst
     (λ (r : Turn). ask_on c.args.answered.now.path r.state.asks ≡ Some c.args.answered.now)
     (sym c.turn.view_is) c.requires in
     let there : peer_at c.args.turn.now.config c.args.answered.now.route c.args.answered.now.server
     ≡ Some c.args.answered.now.peer =
     subst (λ (r : Turn). peer_at r.config c.args.answered.now.route c.args.answered.now.server
     ≡ Some c.args.answered.now.peer) c.turn.view_is
-    (kept_of c.turn.inside.config.now c.turn.inside.before c.turn.inside.tcp_asks c.args.answered.now.path
-    c.turn.inside.inquiries.now.asks c.args.answered.now listed c.turn.invariant.0.asks).server in
+    (kept_of c.turn.inside.config.now c.turn.inside.kept.now.moment c.turn.inside.kept.now.tcp_asks c.args.answered.now.path
+    c.turn.inside.kept.now.inquiries.asks c.args.answered.now listed c.turn.invariant.0.asks).server in
     ap (λ (a : Ask). a.server) (c.ask.view_is ∙ c.ask-ask.ensures) ∙ preferred_own c.args.turn.now.config c.args.answered.now
     c.args.turn.now.state are there
     ∙ ap (preferred_on (with_preferred_server c.args.answered.now c.args.turn.now.state))

@@ -47,8 +47,8 @@ fates_behind-requires-clause-own g c =
     subst (λ (r : Turn). AllByRecursion (HoldsEarlier r.moment) c.for_ask-those.result) c.turn.view_is
     (subst (AllByRecursion (HoldsEarlier c.turn.inside.moment)) (sym c.for_ask-those.ensures)
     (All-filter (HoldsEarlier c.turn.inside.moment) (waits_for c.args.answered.now.question)
-    c.turn.inside.waiting.now.items
-    (later_held c.turn.inside.before c.turn.inside.moment c.turn.inside.waiting.now.items c.turn.invariant.1
+    c.turn.inside.kept.now.waiting.items
+    (later_held c.turn.inside.kept.now.moment c.turn.inside.moment c.turn.inside.kept.now.waiting.items c.turn.invariant.1
     c.turn.invariant.0.aliases)))
 
 pub close_and_send_on-requires-clause-count : goal.close_and_send_on-requires-clause-count
@@ -63,8 +63,8 @@ close_and_send_on-requires-clause-earlier g c =
     c.turn.view_is
     (sent_earlier c.turn.inside.moment _
     (behind_fate_holds (IsEarlier c.turn.inside.moment) c.turn.inside.config.now c.turn.inside.moment
-    c.turn.inside.cache.now.entries _ c.args.name
-    (later_entries c.turn.inside.before c.turn.inside.moment c.turn.inside.cache.now.entries c.turn.invariant.1
+    c.turn.inside.kept.now.cache.entries _ c.args.name
+    (later_entries c.turn.inside.kept.now.moment c.turn.inside.moment c.turn.inside.kept.now.cache.entries c.turn.invariant.1
     c.turn.invariant.0.accepted)
     (subst (AllByRecursion (IsEarlier c.turn.inside.moment))
     (sym (ap (take (length c.as_slice-walked.result.now)) c.deref.ensures.value
@@ -74,8 +74,8 @@ close_and_send_on-requires-clause-earlier g c =
     c.for_ask-those.result c.in_ok-fates-2.fates.each c.in_ok-fates-2.ensures.count
     (subst (AllByRecursion (HoldsEarlier c.turn.inside.moment)) (sym c.for_ask-those.ensures)
     (All-filter (HoldsEarlier c.turn.inside.moment) (waits_for c.args.answered.now.question)
-    c.turn.inside.waiting.now.items (later_held c.turn.inside.before c.turn.inside.moment
-    c.turn.inside.waiting.now.items c.turn.invariant.1 c.turn.invariant.0.aliases)))
+    c.turn.inside.kept.now.waiting.items (later_held c.turn.inside.kept.now.moment c.turn.inside.moment
+    c.turn.inside.kept.now.waiting.items c.turn.invariant.1 c.turn.invariant.0.aliases)))
     _ c.in_ok-fates-2.next
     (c.in_ok-fates-2.ensures.fates ∙ ap (λ (fs : List Fate). fates_then
     (asked_for c.args.answered.now c.args.turn.now.state fs) c.in_ok-fates-2.next fs)
@@ -89,8 +89,8 @@ close_and_send_on-requires-clause-follows g c =
     subst (λ (r : Turn). IfFollows r.config r.moment r.state
     (without_path c.args.answered.now.path r.state.asks) c.in_ok-fates-2.next) c.turn.view_is
     (next_follows c.turn.inside.config.now c.turn.inside.moment c.turn.inside.words c.args.answered.now
-    c.turn.inside.cache.now c.turn.inside.inquiries.now c.turn.inside.waiting.now.items c.turn.inside.preferred.now
-    c.turn.inside.before c.turn.inside.tcp_asks
+    c.turn.inside.kept.now.cache c.turn.inside.kept.now.inquiries c.turn.inside.kept.now.waiting.items c.turn.inside.kept.now.preferred.items
+    c.turn.inside.kept.now.moment c.turn.inside.kept.now.tcp_asks
     c.turn.invariant.0 c.turn.invariant.1 c.turn.invariant.2
     (subst (λ (r : Turn). ask_on c.args.answered.now.path r.state.asks ≡ Some c.args.answered.now)
     (sym c.turn.view_is) c.requires.on)
@@ -105,8 +105,8 @@ close_and_send_on-requires-clause-few g c =
     let routed : serving_route_of c.args.turn.now.config c.args.answered.now.question.name ≡ Some c.args.answered.now.route =
     subst (λ (r : Turn). serving_route_of r.config c.args.answered.now.question.name ≡ Some c.args.answered.now.route)
     c.turn.view_is
-    (kept_of c.turn.inside.config.now c.turn.inside.before c.turn.inside.tcp_asks c.args.answered.now.path
-    c.turn.inside.inquiries.now.asks c.args.answered.now
+    (kept_of c.turn.inside.config.now c.turn.inside.kept.now.moment c.turn.inside.kept.now.tcp_asks c.args.answered.now.path
+    c.turn.inside.kept.now.inquiries.asks c.args.answered.now
     (subst (λ (r : Turn). ask_on c.args.answered.now.path r.state.asks ≡ Some c.args.answered.now)
     (sym c.turn.view_is) c.requires.on) c.turn.invariant.0.asks).on_route in
     subst (λ (ps : List Piece). length ps < 2 ^ 32)
@@ -121,8 +121,8 @@ close_and_send_on-requires-clause-routed g c =
     let routed : serving_route_of c.args.turn.now.config c.args.answered.now.question.name ≡ Some c.args.answered.now.route =
     subst (λ (r : Turn). serving_route_of r.config c.args.answered.now.question.name ≡ Some c.args.answered.now.route)
     c.turn.view_is
-    (kept_of c.turn.inside.config.now c.turn.inside.before c.turn.inside.tcp_asks c.args.answered.now.path
-    c.turn.inside.inquiries.now.asks c.args.answered.now
+    (kept_of c.turn.inside.config.now c.turn.inside.kept.now.moment c.turn.inside.kept.now.tcp_asks c.args.answered.now.path
+    c.turn.inside.kept.now.inquiries.asks c.args.answered.now
     (subst (λ (r : Turn). ask_on c.args.answered.now.path r.state.asks ≡ Some c.args.answered.now)
     (sym c.turn.view_is) c.requires.on) c.turn.invariant.0.asks).on_route in
     subst (AllByRecursion (IsRouted c.args.turn.now.config))
@@ -138,8 +138,8 @@ returns g c = record {
       let routed : serving_route_of c.args.turn.now.config c.args.answered.now.question.name ≡ Some c.args.answered.now.route =
       subst (λ (r : Turn). serving_route_of r.config c.args.answered.now.question.name ≡ Some c.args.answered.now.route)
       c.turn.view_is
-      (kept_of c.turn.inside.config.now c.turn.inside.before c.turn.inside.tcp_asks c.args.answered.now.path
-      c.turn.inside.inquiries.now.asks c.args.answered.now
+      (kept_of c.turn.inside.config.now c.turn.inside.kept.now.moment c.turn.inside.kept.now.tcp_asks c.args.answered.now.path
+      c.turn.inside.kept.now.inquiries.asks c.args.answered.now
       (subst (λ (r : Turn). ask_on c.args.answered.now.path r.state.asks ≡ Some c.args.answered.now)
       (sym c.turn.view_is) c.requires.on) c.turn.invariant.0.asks).on_route in
       let aliases : take (length c.as_slice-walked.result.now) c.deref.result.now ≡ map

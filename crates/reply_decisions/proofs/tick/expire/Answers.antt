@@ -5,8 +5,7 @@ use Rattle.step_table.specs.Steps.{failed}
 use Rattle.step_table.specs.Ticks.{left_alone}
 use Rattle.step_actions.specs.declared.decision.Change.TheVariants.{Expire}
 use Rattle.reply_decisions.proofs.Deciding.{expired_row, pushed}
-use Rattle.step_actions.proofs.CallerLemmas.{plain_next, fits_plain}
-use Rattle.reply_decisions.proofs.Ticks.{rest_is}
+use Rattle.step_actions.proofs.CallerLemmas.{plain_next, fits_plain, rest_is}
 use Rattle.reply_decisions.proofs.tick.expire.Goals as goal
 
 pub returns : goal.returns

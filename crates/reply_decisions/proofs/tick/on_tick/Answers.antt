@@ -1,81 +1,78 @@
-use Rattle.std.proofs.Common.{◌∙◌, ap, sym}
-use Rattle.std.specs.Prelude.{drop, nat_le, slice_get}
-use Rattle.outstanding.specs.Values.{Ask}
+use Rattle.std.proofs.Common.{◌≡◌, ◌≤◌, ◌<◌, ◌^◌, ◌∙◌, ℕ, ap, sym, subst}
 use Rattle.step_table.specs.State.{Turn}
-use Rattle.step_table.specs.Ticks.{deadline_of}
-use Rattle.step_table.specs.Replies.{timeout_of}
-use Rattle.reply_decisions.proofs.Ticks.{rest_is, tick_idle, tick_attempt, tick_question, tick_question_first, tick_attempt_first}
-use Rattle.step_actions.proofs.CallerLemmas.{decides_as, decides_by}
+use Rattle.step_actions.specs.Due.{IsDueFirst}
+use Rattle.reply_decisions.proofs.Ticks.{ask_due, idle_until, not_early, oldest_on, question_due, question_there, tick_idle}
+use Rattle.step_actions.proofs.CallerLemmas.{decides_as, decides_by, later_taken}
 use Rattle.reply_decisions.proofs.tick.on_tick.Goals as goal
 
-pub on_attempt-requires : goal.on_attempt-requires
-on_attempt-requires g c = record {
-  first =
-      ap (λ (r : Turn). slice_get r.state.asks 0) (sym c.turn.view_is)
-      ∙ c.in-None-Some.ensures'.first;
-}
+pub first_due-requires-clause-limits : goal.first_due-requires-clause-limits
+first_due-requires-clause-limits g c = c.turn.invariant.0.config
 
-pub on_question-requires : goal.on_question-requires
-on_question-requires g c = ap (λ (r : Turn). slice_get r.state.waiting 0) (sym c.turn.view_is) ∙ c.in-Some-None.ensures
+pub first_due-requires-clause-in_turn : goal.first_due-requires-clause-in_turn
+first_due-requires-clause-in_turn g c = c.turn.invariant.0.by_arrival
 
-pub on_question-requires-then-comes_first : goal.on_question-requires-then-comes_first
-on_question-requires-then-comes_first g c = ap (λ (r : Turn). slice_get r.state.waiting 0) (sym c.turn.view_is)
-    ∙ c.in-Some-Some.ensures
+pub first_due-requires-clause-taken : goal.first_due-requires-clause-taken
+first_due-requires-clause-taken g c =
+    later_taken c.turn.inside.kept.now.moment (2 ^ 62) c.turn.inside.kept.now.waiting.items c.turn.invariant.0.in_time
+    c.turn.invariant.0.taken
 
-pub on_attempt-requires-else-comes_first : goal.on_attempt-requires-else-comes_first
-on_attempt-requires-else-comes_first g c = record {
-  first =
-      ap (λ (r : Turn). slice_get r.state.asks 0)
-      (sym c.turn.view_is) ∙ c.in-Some-Some.ensures'.first;
-}
-
-pub returns-in-None-None-clause-decides : goal.returns-in-None-None-clause-decides
-returns-in-None-None-clause-decides g c =
+pub returns-in_default-clause-decides : goal.returns-in_default-clause-decides
+returns-in_default-clause-decides g c =
     decides_as c.nothing.ensures.decides (λ rooms.
     tick_idle c.args.turn.now.config c.args.turn.now.moment c.args.turn.now.words c.args.turn.now.state
-    (ap (λ (r : Turn). r.state.waiting) (sym c.turn.view_is) ∙ c.in-None-None.ensures)
-    (ap (λ (r : Turn). r.state.asks) (sym c.turn.view_is) ∙ c.in-None-None.ensures'.first))
+    (ap (λ (r : Turn). r.state.waiting) (sym c.turn.view_is) ∙ c.in_default.ensures.0)
+    (ap (λ (r : Turn). r.state.asks) (sym c.turn.view_is) ∙ c.in_default.ensures.1))
 
-pub returns-in-None-Some-clause-decides : goal.returns-in-None-Some-clause-decides
-returns-in-None-Some-clause-decides g c =
-    decides_by c.on_attempt.result _ _ _ c.on_attempt.ensures.decides
-    (λ rooms. tick_attempt c.args.turn.now.config c.args.turn.now.moment c.args.turn.now.words c.args.turn.now.state
-    c.in-None-Some.ask.now (ap (λ (r : Turn). r.state.waiting) (sym c.turn.view_is) ∙ c.in-None-Some.ensures)
-    (ap (λ (r : Turn). slice_get r.state.asks 0) (sym c.turn.view_is) ∙ c.in-None-Some.ensures'.first))
+pub returns-then-turn-due-clause-decides : goal.returns-then-turn-due-clause-decides
+returns-then-turn-due-clause-decides g c =
+    decides_as c.nothing-then-turn-due.ensures.decides (λ rooms.
+    idle_until c.args.turn.now.config c.args.turn.now.moment c.args.turn.now.words c.args.turn.now.state c.in-Some.due
+    (subst (λ (r : Turn). IsDueFirst r.config r.state.waiting r.state.asks c.in-Some.due) c.turn.view_is
+    c.in-Some.ensures)
+    (subst (λ (r : Turn). r.moment < c.in-Some.due.moment) c.turn.view_is c.if-turn-due.true))
 
-pub returns-in-Some-None-clause-decides : goal.returns-in-Some-None-clause-decides
-returns-in-Some-None-clause-decides g c =
-    decides_by c.on_question.result _ _ _ c.on_question.ensures.decides
-    (λ rooms. tick_question c.args.turn.now.config c.args.turn.now.moment c.args.turn.now.words c.args.turn.now.state
-    c.in-Some-None.waiting.now (drop 1 c.args.turn.now.state.waiting)
-    (rest_is c.args.turn.now.state.waiting c.in-Some-None.waiting.now
-    (ap (λ (r : Turn). slice_get r.state.waiting 0) (sym c.turn.view_is) ∙ c.in-Some-None.ensures))
-    (ap (λ (r : Turn). r.state.asks) (sym c.turn.view_is) ∙ c.in-Some-None.ensures'.first))
+pub expire-requires : goal.expire-requires
+expire-requires g c =
+    question_there c.args.turn.now.config c.args.turn.now.state c.in-Some.due c.in-Question.oldest
+    (subst (λ (r : Turn). IsDueFirst r.config r.state.waiting r.state.asks c.in-Some.due) c.turn.view_is
+    c.in-Some.ensures) c.in-Question.is
 
-pub returns-then-comes_first-clause-decides : goal.returns-then-comes_first-clause-decides
-returns-then-comes_first-clause-decides g c =
-    decides_by c.on_question-then-comes_first.result _ _ _ c.on_question-then-comes_first.ensures.decides
-    (λ rooms. tick_question_first c.args.turn.now.config c.args.turn.now.moment c.args.turn.now.words
-    c.args.turn.now.state c.in-Some-Some.waiting.now (drop 1 c.args.turn.now.state.waiting) c.in-Some-Some.ask.now
-    (rest_is c.args.turn.now.state.waiting c.in-Some-Some.waiting.now
-    (ap (λ (r : Turn). slice_get r.state.waiting 0) (sym c.turn.view_is) ∙ c.in-Some-Some.ensures))
-    (ap (λ (r : Turn). slice_get r.state.asks 0) (sym c.turn.view_is) ∙ c.in-Some-Some.ensures'.first)
-    (ap (λ (r : Turn). nat_le (deadline_of r.config c.in-Some-Some.waiting.now)
-    (timeout_of r.config c.in-Some-Some.ask.now)) (sym c.turn.view_is) ∙ sym (c.comes_first.ensures
-    ∙ ap (λ (a : Ask). nat_le (deadline_of c.turn.inside.config.now c.in-Some-Some.waiting.now)
-    (timeout_of c.turn.inside.config.now a)) c.ask.ensures)
-    ∙ c.if-comes_first.true))
+pub fail-requires : goal.fail-requires
+fail-requires g c = record {
+  on =
+      oldest_on c.args.turn.now.config c.args.turn.now.state c.in-Some.due c.in-Ask.oldest
+      (subst (λ (r : Turn). IsDueFirst r.config r.state.waiting r.state.asks c.in-Some.due) c.turn.view_is
+      c.in-Some.ensures) c.in-Ask.is;
+}
 
-pub returns-else-comes_first-clause-decides : goal.returns-else-comes_first-clause-decides
-returns-else-comes_first-clause-decides g c =
-    decides_by c.on_attempt-else-comes_first.result _ _ _ c.on_attempt-else-comes_first.ensures.decides
-    (λ rooms. tick_attempt_first c.args.turn.now.config c.args.turn.now.moment c.args.turn.now.words
-    c.args.turn.now.state c.in-Some-Some.waiting.now (drop 1 c.args.turn.now.state.waiting) c.in-Some-Some.ask.now
-    (rest_is c.args.turn.now.state.waiting c.in-Some-Some.waiting.now
-    (ap (λ (r : Turn). slice_get r.state.waiting 0) (sym c.turn.view_is) ∙ c.in-Some-Some.ensures))
-    (ap (λ (r : Turn). slice_get r.state.asks 0) (sym c.turn.view_is) ∙ c.in-Some-Some.ensures'.first)
-    (ap (λ (r : Turn). nat_le (deadline_of r.config c.in-Some-Some.waiting.now)
-    (timeout_of r.config c.in-Some-Some.ask.now)) (sym c.turn.view_is) ∙ sym (c.comes_first.ensures
-    ∙ ap (λ (a : Ask). nat_le (deadline_of c.turn.inside.config.now c.in-Some-Some.waiting.now)
-    (timeout_of c.turn.inside.config.now a)) c.ask.ensures)
-    ∙ c.if-comes_first.false))
+pub returns-in-Question-clause-decides : goal.returns-in-Question-clause-decides
+returns-in-Question-clause-decides g c =
+    decides_by c.expire.result _ _ _ c.expire.ensures.decides (λ rooms.
+    question_due c.args.turn.now.config c.args.turn.now.moment c.args.turn.now.words c.args.turn.now.state
+    c.in-Some.due c.in-Question.oldest
+    (subst (λ (r : Turn). IsDueFirst r.config r.state.waiting r.state.asks c.in-Some.due) c.turn.view_is
+    c.in-Some.ensures) c.in-Question.is
+    (subst (λ (r : Turn). c.in-Some.due.moment ≤ r.moment) c.turn.view_is c.if-turn-due.false))
+
+pub returns-in-Question-clause-early : goal.returns-in-Question-clause-early
+returns-in-Question-clause-early g c none =
+    not_early c.args.turn.now.config c.args.turn.now.moment c.args.turn.now.state c.in-Some.due
+    (subst (λ (r : Turn). IsDueFirst r.config r.state.waiting r.state.asks c.in-Some.due) c.turn.view_is
+    c.in-Some.ensures)
+    (subst (λ (r : Turn). c.in-Some.due.moment ≤ r.moment) c.turn.view_is c.if-turn-due.false) none
+
+pub returns-in-Ask-clause-decides : goal.returns-in-Ask-clause-decides
+returns-in-Ask-clause-decides g c =
+    decides_by c.fail.result _ _ _ c.fail.ensures.decides (λ rooms.
+    ask_due c.args.turn.now.config c.args.turn.now.moment c.args.turn.now.words c.args.turn.now.state
+    c.in-Some.due c.in-Ask.oldest
+    (subst (λ (r : Turn). IsDueFirst r.config r.state.waiting r.state.asks c.in-Some.due) c.turn.view_is
+    c.in-Some.ensures) c.in-Ask.is
+    (subst (λ (r : Turn). c.in-Some.due.moment ≤ r.moment) c.turn.view_is c.if-turn-due.false))
+
+pub returns-in-Ask-clause-early : goal.returns-in-Ask-clause-early
+returns-in-Ask-clause-early g c none =
+    not_early c.args.turn.now.config c.args.turn.now.moment c.args.turn.now.state c.in-Some.due
+    (subst (λ (r : Turn). IsDueFirst r.config r.state.waiting r.state.asks c.in-Some.due) c.turn.view_is
+    c.in-Some.ensures)
+    (subst (λ (r : Turn). c.in-Some.due.moment ≤ r.moment) c.turn.view_is c.if-turn-due.false) none

@@ -38,5 +38,5 @@ put_last-requires g c =
     let t = c.args.turn.now in
     let those = c.for_ask-those.ensures ∙ ap (λ (r : Turn). filter (waits_for c.args.ask.now.question) r.state.waiting) c.turn.view_is in
     one_of_those (HoldsEarlier t.moment) c.args.ask.now.question t.state.waiting c.for_ask-those.result c.loop-place.place c.get.result.now
-    (subst (λ (r : Turn). AllByRecursion (HoldsEarlier r.moment) r.state.waiting) c.turn.view_is (later_held c.turn.inside.before c.turn.inside.moment c.turn.inside.waiting.now.items c.turn.invariant.1 c.turn.invariant.0.aliases))
+    (subst (λ (r : Turn). AllByRecursion (HoldsEarlier r.moment) r.state.waiting) c.turn.view_is (later_held c.turn.inside.kept.now.moment c.turn.inside.moment c.turn.inside.kept.now.waiting.items c.turn.invariant.1 c.turn.invariant.0.aliases))
     those c.get.ensures

@@ -21,8 +21,8 @@ stale_answer-requires-clause-aliases g c =
 pub stale_answer-requires-clause-found : goal.stale_answer-requires-clause-found
 stale_answer-requires-clause-found g c =
     subst (AllByRecursion (IsEarlier c.turn.inside.moment)) (sym (ap lent c.deref.ensures.value))
-    (held_among (IsEarlier c.turn.inside.moment) c.turn.inside.cache.now.entries (lent c.in-Some.found.items)
-    (later_entries c.turn.inside.before c.turn.inside.moment c.turn.inside.cache.now.entries c.turn.invariant.1 c.turn.invariant.0.accepted)
+    (held_among (IsEarlier c.turn.inside.moment) c.turn.inside.kept.now.cache.entries (lent c.in-Some.found.items)
+    (later_entries c.turn.inside.kept.now.moment c.turn.inside.moment c.turn.inside.kept.now.cache.entries c.turn.invariant.1 c.turn.invariant.0.accepted)
     (subst (λ (r : Turn). AllByRecursion (λ h. Among h r.state.cache.entries) (lent c.in-Some.found.items)) (sym c.turn.view_is)
     (rw c.in-Some.is at c.in_ok-found.ensures.from_cache)))
 

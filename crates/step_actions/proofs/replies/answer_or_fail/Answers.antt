@@ -11,7 +11,7 @@ pub returns-then-saturating_add-clause-told : goal.returns-then-saturating_add-c
 returns-then-saturating_add-clause-told g c =
     let many : 9 < length c.args.waiting.now.held + length c.args.answers.now.chain =
     let held : length c.aliases.result.now ≡ length c.args.waiting.now.held = ap (λ (hs : List Held). length hs) c.aliases.ensures.aliases in
-    let sum = c.saturating_add.ensures in let test = c.if-saturating_add.true in let pieces = c.requires.pieces in omega (arith, held, sum, test, pieces) in
+    let sum = c.saturating_add.ensures in let test = c.if-saturating_add.true in let pieces = c.pieces.ensures in omega (arith, held, sum, test, pieces) in
     IfOk-weaker c.failure.result _ _
     (λ action e. e ∙ (λ i. failed (c.request.ensures.client i) (c.request.ensures.asked i) ChainLong) ∙ sym (cond-false (nat_le (length c.args.waiting.now.held + length c.args.answers.now.chain) 9) _ _ (lt-leb (length c.args.waiting.now.held + length c.args.answers.now.chain) 9 many)))
     c.failure.ensures

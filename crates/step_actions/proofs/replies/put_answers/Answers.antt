@@ -27,7 +27,7 @@ returns g c =
     ∙ ap (with_replies (gives_from c.args.answers.now c.args.ask.now.question) (actions_of c.args.actions.now)) c.for_ask-those.ensures
     ∙ answers_filter c.args.answers.now c.args.ask.now.question (actions_of c.args.actions.now) c.args.waiting.now.items
 
-pub put_answer-requires-clause-earlier : goal.put_answer-requires-clause-earlier
-put_answer-requires-clause-earlier g c =
+pub put_answer-requires : goal.put_answer-requires
+put_answer-requires g c =
     subst (λ (d : Source). HoldsEarlier d.moment c.get.result.now) (sym c.loop-place.invariant.same)
     (one_of_those (HoldsEarlier c.args.answers.now.moment) c.args.ask.now.question c.args.waiting.now.items c.for_ask-those.result c.loop-place.place c.get.result.now c.requires c.for_ask-those.ensures c.get.ensures)

@@ -18,23 +18,23 @@ offer_all-requires g c = record { few = let same = length-map c.args.carried.ite
 
 pub invariant_of-self : goal.invariant_of-self
 invariant_of-self g c =
-    let kept = kept_in_turn c.self.inside.moment c.args.used.now (pieces_of c.args.carried.items) c.self.inside.cache c.promote_all.new.cache c.offer_all.new.cache c.offer_all.result c.promote_all.ensures (c.offer_all.ensures.0, c.offer_all.ensures.2, c.offer_all.ensures.3) in
-    kept_entries c.self.inside.config c.self.inside.cache c.offer_all.new.cache (put_all c.self.inside.cache.capacity c.self.inside.moment kept.0 (pieces_of c.args.carried.items) (promoted_all c.args.used.now c.self.inside.cache.entries))
-    c.self.inside.inquiries c.self.inside.waiting.items c.self.inside.preferred.items c.self.inside.moment c.self.inside.tcp_asks c.self.invariant
-    (all_offered (IsOnRoute c.self.inside.config) c.self.inside.cache.capacity c.self.inside.moment kept.0 (pieces_of c.args.carried.items) (promoted_all c.args.used.now c.self.inside.cache.entries)
+    let kept = kept_in_turn c.self.inside.kept.moment c.args.used.now (pieces_of c.args.carried.items) c.self.inside.kept.cache c.promote_all.new.cache c.offer_all.new.cache c.offer_all.result c.promote_all.ensures (c.offer_all.ensures.0, c.offer_all.ensures.2, c.offer_all.ensures.3) in
+    kept_entries c.self.inside.config c.self.inside.kept.cache c.offer_all.new.cache (put_all c.self.inside.kept.cache.capacity c.self.inside.kept.moment kept.0 (pieces_of c.args.carried.items) (promoted_all c.args.used.now c.self.inside.kept.cache.entries))
+    c.self.inside.kept.inquiries c.self.inside.kept.waiting.items c.self.inside.kept.preferred.items c.self.inside.kept.moment c.self.inside.kept.tcp_asks c.self.invariant
+    (all_offered (IsOnRoute c.self.inside.config) c.self.inside.kept.cache.capacity c.self.inside.kept.moment kept.0 (pieces_of c.args.carried.items) (promoted_all c.args.used.now c.self.inside.kept.cache.entries)
     (subst (λ (r : Running). AllByRecursion (IsRouted r.config) (pieces_of c.args.carried.items)) (sym c.self.view_is) c.requires.routed)
-    (all_promoted (IsOnRoute c.self.inside.config) c.args.used.now c.self.inside.cache.entries c.self.invariant.cache.on_routes))
-    (all_offered (IsEarlier c.self.inside.moment) c.self.inside.cache.capacity c.self.inside.moment kept.0 (pieces_of c.args.carried.items) (promoted_all c.args.used.now c.self.inside.cache.entries)
-    (all_now c.self.inside.moment (pieces_of c.args.carried.items)) (all_promoted (IsEarlier c.self.inside.moment) c.args.used.now c.self.inside.cache.entries c.self.invariant.accepted))
+    (all_promoted (IsOnRoute c.self.inside.config) c.args.used.now c.self.inside.kept.cache.entries c.self.invariant.cache.on_routes))
+    (all_offered (IsEarlier c.self.inside.kept.moment) c.self.inside.kept.cache.capacity c.self.inside.kept.moment kept.0 (pieces_of c.args.carried.items) (promoted_all c.args.used.now c.self.inside.kept.cache.entries)
+    (all_now c.self.inside.kept.moment (pieces_of c.args.carried.items)) (all_promoted (IsEarlier c.self.inside.kept.moment) c.args.used.now c.self.inside.kept.cache.entries c.self.invariant.accepted))
     kept.1
 
 pub returns : goal.returns
 returns g c =
-    let kept = kept_in_turn c.self.inside.moment c.args.used.now (pieces_of c.args.carried.items) c.self.inside.cache c.promote_all.new.cache c.offer_all.new.cache c.offer_all.result c.promote_all.ensures (c.offer_all.ensures.0, c.offer_all.ensures.2, c.offer_all.ensures.3) in (
+    let kept = kept_in_turn c.self.inside.kept.moment c.args.used.now (pieces_of c.args.carried.items) c.self.inside.kept.cache c.promote_all.new.cache c.offer_all.new.cache c.offer_all.result c.promote_all.ensures (c.offer_all.ensures.0, c.offer_all.ensures.2, c.offer_all.ensures.3) in (
       kept.0,
       (λ i. record {
         config = c.self.inside.config;
-        state = record { cache = kept.1 i; asks = c.self.inside.inquiries.asks; waiting = c.self.inside.waiting.items; preferred = c.self.inside.preferred.items; moment = c.self.inside.moment; tcp_asks = c.self.inside.tcp_asks };
+        state = record { cache = kept.1 i; asks = c.self.inside.kept.inquiries.asks; waiting = c.self.inside.kept.waiting.items; preferred = c.self.inside.kept.preferred.items; moment = c.self.inside.kept.moment; tcp_asks = c.self.inside.kept.tcp_asks };
       })
           ∙ ap (λ (r : Running). record { config = r.config; state = with_entries (put_all r.state.cache.capacity r.state.moment kept.0 (pieces_of c.args.carried.items) (promoted_all c.args.used.now r.state.cache.entries)) r.state }) c.self.view_is,
       kept.2 ∙ ap (λ (r : Running). unkept_of r.state.cache.capacity r.state.moment kept.0 (pieces_of c.args.carried.items) (promoted_all c.args.used.now r.state.cache.entries)) c.self.view_is,

@@ -12,7 +12,7 @@ pub invariant_of-self : goal.invariant_of-self
 invariant_of-self g c =
     let one = subst (λ (r : Running). IsKeptAsk r.config c.args.moment (r.state.tcp_asks + tcp_count_of c.args.ask.path) c.args.ask) (sym c.self.view_is) c.requires.follows.kept in
     let later = subst (λ (r : Running). r.state.moment ≤ c.args.moment) (sym c.self.view_is) c.requires.later in
-    subst (λ (k : ℕ). IsKeptForwarder c.self.inside.config c.self.inside.cache c.replace-ended.new.self c.self.inside.waiting.items c.self.inside.preferred.items c.args.moment k) (sym c.count_tcp-self-inside.ensures)
-    (subst (λ (a : Ask). IsKeptForwarder c.self.inside.config c.self.inside.cache c.replace-ended.new.self c.self.inside.waiting.items c.self.inside.preferred.items c.args.moment (c.self.inside.tcp_asks + tcp_count_of a.path)) (sym c.ask.view_is)
-    (kept_asked c.self.inside.config c.self.inside.cache c.self.inside.inquiries c.replace-ended.new.self c.self.inside.waiting.items c.self.inside.preferred.items c.self.inside.moment c.args.moment c.self.inside.tcp_asks (tcp_count_of c.args.ask.path) (without_path c.args.path c.self.inside.inquiries.asks) c.args.ask c.self.invariant
-    later c.requires.in_time (kept_rest c.self.inside.config c.self.inside.moment c.self.inside.tcp_asks c.args.path c.self.inside.inquiries.asks c.self.invariant.asks) one (subst (λ (r : Running). r.state.tcp_asks + tcp_count_of c.args.ask.path < 2 ^ 64) (sym c.self.view_is) c.requires.follows.counted) c.replace-ended.ensures.list c.replace-ended.ensures.listed))
+    subst (λ (k : ℕ). IsKeptForwarder c.self.inside.config c.self.inside.kept.cache c.replace-ended.new.self c.self.inside.kept.waiting.items c.self.inside.kept.preferred.items c.args.moment k) (sym c.count_tcp-self-inside.ensures)
+    (subst (λ (a : Ask). IsKeptForwarder c.self.inside.config c.self.inside.kept.cache c.replace-ended.new.self c.self.inside.kept.waiting.items c.self.inside.kept.preferred.items c.args.moment (c.self.inside.kept.tcp_asks + tcp_count_of a.path)) (sym c.ask.view_is)
+    (kept_asked c.self.inside.config c.self.inside.kept.cache c.self.inside.kept.inquiries c.replace-ended.new.self c.self.inside.kept.waiting.items c.self.inside.kept.preferred.items c.self.inside.kept.moment c.args.moment c.self.inside.kept.tcp_asks (tcp_count_of c.args.ask.path) (without_path c.args.path c.self.inside.kept.inquiries.asks) c.args.ask c.self.invariant
+    later c.requires.in_time (kept_rest c.self.inside.config c.self.inside.kept.moment c.self.inside.kept.tcp_asks c.args.path c.self.inside.kept.inquiries.asks c.self.invariant.asks) one (subst (λ (r : Running). r.state.tcp_asks + tcp_count_of c.args.ask.path < 2 ^ 64) (sym c.self.view_is) c.requires.follows.counted) c.replace-ended.ensures.list c.replace-ended.ensures.listed))

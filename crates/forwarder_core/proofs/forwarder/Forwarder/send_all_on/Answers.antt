@@ -22,19 +22,19 @@ pub invariant_of-self : goal.invariant_of-self
 invariant_of-self g c =
     let later = subst (λ (r : Running). r.state.moment ≤ c.args.moment) (sym c.self.view_is) c.requires.later in
     let fits = subst (λ (r : Running). CanSendOn r.config c.args.moment r.state c.args.sending.path c.args.sending.preferred c.args.sending.onward.items c.args.sending.ask) (sym c.self.view_is) c.requires.fits in
-    let moment = kept_later c.self.inside.config c.self.inside.cache c.self.inside.inquiries c.self.inside.waiting.items c.self.inside.preferred.items c.self.inside.moment c.args.moment c.self.inside.tcp_asks c.self.invariant later c.requires.in_time in
-    let waiting = kept_sent c.self.inside.config c.self.inside.cache c.self.inside.inquiries c.self.inside.waiting.items c.send_on.new.waiting.items c.self.inside.preferred.items c.args.moment c.self.inside.tcp_asks (ask_on c.args.sending.path c.self.inside.inquiries.asks) c.args.sending.onward.items moment fits.earlier c.send_on.ensures.waiting in
-    let places = kept_preferred c.self.inside.config c.self.inside.cache c.self.inside.inquiries c.send_on.new.waiting.items c.self.inside.preferred.items (with_items c.self.inside.preferred c.prefer.new.places).items c.args.moment c.self.inside.tcp_asks (Some c.args.sending.preferred) waiting fits.served
-    (put_back c.self.inside.preferred c.prefer.new.places (with_preferred (Some c.args.sending.preferred) c.self.inside.preferred.items) (c.prefer.ensures ∙ ap (with_preferred (Some c.args.sending.preferred)) c.deref_mut.ensures.value) (preferred_length (Some c.args.sending.preferred) c.self.inside.preferred.items)) in
-    subst (λ (k : ℕ). IsKeptForwarder c.self.inside.config c.self.inside.cache c.send_on.new.inquiries c.send_on.new.waiting.items (with_items c.self.inside.preferred c.prefer.new.places).items c.args.moment k) (sym c.count_next-self-inside.ensures)
-    (kept_next c.self.inside.config c.self.inside.cache c.self.inside.inquiries c.send_on.new.inquiries c.send_on.new.waiting.items (with_items c.self.inside.preferred c.prefer.new.places).items c.args.moment c.args.moment c.self.inside.tcp_asks c.args.sending.path _ _ c.args.sending.ask places (omega arith) c.requires.in_time refl fits.follows c.send_on.ensures.asks c.send_on.ensures.listed)
+    let moment = kept_later c.self.inside.config c.self.inside.kept.cache c.self.inside.kept.inquiries c.self.inside.kept.waiting.items c.self.inside.kept.preferred.items c.self.inside.kept.moment c.args.moment c.self.inside.kept.tcp_asks c.self.invariant later c.requires.in_time in
+    let waiting = kept_sent c.self.inside.config c.self.inside.kept.cache c.self.inside.kept.inquiries c.self.inside.kept.waiting.items c.send_on.new.waiting.items c.self.inside.kept.preferred.items c.args.moment c.self.inside.kept.tcp_asks (ask_on c.args.sending.path c.self.inside.kept.inquiries.asks) c.args.sending.onward.items moment fits.earlier c.send_on.ensures.waiting in
+    let places = kept_preferred c.self.inside.config c.self.inside.kept.cache c.self.inside.kept.inquiries c.send_on.new.waiting.items c.self.inside.kept.preferred.items (with_items c.self.inside.kept.preferred c.prefer.new.places).items c.args.moment c.self.inside.kept.tcp_asks (Some c.args.sending.preferred) waiting fits.served
+    (put_back c.self.inside.kept.preferred c.prefer.new.places (with_preferred (Some c.args.sending.preferred) c.self.inside.kept.preferred.items) (c.prefer.ensures ∙ ap (with_preferred (Some c.args.sending.preferred)) c.deref_mut.ensures.value) (preferred_length (Some c.args.sending.preferred) c.self.inside.kept.preferred.items)) in
+    subst (λ (k : ℕ). IsKeptForwarder c.self.inside.config c.self.inside.kept.cache c.send_on.new.inquiries c.send_on.new.waiting.items (with_items c.self.inside.kept.preferred c.prefer.new.places).items c.args.moment k) (sym c.count_next-self-inside.ensures)
+    (kept_next c.self.inside.config c.self.inside.kept.cache c.self.inside.kept.inquiries c.send_on.new.inquiries c.send_on.new.waiting.items (with_items c.self.inside.kept.preferred c.prefer.new.places).items c.args.moment c.args.moment c.self.inside.kept.tcp_asks c.args.sending.path _ _ c.args.sending.ask places (omega arith) c.requires.in_time refl fits.follows c.send_on.ensures.asks c.send_on.ensures.listed)
 
 pub returns : goal.returns
 returns g c =
     (λ i. record {
       config = c.self.inside.config;
       state = record {
-        cache = c.self.inside.cache;
+        cache = c.self.inside.kept.cache;
         asks = (c.send_on.ensures.asks i).asks;
         waiting = c.send_on.ensures.waiting i;
         preferred = places i;
@@ -53,6 +53,6 @@ returns g c =
       };
     }) c.self.view_is
   where
-    places : (with_items c.self.inside.preferred c.prefer.new.places).items ≡ with_preferred (Some c.args.sending.preferred) c.self.inside.preferred.items
-    places = put_back c.self.inside.preferred c.prefer.new.places (with_preferred (Some c.args.sending.preferred) c.self.inside.preferred.items)
-        (c.prefer.ensures ∙ ap (with_preferred (Some c.args.sending.preferred)) c.deref_mut.ensures.value) (preferred_length (Some c.args.sending.preferred) c.self.inside.preferred.items)
+    places : (with_items c.self.inside.kept.preferred c.prefer.new.places).items ≡ with_preferred (Some c.args.sending.preferred) c.self.inside.kept.preferred.items
+    places = put_back c.self.inside.kept.preferred c.prefer.new.places (with_preferred (Some c.args.sending.preferred) c.self.inside.kept.preferred.items)
+        (c.prefer.ensures ∙ ap (with_preferred (Some c.args.sending.preferred)) c.deref_mut.ensures.value) (preferred_length (Some c.args.sending.preferred) c.self.inside.kept.preferred.items)

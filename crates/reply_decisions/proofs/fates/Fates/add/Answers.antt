@@ -19,7 +19,7 @@ put_looked-requires-clause-used g c =
     subst (IfLooksOn t.config t.moment t.state.cache.entries c.args.lead.now.aliases.now c.args.lead.now.name.now c.args.waiting.now) c.in-Some.is c.in_ok-look_on.ensures in
     let earlier : AllByRecursion (IsEarlier t.moment) t.state.cache.entries =
     subst (λ (r : Turn). AllByRecursion (IsEarlier r.moment) r.state.cache.entries) c.turn.view_is
-    (later_entries c.turn.inside.before c.turn.inside.moment c.turn.inside.cache.now.entries c.turn.invariant.1 c.turn.invariant.0.accepted) in
+    (later_entries c.turn.inside.kept.now.moment c.turn.inside.moment c.turn.inside.kept.now.cache.entries c.turn.invariant.1 c.turn.invariant.0.accepted) in
     all_of_entries (IsEarlier t.moment) t.state.cache.entries c.in-Some.looked.used earlier on.from_cache
 
 pub put_looked-requires-clause-few : goal.put_looked-requires-clause-few

@@ -1,2 +1,0 @@
--- Lemmas for the proofs of crates above.
-pub use Rattle.reply_decisions.proofs.Ticks.{rest_is}
