@@ -3,12 +3,12 @@
 use std::fmt;
 use suffix_routes::Position;
 
-/// A hint at what a person may mend. Its text follows the fault's text.
+/// A hint: what a person may mend. Its text follows that of the fault.
 #[derive(Clone, Copy, Debug, PartialEq, Eq)]
 pub enum Hint {
-    /// A number begins with a zero.
+    /// A number has a zero at its front.
     LeadingZero,
-    /// A number has characters that are not digits.
+    /// A number has other characters than digits.
     DigitsAlone,
     /// This character is not ASCII.
     NotAscii(char),
@@ -26,7 +26,7 @@ pub enum Hint {
     Quotes,
     /// A number has quotation marks.
     NoQuotes,
-    /// A number has a unit or quotation marks; the counted thing.
+    /// A number has a unit or quotation marks; what it counts.
     Counts(&'static str),
     /// The bracket or quotation mark at this position is not closed.
     NotClosed(Position),
@@ -36,13 +36,13 @@ pub enum Hint {
     Array,
     /// This key has capital letters.
     SmallLetters(&'static str),
-    /// This key is nearly the unknown key.
+    /// This key is nearly the one that was met.
     Nearly(&'static str),
-    /// This key belongs to the document.
+    /// This key is one of the document.
     AtTop(&'static str),
-    /// This key belongs to `limits`.
+    /// This key is one of `limits`.
     OfLimits(&'static str),
-    /// This key belongs to a route.
+    /// This key is one of a route.
     OfRoute(&'static str),
     /// An address is of IPv6.
     OnlyIpv4,
@@ -52,7 +52,7 @@ pub enum Hint {
     PortMissing,
     /// A port follows another character than a colon.
     PortAfterColon,
-    /// The port or the name belongs to TLS.
+    /// A port or a name is that of TLS.
     NotEncrypted,
     /// An interface follows an address.
     NoInterface,
@@ -70,7 +70,7 @@ pub enum Hint {
     Network,
     /// This character of a name can't be seen.
     Unseen(char),
-    /// This letter of a name is Cyrillic, next to Latin letters in its label.
+    /// This letter of a name is Cyrillic, and others of its label are Latin.
     Cyrillic(char),
 }
 
@@ -113,7 +113,7 @@ impl fmt::Display for Hint {
 }
 
 impl Hint {
-    /// The text of a hint without a quotation from the configuration.
+    /// The text of a hint that quotes nothing of the configuration.
     fn words(&self) -> &'static str {
         match self {
             Hint::LeadingZero => "numbers are written without leading zeros",

@@ -1,9 +1,9 @@
-//! The faults of a run.
+//! What a run can do wrong.
 
 use std::alloc::AllocError;
 use thiserror::Error;
 
-/// The first fault of a run.
+/// The first thing that a run did wrong.
 #[derive(Clone, Copy, Debug, Error)]
 pub(crate) enum Fault {
     #[error("memory ran out, or a step returned an error")]

@@ -1,4 +1,4 @@
-//! Steps, judged by the expectations of clients and servers.
+//! Steps, judged by what clients and servers may expect of them.
 
 use crate::fault::Fault;
 use crate::ledger::{Ledger, Query, Waiting};
@@ -8,20 +8,19 @@ use std::alloc::{AllocError, Global};
 use step_values::{Action, Client, Event, Handed, Outcome, Path, Why};
 use suffix_routes::{Limits, Peer};
 
-/// The kinds of a step's actions so far, in their order.
+/// What a step has done so far, from first to last.
 #[derive(Clone, Copy, PartialEq, Eq, PartialOrd, Ord)]
 enum Done {
     Nothing,
-    /// A path was closed.
+    /// It closed a path.
     Close,
-    /// Questions were answered.
+    /// It answered questions.
     Replies,
-    /// A query was sent.
+    /// It sent a query.
     Query,
 }
 
-/// The judge of a run: the forwarder's open questions and queries, and the reasons of replies so
-/// far.
+/// The judge of a run: what it knows of the forwarder, and the reasons of replies so far.
 #[derive(Drop)]
 pub(crate) struct Judge {
     alloc: Global,
@@ -29,7 +28,7 @@ pub(crate) struct Judge {
     pub reasons: Vec<Why>,
     done: Done,
     /// The place in the list from which the next reply's question is searched: replies go in the
-    /// order of the questions.
+    /// order in which the questions came.
     place: usize,
 }
 
@@ -60,8 +59,8 @@ impl Judge {
         self.end(limits, outcome)
     }
 
-    /// Notes the event of a step. A client's message may not close a path; after a dropped message
-    /// and a restart no action may follow.
+    /// Notes the event of a step, which may not close a path if it is a client's message, and may
+    /// do nothing if that is dropped, or at a restart.
     fn enter(&mut self, handed: &Handed) -> Result<(), AllocError> {
         self.ledger.pass(handed.now);
         self.done = Done::Nothing;
@@ -87,7 +86,7 @@ impl Judge {
         Ok(())
     }
 
-    /// Judges one action: a close comes first, then the replies, and last a query.
+    /// Judges one action: a close comes first, then the replies, and last one query.
     fn act(&mut self, handed: &Handed, action: &Action) -> Result<(), Fault> {
         match action {
             Action::CloseUdp { port } => self.close(Path::Udp(*port)),
@@ -131,7 +130,7 @@ impl Judge {
         self.ledger.close(path)
     }
 
-    /// A query is sent; its path and identifier have to be the drawn ones.
+    /// A query is sent, which has to be the one that was drawn.
     fn ask(
         &mut self,
         (path, server): (Path, Peer),
@@ -181,7 +180,7 @@ impl Judge {
         Err(Fault::Nobody)
     }
 
-    /// The checks after each step.
+    /// What holds after each step.
     fn end(&self, limits: Limits, outcome: &Outcome) -> Result<(), Fault> {
         let (waiting, open) = (self.ledger.waiting.len(), self.ledger.open.len());
         if outcome.unkept > 0 {

@@ -12,11 +12,11 @@ use std::{fs, io};
 /// How the file of a row is run.
 #[derive(Clone, Copy)]
 pub(crate) enum Manner {
-    /// A script, replayed.
+    /// It is a script, which is replayed.
     Plain,
-    /// A script, with its lines run one by one in this way.
+    /// It is a script, whose lines are run one by one in this way.
     Stepped(Way),
-    /// A configuration, checked.
+    /// It is a configuration, which is checked.
     Check,
 }
 
@@ -42,9 +42,9 @@ impl Manner {
 /// The output of the program for a row.
 #[derive(Drop)]
 pub(crate) struct Told {
-    /// The printed lines.
+    /// The lines that it prints.
     pub stdout: Vec<u8>,
-    /// The line with the fault, or nothing.
+    /// The line with its fault, or nothing.
     pub stderr: String,
 }
 
@@ -70,7 +70,7 @@ pub(crate) fn told_by<R: Files + AllocGlobal>(
     Ok(Told { stdout, stderr })
 }
 
-/// Prints the number of routes of the reader's configuration.
+/// Prints how many routes the configuration has that the reader gives.
 fn check<R: Read, W: Write>(
     alloc: Global,
     reader: &mut R,

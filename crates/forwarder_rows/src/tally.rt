@@ -2,12 +2,13 @@
 
 ghost use Rattle.std.specs.Prelude.{◌≡◌, ◌<◌, ◌+◌, ◌↔◌, IsTrue, min};
 
-/// The numbers of run rows and of differences. Each number stays at its highest value.
+/// The number of rows that ran, and of differences. Each number stays at its highest value.
 #[derive(Clone, Copy, Debug, Default, PartialEq, Eq)]
 pub struct Tally {
-    /// Run rows.
+    /// Rows that ran.
     pub rows: u64,
-    /// Differences: unexpected outputs of rows, and files or folders out of order.
+    /// Differences: outputs of rows that are not as expected, and files or folders that are not in
+    /// order.
     pub differ: u64,
 }
 

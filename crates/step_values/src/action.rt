@@ -1,4 +1,4 @@
-//! The actions of a forwarder, and the reason of each reply.
+//! The actions of a forwarder, and why a question got its reply.
 
 ghost use Rattle.std.specs.Prelude.{◌≡◌, IfOk};
 
@@ -7,41 +7,41 @@ use plain_values::{Octets, PlainList};
 use std::alloc::{AllocError, Allocator, Global};
 use suffix_routes::Peer;
 
-/// The reason of a reply.
+/// Why a question got its reply.
 #[derive(Clone, Copy, PartialEq, Eq, Debug)]
 pub enum Why {
-    /// An answer: NOERROR, or NXDOMAIN.
+    /// It was answered: NOERROR, or NXDOMAIN.
     Answered,
-    /// The message does not have exactly one question, or an unreadable question: FORMERR.
+    /// Its message has not just one question, or one that can't be read: FORMERR.
     BadFormat,
-    /// The opcode is not QUERY: NOTIMP.
+    /// Its opcode isn't QUERY: NOTIMP.
     BadOpcode,
-    /// The type or class is not served: NOTIMP.
+    /// Its type or class isn't served: NOTIMP.
     NotServed,
-    /// No configured suffix is at or above the name: REFUSED.
+    /// No configured suffix fits its name: REFUSED.
     NoRoute,
     /// As many questions as may wait are waiting: SERVFAIL.
     QuestionsFull,
     /// As many inquiries as may be open are open: SERVFAIL.
     InquiriesFull,
-    /// No port was free for the query: SERVFAIL.
+    /// No port was free for its query: SERVFAIL.
     NoPort,
     /// Every try failed: SERVFAIL.
     Exhausted,
-    /// The question waited too long: SERVFAIL.
+    /// It waited too long: SERVFAIL.
     Deadline,
-    /// The chain of aliases is too long: SERVFAIL.
+    /// Its chain of aliases is too long: SERVFAIL.
     ChainLong,
-    /// The answer is longer than 65,535 octets: SERVFAIL.
+    /// Its answer passes what TCP can carry: SERVFAIL.
     TooLarge,
-    /// All tries failed, and the cache had a set that expired within the configured window: NOERROR
+    /// Every try failed, and a set was held that had expired within the configured window: NOERROR
     /// (RFC 8767 4).
     Stale,
-    /// The configuration denies the name, or a name to which its aliases lead: NXDOMAIN.
+    /// The route of its name, or of a name that its aliases lead to, denies it: NXDOMAIN.
     LocalDenied,
 }
 
-/// An action for the caller to carry out.
+/// An action that the forwarder asks its caller for.
 #[derive(Drop)]
 pub enum Action<A: Allocator = Global> {
     /// Send a query from this UDP port.
@@ -64,7 +64,7 @@ pub enum Action<A: Allocator = Global> {
     CloseTcp {
         conn: u64,
     },
-    /// Send a reply to a client.
+    /// Send a client its reply.
     Reply {
         client: Client,
         bytes: Octets<A>,
@@ -73,7 +73,7 @@ pub enum Action<A: Allocator = Global> {
 }
 
 impl<A: Allocator + Copy> Action<A> {
-    /// An equal action.
+    /// An equal action. `Err` where memory ran out.
     pub fn copy(&self, alloc: A) -> Result<Action<A>, AllocError>
         ensures { IfOk result (λ action. action ≡ self.now) }
     {

@@ -8,18 +8,18 @@ use std::alloc::{AllocError, Allocator, Global};
 use std::marker::Model;
 use std::mem;
 
-/// The room of a list with more than one action: two, and some more.
+/// How many actions a list has room for once it has more than one: two, and some more.
 const ROOM: usize = 4;
 
-/// Actions, in order. Contracts see a list. The first action is in place: most steps have a single
-/// action, and listing it does not allocate.
+/// Actions, in order. Contracts see them as a list. The first lies in place: most steps have one
+/// alone, and listing it does not allocate.
 #[derive(Drop)]
 pub struct Actions<A: Allocator = Global> {
     alloc: A,
     listed: Listed<A>,
 }
 
-/// The place of actions in memory.
+/// Where actions lie.
 #[derive(Drop)]
 enum Listed<A: Allocator> {
     Nothing,
@@ -40,7 +40,7 @@ impl<A: Allocator> Model for Actions<A> {
 }
 
 impl<A: Allocator + Copy> Actions<A> {
-    /// No actions.
+    /// No actions. It does not allocate.
     pub fn new(alloc: A) -> Actions<A>
         ensures { result ≡ [] }
     {
@@ -50,7 +50,7 @@ impl<A: Allocator + Copy> Actions<A> {
         }
     }
 
-    /// This action alone.
+    /// This action alone. It does not allocate.
     pub fn one(alloc: A, action: Action<A>) -> Actions<A>
         ensures { result ≡ action ∷ [] }
     {
@@ -60,7 +60,8 @@ impl<A: Allocator + Copy> Actions<A> {
         }
     }
 
-    /// Puts an action last. The first action does not allocate.
+    /// Puts an action last. The first one does not allocate. `Err` where memory ran out, and then
+    /// nothing has changed.
     pub fn push(&mut self, action: Action<A>) -> Result<(), AllocError>
         ensures ok { OnOk result (self.new ≡ self.old ++ action ∷ []) }
         ensures err { OnErr result (self.new ≡ self.old) }
@@ -69,7 +70,7 @@ impl<A: Allocator + Copy> Actions<A> {
         self.listed.push(self.alloc, action)
     }
 
-    /// The number of actions.
+    /// How many actions there are. It does not allocate.
     pub fn len(&self) -> usize
         ensures { result ≡ length self.now }
     {
@@ -80,14 +81,14 @@ impl<A: Allocator + Copy> Actions<A> {
         }
     }
 
-    /// Whether there are no actions.
+    /// Whether there are none. It does not allocate.
     pub fn is_empty(&self) -> bool
         ensures { result ≡ (length self.now == 0) }
     {
         self.len() == 0
     }
 
-    /// The action at this place, from 0; `None` after the last.
+    /// The action at this place, counted from 0; `None` past the last one. It does not allocate.
     pub fn get(&self, place: usize) -> Option<&Action<A>>
         ensures { MatchOption result (slice_get self.now place ≡ None)
             (λ action. slice_get self.now place ≡ Some action.now) }

@@ -1,5 +1,5 @@
-//! The waiting questions, in the order of arrival. Those for one question are found without a look
-//! at the rest.
+//! The questions that wait for their replies, in the order in which they were taken. Those that
+//! wait for one question are found without a look at the others.
 #![tactic(auto)]
 
 mod keyed;

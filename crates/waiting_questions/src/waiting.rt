@@ -1,4 +1,4 @@
-//! A client's question, on arrival and while waiting.
+//! A question of a client, as it comes and as it waits.
 
 ghost use Rattle.std.specs.Prelude.{◌≡◌, ◌<◌, ◌≤◌, length, IfOk};
 ghost use Rattle.waiting_questions.specs.Onward.{waits_on};
@@ -10,14 +10,15 @@ use std::alloc::{AllocError, Allocator, Global};
 use std::marker::Model;
 use step_values::Client;
 
-/// A client's request, with its question in place. Contracts see a waiting question.
+/// A client's request, with its question in place. Contracts see it as the question that waits for
+/// its reply.
 #[derive(Drop)]
 pub struct Request<'a> {
     pub client: Client,
     /// The header of the client's message.
     pub header: Header,
     pub question: QuestionRef<'a>,
-    /// The moment of arrival, in milliseconds.
+    /// The moment at which it was taken, in milliseconds.
     pub taken: u64,
 }
 
@@ -40,7 +41,7 @@ impl<'a> Model for Request<'a> {
 }
 
 impl<'a> Request<'a> {
-    /// The part of the request that an answer repeats; the opcode has 4 bits.
+    /// The part of it that its answer repeats: its opcode has 4 bits. It does not allocate.
     pub fn asked(&self) -> AskedRef<'a>
         ensures asked { result ≡ self.now.asked }
         ensures opcode { self.now.asked.opcode < 16 }
@@ -53,8 +54,8 @@ impl<'a> Request<'a> {
         }
     }
 
-    /// Copies the request into a `Waiting`. With `sent_on` the copy waits for this question instead
-    /// of its own.
+    /// The same as a question that waits, with the aliases that it holds and the question that it
+    /// is sent on with, or for its own question: its name is copied. `Err` where memory ran out.
     pub fn to_waiting<A: Allocator>(
         &self,
         alloc: A,
@@ -73,8 +74,8 @@ impl<'a> Request<'a> {
     }
 }
 
-/// The held aliases, at most eight, and the wanted question: the client's question with the name at
-/// the end of the aliases.
+/// The aliases that a question holds, at most eight, and the question that it wants to know now:
+/// its own at the name that they lead to.
 #[derive(Drop)]
 pub struct SentOn<A: Allocator = Global> {
     pub aliases: Vec<Held<A>, A>,
@@ -92,16 +93,16 @@ impl<A: Allocator> Model for SentOn<A> {
     ghost invariant = { λ s. length s.aliases.items ≤ 8 };
 }
 
-/// A question that waits for a reply.
+/// A question that waits for its reply.
 #[derive(Drop)]
 pub struct Waiting<A: Allocator = Global> {
     pub client: Client,
     /// The header of the client's message.
     pub header: Header,
     pub question: Question<A>,
-    /// The moment of arrival, in milliseconds.
+    /// The moment at which it was taken, in milliseconds.
     pub taken: u64,
-    /// `None` if the client's own question is the wanted one.
+    /// `None` where it waits for its own question.
     pub sent_on: Option<SentOn<A>>,
 }
 
@@ -125,7 +126,7 @@ impl<A: Allocator> Model for Waiting<A> {
 }
 
 impl<A: Allocator> Waiting<A> {
-    /// The client's request, borrowed.
+    /// The client's request, borrowed. It does not allocate.
     pub fn request(&self) -> Request<'_>
         ensures client { result.client ≡ self.now.client }
         ensures asked { result.asked ≡ self.now.asked }
@@ -139,7 +140,7 @@ impl<A: Allocator> Waiting<A> {
         }
     }
 
-    /// The held aliases, in order: at most eight.
+    /// The aliases that it holds, in order: at most eight. It does not allocate.
     pub fn aliases(&self) -> &[Held<A>]
         ensures aliases { result.now ≡ self.now.held }
         ensures few { length self.now.held ≤ 8 }
@@ -150,7 +151,7 @@ impl<A: Allocator> Waiting<A> {
         }
     }
 
-    /// The wanted question.
+    /// The question that it wants to know now. It does not allocate.
     pub fn wanted(&self) -> &Question<A>
         ensures { result.now ≡ self.now.wanted }
     {
@@ -160,8 +161,8 @@ impl<A: Allocator> Waiting<A> {
         }
     }
 
-    /// Replaces the aliases; the question then waits for the question at the end of the new
-    /// aliases.
+    /// Replaces the aliases that it holds; from now on it waits for the question that the new ones
+    /// lead to. It does not allocate.
     pub fn send_on(&mut self, sent_on: SentOn<A>)
         ensures { self.new ≡ record self.old { held = sent_on.held; wanted = sent_on.wanted } }
     {
