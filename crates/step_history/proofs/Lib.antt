@@ -1,5 +1,6 @@
 pub mod Moments
 pub mod Since
+pub mod Tries
 pub mod CallerLemmas
 mod FirstVersion
 mod WorkedPastEnds

@@ -9,7 +9,7 @@ use Rattle.step_values.specs.declared.action.Why.TheVariants.{TooLarge, Stale, L
 use Rattle.suffix_routes.specs.Serving.{serving_route_of}
 use Rattle.step_history.specs.History.{is_restart, InEra, Look, moment_at}
 use Rattle.step_history.specs.Carried.{CarriedInEra}
-use Rattle.step_history.specs.Causes.{Cause, AnswerIsTooLarge}
+use Rattle.step_history.specs.Causes.{AllTriesFailed, LastFailed, ClosesNow, Cause, AnswerIsTooLarge}
 use Rattle.step_history.specs.Sound.{RightReply}
 
 -- Within an era moments never fall.
@@ -24,6 +24,12 @@ MomentsAreInTime = (past : List Step) → moment_at past ≤ 2 ^ 62
 abbrev pub WhatWasCarriedStaysSo : Type 0
 WhatWasCarriedStaysSo = (c : Config) (upto now : List Step) (all : List Held) → InEra upto now → CarriedInEra c now all
     → (os : List Held) × (new : List Held) × CarriedInEra c upto os × (all ≡ new ++ os)
+
+-- Where all tries of an inquiry failed, they are the last closed asks of the era for its question,
+-- none closed by an accepted reply, and the last one closed in the newest step.
+abbrev pub TriesAreTheLastOfTheEra : Type 0
+TriesAreTheLastOfTheEra = (l : Look) (octets : List ℕ) (h : AllTriesFailed l octets)
+    → LastFailed l.config h.last l.now l.config.limits.tries × ClosesNow h.last l.now
 
 -- no `Stale` or `LocalDenied` is right, only answers from justified pieces can be too large, and
 -- each name is served by its route

@@ -5,4 +5,7 @@
 
 mod laws;
 
-pub use laws::{first_version_stands_alone, moments_never_fall, what_was_carried_stays_so};
+pub use laws::{
+    first_version_stands_alone, moments_never_fall, tries_are_the_last_of_the_era,
+    what_was_carried_stays_so,
+};

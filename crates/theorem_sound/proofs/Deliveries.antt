@@ -32,6 +32,7 @@ use Rattle.trust_rank.specs.declared.slot.Slot.{Slot}
 use Rattle.trust_rank.specs.Values.{Piece, End, found, ends_no_data, ends_denied, elsewhere, lame, Walk}
 use Rattle.trust_rank.specs.Walks.{walk_of, is_lame, has_last}
 use Rattle.step_history.specs.History.{moment_at, ShownAsk, listed, on_path, Matches, Accepts, Carries, NothingAccepted}
+use Rattle.step_history.specs.Causes.{NoneAsks, AcceptsFor}
 use Rattle.step_history.specs.Draws.{drawn}
 use Rattle.step_history.specs.Asked.{IsDrawn}
 use Rattle.step_history.specs.Replies.{failure_text}
@@ -51,9 +52,11 @@ use Rattle.theorem_sound.proofs.Fates.{Fated, fated, fated_fates, fated_each}
 use Rattle.theorem_sound.proofs.Names.{same_peer-is}
 use Rattle.theorem_sound.proofs.Messages.{spells_read, read_spells, read_header}
 use Rattle.theorem_sound.proofs.Listed.{on_path-shown, shown_from}
-use Rattle.step_table.proofs.CallerLemmas.{ask_on-is, without_shorter, IsFresh, drawn_fresh, free_now, still_earlier, draws_left, IsAskBy, ask_by-some, ask_by-none, udp-some, udp-none, peer_within, preferred_peer, preferred_put}
-use Rattle.theorem_sound.proofs.Matching.{judged_parts, MatchFacts, match_facts}
+use Rattle.step_table.proofs.CallerLemmas.{ask_on-is, without_shorter, IsFresh, drawn_fresh, free_now, still_earlier, draws_left, IsAskBy, ask_by-some, ask_by-none, udp-some, udp-none, peer_within, preferred_peer, preferred_put, none_same}
+use Rattle.theorem_sound.proofs.Matching.{judged_parts, judged_match, match_facts}
+use Rattle.theorem_sound.proofs.Asking.{none_asks}
 use Rattle.theorem_sound.proofs.Nexts.{IsNext, next_tried, next_right, MayFollow}
+use Rattle.theorem_sound.proofs.Tries.{next_asks, settled_sends, other_asks}
 use Rattle.theorem_sound.proofs.Actions.{OwnsReply, Speaks, fated_speak, AskedAt, IsRightNext}
 use Rattle.theorem_sound.proofs.Answering.{owns, failure_told}
 use Rattle.theorem_cache.proofs.CallerLemmas.{accepted_pieces_can_be_kept, promotions_keep_cached, offers_keep_cached}
@@ -190,8 +193,32 @@ module _ (c : Config) (past : List Step) (w : List (List ℕ)) (s : State) (x : 
     same_ask : (h : IsHeard) → h.ask ≡ a
     same_ask h = let one : Some h.ask ≡ Some a = sym h.on ∙ on in let same : h.ask ≡ a = cc in same
 
-    failed : (IsHeard → ⊥) → (f : Rattle.retry_failover.specs.declared.Failure.Failure) → D (Rattle.step_table.specs.Failures.row_of_failure (turn c n words s) a f)
-    failed none f = failures.failure_row c past w s x now words unkept more (delivery path from octets) refl refl a on_own (quiet none) f
+    shown_on : on_path a.path (listed past) ≡ Some (shown a)
+    shown_on = ap (on_path a.path) (sym x.asks) ∙ on_path-shown a.path s.asks ∙ ap (option_map shown) on_own
+
+    -- a reply that is no stranger's matches the ask
+    matches_it : nat_lt n (timeout_of c a) ≡ true → matches a from octets ≡ true → (actions : List Action) → Matches c (told actions) past (shown a) octets a.question
+    matches_it live matched actions =
+        let facts = match_facts a from octets matched in
+        record {
+          delivered = λ i. Some (record { path = sym path_is i; from = facts.server i; octets = octets });
+          is_listed = shown_on;
+          is_live = subst (λ (t : ℕ). t < timeout_of c a) (moment_now actions) (ltb-true n (timeout_of c a) live);
+          long_enough = facts.long_enough;
+          not_too_long = facts.not_too_long;
+          is_reply = facts.is_reply;
+          opcode = facts.opcode;
+          identifier = facts.identifier ∙ sym tried_a.identifier;
+          ask_reads = tried_a.reads;
+          question = facts.question;
+          reads = facts.reads;
+          same_question_as_ask = facts.same;
+        }
+
+    failed : nat_lt n (timeout_of c a) ≡ true → matches a from octets ≡ true → (IsHeard → ⊥) → (f : Rattle.retry_failover.specs.declared.Failure.Failure)
+        → D (Rattle.step_table.specs.Failures.row_of_failure (turn c n words s) a f)
+    failed live matched none f = failures.failure_row c past w s x now words unkept more (delivery path from octets) refl refl a on_own (quiet none)
+        (λ actions. inl (octets, matches_it live matched actions)) f
 
     -- an accepted reply: all that wait for it are answered or sent on, and its pieces are offered
     module _ (m : Message) (live : nat_lt n (timeout_of c a) ≡ true) (whole : judge a from octets ≡ Whole) (read : message_of octets ≡ Ok m) (fine : is_lame (walk_of c m a.question a.route).end ≡ false) where
@@ -216,29 +243,10 @@ module _ (c : Config) (past : List Step) (w : List (List ℕ)) (s : State) (x : 
           (λ (e : ((header_in octets).rcode == 3) ≡ true). inr (ap (λ (h : Header). h.rcode) (sym header_is) ∙ eqb-true (header_in octets).rcode 3 e))
           (or_cases ((header_in octets).rcode == 0) ((header_in octets).rcode == 3) parts.2)
 
-      facts : MatchFacts a from octets
-      facts = match_facts a from octets parts.0
-
-      shown_on : on_path a.path (listed past) ≡ Some (shown a)
-      shown_on = ap (on_path a.path) (sym x.asks) ∙ on_path-shown a.path s.asks ∙ ap (option_map shown) on_own
-
       accepts : (actions : List Action) → Accepts c (told actions) past (shown a) a.question a.route m
       accepts actions = record {
         octets = octets;
-        matches = record {
-          delivered = λ i. Some (record { path = sym path_is i; from = facts.server i; octets = octets });
-          is_listed = shown_on;
-          is_live = subst (λ (t : ℕ). t < timeout_of c a) (moment_now actions) (ltb-true n (timeout_of c a) live);
-          long_enough = facts.long_enough;
-          not_too_long = facts.not_too_long;
-          is_reply = facts.is_reply;
-          opcode = facts.opcode;
-          identifier = facts.identifier ∙ sym tried_a.identifier;
-          ask_reads = tried_a.reads;
-          question = facts.question;
-          reads = facts.reads;
-          same_question_as_ask = facts.same;
-        };
+        matches = matches_it live parts.0 actions;
         spells = spelled;
         untruncated = ap (λ (h : Header). h.tc) (sym header_is) ∙ parts.1;
         rcode = rcode;
@@ -372,6 +380,16 @@ module _ (c : Config) (past : List Step) (w : List (List ℕ)) (s : State) (x : 
             fresh : IsFresh (without_path a.path s.asks) None next.id drawn_path.0
             fresh = drawn_fresh words (without_path a.path s.asks) None next.id drawn_path.0 drawn_path.2
 
+            -- no ask of it was listed, but for one that got its reply now
+            begun : (v : Bool) → same_question a.question q ≡ v → NoneAsks q (listed past) ⊎ AcceptsFor c q (told_by fate (Some next)) past
+            begun true same = inr (record {
+              pieces = walk.pieces ++ walk.authority;
+              carries = record { ask = shown a; asked = a.question; route = a.route; message = m; accepts = accepts (done fate (Some next)); are = refl };
+              same = same;
+            })
+            begun false other = inl (subst (NoneAsks q) x.asks (none_asks c past q s.asks x.tried
+                (other_asks a.path q s.asks a x.asks_are.by_arrival on_own other (none_same q (without_path a.path s.asks) new.new))))
+
             first : IsNext c (told_by fate (Some next) ∷ past) q next
             first = record {
               question = facts.question;
@@ -381,7 +399,7 @@ module _ (c : Config) (past : List Step) (w : List (List ℕ)) (s : State) (x : 
               server = (λ i. peer_at c (facts.route_is i) (facts.server_is i)) ∙ facts.peer_is;
               before = 0;
               used = facts.used_is;
-              failed = tt;
+              failed = (refl, inl (settled_sends q (Some a) (map fate s.waiting) (Some next) (next_asks q next facts.question new.is_question fresh.small), begun (same_question a.question q) refl));
             }
 
             free : ask_on next.path (without_path a.path s.asks) ≡ None
@@ -434,7 +452,7 @@ module _ (c : Config) (past : List Step) (w : List (List ℕ)) (s : State) (x : 
     walk_row : (m : Message) → nat_lt n (timeout_of c a) ≡ true → judge a from octets ≡ Whole → message_of octets ≡ Ok m → D (row_of_walk (turn c n words s) rooms a (walk_of c m a.question a.route))
     walk_row m live whole read =
         cond_both (is_lame (walk_of c m a.question a.route).end) _ _ D
-        (λ t. failed (λ h. no_end h (same_ask h) t) failure.Lame)
+        (λ t. failed live (judged_parts from octets a whole).0 (λ h. no_end h (same_ask h) t) failure.Lame)
         (λ f. accepted_row m live whole read f)
       where
         no_end : (h : IsHeard) → h.ask ≡ a → is_lame (walk_of c m a.question a.route).end ≡ true → ⊥
@@ -445,13 +463,13 @@ module _ (c : Config) (past : List Step) (w : List (List ℕ)) (s : State) (x : 
 
     message_row : nat_lt n (timeout_of c a) ≡ true → judge a from octets ≡ Whole → (r : Result Message Fault) → message_of octets ≡ r → D (row_of_message (turn c n words s) rooms a r)
     message_row live whole (Ok m) read = walk_row m live whole read
-    message_row live whole (Err fault) read = failed (λ h. let e : Ok h.message ≡ Err fault = sym h.read ∙ read in absurd (cc)) failure.Malformed
+    message_row live whole (Err fault) read = failed live (judged_parts from octets a whole).0 (λ h. let e : Ok h.message ≡ Err fault = sym h.read ∙ read in absurd (cc)) failure.Malformed
 
     verdict_row : nat_lt n (timeout_of c a) ≡ true → (v : Verdict) → judge a from octets ≡ v → D (row_of_verdict (turn c n words s) rooms a octets v)
     verdict_row live Stranger is = nothing_more (λ h. let e : Stranger ≡ Whole = sym is ∙ ap (λ q. judge q from octets) (sym (same_ask h)) ∙ h.whole in absurd (cc))
-    verdict_row live Truncated is = failed (λ h. let e : Truncated ≡ Whole = sym is ∙ ap (λ q. judge q from octets) (sym (same_ask h)) ∙ h.whole in absurd (cc)) failure.Truncated
-    verdict_row live (Failed rcode) is = failed (λ h. let e : Failed rcode ≡ Whole = sym is ∙ ap (λ q. judge q from octets) (sym (same_ask h)) ∙ h.whole in absurd (cc)) failure.Rcode
-    verdict_row live Malformed is = failed (λ h. let e : Malformed ≡ Whole = sym is ∙ ap (λ q. judge q from octets) (sym (same_ask h)) ∙ h.whole in absurd (cc)) failure.Malformed
+    verdict_row live Truncated is = failed live (judged_match from octets a Truncated is tt) (λ h. let e : Truncated ≡ Whole = sym is ∙ ap (λ q. judge q from octets) (sym (same_ask h)) ∙ h.whole in absurd (cc)) failure.Truncated
+    verdict_row live (Failed rcode) is = failed live (judged_match from octets a (Failed rcode) is tt) (λ h. let e : Failed rcode ≡ Whole = sym is ∙ ap (λ q. judge q from octets) (sym (same_ask h)) ∙ h.whole in absurd (cc)) failure.Rcode
+    verdict_row live Malformed is = failed live (judged_match from octets a Malformed is tt) (λ h. let e : Malformed ≡ Whole = sym is ∙ ap (λ q. judge q from octets) (sym (same_ask h)) ∙ h.whole in absurd (cc)) failure.Malformed
     verdict_row live Whole is = message_row live is (message_of octets) refl
 
   delivery_row : (r : Option Ask) → ask_on path s.asks ≡ r → D (row_of_delivery (turn c n words s) rooms from octets r)

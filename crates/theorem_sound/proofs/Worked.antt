@@ -245,7 +245,7 @@ tried = record {
   server = refl;
   before = 0;
   used = refl;
-  failed = tt;
+  failed = (refl, inl (inl (address a, refl, refl), inl tt));
 }
 
 -- nothing was answered from cache

@@ -14,7 +14,7 @@ use Rattle.step_values.specs.declared.event.Client.{Client}
 use Rattle.step_history.specs.Answers.{Leads}
 use Rattle.step_history.specs.History.{InEra, moment_at, ShownAsk, listed, tcp_asks, Reads, Sends, takes_question}
 use Rattle.outstanding.specs.Draws.{ask_message}
-use Rattle.step_history.specs.Causes.{LastFailed}
+use Rattle.step_history.specs.Causes.{FailedSoFar}
 use Rattle.dns_message.specs.Questions.{is_unserved}
 use Rattle.step_history.specs.Sound.{Sound, unanswered}
 use Rattle.step_history.specs.Accounting.{TellsMore}
@@ -58,7 +58,7 @@ pub record Waits (c : Config) (now : List Step) (x : Waiting) (i : ℕ) : Type 0
   pub told : AllByRecursion (CanBeTold (moment_at now)) x.held
 
 -- the listed ask's text has its question and identifier, its server is at its place on the name's
--- route, and the earlier tries failed
+-- route, and the earlier tries of its inquiry failed
 pub record Tried (c : Config) (now : List Step) (a : Ask) : Type 0 where
   pub question : IsQuestion a.question
   pub reads : Reads (written (ask_message a.id a.question)) a.question
@@ -67,7 +67,7 @@ pub record Tried (c : Config) (now : List Step) (a : Ask) : Type 0 where
   pub server : peer_at c a.route a.server ≡ Some a.peer
   pub before : ℕ
   pub used : a.used ≡ suc before
-  pub failed : LastFailed c a.question now before
+  pub failed : FailedSoFar c a.question now before
 
 -- the history, which is sound, explains the state with its owners
 pub record Explains (c : Config) (past : List Step) (w : List (List ℕ)) (s : State) : Type 0 where

@@ -82,15 +82,21 @@ unfolding first_question question_at octets_end name_within walk_in name_step
 closes = record { ask = ask; asked = address a; is_listed = refl; closed = refl; reads = refl; same = refl }
 
 tries : AllTriesFailed (seen 1 600) (question_text 7 1)
-unfolding first_question question_at octets_end name_within walk_in name_step
+unfolding first_question question_at octets_end name_within walk_in name_step closes
 tries = record {
   question = address a;
   reads = refl;
   aliases = [];
   last = address a;
   leads = record { few = omega arith; follows = refl };
-  failed = (refl, inl (closes, nothing_heard (with_limits 1 600) gives_up (again ∷ past) refl, tt));
-  closed = closes;
+  failed = (
+    record {
+      closes = closes;
+      quiet = nothing_heard (with_limits 1 600) gives_up (again ∷ past) refl;
+      why = inr (inr (refl, omega arith));
+    },
+    (refl, inl (inl (address a, refl, refl), inl tt)),
+  );
   none_left = tt;
 }
 
@@ -148,7 +154,8 @@ abbrev goes_on : Look
 goes_on = record (seen 1 600) { now = step_of 71499 [] tick [] ∷ again ∷ past }
 
 while_a_try_goes_on : (request octets : List ℕ) → RightStaleAnswer goes_on client request octets → ⊥
-while_a_try_goes_on request octets h = true≢false (sym h.tries.closed.closed)
+while_a_try_goes_on request octets h =
+    true≢false (sym h.tries.failed.0.closes.closed)
 
 -- the set came in the newest step itself
 abbrev just_carried : Look

@@ -207,15 +207,21 @@ unfolding first_question question_at octets_end name_within walk_in name_step
 closes = record { ask = ask_again; asked = address a; is_listed = refl; closed = refl; reads = refl; same = refl }
 
 tries : AllTriesFailed seen (question_text 7 1)
-unfolding first_question question_at octets_end name_within walk_in name_step
+unfolding first_question question_at octets_end name_within walk_in name_step closes
 tries = record {
   question = address a;
   reads = refl;
   aliases = [];
   last = address a;
   leads = record { few = omega arith; follows = refl };
-  failed = (refl, inl (closes, nothing_heard c gives_up (again ∷ past) refl, tt));
-  closed = closes;
+  failed = (
+    record {
+      closes = closes;
+      quiet = nothing_heard c gives_up (again ∷ past) refl;
+      why = inr (inr (refl, omega arith));
+    },
+    (refl, inl (inl (address a, refl, refl), inl tt)),
+  );
   none_left = tt;
 }
 
@@ -323,15 +329,21 @@ unfolding first_question question_at octets_end name_within walk_in name_step
 closes_b = record { ask = ask_for_b; asked = address b; is_listed = refl; closed = refl; reads = refl; same = refl }
 
 tries_behind : AllTriesFailed seen_sooner (question_text 7 1)
-unfolding first_question question_at octets_end name_within walk_in name_step
+unfolding first_question question_at octets_end name_within walk_in name_step closes_b
 tries_behind = record {
   question = address a;
   reads = refl;
   aliases = alias ∷ [];
   last = address b;
   leads = record { few = omega arith; follows = follows_it };
-  failed = (refl, inl (closes_b, nothing_heard c gives_up_sooner (sooner ∷ past) refl, tt));
-  closed = closes_b;
+  failed = (
+    record {
+      closes = closes_b;
+      quiet = nothing_heard c gives_up_sooner (sooner ∷ past) refl;
+      why = inr (inr (refl, omega arith));
+    },
+    (refl, inl (inl (address b, refl, refl), inl tt)),
+  );
   none_left = tt;
 }
 
