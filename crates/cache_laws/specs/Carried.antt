@@ -8,7 +8,7 @@ use Rattle.dns_name.specs.Labels.{lowered, IsSame, IsUnder}
 use Rattle.dns_message.specs.Values.{Question, Record, Message}
 use Rattle.dns_message.specs.Messages.{HasShapes}
 use Rattle.dns_message.specs.Data.{name_of_rdata}
-use Rattle.suffix_routes.specs.Values.{Config, IsConfig}
+use Rattle.suffix_routes.specs.Values.{Config, AllDiffer}
 use Rattle.suffix_routes.specs.Routes.{IsRouteOf}
 use Rattle.trust_rank.specs.Values.{rows, no_data, denied, Piece, End, found, ends_no_data, ends_denied, elsewhere}
 use Rattle.trust_rank.specs.Values.{lame, Reply, reply_of}
@@ -241,12 +241,12 @@ pub record IsCarriedBy (c : Config) (m : Message) (q : Question) (route : ℕ) (
   pub none_without_authority : m.header.aa ≡ false → servers ≡ []
   pub none_if_lame : end ≡ lame → servers ≡ []
 
--- `walk_of` gives pieces, name servers and end as they are carried, and no others are carried so.
--- The configuration is an accepted one. The record data has the shapes of its types, as in each
--- message that was read.
+-- `walk_of` gives pieces, name servers and end as they are carried, and no others are carried so. No
+-- two routes have the same suffix, as in each accepted configuration. The record data has the shapes
+-- of its types, as in each message that was read.
 pub record CarriedExactly : Type 0 where
-  pub is : (c : Config) (m : Message) (q : Question) (route : ℕ) → IsConfig c
+  pub is : (c : Config) (m : Message) (q : Question) (route : ℕ) → AllDiffer c.routes
       → IsCarriedBy c m q route (walk_of c m q route).pieces (walk_of c m q route).authority (walk_of c m q route).end
   pub only : (c : Config) (m : Message) (q : Question) (route : ℕ) (pieces servers : List Piece) (end : End)
-      → IsConfig c → HasShapes m → IsCarriedBy c m q route pieces servers end
+      → AllDiffer c.routes → HasShapes m → IsCarriedBy c m q route pieces servers end
       → walk_of c m q route ≡ record { pieces = pieces; authority = servers; end = end }

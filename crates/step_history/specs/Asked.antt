@@ -6,7 +6,7 @@ use Rattle.dns_message.specs.Questions.{same_question}
 use Rattle.dns_message.specs.Writing.{written}
 use Rattle.suffix_routes.specs.declared.peer.Peer.{Peer}
 use Rattle.suffix_routes.specs.Values.{Config, Route}
-use Rattle.suffix_routes.specs.Serving.{serving_route_of}
+use Rattle.cache_laws.specs.Serving.{IsServedBy}
 use Rattle.outstanding.specs.declared.ask.Path.{Path}
 use Rattle.outstanding.specs.declared.ask.Path.TheVariants.{Udp, Tcp}
 use Rattle.outstanding.specs.Lists.{same_path}
@@ -30,7 +30,7 @@ pub record IsServerFor (c : Config) (q : Question) (p : Peer) : Type 0 where
   pub route : ℕ
   pub group : Route
   pub place : ℕ
-  pub route_is : serving_route_of c q.name ≡ Some route
+  pub route_is : IsServedBy c q.name route
   pub there : slice_get c.routes route ≡ Some group
   pub server : slice_get group.servers place ≡ Some p
 

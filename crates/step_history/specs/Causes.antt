@@ -4,6 +4,7 @@ use Rattle.std.specs.Prelude.{Option, None, ◌⊎◌}
 use Rattle.std.specs.List.{AllByRecursion}
 use Rattle.dns_message.specs.Values.{Question}
 use Rattle.suffix_routes.specs.Values.{Config}
+use Rattle.suffix_routes.specs.Routes.{HasNoRoute as IsUnderNone}
 use Rattle.step_values.specs.declared.event.Client.{Client}
 use Rattle.step_values.specs.declared.event.Client.TheVariants.{Udp, Tcp}
 use Rattle.step_values.specs.declared.action.Why.{Why}
@@ -11,7 +12,6 @@ use Rattle.step_values.specs.declared.action.Why.TheVariants.{Answered, BadForma
 use Rattle.step_values.specs.declared.action.Why.TheVariants.{QuestionsFull, InquiriesFull, NoPort, Exhausted, Deadline}
 use Rattle.step_values.specs.declared.action.Why.TheVariants.{ChainLong, TooLarge, Stale, LocalDenied}
 use Rattle.step_values.specs.Values.{path_failed, tick, Action, SentAsk, ask_in, Step}
-use Rattle.suffix_routes.specs.Serving.{serving_route_of, is_local}
 use Rattle.dns_message.specs.Questions.{same_question, is_unserved}
 use Rattle.dns_message.specs.Header.{header_in}
 use Rattle.trust_rank.specs.Values.{Piece}
@@ -98,7 +98,7 @@ pub record FailsAsk (c : Config) (q : Question) (s : Step) (past : List Step) : 
 pub record AcceptsFor (c : Config) (q : Question) (s : Step) (past : List Step) : Type 0 where
   pub pieces : List Piece
   pub carries : Carries c s past pieces
-  pub same : same_question carries.asked q ≡ true
+  pub same : same_question carries.accepts.asked q ≡ true
 
 -- the step begins to ask q: it sends an ask of q, and none was listed before, or it accepted the
 -- reply
@@ -129,8 +129,8 @@ TriesFailed c q (s ∷ past) (suc k) = FailsAsk c q s past × FailedSoFar c q pa
 
 -- ---- the facts of the history for each way of failing
 
--- opcode 0, a served type and class; no route serves or denies the name (at once), or the one that
--- aliases lead to
+-- opcode 0, a served type and class; the name (at once), or the one that aliases lead to, is under
+-- no route's suffix
 pub record HasNoRoute (l : Look) (octets : List ℕ) : Type 0 where
   pub opcode : (header_in octets).opcode ≡ 0
   pub question : Question
@@ -139,8 +139,7 @@ pub record HasNoRoute (l : Look) (octets : List ℕ) : Type 0 where
   pub aliases : List Held
   pub last : Question
   pub leads : Leads l question aliases last
-  pub none : serving_route_of l.config last.name ≡ None
-  pub not_denied : is_local l.config last.name ≡ false
+  pub none : IsUnderNone l.config.routes last.name
   pub at_once : aliases ≡ [] → l.now ≡ l.asked ∷ l.before
 
 -- at once: opcode 0, and a type or class that is not served

@@ -1,6 +1,6 @@
 -- A history: the list of its steps, the newest first. A claim about a step is one about the list
 -- that begins with it.
-use Rattle.std.specs.Prelude.{◌≡◌, ℕ, ◌+◌, ◌^◌, ◌<◌, ◌≤◌, Bool, true, false, if◌then◌else◌, not, min, max, List, []}
+use Rattle.std.specs.Prelude.{◌≡◌, ◌≢◌, ℕ, ◌+◌, ◌^◌, ◌<◌, ◌≤◌, Bool, true, false, if◌then◌else◌, not, min, max, List, []}
 use Rattle.std.specs.Prelude.{◌∷◌, ◌++◌, length, filter, Option, Some, None, ◌⊎◌}
 use Rattle.std.specs.List.{find, list_any}
 use Rattle.dns_message.specs.Values.{Question, Message}
@@ -12,11 +12,11 @@ use Rattle.outstanding.specs.declared.ask.Path.{Path}
 use Rattle.outstanding.specs.Lists.{same_path, is_tcp}
 use Rattle.step_values.specs.Values.{Event, from_client, delivery, path_failed, tick, restart, Action, Request}
 use Rattle.step_values.specs.Values.{request_in, delivery_in, SentAsk, ask_in, closed_path_in, Step}
-use Rattle.suffix_routes.specs.Serving.{serving_route_of}
 use Rattle.dns_message.specs.Questions.{same_question, one_question}
 use Rattle.dns_message.specs.Header.{header_in}
-use Rattle.trust_rank.specs.Values.{Piece}
-use Rattle.trust_rank.specs.Walks.{walk_of, is_lame}
+use Rattle.trust_rank.specs.Values.{Piece, End, lame}
+use Rattle.cache_laws.specs.Carried.{IsCarriedBy}
+use Rattle.cache_laws.specs.Serving.{IsServedBy}
 use Rattle.step_values.specs.Requests.{is_taken}
 
 -- the event is a restart
@@ -142,27 +142,30 @@ pub record Matches (c : Config) (s : Step) (past : List Step) (ask : ShownAsk) (
   pub reads : Reads octets question
   pub same_question_as_ask : same_question question asked ≡ true
 
--- the reply of step s matches, can be read whole, has response code 0 or 3 and no TC, and is not
--- lame
-pub record Accepts (c : Config) (s : Step) (past : List Step) (ask : ShownAsk) (asked : Question) (route : ℕ)
-    (m : Message) : Type 0 where
-  pub octets : List ℕ
-  pub matches : Matches c s past ask octets asked
-  pub spells : Spells octets m
-  pub untruncated : m.header.tc ≡ false
-  pub rcode : (m.header.rcode ≡ 0) ⊎ (m.header.rcode ≡ 3)
-  pub route_is : serving_route_of c asked.name ≡ Some route
-  pub not_lame : is_lame (walk_of c m asked route).end ≡ false
-
--- step s accepted a reply and carried its pieces: those of the walk, then the name servers of the
--- authority section
-pub record Carries (c : Config) (s : Step) (past : List Step) (ps : List Piece) : Type 0 where
+-- The reply of step s matches, can be read whole, has response code 0 or 3 and no TC. Its content,
+-- as a reply to the question on the route that serves the question's name, is not lame.
+pub record Accepts (c : Config) (s : Step) (past : List Step) (pieces servers : List Piece) : Type 0 where
   pub ask : ShownAsk
   pub asked : Question
   pub route : ℕ
   pub message : Message
-  pub accepts : Accepts c s past ask asked route message
-  pub are : ps ≡ (walk_of c message asked route).pieces ++ (walk_of c message asked route).authority
+  pub octets : List ℕ
+  pub matches : Matches c s past ask octets asked
+  pub spells : Spells octets message
+  pub untruncated : message.header.tc ≡ false
+  pub rcode : (message.header.rcode ≡ 0) ⊎ (message.header.rcode ≡ 3)
+  pub route_is : IsServedBy c asked.name route
+  pub end : End
+  pub content : IsCarriedBy c message asked route pieces servers end
+  pub not_lame : end ≢ lame
+
+-- step s accepted a reply and carried its content: the pieces on the walk, then the name servers of
+-- the authority section
+pub record Carries (c : Config) (s : Step) (past : List Step) (ps : List Piece) : Type 0 where
+  pub pieces : List Piece
+  pub servers : List Piece
+  pub accepts : Accepts c s past pieces servers
+  pub are : ps ≡ pieces ++ servers
 
 -- step s accepted no reply
 abbrev pub NothingAccepted : Config → Step → List Step → Type 0

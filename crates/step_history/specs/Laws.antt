@@ -1,12 +1,12 @@
 -- Statements that follow from the definitions.
 use Rattle.std.specs.Prelude.{◌≡◌, ℕ, ◌^◌, ◌≤◌, false, List, ◌∷◌, ◌++◌}
 use Rattle.suffix_routes.specs.Values.{Config, HasNeither}
-use Rattle.suffix_routes.specs.Routes.{route_of}
+use Rattle.suffix_routes.specs.Routes.{IsRouteOf}
+use Rattle.cache_laws.specs.Serving.{IsServedBy}
 use Rattle.step_values.specs.Values.{Step}
 use Rattle.record_cache.specs.Values.{Held}
 use Rattle.step_values.specs.declared.event.Client.{Client}
 use Rattle.step_values.specs.declared.action.Why.TheVariants.{TooLarge, Stale, LocalDenied}
-use Rattle.suffix_routes.specs.Serving.{serving_route_of}
 use Rattle.step_history.specs.History.{is_restart, InEra, Look, moment_at}
 use Rattle.step_history.specs.Carried.{CarriedInEra}
 use Rattle.step_history.specs.Causes.{AllTriesFailed, LastFailed, ClosesNow, Cause, AnswerIsTooLarge}
@@ -37,7 +37,8 @@ pub record AddsNothing (l : Look) (client : Client) (request octets : List ℕ) 
   pub stale : RightReply l client request waiting Stale octets → ⊥
   pub local : RightReply l client request waiting LocalDenied octets → ⊥
   pub large : Cause l client request waiting TooLarge → AnswerIsTooLarge l request
-  pub routed : (name : List (List ℕ)) → serving_route_of l.config name ≡ route_of l.config.routes name
+  pub routed : (name : List (List ℕ)) (place : ℕ) → IsRouteOf l.config.routes name place
+      → IsServedBy l.config name place
 
 -- Without a window and routes that deny, version 2 adds no right reply: `AddsNothing`.
 abbrev pub FirstVersionStandsAlone : Type 0

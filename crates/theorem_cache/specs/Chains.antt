@@ -1,5 +1,5 @@
 -- Chains of look-ups and of accepted replies, as a history justifies them.
-use Rattle.std.specs.Prelude.{◌≡◌, ℕ, ◌≤◌, Bool, true, false, List, [], ◌∷◌, ◌++◌, length, map, Some, ◌⊎◌}
+use Rattle.std.specs.Prelude.{◌≡◌, ℕ, ◌≤◌, false, List, [], ◌∷◌, ◌++◌, length, map, Some, ◌⊎◌}
 use Rattle.std.specs.List.{AllByRecursion}
 use Rattle.dns_message.specs.Values.{Question}
 use Rattle.suffix_routes.specs.Values.{Config}
@@ -8,7 +8,7 @@ use Rattle.record_cache.specs.Values.{Held}
 use Rattle.step_values.specs.Values.{Step}
 use Rattle.step_history.specs.History.{is_restart, Look, Carries, NothingAccepted}
 use Rattle.step_history.specs.Carried.{Justified}
-use Rattle.step_history.specs.Answers.{has_slot, FollowsAliases, EndsChain}
+use Rattle.step_history.specs.Answers.{IsOf, FollowsAliases, EndsChain}
 use Rattle.dns_message.specs.Questions.{asked_at}
 use Rattle.step_history.specs.Stale.{JustifiedPastItsEnd, FollowsPastEnds}
 use Rattle.alias_chains.specs.LookingUp.{LookUpEnd, ends, too_long, missed, LookUp}
@@ -60,7 +60,7 @@ pub record IsRightPast (l : Look) (t : ℕ) (q : Question) (most : ℕ) (chain :
   pub last : Question
   pub follows : FollowsPastEnds l q aliases last
   pub justified : JustifiedPastItsEnd l last.name end
-  pub slot : has_slot end.piece last.name last.class (Some last.kind) ≡ true
+  pub slot : IsOf end.piece last.name last.class (Some last.kind)
   pub few : length aliases ≤ most
   pub told : AllByRecursion (CanBeTold t) chain
 

@@ -20,6 +20,7 @@ use Rattle.step_values.specs.declared.action.Why.{Why}
 use Rattle.step_values.specs.declared.action.Why.TheVariants.{Answered, NoRoute, ChainLong, TooLarge, Stale, LocalDenied}
 use Rattle.step_values.specs.Values.{Action, send_reply, Step}
 use Rattle.suffix_routes.specs.Serving.{serving_route_of, is_local}
+use Rattle.cache_laws.proofs.CallerLemmas.{denies_names_exactly, none_serves_exactly}
 use Rattle.step_history.specs.History.{is_restart, is_taken_request, listed, moment_at, Look, Reads}
 use Rattle.step_history.specs.Answers.{FollowsAliases, Leads, Chain}
 use Rattle.step_history.specs.Stale.{ChainPastEnds}
@@ -287,7 +288,7 @@ pub without_server_owned : (c : Config) (n : ℕ) (now : List Step) (x : Waiting
     → OwnsReply c now i (without_server c n x aliases last.name)
 without_server_owned c n now x i k is aliases last leads none at_once told =
     cond_both (is_local c last.name) (denied_locally n x aliases) (gives_up NoRoute x) (OwnsReply c now i)
-    (λ denied. local_owned c n now x i k is aliases (record { last = last; leads = leads; denied = denied; at_once = at_once }) told)
+    (λ denied. local_owned c n now x i k is aliases (record { last = last; leads = leads; denied = denies_names_exactly.only c last.name denied; at_once = at_once }) told)
     (λ served. owns c now x.client x.asked i k NoRoute (failure_text x.asked NoRoute) (λ waiting. (
       failure_told now x.client x.asked i k NoRoute,
       record {
@@ -298,8 +299,7 @@ without_server_owned c n now x i k is aliases last leads none at_once told =
         aliases = aliases;
         last = last;
         leads = leads;
-        none = none;
-        not_denied = served;
+        none = none_serves_exactly.only c last.name none served;
         at_once = at_once;
       },
     )))

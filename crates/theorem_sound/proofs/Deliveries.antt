@@ -36,7 +36,8 @@ use Rattle.step_history.specs.Causes.{NoneAsks, AcceptsFor}
 use Rattle.step_history.specs.Draws.{drawn}
 use Rattle.step_history.specs.Asked.{IsDrawn}
 use Rattle.step_history.specs.Replies.{failure_text}
-use Rattle.step_history.proofs.CallerLemmas.{moment_small}
+use Rattle.step_history.proofs.CallerLemmas.{moment_small, accepted_fine, accepted_pieces, walk_accepted}
+use Rattle.cache_laws.proofs.CallerLemmas.{serves_exactly}
 use Rattle.step_table.specs.State.{State, turn}
 use Rattle.waiting_questions.specs.Values.{Waiting, waits_for}
 use Rattle.step_table.specs.Steps.{Done, Fate, gets, waits, still_waiting, with_preferred_server, with_promoted, ask_list, tcp_count, closing_step, offering_step}
@@ -95,25 +96,25 @@ module _ (c : Config) (past : List Step) (w : List (List ℕ)) (s : State) (x : 
     ask = a;
     on = at.1;
     live = lt-ltb n (timeout_of c a) (subst (λ (t : ℕ). t < timeout_of c a) (sym (moment_now actions)) (subst (λ (q : ShownAsk). moment_at (told actions ∷ past) < q.moment + c.limits.ask_ms) (sym at.2) of_ask.is_live));
-    whole = cond-true (matches a from octets) _ _ matched ∙ cond-false (header_in octets).tc _ _ (ap (λ (h : Header). h.tc) header_is ∙ k.accepts.untruncated) ∙ cond-true (((header_in octets).rcode == 0) || ((header_in octets).rcode == 3)) _ _ rcode ∙ ap judged_whole read;
-    message = k.message;
+    whole = cond-true (matches a from octets) _ _ matched ∙ cond-false (header_in octets).tc _ _ (ap (λ (h : Header). h.tc) header_is ∙ accepts.untruncated) ∙ cond-true (((header_in octets).rcode == 0) || ((header_in octets).rcode == 3)) _ _ rcode ∙ ap judged_whole read;
+    message = accepts.message;
     read = read;
-    fine = subst (λ (z : Question × ℕ). is_lame (walk_of c k.message z.0 z.1).end ≡ false) (λ i. (question_is i, route_is i)) accepts.not_lame;
+    fine = subst (λ (z : Question × ℕ). is_lame (walk_of c accepts.message z.0 z.1).end ≡ false) (λ i. (question_is i, route_is i)) (accepted_fine c (told actions) past k.pieces k.servers x.config.differ accepts);
     carried = ps;
-    carried_are = k.are ∙ (λ i. (walk_of c k.message (question_is i) (route_is i)).pieces ++ (walk_of c k.message (question_is i) (route_is i)).authority);
+    carried_are = k.are ∙ accepted_pieces c (told actions) past k.pieces k.servers x.config.differ accepts ∙ (λ i. (walk_of c accepts.message (question_is i) (route_is i)).pieces ++ (walk_of c accepts.message (question_is i) (route_is i)).authority);
   }
     where
-      accepts : Accepts c (told actions) past k.ask k.asked k.route k.message
+      accepts : Accepts c (told actions) past k.pieces k.servers
       accepts = k.accepts
 
-      of_ask : Matches c (told actions) past k.ask accepts.octets k.asked
+      of_ask : Matches c (told actions) past accepts.ask accepts.octets accepts.asked
       of_ask = accepts.matches
 
       came : Delivered
       came = record { path = path; from = from; octets = octets }
 
       awaited : Delivered
-      awaited = record { path = k.ask.path; from = k.ask.server; octets = accepts.octets }
+      awaited = record { path = accepts.ask.path; from = accepts.ask.server; octets = accepts.octets }
 
       delivered_is : came ≡ awaited
       delivered_is = let same : Some came ≡ Some awaited = of_ask.delivered in cc
@@ -121,8 +122,8 @@ module _ (c : Config) (past : List Step) (w : List (List ℕ)) (s : State) (x : 
       octets_is : octets ≡ accepts.octets
       octets_is = ap (λ (d : Delivered). d.octets) delivered_is
 
-      at : (a : Ask) × (ask_on path s.asks ≡ Some a) × (shown a ≡ k.ask)
-      at = shown_from (ask_on path s.asks) k.ask (sym (on_path-shown path s.asks) ∙ ap (on_path path) x.asks ∙ ap (λ (p : Path). on_path p (listed past)) (ap (λ (d : Delivered). d.path) delivered_is) ∙ of_ask.is_listed)
+      at : (a : Ask) × (ask_on path s.asks ≡ Some a) × (shown a ≡ accepts.ask)
+      at = shown_from (ask_on path s.asks) accepts.ask (sym (on_path-shown path s.asks) ∙ ap (on_path path) x.asks ∙ ap (λ (p : Path). on_path p (listed past)) (ap (λ (d : Delivered). d.path) delivered_is) ∙ of_ask.is_listed)
 
       a : Ask
       a = at.0
@@ -131,28 +132,28 @@ module _ (c : Config) (past : List Step) (w : List (List ℕ)) (s : State) (x : 
       tried = (ask_on-is (Tried c past) path s.asks a at.1 x.tried).1
 
       -- the ask's text reads as one question
-      question_is : k.asked ≡ a.question
+      question_is : accepts.asked ≡ a.question
       question_is =
-          let two : Some k.asked ≡ Some a.question = sym of_ask.ask_reads ∙ ap (λ (q : ShownAsk). one_question q.octets) (sym at.2) ∙ tried.reads in
-          let same : k.asked ≡ a.question = cc in
+          let two : Some accepts.asked ≡ Some a.question = sym of_ask.ask_reads ∙ ap (λ (q : ShownAsk). one_question q.octets) (sym at.2) ∙ tried.reads in
+          let same : accepts.asked ≡ a.question = cc in
           same
 
-      route_is : k.route ≡ a.route
+      route_is : accepts.route ≡ a.route
       route_is =
-          let two : Some k.route ≡ Some a.route = sym accepts.route_is ∙ ap (λ (q : Question). serving_route_of c q.name) question_is ∙ tried.on_route in
-          let same : k.route ≡ a.route = cc in
+          let two : Some accepts.route ≡ Some a.route = sym (serves_exactly.each c accepts.asked.name accepts.route x.config.differ accepts.route_is) ∙ ap (λ (q : Question). serving_route_of c q.name) question_is ∙ tried.on_route in
+          let same : accepts.route ≡ a.route = cc in
           same
 
-      read : message_of octets ≡ Ok k.message
-      read = ap message_of octets_is ∙ spells_read accepts.octets k.message accepts.spells
+      read : message_of octets ≡ Ok accepts.message
+      read = ap message_of octets_is ∙ spells_read accepts.octets accepts.message accepts.spells
 
-      header_is : header_in octets ≡ k.message.header
-      header_is = read_header octets k.message read
+      header_is : header_in octets ≡ accepts.message.header
+      header_is = read_header octets accepts.message read
 
       rcode : (((header_in octets).rcode == 0) || ((header_in octets).rcode == 3)) ≡ true
       rcode = ⊎_elim
-          (λ (e : k.message.header.rcode ≡ 0). ap (λ b. b || ((header_in octets).rcode == 3)) (eq-eqb (header_in octets).rcode 0 (ap (λ (h : Header). h.rcode) header_is ∙ e)))
-          (λ (e : k.message.header.rcode ≡ 3). ap (λ b. ((header_in octets).rcode == 0) || b) (eq-eqb (header_in octets).rcode 3 (ap (λ (h : Header). h.rcode) header_is ∙ e)) ∙ or_true ((header_in octets).rcode == 0))
+          (λ (e : accepts.message.header.rcode ≡ 0). ap (λ b. b || ((header_in octets).rcode == 3)) (eq-eqb (header_in octets).rcode 0 (ap (λ (h : Header). h.rcode) header_is ∙ e)))
+          (λ (e : accepts.message.header.rcode ≡ 3). ap (λ b. ((header_in octets).rcode == 0) || b) (eq-eqb (header_in octets).rcode 3 (ap (λ (h : Header). h.rcode) header_is ∙ e)) ∙ or_true ((header_in octets).rcode == 0))
           accepts.rcode
         where
           or_true : (b : Bool) → (b || true) ≡ true
@@ -243,19 +244,13 @@ module _ (c : Config) (past : List Step) (w : List (List ℕ)) (s : State) (x : 
           (λ (e : ((header_in octets).rcode == 3) ≡ true). inr (ap (λ (h : Header). h.rcode) (sym header_is) ∙ eqb-true (header_in octets).rcode 3 e))
           (or_cases ((header_in octets).rcode == 0) ((header_in octets).rcode == 3) parts.2)
 
-      accepts : (actions : List Action) → Accepts c (told actions) past (shown a) a.question a.route m
-      accepts actions = record {
-        octets = octets;
-        matches = matches_it live parts.0 actions;
-        spells = spelled;
-        untruncated = ap (λ (h : Header). h.tc) (sym header_is) ∙ parts.1;
-        rcode = rcode;
-        route_is = tried_a.on_route;
-        not_lame = fine;
-      }
+      accepts : (actions : List Action) → Accepts c (told actions) past walk.pieces walk.authority
+      accepts actions = walk_accepted c (told actions) past (shown a) a.question a.route octets m x.config.differ
+          (matches_it live parts.0 actions) spelled (ap (λ (h : Header). h.tc) (sym header_is) ∙ parts.1) rcode
+          tried_a.on_route fine
 
       pub carries : (actions : List Action) → Carries c (told actions) past (walk.pieces ++ walk.authority)
-      carries actions = record { ask = shown a; asked = a.question; route = a.route; message = m; accepts = accepts actions; are = refl }
+      carries actions = record { pieces = walk.pieces; servers = walk.authority; accepts = accepts actions; are = refl }
 
       shapes : HasShapes m
       shapes = spelled_message_has_shapes octets m spelled
@@ -384,7 +379,7 @@ module _ (c : Config) (past : List Step) (w : List (List ℕ)) (s : State) (x : 
             begun : (v : Bool) → same_question a.question q ≡ v → NoneAsks q (listed past) ⊎ AcceptsFor c q (told_by fate (Some next)) past
             begun true same = inr (record {
               pieces = walk.pieces ++ walk.authority;
-              carries = record { ask = shown a; asked = a.question; route = a.route; message = m; accepts = accepts (done fate (Some next)); are = refl };
+              carries = record { pieces = walk.pieces; servers = walk.authority; accepts = accepts (done fate (Some next)); are = refl };
               same = same;
             })
             begun false other = inl (subst (NoneAsks q) x.asks (none_asks c past q s.asks x.tried

@@ -194,7 +194,7 @@ module _ (q q' : Question) (same : same_question q q' ≡ true) where
   begins_alike c s past (sends, inl none) = (sends_alike s.outcome.actions sends, inl (none_alike (listed past) none))
   begins_alike c s past (sends, inr accepts) = (
     sends_alike s.outcome.actions sends,
-    inr (record { pieces = accepts.pieces; carries = accepts.carries; same = asked_alike accepts.carries.asked accepts.same }),
+    inr (record { pieces = accepts.pieces; carries = accepts.carries; same = asked_alike accepts.carries.accepts.asked accepts.same }),
   )
 
 leaves_alike : (q q' : Question) → same_question q q' ≡ true → (s : Step) (past : List Step) → LeavesAsks q s past → LeavesAsks q' s past

@@ -1,7 +1,7 @@
 -- Which tries are of one inquiry, computed: an ask that a deadline closed, and an inquiry before
 -- it, count for nothing; and a try counts if a reply, a failed path or its time ended it.
 use Rattle.std.proofs.Common.{◌≡◌, ◌∙◌, ℕ, List, [], ◌∷◌, Option, Some, None, refl, sym, ap, subst}
-use Rattle.std.proofs.Common.{inl, inr, arith, ◌⊎◌, true, false}
+use Rattle.std.proofs.Common.{inl, inr, arith, ◌⊎◌, ◌+◌, true, false}
 use Rattle.std.proofs.lemmas.Bool.{true≢false}
 use Rattle.dns_message.specs.Names.{step as name_step, walk_in, name_within}
 use Rattle.dns_message.specs.declared.reading.header.Header.{Header}
@@ -16,7 +16,7 @@ use Rattle.step_values.specs.declared.action.Why.TheVariants.{Deadline, Exhauste
 use Rattle.step_values.specs.declared.event.Client.{Client}
 use Rattle.step_values.specs.Values.{from_client, delivery, path_failed, tick, restart, ask_udp, close_udp, send_reply}
 use Rattle.step_values.specs.Values.{Delivered, delivery_in, Event, Step}
-use Rattle.step_history.specs.History.{Look, ShownAsk, Matches, NothingAccepted, closes_path}
+use Rattle.step_history.specs.History.{Look, ShownAsk, Matches, Carries, NothingAccepted, closes_path}
 use Rattle.step_history.specs.Causes.{ClosesAsk, LastFailed, FailsAsk, MayFail, AcceptsFor, BeginsToAsk, FailedSoFar}
 use Rattle.step_history.specs.Causes.{SendsAsk, TriesFailed, Cause}
 use Rattle.step_history.specs.Sound.{RightStaleAnswer}
@@ -95,11 +95,11 @@ no_acceptance s past comes ps carries =
     let octets_are : failure_text ≡ carries.accepts.octets =
     ap (λ (e : Event). octets_in (delivery_in e)) (sym comes)
     ∙ ap octets_in carries.accepts.matches.delivered in
-    let code : 2 ≡ carries.message.header.rcode =
+    let code : 2 ≡ carries.accepts.message.header.rcode =
     ap code_in (ap header_of octets_are ∙ carries.accepts.spells.header) in
     by code carries.accepts.rcode
   where
-    by : 2 ≡ carries.message.header.rcode → (carries.message.header.rcode ≡ 0) ⊎ (carries.message.header.rcode ≡ 3) → ⊥
+    by : 2 ≡ carries.accepts.message.header.rcode → (carries.accepts.message.header.rcode ≡ 0) ⊎ (carries.accepts.message.header.rcode ≡ 3) → ⊥
     by code (inl none) = omega (arith, code, none)
     by code (inr denied) = omega (arith, code, denied)
 
@@ -256,18 +256,30 @@ an_accepted_reply h = h.quiet (piece ∷ []) (carries 2 600)
 
 -- ---- where the tries of an inquiry begin
 
+-- the accepted reply is one to the question of the only ask
+its_question : (h : Carries c answered (asked ∷ []) (piece ∷ [])) → address a ≡ h.accepts.asked
+unfolding first_question question_at octets_end name_within walk_in name_step
+its_question h =
+    let is : ask ≡ h.accepts.ask = the_only_ask _ ask h.accepts.ask h.accepts.matches.is_listed in
+    let reads : Some (address a) ≡ Some h.accepts.asked =
+    ap (λ (x : ShownAsk). one_question x.octets) is ∙ h.accepts.matches.ask_reads in
+    cc
+
 -- a reply to it is accepted
 accepted_for_it : AcceptsFor c (address a) answered (asked ∷ [])
-unfolding carries
-accepted_for_it = record { pieces = piece ∷ []; carries = carries 2 600; same = refl }
+accepted_for_it = record {
+  pieces = piece ∷ [];
+  carries = carries 2 600;
+  same = subst (λ (z : Question). same_question z (address a) ≡ true) (its_question (carries 2 600)) refl;
+}
 
 accepted_for_another : AcceptsFor c (record (address a) { kind = 28 }) answered (asked ∷ []) → ⊥
 unfolding first_question question_at octets_end name_within walk_in name_step
 accepted_for_another h =
-    let is : ask ≡ h.carries.ask = the_only_ask _ ask h.carries.ask h.carries.accepts.matches.is_listed in
-    let reads : Some (address a) ≡ Some h.carries.asked =
+    let is : ask ≡ h.carries.accepts.ask = the_only_ask _ ask h.carries.accepts.ask h.carries.accepts.matches.is_listed in
+    let reads : Some (address a) ≡ Some h.carries.accepts.asked =
     ap (λ (x : ShownAsk). one_question x.octets) is ∙ h.carries.accepts.matches.ask_reads in
-    let own : address a ≡ h.carries.asked = cc in
+    let own : address a ≡ h.carries.accepts.asked = cc in
     true≢false (sym h.same ∙ ap (λ (z : Question). same_question z (record (address a) { kind = 28 })) (sym own))
 
 -- while an ask is open, another one begins nothing

@@ -24,6 +24,7 @@ use Rattle.step_values.specs.Values.{from_client, tick, send_reply, ask_udp, clo
 use Rattle.step_history.specs.History.{Look, ShownAsk}
 use Rattle.step_history.specs.Carried.{CarriedInEra}
 use Rattle.step_history.specs.Causes.{AllTriesFailed, ClosesAsk}
+use Rattle.cache_laws.proofs.CallerLemmas.{serves_exactly}
 use Rattle.step_history.specs.Stale.{JustifiedPastItsEnd, StaleAnswers}
 use Rattle.step_history.specs.Sound.{RightReply, RightStaleAnswer}
 use Rattle.step_table.proofs.Played.{a, address, server}
@@ -68,7 +69,7 @@ past_its_end = record {
   carried_now = carried_until_now;
   came_before = inl refl;
   not_replaced = inl refl;
-  on_route = refl;
+  on_route = serves_exactly.only (with_limits 1 600) a 0 refl;
   is_set = tt;
   has_lifetime = omega arith;
   within = omega arith;
@@ -119,7 +120,7 @@ unfolding written ◌▹◌ each name_text data_text with_length shape_of
 answers = record {
   past = [];
   end = held;
-  chain = record { last = address a; follows = refl; few = omega arith; justified = past_its_end; slot = refl };
+  chain = record { last = address a; follows = refl; few = omega arith; justified = past_its_end; slot = record { name = refl; class = refl; kind = refl } };
   text = refl;
   fits = tt;
   message = said;
