@@ -11,6 +11,7 @@ from . import carried, comparing, messages
 from .carried import MOST_ALIASES, Held
 from .eras import Eras
 from .messages import CNAME, SOA
+from .near import NEAR
 from .strangers import strangeness
 from .traffic import Answer, Ending, Query, Question, Refusal, Reply
 
@@ -21,6 +22,14 @@ PROMPT = 50  # milliseconds in which a query leaves for a question that has come
 STILL = 300_000  # microseconds without a query or answer for which something called
 ASKED_AGAIN = 2  # milliseconds before a query in which what was kept of it has ended
 NEAR_END = 1000  # milliseconds before its end in which what is kept may count as ended
+
+
+def records_of(answer):
+    """The records of an answer, none if they can't be read."""
+    try:
+        return messages.records(answer.octets)
+    except messages.Malformed:
+        return []
 
 
 class Found(NamedTuple):
@@ -39,11 +48,11 @@ class Found(NamedTuple):
 
 
 class Cache:
-    """The entries, least recently used first."""
+    """The entries, least recently used first; `left` are the slots of those that had to leave a full cache."""
 
     def __init__(self, configuration):
         self.configuration, self.entries = configuration, OrderedDict()
-        self.capacity, self.denials = configuration.limits["cache"], 0
+        self.capacity, self.denials, self.left = configuration.limits["cache"], 0, set()
 
     def offer(self, held, now):
         """Takes the place of what is there, unless that lives and is of a higher rank."""
@@ -59,8 +68,10 @@ class Cache:
         if held.seconds == 0:
             return
         if len(self.entries) >= self.capacity:
+            self.left.add(next(iter(self.entries)))
             self.drop(next(iter(self.entries)))
         self.entries[slot] = held
+        self.left.discard(slot)
         self.denials += held.kind is None
 
     def drop(self, slot):
@@ -120,6 +131,14 @@ def looked_up(asked, found):
             name = held.rows[0].data.lower()
 
 
+def slots_of(name, asked):
+    """Where what answers a question for a name would be kept."""
+    yield name, asked.klass, asked.kind
+    yield name, asked.klass, CNAME
+    for above in messages.parents(name):
+        yield above, asked.klass, None
+
+
 class History:
     """Follows the events: notes for each question what was found, and for each reply what it was.
 
@@ -145,6 +164,9 @@ class History:
         # When each query left, in milliseconds by what it asks; and when what was kept before the
         # capture has ended by, as a query for it shows.
         self.asked_at, self.ended = None, {}
+        # By slot what a reply carried and, at about that time, another one that took its place; and replies
+        # of which the first was read last, as an answer shows.
+        self.near, self.other_order = {}, []
 
     def follow(self, at_event=lambda place, cache: None):
         """Goes through all events; `at_event` is called before each, with its place and the cache."""
@@ -294,8 +316,26 @@ class History:
             if self.walks[reply].leads_to is not None:
                 self.lead_on(asked.of(), self.walks[reply].leads_to, now)
             for piece in self.walks[reply].pieces:
+                self.note_near(piece)
                 self.cache.offer(piece, now)
                 self.ever_carried.add(piece.slot())
+
+    def note_near(self, piece):
+        """Notes what a piece is about to take the place of, if that has just come."""
+        before = self.cache.entries.get(piece.slot())
+        self.near.pop(piece.slot(), None)
+        if before and before.source and before.source is not piece.source:
+            if piece.source.moment - before.source.moment <= NEAR:
+                self.near[piece.slot()] = before, piece
+
+    def look_for_order(self, question, answer):
+        """An answer from the cache may have what a reply carried of which another one took the place."""
+        for record in records_of(answer):
+            before, after = self.near.get((record.key, record.klass, record.kind), (None, None))
+            if before and question.moment > after.source.moment:
+                has = [any(row.data == record.data for row in piece.rows) for piece in (before, after)]
+                if has == [True, False]:
+                    self.other_order.append((before.source, after.source))
 
     def judge(self, reply, asked, now):
         octets = reply.octets
@@ -322,6 +362,8 @@ class History:
         self.last_output = answer.moment
         self.forget(question)
         found = self.found.get(question)
+        if self.near:
+            self.look_for_order(question, answer)
         self.note_span(question, answer, found)
         if found is None or messages.code(answer.octets) not in (0, 3):
             return

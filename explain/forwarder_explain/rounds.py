@@ -3,11 +3,11 @@ import bisect
 from functools import partial
 from typing import NamedTuple
 
-from . import comparing, messages
+from . import comparing
 from .carrying import Base, Continued
 from .eras import is_output
+from .kept import slots_of
 from .lines import FIRST_MOMENT
-from .messages import CNAME
 from .repairs import SLACK
 from .windows import AIM_LINES, SAID, Cut, Cutter, others_of, side_by_side
 
@@ -166,14 +166,6 @@ class Round(Cutter):
             never_left=left,
             accepted=[(places[reply], window.maker.micros(line.moment) // 1000) for reply, line in read],
         )
-
-
-def slots_of(name, asked):
-    """Where what answers a question for a name would be kept."""
-    yield name, asked.klass, asked.kind
-    yield name, asked.klass, CNAME
-    for above in messages.parents(name):
-        yield above, asked.klass, None
 
 
 def place_to_keep(events, target, latest, foreign):

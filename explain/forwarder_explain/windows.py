@@ -6,9 +6,9 @@ import multiprocessing
 import os
 from collections import Counter, defaultdict
 
-from . import messages
+from . import messages, near
 from .eras import first_output, is_output
-from .kept import History
+from .kept import History, slots_of
 from .leaps import set_forward
 from .losses import Losses
 from .messages import CNAME
@@ -21,7 +21,8 @@ from .wording import counted, moment_text
 AIM_LINES, AIM_OCTETS = 3500, 4_000_000  # of a window, without what was kept before it
 MOST_HISTORIES = 10  # times that the history is followed, each with the new beginnings that the one before showed
 SAID = 1_000_000  # microseconds before and after a moment that is said to be that of a new beginning
-SMALL_CACHE = 1000  # entries; a larger cache is carried into a window only as far as the window needs it
+SMALL_CACHE = 1000  # entries; a larger cache, or a full one, is carried into a window only as far as it needs it
+LEAST_LINES = 64  # of a window with a full cache, for which what it needs and what it brings has to have room
 
 
 class Cut:
@@ -42,9 +43,12 @@ class Cutter:
         self.losses, self.lost = Losses(configuration, traffic), []
         ask_ms = configuration.limits["ask_ms"]
         self.leaps = set_forward(self.events, ask_ms, self.losses.is_used, moment_text)
-        self.restarted, self.restarts, self.stalls = restarted, set(), []
+        near.put_in_order(self.events)
+        self.restarted, self.restarts, self.stalls, self.exchanged = restarted, set(), [], set()
         for _ in range(MOST_HISTORIES):
             found = self.follow()
+            if self.exchange(self.history.other_order):
+                continue
             stalls = united(self.stalls, found_in(self.history, self.events, configuration.limits))
             if found <= self.restarts and not self.history.lost and stalls == self.stalls:
                 return
@@ -57,6 +61,12 @@ class Cutter:
             else:
                 self.restarts |= found
         self.follow()
+
+    def exchange(self, replies):
+        """Takes pairs of replies to have been read in the other order; gives whether any is new."""
+        new = [pair for pair in replies if not self.exchanged.intersection([pair, pair[::-1]])]
+        self.exchanged.update(new)
+        return any([near.exchange_two(self.events, *pair) for pair in dict.fromkeys(new)])
 
     def stand_still(self, stalls):
         """Takes it that the service stood still in these spans."""
@@ -90,13 +100,34 @@ class Cutter:
         self.total[0] += 1
         self.total[1] += size
         anew = event in self.restarts
+        if place - 1 > self.cuts[-1].place and self.misses_what_left(self.events[place - 1], cache):
+            self.cut(place - 1, cache)
         if place == 0:
             self.cuts[0].anew = anew
-        elif anew or self.lines >= self.aim or self.octets + size >= AIM_OCTETS:
-            self.cuts.append(Cut(place, list(cache.entries.values()), dict(self.history.preferred), anew))
-            self.lines = self.octets = 0
+        elif anew or self.lines >= self.most_lines(cache) or self.octets + size >= AIM_OCTETS:
+            self.cut(place, cache, anew)
         self.lines += 1
         self.octets += size
+
+    def cut(self, place, cache, anew=False):
+        """Lets a window begin at a place, with what is kept now."""
+        self.cuts.append(Cut(place, list(cache.entries.values()), dict(self.history.preferred), anew))
+        self.lines = self.octets = 0
+        cache.left.clear()
+
+    def most_lines(self, cache):
+        """How many lines a window may have. Its script can't put entries into the order of their use, so
+        nothing may have to leave its cache."""
+        is_full = len(cache.entries) >= cache.capacity
+        return min(self.aim, max(LEAST_LINES, cache.capacity // 2)) if is_full else self.aim
+
+    def misses_what_left(self, event, cache):
+        """Whether an event is a question for what left the full cache in this window, and did not leave that
+        of the script."""
+        found = self.history.found.get(event) if cache.left else None
+        if found is None or found.answers:
+            return False
+        return any(slot in cache.left for slot in slots_of(found.missed, event.asked))
 
     def ranges(self):
         """Beginning and end of each window, as places of events."""
@@ -191,7 +222,7 @@ class Cutter:
         """What was kept when the window begins, and what its own answers show to have been kept
         before the capture."""
         own = [held for held, place in self.history.from_before if cut.place <= place < end]
-        if len(cut.entries) <= SMALL_CACHE:
+        if len(cut.entries) <= min(SMALL_CACHE, self.configuration.limits["cache"] - 1):
             return cut.entries + own
         by_name = defaultdict(list)
         for held in cut.entries:

@@ -8,9 +8,13 @@ import time
 import unittest.mock
 
 import many
+import office
 import scenes
 from forwarder_explain import command, configuration, pieces
 from forwarder_explain.pieces import Pieces
+from making import asked
+from office import FIRST, ONE, Scene
+from repository.packing import address
 
 CAPTURES = pathlib.Path(__file__).resolve().parent / "captures"
 WHOLE = 10**9
@@ -33,10 +37,10 @@ def stored(name, ending):
 
 
 @contextlib.contextmanager
-def in_pieces(packets):
-    """A capture of more packets is explained in pieces of so many."""
+def in_pieces(packets, context=300):
+    """A capture of more packets is explained in pieces of so many, each with events of the one before."""
     size = unittest.mock.patch.object(pieces, "PIECE", packets)
-    with size, unittest.mock.patch.multiple(Pieces, context=300, most_context=2 * packets):
+    with size, unittest.mock.patch.multiple(Pieces, context=context, most_context=2 * packets):
         yield
 
 
@@ -75,6 +79,38 @@ def each_form(program):
         yield words, *runs
 
 
+def full_cache():
+    """Eight names fill a cache of eight. Each further one takes the place of the name that was used least
+    recently: n8 that of n0, n9 that of n2, since n1 was used meanwhile, n0 that of n3, and n2 that of n4."""
+    scene, lines, at = Scene(), [], {}
+    for second, number in enumerate([*range(9), 1, 9, 1, 0, 2, 5, 1, 3]):
+        name, is_cached = f"n{number}.example.com", second in (9, 11, 14, 15)
+        line = f"14:03:{second:02}.000 10.0.0.7:40000 udp {name} A NOERROR"
+        if is_cached:  # accepted at 10 ms of the second in which it was asked
+            left = 299 - (second - at[number])
+            scene.question(1000 * second, ONE, second, asked(name))
+            scene.answer(1000 * second + 0.2, ONE, second, asked(name), answers=[address(left + 1, 192, 0, 2, number)])
+            asked_at = f"asked of {FIRST} at 14:03:{at[number]:02}.000"
+            lines.append(f"{line} 0.2 ms: from the cache ({asked_at}, {left + 1} s left)")
+        else:
+            at[number] = second
+            scene.fetched(1000 * second, ONE, second, asked(name), 300, (192, 0, 2, number))
+            lines.append(f"{line} 11 ms: asked {FIRST} (answered in 10 ms)")
+    lines.append("17 questions, 17 answers: 17 are the step's own octets, 0 but for a second, 0 different")
+    lines.append("13 queries to servers: 13 are the step's")
+    return scene.pcap(), lines
+
+
+def what_left_a_full_cache(program):
+    """In pieces a script begins with the cache as it is then, whatever was used before."""
+    text = office.OFFICE.replace("[limits]\n", "[limits]\ncache = 8\n")
+    octets, wanted = full_cache()
+    for packets in (WHOLE, 20, 8, 4):
+        with in_pieces(packets, 4):
+            printed, said, status = explained(program, configuration.Configuration(text), "full.pcap", octets, [])
+        yield packets, (printed.splitlines(), said, status), (wanted, "", 0)
+
+
 def nothing_grows(program):
     """With twice as many packets no more are remembered."""
     settings, most = configuration.read(CAPTURES / "office.toml", program), []
@@ -93,4 +129,4 @@ def nothing_grows(program):
     yield most, most[1] < 1.2 * most[0], True
 
 
-ALL = [stored_captures, each_form, nothing_grows]
+ALL = [stored_captures, each_form, what_left_a_full_cache, nothing_grows]

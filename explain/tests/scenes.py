@@ -3,6 +3,7 @@ rules, by hand."""
 import hostile
 import losses
 import lossy
+import orders
 import outages
 import restarts
 from making import COOKED_2, DENIAL, asked, octets
@@ -298,4 +299,5 @@ ALL = [
     *hostile.ALL,
     *losses.ALL,
     *lossy.ALL,
+    *orders.ALL,
 ]
