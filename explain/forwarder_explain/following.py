@@ -29,12 +29,37 @@ LATE = 2_000_000, 30_000_000  # microseconds beyond the deadline, if the service
 BACK = 600_000_000  # microseconds before the first question that is shown, of which it is seen what is kept
 RENEWED = 10_000_000  # microseconds between two looks for what is over
 AT_ONCE = 2000  # events of one round
-CONTEXT, MOST_CONTEXT = 300, 1500  # events before those of a round
+CONTEXT = 300  # events before those of a round
+MOST_CONTEXT = 8000  # such events if a question waits: at 500 questions a second those of its deadline
+BEHIND = 5  # seconds by which a run is behind before that is said; again at each double of them
 UNHEARD = 30  # seconds without a question, after which that is said
 
 
 class Stopped(Exception):
     """A signal says that the run is to end."""
+
+
+class Behind:
+    """Says how far a run is behind what comes: by how much more time has passed than at any moment before by
+    the times of the packets."""
+
+    def __init__(self, note):
+        self.note, self.least, self.said = note, float("inf"), 0
+
+    def look(self, passed):
+        """Takes how many seconds have passed, from any beginning, without those of the packets."""
+        self.least = min(self.least, passed)
+        behind = passed - self.least
+        if behind >= max(BEHIND, 2 * self.said):
+            self.said = behind
+            self.note(f"{behind:,.0f} s behind what comes")
+        elif self.said and behind < BEHIND / 2:
+            self.said = 0
+            self.note("no longer behind what comes")
+
+    def begin_anew(self):
+        """The times of the packets were changed."""
+        self.least = float("inf")
 
 
 class Follower:
@@ -54,7 +79,7 @@ class Follower:
         self.quiet, self.now = 0, 0
         self.events, self.came, self.base, self.history = [], 0, None, None
         self.wanted, self.doubtful, self.guessed, self.accepted = set(), set(), {}, {}
-        self.is_stopped, self.is_told = False, False
+        self.is_stopped, self.is_told, self.behind = False, False, Behind(note)
 
     def stop(self, *_):
         self.is_stopped = True
@@ -71,6 +96,7 @@ class Follower:
         self.intake.take(packet)
         if len(self.intake.raw) >= AT_ONCE or self.seen_at - self.done_at > PAUSE:
             self.go_on(False)
+            self.behind.look(time.monotonic() - self.seen / 1_000_000)
 
     def idle(self):
         """Called while nothing comes."""
@@ -159,6 +185,7 @@ class Follower:
         cutter = Round(self.settings, traffic, ends, self.base, restarted, keep, since)
         self.history = cutter.history
         if cutter.leaps:
+            self.behind.begin_anew()
             self.intake.shift(last.moment - before)
             self.seen += last.moment - before
             self.now += last.moment - before

@@ -18,8 +18,8 @@ import many
 from forwarder_explain import command, comparing, configuration, following
 from forwarder_explain.capture import Capture
 from forwarder_explain.traffic import Question
-from making import asked
-from office import FIRST, ONE, OTHER, Scene
+from making import START, asked
+from office import FIRST, ONE, OTHER, SECOND, Scene
 from repository.packing import address
 
 HERE = pathlib.Path(__file__).resolve().parent
@@ -208,6 +208,45 @@ def without_an_answer(program):
     yield "status", run.end()[2], 0
 
 
+def reason_among_many(program):
+    """500 questions a second are answered from the cache. One waits in vain: both servers are silent, and
+    its failure is not in the capture."""
+    scene, www, lost = Scene(), asked("www.example.com"), asked("lost.example.com")
+    scene.fetched(0, OTHER, 0, www, 300, (192, 0, 2, 80))
+    for place in range(10, 3500):
+        at = 2 * place + 1
+        left = 300 - -(-(at - 10) // 1000)  # accepted at 10 ms
+        scene.question(at, f"10.0.1.9:{2000 + place}", place, www)
+        scene.answer(at + 0.1, f"10.0.1.9:{2000 + place}", place, www, answers=[address(left, 192, 0, 2, 80)])
+    scene.question(1000, ONE, 1, lost)
+    scene.query(1000.2, FIRST, lost)
+    scene.query(2001.2, SECOND, lost)
+    settings, printed = configuration.read(CAPTURES / "office.toml", program), []
+    with unittest.mock.patch.multiple(following, PAUSE=1e9):
+        followed(program, settings, scene.pcap(), printed.append)
+    silent = ", ".join(f"{server} (silent for 1,000 ms)" for server in (FIRST, SECOND))
+    wanted = f"14:03:01.000 {ONE} udp lost.example.com A - -: all 2 tries failed: {silent}; no answer was captured"
+    yield "line", [line for line in printed if " lost." in line], [wanted]
+
+
+def how_far_behind(program):
+    """Each second of the capture takes two from 14:03:01 on, and half a one from 14:03:11 on."""
+    scene, said, clock = Scene(), [], [0.0]
+    for second in range(40):
+        scene.fetched(1000 * second, ONE, second, asked(f"n{second}.example.com"), 300, (192, 0, 2, second))
+    settings = configuration.read(CAPTURES / "office.toml", program)
+    options = command.arguments(["--program", program, "--follow", "office.toml", "-"])
+    with unittest.mock.patch.object(following.time, "monotonic", lambda: clock[0]):
+        follower = following.Follower(options, settings, lambda _: None, lambda *_: None, said.append)
+        for packet in Capture(io.BytesIO(scene.pcap())).packets():
+            second = packet.moment / 1_000_000 - START / 1_000_000
+            clock[0] = min(second, 1) + 2 * max(0, min(second, 11) - 1) + max(0, second - 11) / 2
+            follower.take(packet)
+        follower.end()
+    # At 14:03:06 and at 14:03:11 as many seconds more than at the beginning have passed; at 14:03:29 one.
+    yield said, [*said], ["5 s behind what comes", "10 s behind what comes", "no longer behind what comes"]
+
+
 def wrong_words(program):
     """What is for whole captures alone is refused, and so is a folder that is not there."""
     for words in (["--at", "14:03"], ["--to", "14:03"], ["--script", "s"]):
@@ -306,6 +345,8 @@ ALL = [
     a_file_written_anew,
     ended_by_a_signal,
     without_an_answer,
+    reason_among_many,
+    how_far_behind,
     wrong_words,
     packet_by_packet,
     ends_of_lifetimes,
