@@ -94,6 +94,11 @@ part_at Number16 bytes stop o = octets_within bytes stop o 2
 part_at SoaNumbers bytes stop o = octets_within bytes stop o 20
 part_at Text bytes stop o = text_within bytes stop o
 
+-- a part of this many octets, or a name
+abbrev pub laid_at : Option ℕ → List ℕ → ℕ → ℕ → Result (List ℕ × ℕ) Fault
+laid_at None bytes stop o = written_out (name_within bytes (inside stop) o)
+laid_at (Some count) bytes stop o = octets_within bytes stop o count
+
 -- the parts, which must end at stop
 unfoldable pub parts_at : List Part → List ℕ → ℕ → ℕ → Result (List ℕ × ℕ) Fault
 parts_at [] bytes stop o = if o == stop then Ok ([], o) else Err Rdata

@@ -42,6 +42,10 @@ whole bytes = record { stop = length bytes; beyond = Short }
 abbrev pub inside : ℕ → Bound
 inside stop = record { stop = stop; beyond = Rdata }
 
+-- the place after this many octets in front of a bound, or the fault beyond it
+abbrev pub skipped : Bound → ℕ → ℕ → Result ℕ Fault
+skipped bound o count = if nat_lt bound.stop (o + count) then Err bound.beyond else Ok (o + count)
+
 -- the octet at o, where the run began at f and must end before b, and the labels so far take `used`
 -- octets
 unfoldable pub step : List ℕ → Bound → ℕ → ℕ → ℕ → Result NameOctet Fault

@@ -2,6 +2,7 @@
 -- pointer to where it was first: RFC 1035 4.1.4.
 use Rattle.std.specs.Prelude.{ℕ, ◌+◌, ◌*◌, ◌/◌, ◌%◌, ◌≤◌, List, [], ◌∷◌, ◌++◌, length, Option, Some, None, Result, Ok}
 use Rattle.std.specs.Prelude.{Err, Bool, true, false, nat_le, nat_lt, slice_index, if◌then◌else◌}
+use Rattle.std.specs.List.{flat_map}
 use Rattle.std.specs.Str.{bytes_eq}
 use Rattle.std.specs.Cmp.Lexicographic.{pointwise}
 use Rattle.dns_name.specs.Labels.{label_octets}
@@ -138,6 +139,10 @@ bit false weight = 0
 abbrev pub flags_of : Header → ℕ
 flags_of h = bit h.qr 32768 + h.opcode * 2048 + bit h.aa 1024 + bit h.tc 512 + bit h.rd 256 + bit h.ra 128 + h.z * 16
     + h.rcode
+
+-- identifier, flags and these counts, each in two octets: RFC 1035 4.1.1
+abbrev pub header_octets : Header → List ℕ → List ℕ
+header_octets h counts = octets16 h.id ++ octets16 (flags_of h) ++ flat_map octets16 counts
 
 -- the header, with these counts: RFC 1035 4.1.1
 abbrev pub counted_header : Header → List ℕ → Writing

@@ -5,6 +5,7 @@
 
 mod borrowed;
 mod data;
+mod header;
 mod laws;
 mod message;
 mod pointers;

@@ -10,14 +10,28 @@ ghost use Rattle.dns_message.specs.Sizes.{AreSizes, size_behind};
 use crate::names::fault::Fault;
 use crate::names::walk::{Bound, NameCursor, NameOctet, step_at};
 
-/// The remembered size of the name at a place.
-fn known_size(sizes: &[u8], place: usize) -> Option<usize>
-    ensures { IfSome result (λ size. (0 < size) × (size ≡ slice_index sizes.now place)) }
+/// The octets of the name at a place, after labels of `used` octets. Over all calls with the same
+/// `sizes` each place is remembered once, and a place that is known is not walked again.
+pub(crate) fn size_of_name(
+    bytes: &[u8],
+    sizes: &mut [u8],
+    start: usize,
+    used: usize,
+) -> Result<usize, Fault>
+    requires room { used ≤ 254 }
+    requires known { AreSizes bytes.now sizes.old }
+    ensures exact { result ≡ size_behind bytes.now start used }
+    ensures known { AreSizes bytes.now sizes.new }
 {
-    if place < sizes.len() && sizes[place] > 0 {
-        return Some(sizes[place] as usize);
+    if let Some(size) = known_size(sizes, start) {
+        if used + size > 255 {
+            return Err(Fault::NameLong);
+        }
+        return Ok(size);
     }
-    None
+    let size = measure(bytes, sizes, start, used)?;
+    remember(bytes, sizes, start, size);
+    Ok(size)
 }
 
 /// The octets of the name at a place, after labels of `used` octets. Where a pointer leads to a
@@ -51,6 +65,16 @@ fn measure(bytes: &[u8], sizes: &[u8], start: usize, used: usize) -> Result<usiz
     }
 }
 
+/// The remembered size of the name at a place.
+fn known_size(sizes: &[u8], place: usize) -> Option<usize>
+    ensures { IfSome result (λ size. (0 < size) × (size ≡ slice_index sizes.now place)) }
+{
+    if place < sizes.len() && sizes[place] > 0 {
+        return Some(sizes[place] as usize);
+    }
+    None
+}
+
 /// Remembers the octets of the name at a place, and of the names that begin on the way to its end,
 /// up to the first that is known.
 fn remember(bytes: &[u8], sizes: &mut [u8], start: usize, size: usize)
@@ -74,28 +98,4 @@ fn remember(bytes: &[u8], sizes: &mut [u8], start: usize, size: usize)
             _ => return,
         }
     }
-}
-
-/// The octets of the name at a place, after labels of `used` octets. Over all calls with the same
-/// `sizes` each place is remembered once, and a place that is known is not walked again.
-pub(crate) fn size_of_name(
-    bytes: &[u8],
-    sizes: &mut [u8],
-    start: usize,
-    used: usize,
-) -> Result<usize, Fault>
-    requires room { used ≤ 254 }
-    requires known { AreSizes bytes.now sizes.old }
-    ensures exact { result ≡ size_behind bytes.now start used }
-    ensures known { AreSizes bytes.now sizes.new }
-{
-    if let Some(size) = known_size(sizes, start) {
-        if used + size > 255 {
-            return Err(Fault::NameLong);
-        }
-        return Ok(size);
-    }
-    let size = measure(bytes, sizes, start, used)?;
-    remember(bytes, sizes, start, size);
-    Ok(size)
 }

@@ -3,7 +3,7 @@
 ghost use Rattle.std.specs.Prelude.{◌≡◌, ◌≤◌, ◌+◌, length, take, drop, IfOk, Err, None};
 ghost use Rattle.dns_message.specs.declared.names.fault.Fault.TheVariants.{Memory};
 ghost use Rattle.dns_message.specs.Shortcuts.{AreShortcuts};
-ghost use Rattle.dns_message.specs.Names.{whole, inside, behind_labels, step, Stays, Resumes, resume, name_within};
+ghost use Rattle.dns_message.specs.Names.{whole, inside, skipped, behind_labels, step, Stays, Resumes, resume, name_within};
 
 use crate::names::fault::Fault;
 use crate::names::shortcuts::resolve;
@@ -38,6 +38,16 @@ impl Bound {
             stop,
             beyond: Fault::Rdata,
         }
+    }
+
+    /// The place after `count` octets, none of which may be at the bound or beyond it.
+    pub(crate) fn skip(self, offset: usize, count: usize) -> Result<usize, Fault>
+        ensures { result ≡ skipped self offset count }
+    {
+        if offset > self.stop || self.stop - offset < count {
+            return Err(self.beyond);
+        }
+        Ok(offset + count)
     }
 }
 

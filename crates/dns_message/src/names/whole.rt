@@ -91,14 +91,6 @@ pub(crate) fn readable_name_end(bytes: &[u8], offset: usize) -> usize
     }
 }
 
-/// Whether octets are equal, ASCII letter case aside. Most labels that are equal are spelled alike,
-/// so octets are compared first.
-fn is_same_label(a: &[u8], b: &[u8]) -> bool
-    ensures { IsTrue result ↔ (map to_ascii_lowercase a.now ≡ map to_ascii_lowercase b.now) }
-{
-    a == b || a.eq_ignore_ascii_case(b)
-}
-
 /// The place after the name at a place, where it is this one, letter case aside (RFC 1035 2.3.3);
 /// `None` where it is another, or cannot be read. It does not allocate.
 pub(crate) fn skip_same_name<A: Allocator>(
@@ -123,6 +115,14 @@ pub(crate) fn skip_same_name<A: Allocator>(
             }
         }
     }
+}
+
+/// Whether octets are equal, ASCII letter case aside. Most labels that are equal are spelled alike,
+/// so octets are compared first.
+fn is_same_label(a: &[u8], b: &[u8]) -> bool
+    ensures { IsTrue result ↔ (map to_ascii_lowercase a.now ≡ map to_ascii_lowercase b.now) }
+{
+    a == b || a.eq_ignore_ascii_case(b)
 }
 
 /// The key of the name at a place. `Err` is the first fault of the name from its front. It does not

@@ -12,33 +12,6 @@ use dns_name::{Name, NameKey};
 use std::alloc::{AllocError, Allocator};
 use std::marker::Model;
 
-/// The octets of the name at a place, which can be read and ends before `end`, without the zero
-/// octet at its end. `None` where it has a pointer. The first octet of a pointer is above 191:
-/// where the octet before the name's last is not, the last is the zero octet of a name without a
-/// pointer.
-#[tactic(auto, using(crate::proofs::reading::NameLaws::name_begins, crate::proofs::reading::NameLaws::goes_on, crate::proofs::reading::NameLaws::name_lies))]
-fn uncompressed_name(bytes: &[u8], offset: usize, end: usize) -> Option<&[u8]>
-    requires { behind (name_at bytes.now offset) ≡ Ok end }
-    ensures { MatchOption result (IfOk (name_at bytes.now offset) (λ n. IsUncompressed bytes.now offset n.0 → ⊥))
-        (λ octets. IsLaidOut octets.now × IfOk (name_at bytes.now offset) (λ n. (n.0 ≡ labels_of octets.now)
-        × IsUncompressed bytes.now offset n.0)) }
-{
-    if end - offset == 1 || bytes[end - 2] < 192 {
-        return Some(part(bytes, offset, end - offset - 1));
-    }
-    let mut at = offset;
-    loop {
-        let first = bytes[at];
-        if first == 0 {
-            return Some(part(bytes, offset, at - offset));
-        }
-        if first >= 192 {
-            return None;
-        }
-        at += first as usize + 1;
-    }
-}
-
 /// A question, borrowed: its name is kept elsewhere, without a pointer. Contracts see the question.
 #[derive(Drop)]
 pub struct QuestionRef<'a> {
@@ -149,5 +122,32 @@ impl<'a> QuestionRef<'a> {
         ensures { result ≡ self.now.class }
     {
         self.class
+    }
+}
+
+/// The octets of the name at a place, which can be read and ends before `end`, without the zero
+/// octet at its end. `None` where it has a pointer. The first octet of a pointer is above 191:
+/// where the octet before the name's last is not, the last is the zero octet of a name without a
+/// pointer.
+#[tactic(auto, using(crate::proofs::reading::NameLaws::name_begins, crate::proofs::reading::NameLaws::goes_on, crate::proofs::reading::NameLaws::name_lies))]
+fn uncompressed_name(bytes: &[u8], offset: usize, end: usize) -> Option<&[u8]>
+    requires { behind (name_at bytes.now offset) ≡ Ok end }
+    ensures { MatchOption result (IfOk (name_at bytes.now offset) (λ n. IsUncompressed bytes.now offset n.0 → ⊥))
+        (λ octets. IsLaidOut octets.now × IfOk (name_at bytes.now offset) (λ n. (n.0 ≡ labels_of octets.now)
+        × IsUncompressed bytes.now offset n.0)) }
+{
+    if end - offset == 1 || bytes[end - 2] < 192 {
+        return Some(part(bytes, offset, end - offset - 1));
+    }
+    let mut at = offset;
+    loop {
+        let first = bytes[at];
+        if first == 0 {
+            return Some(part(bytes, offset, at - offset));
+        }
+        if first >= 192 {
+            return None;
+        }
+        at += first as usize + 1;
     }
 }

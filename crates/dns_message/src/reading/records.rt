@@ -17,10 +17,7 @@ use std::alloc::Allocator;
 pub(crate) fn skip_octets(bytes: &[u8], offset: usize, count: usize) -> Result<usize, Fault>
     ensures { result ≡ octets_end bytes.now offset count }
 {
-    if offset > bytes.len() || bytes.len() - offset < count {
-        return Err(Fault::Short);
-    }
-    Ok(offset + count)
+    Bound::whole(bytes).skip(offset, count)
 }
 
 /// The question at a place, and the place after it.

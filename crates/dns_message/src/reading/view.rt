@@ -25,124 +25,6 @@ use dns_name::NameKey;
 use std::alloc::Allocator;
 use std::marker::Model;
 
-/// The place after the first question, where header and first question can be read.
-#[tactic(auto, unfolding(crate::specs::Messages::first_question), using(crate::proofs::reading::MessageLaws::question_read, crate::proofs::reading::MessageLaws::question_fault))]
-fn first_question_end(bytes: &[u8]) -> Result<usize, Fault>
-    ensures first { MatchResult result (λ _. IsOk (first_question bytes.now)) (λ fault. first_question bytes.now
-        ≡ Err fault) }
-    ensures end { IfOk result (λ end. behind (question_at bytes.now 12) ≡ Ok end) }
-{
-    if bytes.len() < 12 {
-        return Err(Fault::Short);
-    }
-    if number16(bytes, 4) == 0 {
-        return Err(Fault::NoQuestion);
-    }
-    let end = skip_question(bytes, &mut [], 12)?;
-    Ok(end)
-}
-
-/// Whether the first question is this one, letter case aside.
-#[tactic(auto, unfolding(crate::specs::Messages::first_question, crate::specs::Records::question_at, crate::specs::Records::octets_end))]
-fn first_question_is<A: Allocator>(bytes: &[u8], question: &Question<A>) -> bool
-    requires { IsViewed bytes.now }
-    ensures { IsTrue result ↔ QuestionIs (first_question bytes.now) question.now }
-{
-    let Some(after) = skip_same_name(bytes, 12, &question.name) else {
-        return false;
-    };
-    let Ok(end) = skip_octets(bytes, after, 4) else {
-        return false;
-    };
-    number16(bytes, after) == question.kind && number16(bytes, end - 2) == question.class
-}
-
-/// The place after the last counted record, with the octets of the names that pointers lead to
-/// remembered in `sizes`. The first question was read before: reading begins after it.
-#[tactic(auto, using(crate::proofs::reading::MessageLaws::message_behind, crate::proofs::reading::MessageLaws::others_behind, crate::proofs::reading::MessageLaws::viewed_long, crate::proofs::reading::MessageLaws::viewed_counts))]
-fn skip_sections(bytes: &[u8], sizes: &mut [u8], question_end: usize) -> Result<usize, Fault>
-    requires viewed { IsViewedTo bytes.now question_end }
-    requires known { AreSizes bytes.now sizes.old }
-    ensures { result ≡ behind (message_at bytes.now) }
-{
-    let at = skip_questions(bytes, sizes, question_end, number16(bytes, 4) - 1)?;
-    let at = skip_records(bytes, sizes, at, number16(bytes, 6))?;
-    let at = skip_records(bytes, sizes, at, number16(bytes, 8))?;
-    skip_records(bytes, sizes, at, number16(bytes, 10))
-}
-
-/// `skip_sections` of a message that may have many pointers to one name. Out of line: inlined, its
-/// 16 KiB would be on the stack of every reply.
-#[tactic(auto, using(crate::proofs::names::SizeLaws::none_known))]
-#[inline(never)]
-fn skip_large_message(bytes: &[u8], question_end: usize) -> Result<usize, Fault>
-    requires { IsViewedTo bytes.now question_end }
-    ensures { result ≡ behind (message_at bytes.now) }
-{
-    let mut sizes = [0u8; PLACES];
-    skip_sections(bytes, &mut sizes, question_end)
-}
-
-/// The place after the last counted record.
-#[tactic(auto, using(crate::proofs::names::SizeLaws::none_kept))]
-fn skip_message(bytes: &[u8], question_end: usize) -> Result<usize, Fault>
-    requires { IsViewedTo bytes.now question_end }
-    ensures { result ≡ behind (message_at bytes.now) }
-{
-    if bytes.len() > SMALL {
-        return skip_large_message(bytes, question_end);
-    }
-    skip_sections(bytes, &mut [], question_end)
-}
-
-/// The message that the octets spell; the targets of pointers are remembered in `ends`.
-#[tactic(auto, unfolding(crate::specs::Messages::message_at))]
-fn read_sections<A: Allocator + Copy>(
-    alloc: A,
-    bytes: &[u8],
-    ends: &mut [u16],
-) -> Result<Message<A>, Fault>
-    requires { AreShortcuts bytes.now ends.old }
-    ensures { Gives (λ m. m) result (message_of bytes.now) }
-{
-    let Some(header) = Header::read(bytes) else {
-        return Err(Fault::Short);
-    };
-    let (questions, at) = read_questions(alloc, bytes, ends, 12, header.counts[0])?;
-    let (answers, at) = read_records(alloc, bytes, ends, at, header.counts[1])?;
-    let (authority, at) = read_records(alloc, bytes, ends, at, header.counts[2])?;
-    let (additional, _) = read_records(alloc, bytes, ends, at, header.counts[3])?;
-    Ok(Message {
-        header,
-        questions,
-        answers,
-        authority,
-        additional,
-    })
-}
-
-/// `read_sections` of a message that may have long chains of pointers. Out of line: inlined, its
-/// 32 KiB would be on the stack of every reply.
-#[tactic(auto, using(crate::proofs::names::ShortcutLaws::none_known))]
-#[inline(never)]
-fn read_large_message<A: Allocator + Copy>(alloc: A, bytes: &[u8]) -> Result<Message<A>, Fault>
-    ensures { Gives (λ m. m) result (message_of bytes.now) }
-{
-    let mut ends = [0u16; PLACES];
-    read_sections(alloc, bytes, &mut ends)
-}
-
-/// The message that the octets spell.
-#[tactic(auto, using(crate::proofs::names::ShortcutLaws::none_kept))]
-fn read_message<A: Allocator + Copy>(alloc: A, bytes: &[u8]) -> Result<Message<A>, Fault>
-    ensures { Gives (λ m. m) result (message_of bytes.now) }
-{
-    if bytes.len() > SMALL {
-        return read_large_message(alloc, bytes);
-    }
-    read_sections(alloc, bytes, &mut [])
-}
-
 /// A message whose header and first question can be read.
 #[derive(Drop)]
 pub struct MessageRef<'a> {
@@ -269,4 +151,122 @@ impl<'a> MessageRef<'a> {
     {
         read_message(alloc, self.bytes)
     }
+}
+
+/// The place after the first question, where header and first question can be read.
+#[tactic(auto, unfolding(crate::specs::Messages::first_question), using(crate::proofs::reading::MessageLaws::question_read, crate::proofs::reading::MessageLaws::question_fault))]
+fn first_question_end(bytes: &[u8]) -> Result<usize, Fault>
+    ensures first { MatchResult result (λ _. IsOk (first_question bytes.now)) (λ fault. first_question bytes.now
+        ≡ Err fault) }
+    ensures end { IfOk result (λ end. behind (question_at bytes.now 12) ≡ Ok end) }
+{
+    if bytes.len() < 12 {
+        return Err(Fault::Short);
+    }
+    if number16(bytes, 4) == 0 {
+        return Err(Fault::NoQuestion);
+    }
+    let end = skip_question(bytes, &mut [], 12)?;
+    Ok(end)
+}
+
+/// Whether the first question is this one, letter case aside.
+#[tactic(auto, unfolding(crate::specs::Messages::first_question, crate::specs::Records::question_at, crate::specs::Records::octets_end))]
+fn first_question_is<A: Allocator>(bytes: &[u8], question: &Question<A>) -> bool
+    requires { IsViewed bytes.now }
+    ensures { IsTrue result ↔ QuestionIs (first_question bytes.now) question.now }
+{
+    let Some(after) = skip_same_name(bytes, 12, &question.name) else {
+        return false;
+    };
+    let Ok(end) = skip_octets(bytes, after, 4) else {
+        return false;
+    };
+    number16(bytes, after) == question.kind && number16(bytes, end - 2) == question.class
+}
+
+/// The place after the last counted record.
+#[tactic(auto, using(crate::proofs::names::SizeLaws::none_kept))]
+fn skip_message(bytes: &[u8], question_end: usize) -> Result<usize, Fault>
+    requires { IsViewedTo bytes.now question_end }
+    ensures { result ≡ behind (message_at bytes.now) }
+{
+    if bytes.len() > SMALL {
+        return skip_large_message(bytes, question_end);
+    }
+    skip_sections(bytes, &mut [], question_end)
+}
+
+/// `skip_sections` of a message that may have many pointers to one name. Out of line: inlined, its
+/// 16 KiB would be on the stack of every reply.
+#[tactic(auto, using(crate::proofs::names::SizeLaws::none_known))]
+#[inline(never)]
+fn skip_large_message(bytes: &[u8], question_end: usize) -> Result<usize, Fault>
+    requires { IsViewedTo bytes.now question_end }
+    ensures { result ≡ behind (message_at bytes.now) }
+{
+    let mut sizes = [0u8; PLACES];
+    skip_sections(bytes, &mut sizes, question_end)
+}
+
+/// The place after the last counted record, with the octets of the names that pointers lead to
+/// remembered in `sizes`. The first question was read before: reading begins after it.
+#[tactic(auto, using(crate::proofs::reading::MessageLaws::message_behind, crate::proofs::reading::MessageLaws::others_behind, crate::proofs::reading::MessageLaws::viewed_long, crate::proofs::reading::MessageLaws::viewed_counts))]
+fn skip_sections(bytes: &[u8], sizes: &mut [u8], question_end: usize) -> Result<usize, Fault>
+    requires viewed { IsViewedTo bytes.now question_end }
+    requires known { AreSizes bytes.now sizes.old }
+    ensures { result ≡ behind (message_at bytes.now) }
+{
+    let at = skip_questions(bytes, sizes, question_end, number16(bytes, 4) - 1)?;
+    let at = skip_records(bytes, sizes, at, number16(bytes, 6))?;
+    let at = skip_records(bytes, sizes, at, number16(bytes, 8))?;
+    skip_records(bytes, sizes, at, number16(bytes, 10))
+}
+
+/// The message that the octets spell.
+#[tactic(auto, using(crate::proofs::names::ShortcutLaws::none_kept))]
+fn read_message<A: Allocator + Copy>(alloc: A, bytes: &[u8]) -> Result<Message<A>, Fault>
+    ensures { Gives (λ m. m) result (message_of bytes.now) }
+{
+    if bytes.len() > SMALL {
+        return read_large_message(alloc, bytes);
+    }
+    read_sections(alloc, bytes, &mut [])
+}
+
+/// `read_sections` of a message that may have long chains of pointers. Out of line: inlined, its
+/// 32 KiB would be on the stack of every reply.
+#[tactic(auto, using(crate::proofs::names::ShortcutLaws::none_known))]
+#[inline(never)]
+fn read_large_message<A: Allocator + Copy>(alloc: A, bytes: &[u8]) -> Result<Message<A>, Fault>
+    ensures { Gives (λ m. m) result (message_of bytes.now) }
+{
+    let mut ends = [0u16; PLACES];
+    read_sections(alloc, bytes, &mut ends)
+}
+
+/// The message that the octets spell; the targets of pointers are remembered in `ends`.
+#[tactic(auto, unfolding(crate::specs::Messages::message_at))]
+fn read_sections<A: Allocator + Copy>(
+    alloc: A,
+    bytes: &[u8],
+    ends: &mut [u16],
+) -> Result<Message<A>, Fault>
+    requires { AreShortcuts bytes.now ends.old }
+    ensures { Gives (λ m. m) result (message_of bytes.now) }
+{
+    let Some(header) = Header::read(bytes) else {
+        return Err(Fault::Short);
+    };
+    let (questions, at) = read_questions(alloc, bytes, ends, 12, header.counts[0])?;
+    let (answers, at) = read_records(alloc, bytes, ends, at, header.counts[1])?;
+    let (authority, at) = read_records(alloc, bytes, ends, at, header.counts[2])?;
+    let (additional, _) = read_records(alloc, bytes, ends, at, header.counts[3])?;
+    Ok(Message {
+        header,
+        questions,
+        answers,
+        authority,
+        additional,
+    })
 }

@@ -1,13 +1,12 @@
 //! Writing messages as octets: RFC 1035 4.1.
 
-ghost use Rattle.std.specs.Prelude.{◌≡◌, ◌↔◌, ◌≤◌, ◌<◌, ◌++◌, length, Ok, OnOk, IfOk, IfErr, IsTrue, MatchOption};
+ghost use Rattle.std.specs.Prelude.{◌≡◌, ◌↔◌, ◌≤◌, ◌<◌, length, Ok, OnOk, IfOk, IfErr, IsTrue, MatchOption};
 ghost use Rattle.std.specs.Prelude.{MatchResult};
-ghost use Rattle.std.specs.List.{flat_map};
 ghost use Rattle.dns_message.specs.Reading.{Gives, Fails};
 ghost use Rattle.dns_message.specs.declared.names.fault.Fault.TheVariants.{Memory};
 ghost use Rattle.dns_message.specs.Header.{FitsBits};
 ghost use Rattle.dns_message.specs.Messages.{Spells, HasShapes};
-ghost use Rattle.dns_message.specs.Writing.{octets16, bit, flags_of, counted_header, list_counts, CanBeCounted};
+ghost use Rattle.dns_message.specs.Writing.{counted_header, list_counts, CanBeCounted};
 ghost use Rattle.dns_message.specs.Writing.{message_text, written_within};
 ghost use Rattle.dns_message.specs.Borrowed.{records_in};
 ghost use Rattle.dns_message.specs.Written.{IsMessage, IsCounted};
@@ -18,152 +17,12 @@ use crate::reading::{Header, Message};
 use crate::writing::borrowed::{MessageParts, RowsRef};
 use crate::writing::records::{put_only_question, put_questions, put_records, put_sets};
 use crate::writing::writer::Writer;
-use byteorder::{BigEndian, ByteOrder};
 use plain_values::Octets;
 use std::alloc::{AllocError, Allocator};
 use std::mem;
 
 /// The greatest count that a header holds (RFC 1035 4.1.1).
 const LAST_COUNT: usize = 65535;
-
-/// The weight, where the bit is set.
-fn bit(set: bool, weight: u16) -> u16
-    ensures is { result ≡ bit set weight }
-    ensures most { result ≤ weight }
-{
-    if set { weight } else { 0 }
-}
-
-/// The flags, the opcode and the response code as one number (RFC 1035 4.1.1).
-fn flags_of(header: &Header) -> u16
-    requires { FitsBits header.now }
-    ensures { result ≡ flags_of header.now }
-{
-    bit(header.qr, 0x8000)
-        + header.opcode as u16 * 0x800
-        + bit(header.aa, 0x400)
-        + bit(header.tc, 0x200)
-        + bit(header.rd, 0x100)
-        + bit(header.ra, 0x80)
-        + header.z as u16 * 0x10
-        + header.rcode as u16
-}
-
-/// Whether a header has room for the counts of the lists.
-fn can_be_counted<A: Allocator>(message: &Message<A>) -> bool
-    ensures { IsTrue result ↔ CanBeCounted message.now }
-{
-    let records = message
-        .answers
-        .as_slice()
-        .len()
-        .max(message.authority.as_slice().len())
-        .max(message.additional.as_slice().len());
-    message.questions.as_slice().len().max(records) <= LAST_COUNT
-}
-
-/// The number of records of the sets; `None` where a header cannot count them.
-fn count_of<A: Allocator>(sets: &[RowsRef<A>]) -> Option<u16>
-    ensures { MatchOption result (65535 < length (records_in sets.now)) (λ count. count
-        ≡ length (records_in sets.now)) }
-{
-    let mut count = 0;
-    for set in sets {
-        let more = set.data.count();
-        if more > LAST_COUNT - count {
-            return None;
-        }
-        count += more;
-    }
-    Some(count as u16)
-}
-
-/// The counts of the lists; `None` where a header has no room for them.
-fn counts_of<A: Allocator>(message: &MessageParts<A>) -> Option<[u16; 4]>
-    ensures { MatchOption result (CanBeCounted message.now → ⊥) (λ counts. CanBeCounted message.now
-        × (counts ≡ list_counts message.now)) }
-{
-    let questions = message.question.is_some() as u16;
-    let answers = count_of(message.answers)?;
-    let authority = count_of(message.authority)?;
-    Some([questions, answers, authority, 0])
-}
-
-/// The octets of a header: identifier, flags, and counts (RFC 1035 4.1.1).
-fn header_octets(id: u16, flags: u16, counts: [u16; 4]) -> [u8; 12]
-    ensures { result ≡ octets16 id ++ octets16 flags ++ flat_map octets16 counts }
-{
-    let mut octets = [0; 12];
-    BigEndian::write_u16(&mut octets, id);
-    BigEndian::write_u16(&mut octets[2..], flags);
-    BigEndian::write_u16_into(&counts, &mut octets[4..]);
-    octets
-}
-
-/// Writes the header with these counts: questions, answers, authority, additional.
-fn put_header<'a, A: Allocator + Copy>(
-    writer: &mut Writer<'a, A>,
-    header: &Header,
-    counts: [u16; 4],
-) -> Result<(), AllocError>
-    requires { FitsBits header.now }
-    ensures { OnOk result (Writes writer.old writer.new (counted_header header.now counts) × (header.now.id < 65536)) }
-{
-    writer.put(&header_octets(header.id, flags_of(header), counts))?;
-    Ok(())
-}
-
-/// Writes a message, as far as the limit lets it.
-fn put_message<'a, A: Allocator + Copy>(
-    writer: &mut Writer<'a, A>,
-    message: &'a Message<A>,
-    limit: usize,
-) -> Result<(), Fault>
-    requires holds { HoldsText writer.old }
-    requires limit { limit ≤ 65535 }
-    requires bits { FitsBits message.now.header }
-    requires counts { CanBeCounted message.now }
-    ensures { Puts limit result writer.old writer.new (message_text message.now) (IsMessage message.now) }
-{
-    let questions = message.questions.as_slice();
-    let answers = message.answers.as_slice();
-    let authority = message.authority.as_slice();
-    let additional = message.additional.as_slice();
-    let counts = [
-        questions.len() as u16,
-        answers.len() as u16,
-        authority.len() as u16,
-        additional.len() as u16,
-    ];
-    put_header(writer, &message.header, counts)?;
-    writer.check(limit)?;
-    put_questions(writer, questions, limit)?;
-    put_records(writer, answers, limit)?;
-    put_records(writer, authority, limit)?;
-    put_records(writer, additional, limit)?;
-    Ok(())
-}
-
-/// Writes a message of borrowed parts with these counts of its lists, as far as the limit lets it.
-fn put_parts<'a, A: Allocator + Copy>(
-    writer: &mut Writer<'a, A>,
-    message: &'a MessageParts<'a, A>,
-    counts: [u16; 4],
-    limit: usize,
-) -> Result<(), Fault>
-    requires holds { HoldsText writer.old }
-    requires limit { limit ≤ 65535 }
-    requires bits { FitsBits message.now.header }
-    requires counts { counts ≡ list_counts message.now }
-    ensures { Puts limit result writer.old writer.new (message_text message.now) (IsMessage message.now) }
-{
-    put_header(writer, &message.header, counts)?;
-    writer.check(limit)?;
-    put_only_question(writer, &message.question, limit)?;
-    put_sets(writer, message.answers, limit)?;
-    put_sets(writer, message.authority, limit)?;
-    Ok(())
-}
 
 /// The octets of a message, with the counts of its lists in the header; those in `header.counts`
 /// are not looked at.
@@ -195,6 +54,50 @@ pub fn write<A: Allocator + Copy>(
         pointers: _,
     } = writer;
     Ok(Octets::from_vec(octets))
+}
+
+/// Whether a header has room for the counts of the lists.
+fn can_be_counted<A: Allocator>(message: &Message<A>) -> bool
+    ensures { IsTrue result ↔ CanBeCounted message.now }
+{
+    let records = message
+        .answers
+        .as_slice()
+        .len()
+        .max(message.authority.as_slice().len())
+        .max(message.additional.as_slice().len());
+    message.questions.as_slice().len().max(records) <= LAST_COUNT
+}
+
+/// Writes a message, as far as the limit lets it.
+fn put_message<'a, A: Allocator + Copy>(
+    writer: &mut Writer<'a, A>,
+    message: &'a Message<A>,
+    limit: usize,
+) -> Result<(), Fault>
+    requires holds { HoldsText writer.old }
+    requires limit { limit ≤ 65535 }
+    requires bits { FitsBits message.now.header }
+    requires counts { CanBeCounted message.now }
+    ensures { Puts limit result writer.old writer.new (message_text message.now) (IsMessage message.now) }
+{
+    let questions = message.questions.as_slice();
+    let answers = message.answers.as_slice();
+    let authority = message.authority.as_slice();
+    let additional = message.additional.as_slice();
+    let counts = [
+        questions.len() as u16,
+        answers.len() as u16,
+        authority.len() as u16,
+        additional.len() as u16,
+    ];
+    put_header(writer, &message.header, counts)?;
+    writer.check(limit)?;
+    put_questions(writer, questions, limit)?;
+    put_records(writer, answers, limit)?;
+    put_records(writer, authority, limit)?;
+    put_records(writer, additional, limit)?;
+    Ok(())
 }
 
 /// The octets that `write` gives of the message with these parts, put into a vector in place of
@@ -229,4 +132,65 @@ pub fn write_parts<A: Allocator + Copy>(
     } = writer;
     *octets = text;
     done
+}
+
+/// The counts of the lists; `None` where a header has no room for them.
+fn counts_of<A: Allocator>(message: &MessageParts<A>) -> Option<[u16; 4]>
+    ensures { MatchOption result (CanBeCounted message.now → ⊥) (λ counts. CanBeCounted message.now
+        × (counts ≡ list_counts message.now)) }
+{
+    let questions = message.question.is_some() as u16;
+    let answers = count_of(message.answers)?;
+    let authority = count_of(message.authority)?;
+    Some([questions, answers, authority, 0])
+}
+
+/// The number of records of the sets; `None` where a header cannot count them.
+fn count_of<A: Allocator>(sets: &[RowsRef<A>]) -> Option<u16>
+    ensures { MatchOption result (65535 < length (records_in sets.now)) (λ count. count
+        ≡ length (records_in sets.now)) }
+{
+    let mut count = 0;
+    for set in sets {
+        let more = set.data.count();
+        if more > LAST_COUNT - count {
+            return None;
+        }
+        count += more;
+    }
+    Some(count as u16)
+}
+
+/// Writes a message of borrowed parts with these counts of its lists, as far as the limit lets it.
+fn put_parts<'a, A: Allocator + Copy>(
+    writer: &mut Writer<'a, A>,
+    message: &'a MessageParts<'a, A>,
+    counts: [u16; 4],
+    limit: usize,
+) -> Result<(), Fault>
+    requires holds { HoldsText writer.old }
+    requires limit { limit ≤ 65535 }
+    requires bits { FitsBits message.now.header }
+    requires counts { counts ≡ list_counts message.now }
+    ensures { Puts limit result writer.old writer.new (message_text message.now) (IsMessage message.now) }
+{
+    put_header(writer, &message.header, counts)?;
+    writer.check(limit)?;
+    put_only_question(writer, &message.question, limit)?;
+    put_sets(writer, message.answers, limit)?;
+    put_sets(writer, message.authority, limit)?;
+    Ok(())
+}
+
+/// Writes the header with these counts: questions, answers, authority, additional.
+fn put_header<'a, A: Allocator + Copy>(
+    writer: &mut Writer<'a, A>,
+    header: &Header,
+    counts: [u16; 4],
+) -> Result<(), AllocError>
+    requires { FitsBits header.now }
+    ensures { OnOk result (Writes writer.old writer.new (counted_header header.now counts) × (header.now.id < 65536)) }
+{
+    writer.put(&header.octets(counts))?;
+    Ok(())
 }

@@ -27,18 +27,6 @@ pub(crate) struct Pointers<'a, A: Allocator> {
     many: BTreeMap<&'a [u8], u16, A>,
 }
 
-/// The pointer next to a name.
-fn pointer_among(few: &[(&[u8], u16)], name: &[u8]) -> Option<u16>
-    ensures { result ≡ pointer_among few.now name.now }
-{
-    for (known, pointer) in few {
-        if *known == name {
-            return Some(*pointer);
-        }
-    }
-    None
-}
-
 impl<'a, A: Allocator + Copy> Pointers<'a, A> {
     /// None; it does not allocate.
     pub fn new(alloc: A) -> Pointers<'a, A>
@@ -48,15 +36,6 @@ impl<'a, A: Allocator + Copy> Pointers<'a, A> {
             few: ArrayVec::new(),
             many: BTreeMap::new(alloc),
         }
-    }
-
-    /// The pointer to a name that the map has.
-    #[cold]
-    #[inline(never)]
-    fn find_in_map(&self, name: &[u8]) -> Option<u16>
-        ensures { result ≡ get_by (λ k. slice_cmp nat_cmp name.now k.now) self.now.many }
-    {
-        self.many.get(name).copied()
     }
 
     /// The pointer to a name, letter case included. The map is mostly empty.
@@ -73,22 +52,20 @@ impl<'a, A: Allocator + Copy> Pointers<'a, A> {
         self.find_in_map(name)
     }
 
+    /// The pointer to a name that the map has.
+    #[cold]
+    #[inline(never)]
+    fn find_in_map(&self, name: &[u8]) -> Option<u16>
+        ensures { result ≡ get_by (λ k. slice_cmp nat_cmp name.now k.now) self.now.many }
+    {
+        self.many.get(name).copied()
+    }
+
     /// Whether no name is known.
     pub fn is_empty(&self) -> bool
         ensures { IsTrue result → (name : List ℕ) → pointer_known self.now name ≡ None }
     {
         self.few.is_empty() && self.many.is_empty()
-    }
-
-    /// Remembers in the map the pointer to a name that is not known.
-    #[cold]
-    #[inline(never)]
-    fn insert_in_map(&mut self, name: &'a [u8], pointer: u16) -> Result<(), AllocError>
-        requires { pointer_known self.old name.now ≡ None }
-        ensures { OnOk result (IsPointed self.old self.new name.now pointer) }
-    {
-        self.many.insert(name, pointer)?;
-        Ok(())
     }
 
     /// Remembers that a name that is not known begins at this offset, as far as a pointer reaches.
@@ -108,4 +85,27 @@ impl<'a, A: Allocator + Copy> Pointers<'a, A> {
         self.few.push((name, pointer));
         Ok(())
     }
+
+    /// Remembers in the map the pointer to a name that is not known.
+    #[cold]
+    #[inline(never)]
+    fn insert_in_map(&mut self, name: &'a [u8], pointer: u16) -> Result<(), AllocError>
+        requires { pointer_known self.old name.now ≡ None }
+        ensures { OnOk result (IsPointed self.old self.new name.now pointer) }
+    {
+        self.many.insert(name, pointer)?;
+        Ok(())
+    }
+}
+
+/// The pointer next to a name.
+fn pointer_among(few: &[(&[u8], u16)], name: &[u8]) -> Option<u16>
+    ensures { result ≡ pointer_among few.now name.now }
+{
+    for (known, pointer) in few {
+        if *known == name {
+            return Some(*pointer);
+        }
+    }
+    None
 }

@@ -39,14 +39,6 @@ impl<'a, A: Allocator + Copy> Writer<'a, A> {
         Ok(())
     }
 
-    /// Writes an octet.
-    fn put_u8(&mut self, octet: u8) -> Result<(), AllocError>
-        ensures { OnOk result (Writes self.old self.new (as_is (octet ∷ []))) }
-    {
-        self.octets.push(octet)?;
-        Ok(())
-    }
-
     /// Writes a number. Pushing two octets is faster than copying them.
     pub fn put_u16(&mut self, number: u16) -> Result<(), AllocError>
         ensures { OnOk result (Writes self.old self.new (as_is (octets16 number))) }
@@ -54,25 +46,6 @@ impl<'a, A: Allocator + Copy> Writer<'a, A> {
         let [high, low] = number.to_be_bytes();
         self.octets.push(high)?;
         self.octets.push(low)?;
-        Ok(())
-    }
-
-    /// Writes the first name: none of its ends is looked up, since no two ends of one name are
-    /// equal.
-    fn put_first_name(&mut self, name: &'a [u8]) -> Result<(), AllocError>
-        requires laid { IsLaidOut name.now }
-        requires none { (other : List ℕ) → pointer_in self.old other ≡ None }
-        ensures { OnOk result (Writes self.old self.new (name_text (labels_of name.now))) }
-    {
-        let start = self.octets.len();
-        let mut rest = name;
-        while let Some((_label, after)) = split_label(rest) {
-            let front = name.len() - rest.len();
-            self.pointers.insert(rest, start + front)?;
-            rest = after;
-        }
-        self.octets.extend_from_slice(name)?;
-        self.put_u8(0)?;
         Ok(())
     }
 
@@ -109,6 +82,33 @@ impl<'a, A: Allocator + Copy> Writer<'a, A> {
             return self.put_first_name(name);
         }
         self.put_later_name(name)
+    }
+
+    /// Writes the first name: none of its ends is looked up, since no two ends of one name are
+    /// equal.
+    fn put_first_name(&mut self, name: &'a [u8]) -> Result<(), AllocError>
+        requires laid { IsLaidOut name.now }
+        requires none { (other : List ℕ) → pointer_in self.old other ≡ None }
+        ensures { OnOk result (Writes self.old self.new (name_text (labels_of name.now))) }
+    {
+        let start = self.octets.len();
+        let mut rest = name;
+        while let Some((_label, after)) = split_label(rest) {
+            let front = name.len() - rest.len();
+            self.pointers.insert(rest, start + front)?;
+            rest = after;
+        }
+        self.octets.extend_from_slice(name)?;
+        self.put_u8(0)?;
+        Ok(())
+    }
+
+    /// Writes an octet.
+    fn put_u8(&mut self, octet: u8) -> Result<(), AllocError>
+        ensures { OnOk result (Writes self.old self.new (as_is (octet ∷ []))) }
+    {
+        self.octets.push(octet)?;
+        Ok(())
     }
 
     /// The pointer to this name, if any. It is looked up unless it was found before.
